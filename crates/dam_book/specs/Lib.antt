@@ -1,0 +1,5 @@
+pub mod Price
+pub mod Quantity
+pub mod Period
+pub mod Name
+pub mod Volumes
