@@ -1,6 +1,9 @@
 //! The typed orders of the day-ahead auction, and the sequential book that takes them.
 #![tactic(auto)]
 
+mod book;
+mod command;
+mod limits;
 mod name;
 mod order;
 mod period;
@@ -8,8 +11,11 @@ mod price;
 mod quantity;
 mod volumes;
 
+pub use book::{BeginFault, Book};
+pub use command::{Command, Entry, Reason, Reply};
+pub use limits::MOST_HOURLY;
 pub use name::{Name, Participant};
-pub use order::Side;
+pub use order::{HourOrder, Order, Side};
 pub use period::Period;
 pub use price::Price;
 pub use quantity::Qty;

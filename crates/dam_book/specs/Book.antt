@@ -1,0 +1,153 @@
+-- The sequential book: its states, its step, its runs and its histories.
+use Rattle.std.specs.Prelude.{◌≡◌, ℕ, suc, ◌≤◌, Bool, true, false, ◌==◌, ◌&&◌, ◌||◌, nat_eq, nat_lt, nat_le, not, List, [], ◌∷◌, ◌++◌, map, find, count_by, Option, Some, None, is_some, if◌then◌else◌}
+use Rattle.std.specs.Cmp.Lexicographic.{pointwise}
+use Rattle.std.specs.Map.{lookup, remove_entry}
+use Rattle.dam_book.specs.Name.{IsName, IsParticipant}
+use Rattle.dam_book.specs.Order.{IsOrder, is_hour, last_period}
+use Rattle.dam_book.specs.declared.order.Order.{Order}
+use Rattle.dam_book.specs.declared.command.Command.{Command}
+use Rattle.dam_book.specs.declared.command.Command.TheVariants.{Submit, Cancel, Close}
+use Rattle.dam_book.specs.declared.command.Reply.{Reply}
+use Rattle.dam_book.specs.declared.command.Reply.TheVariants.{Done, Refused}
+use Rattle.dam_book.specs.declared.command.Reason.{Reason}
+use Rattle.dam_book.specs.declared.command.Reason.TheVariants.{Closed, PeriodOutOfDay, NameTaken, UnknownOrder, HourlyFull}
+use Rattle.dam_book.specs.declared.command.Entry.{Entry}
+use Rattle.dam_book.specs.declared.limits.TheConstants.{MOST_HOURLY}
+
+-- a participant and the name of one of its orders
+abbrev pub Key : Type 0
+Key = List ℕ × List ℕ
+
+abbrev pub same_key : Key → Key → Bool
+same_key k l = pointwise nat_eq k.0 l.0 && pointwise nat_eq k.1 l.1
+
+abbrev pub Row : Type 0
+Row = Key × Order
+
+-- the number of periods of the delivery day, the orders held in book order, and whether the book takes no more
+pub record BookState : Type 0 where
+  pub periods : ℕ
+  pub rows : List Row
+  pub closed : Bool
+
+abbrev pub empty_book : ℕ → BookState
+empty_book periods = record { periods = periods; rows = []; closed = false }
+
+-- a delivery day has 24 hours, or one less or more where the clocks change
+abbrev pub is_day : ℕ → Bool
+is_day periods = (periods == 23) || ((periods == 24) || (periods == 25))
+
+-- the order of that participant and name, if there is one
+abbrev pub order_at : BookState → Key → Option Order
+order_at b k = lookup (same_key k) b.rows
+
+abbrev pub hourly_count : BookState → ℕ
+hourly_count b = count_by (λ (r : Row). is_hour r.1) b.rows
+
+-- The reasons to refuse a command, each with the test for it.
+
+abbrev pub is_out_of_day : BookState → Command → Bool
+is_out_of_day b (Submit who name order) = nat_lt b.periods (last_period order)
+is_out_of_day b (Cancel who name) = false
+is_out_of_day b Close = false
+
+abbrev pub is_name_taken : BookState → Command → Bool
+is_name_taken b (Submit who name order) = is_some (order_at b (who, name))
+is_name_taken b (Cancel who name) = false
+is_name_taken b Close = false
+
+abbrev pub is_unknown_order : BookState → Command → Bool
+is_unknown_order b (Submit who name order) = false
+is_unknown_order b (Cancel who name) = not (is_some (order_at b (who, name)))
+is_unknown_order b Close = false
+
+abbrev pub is_hourly_full : BookState → Command → Bool
+is_hourly_full b (Submit who name order) = is_hour order && nat_le MOST_HOURLY (hourly_count b)
+is_hourly_full b (Cancel who name) = false
+is_hourly_full b Close = false
+
+abbrev pub applies : BookState → Command → Reason → Bool
+applies b c Closed = b.closed
+applies b c PeriodOutOfDay = is_out_of_day b c
+applies b c NameTaken = is_name_taken b c
+applies b c UnknownOrder = is_unknown_order b c
+applies b c HourlyFull = is_hourly_full b c
+
+-- the order in which they are looked for
+abbrev pub reasons : List Reason
+reasons = Closed ∷ PeriodOutOfDay ∷ NameTaken ∷ UnknownOrder ∷ HourlyFull ∷ []
+
+-- the first reason that applies
+abbrev pub refusal : BookState → Command → Option Reason
+refusal b c = find (applies b c) reasons
+
+-- The step: a refused command leaves the book.
+
+abbrev pub reply_of : Option Reason → Reply
+reply_of None = Done
+reply_of (Some reason) = Refused reason
+
+abbrev pub reply_to : BookState → Command → Reply
+reply_to b c = reply_of (refusal b c)
+
+-- what a command does that is not refused: a new order is the last, and one that leaves the book loses its place
+abbrev pub carried_out : BookState → Command → BookState
+carried_out b (Submit who name order) = record b { rows = b.rows ++ ((who, name), order) ∷ [] }
+carried_out b (Cancel who name) = record b { rows = remove_entry (same_key (who, name)) b.rows }
+carried_out b Close = record b { closed = true }
+
+abbrev pub book_after : BookState → Command → BookState
+book_after b c = if is_some (refusal b c) then b else carried_out b c
+
+-- Runs: commands one after another.
+
+abbrev pub run_from : BookState → List Command → BookState
+run_from b [] = b
+run_from b (c ∷ cs) = run_from (book_after b c) cs
+
+-- from the empty book of a day of so many periods
+abbrev pub run : ℕ → List Command → BookState
+run periods cs = run_from (empty_book periods) cs
+
+-- the entries of a run, numbered from `n`
+abbrev pub entries_from : ℕ → BookState → List Command → List Entry
+entries_from n b [] = []
+entries_from n b (c ∷ cs) = record { number = n; command = c; reply = reply_to b c } ∷ entries_from (suc n) (book_after b c) cs
+
+abbrev pub entries_of : ℕ → List Command → List Entry
+entries_of periods cs = entries_from 1 (empty_book periods) cs
+
+abbrev pub commands_of : List Entry → List Command
+commands_of es = map (λ (e : Entry). e.command) es
+
+-- entries numbered from `n`, in which each reply is the step's on the book that the commands before it made
+abbrev pub IsLegalFrom : ℕ → BookState → List Entry → Type 0
+IsLegalFrom n b [] = Unit {0}
+IsLegalFrom n b (e ∷ es) = (e.number ≡ n) × (e.reply ≡ reply_to b e.command) × IsLegalFrom (suc n) (book_after b e.command) es
+
+abbrev pub IsLegalHistory : ℕ → List Entry → Type 0
+IsLegalHistory periods es = IsLegalFrom 1 (empty_book periods) es
+
+-- What every book keeps.
+
+-- a row's names and parts are within their limits, and its periods are the day's
+pub record IsRow (periods : ℕ) (r : Row) : Type 0 where
+  pub who : IsParticipant r.0.0
+  pub name : IsName r.0.1
+  pub order : IsOrder r.1
+  pub in_day : last_period r.1 ≤ periods
+
+abbrev pub AreRows : ℕ → List Row → Type 0
+AreRows periods [] = Unit {0}
+AreRows periods (r ∷ rs) = IsRow periods r × AreRows periods rs
+
+-- no two rows have one participant and one name
+abbrev pub are_unique : List Row → Bool
+are_unique [] = true
+are_unique (r ∷ rs) = not (is_some (lookup (same_key r.0) rs)) && are_unique rs
+
+pub record IsBook (b : BookState) : Type 0 where
+  pub day : is_day b.periods ≡ true
+  pub rows : AreRows b.periods b.rows
+  pub unique : are_unique b.rows ≡ true
+  pub few_hourly : hourly_count b ≤ MOST_HOURLY

@@ -1,0 +1,84 @@
+ghost use Rattle.std.specs.Prelude.{◌≡◌};
+
+use crate::name::{Name, Participant};
+use crate::order::Order;
+
+/// What a participant or the operator asks of the book.
+#[derive(PartialEq, Eq, Hash, Debug, Drop)]
+pub enum Command {
+    /// A new order, under a name that the participant's orders don't have yet.
+    Submit {
+        who: Participant,
+        name: Name,
+        order: Order,
+    },
+    /// The participant's order of that name leaves the book.
+    Cancel { who: Participant, name: Name },
+    /// The book takes no more orders.
+    Close,
+}
+
+impl Command {
+    /// An equal command; it can't fail.
+    pub fn copy(&self) -> Command
+        ensures { result ≡ self.now }
+    {
+        match self {
+            Command::Submit { who, name, order } => Command::Submit {
+                who: who.copy(),
+                name: name.copy(),
+                order: order.copy(),
+            },
+            Command::Cancel { who, name } => Command::Cancel {
+                who: who.copy(),
+                name: name.copy(),
+            },
+            Command::Close => Command::Close,
+        }
+    }
+}
+
+/// Why the book refuses a command: the first of these that applies.
+#[derive(Clone, Copy, PartialEq, Eq, Hash, Debug)]
+pub enum Reason {
+    /// The book is closed; a further close is refused too.
+    Closed,
+    /// A submit has a volume in a period that the day doesn't have.
+    PeriodOutOfDay,
+    /// A submit uses the name of an order that the participant has.
+    NameTaken,
+    /// A cancel names an order that the participant doesn't have.
+    UnknownOrder,
+    /// A submit of an hourly order, where the book holds as many as it may.
+    HourlyFull,
+}
+
+/// What the book answers to a command.
+#[derive(Clone, Copy, PartialEq, Eq, Hash, Debug)]
+pub enum Reply {
+    Done,
+    /// The book is as it was.
+    Refused(Reason),
+}
+
+/// One line of a journal: a command that reached the book, and the reply to it.
+#[derive(PartialEq, Eq, Hash, Debug, Drop)]
+pub struct Entry {
+    /// Counted from 1.
+    pub number: u32,
+    pub command: Command,
+    pub reply: Reply,
+}
+
+impl Entry {
+    /// An equal entry; it can't fail.
+    pub fn copy(&self) -> Entry
+        ensures { result ≡ self.now }
+    {
+        Entry {
+            number: self.number,
+            command: self.command.copy(),
+            reply: self.reply,
+        }
+    }
+}
