@@ -1,3 +1,4 @@
 pub mod Keys
 pub mod RowFacts
 pub mod StepFacts
+pub mod Histories

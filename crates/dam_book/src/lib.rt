@@ -9,6 +9,7 @@ mod order;
 mod period;
 mod price;
 mod quantity;
+mod run;
 mod volumes;
 
 pub use book::{BeginFault, Book};
@@ -19,4 +20,5 @@ pub use order::{HourOrder, Order, Side};
 pub use period::Period;
 pub use price::Price;
 pub use quantity::Qty;
+pub use run::replay;
 pub use volumes::{Volumes, VolumesFault};
