@@ -1,4 +1,7 @@
 pub mod Keys
-pub mod RowFacts
-pub mod StepFacts
 pub mod Histories
+pub mod RowFacts
+pub mod ChangeFacts
+pub mod LinkFacts
+pub mod StepFacts
+pub mod FieldTexts

@@ -2,16 +2,10 @@
 use Rattle.std.proofs.Common.{◌≡◌, ℕ, zero, suc, ◌+◌, ◌<◌, ◌≤◌, Bool, true, false, cond, not, ◌&&◌, List, [], ◌∷◌, ◌++◌, length, get_or, take, drop, Option, Some, None, is_some, option_map, slice_get, count_by, refl, sym, ap, ◌∙◌, arith, remove}
 use Rattle.std.proofs.lemmas.List.Sums.{sum_by-append}
 use Rattle.std.specs.Map.{lookup, remove_entry}
-use Rattle.dam_book.specs.Order.{is_hour}
+use Rattle.dam_book.specs.Order.{is_hour, is_block}
 use Rattle.dam_book.specs.declared.order.Order.{Order}
 use Rattle.dam_book.specs.Book.{Key, Row, same_key, IsRow, AreRows, are_unique}
 use Rattle.dam_book.proofs.Keys.{both_true, same_key-flipped}
-
--- the look-up of a row that passes the test, at the front of what is left
-pub found_at : (test : Key → Bool) (rs : List Row) (i : ℕ) (r : Row) → i < length rs → r ≡ get_or rs i r → test r.0 ≡ true → option_map (λ (x : Row). x.1) (slice_get rs i) ≡ lookup test (drop i rs)
-found_at test [] i r lt e t = absurd (omega arith)
-found_at test (x ∷ xs) zero r lt e t = let this : test x.0 ≡ true = ap (λ (y : Row). test y.0) (sym e) ∙ t in rw this
-found_at test (x ∷ xs) (suc i) r lt e t = found_at test xs i r (omega arith) e t
 
 pub AreRows-push : (periods : ℕ) (rs : List Row) (r : Row) → AreRows periods rs → IsRow periods r → AreRows periods (rs ++ r ∷ [])
 AreRows-push periods [] r are is = (is, tt)
@@ -67,13 +61,23 @@ are_unique-remove_entry test (x ∷ xs) u =
     elim (test x.0) as (λ b. are_unique (cond b xs (x ∷ remove_entry test xs)) ≡ true)
         [ true ↦ first.1 | false ↦ unique_cons x (remove_entry test xs) (lookup-remove_none (same_key x.0) test xs first.0) (are_unique-remove_entry test xs first.1) ]
 
-pub count_by-remove_entry : (test : Key → Bool) (p : Row → Bool) (rs : List Row) → count_by p (remove_entry test rs) ≤ count_by p rs
-count_by-remove_entry test p [] = omega arith
-count_by-remove_entry test p (x ∷ xs) =
-    let less = count_by-remove_entry test p xs in
+pub count_by-cons : (p : Row → Bool) (x : Row) (xs : List Row) → count_by p (x ∷ xs) ≡ cond (p x) 1 0 + count_by p xs
+count_by-cons p x xs =
     let f : Row → ℕ = λ r. cond (p r) 1 0 in
-    let before = sum_by-append f (x ∷ []) xs in
-    let after = sum_by-append f (x ∷ []) (remove_entry test xs) in
-    let kept : count_by p (x ∷ remove_entry test xs) ≤ count_by p (x ∷ xs) = omega (arith, less, before, after) in
-    let gone : count_by p xs ≤ count_by p (x ∷ xs) = omega (arith, before) in
-    elim (test x.0) as (λ b. count_by p (cond b xs (x ∷ remove_entry test xs)) ≤ count_by p (x ∷ xs)) [ true ↦ gone | false ↦ kept ]
+    let e = sum_by-append f (x ∷ []) xs in omega (arith, e)
+
+-- one row less of the kind of the one that is taken out
+pub count_by-remove_entry : (test : Key → Bool) (kind : Order → Bool) (rs : List Row) (o : Order) → lookup test rs ≡ Some o
+    → count_by (λ (r : Row). kind r.1) (remove_entry test rs) + cond (kind o) 1 0 ≡ count_by (λ (r : Row). kind r.1) rs
+count_by-remove_entry test kind [] o e = absurd (cc)
+count_by-remove_entry test kind (x ∷ xs) o e =
+    let p : Row → Bool = λ r. kind r.1 in
+    let before = count_by-cons p x xs in
+    let after = count_by-cons p x (remove_entry test xs) in
+    elim (test x.0) as (λ b. cond b (Some x.1) (lookup test xs) ≡ Some o → count_by p (cond b xs (x ∷ remove_entry test xs)) + cond (kind o) 1 0 ≡ count_by p (x ∷ xs))
+        [ true ↦ λ g.
+            let same : x.1 ≡ o = cc in
+            let one : Order → ℕ = λ y. cond (kind y) 1 0 in
+            let kinds : one x.1 ≡ one o = ap one same in
+            omega (arith, before, kinds)
+        | false ↦ λ g. omega (arith, before, after, count_by-remove_entry test kind xs o g) ] e

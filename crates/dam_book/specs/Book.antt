@@ -1,25 +1,26 @@
 -- The sequential book: its states, its step, its runs and its histories.
-use Rattle.std.specs.Prelude.{◌≡◌, ℕ, suc, ◌≤◌, Bool, true, false, ◌==◌, ◌&&◌, ◌||◌, nat_eq, nat_lt, nat_le, not, List, [], ◌∷◌, ◌++◌, map, find, count_by, Option, Some, None, is_some, if◌then◌else◌}
-use Rattle.std.specs.Cmp.Lexicographic.{pointwise}
+use Rattle.std.specs.Prelude.{◌≡◌, ℕ, ℤ, suc, ◌≤◌, Bool, true, false, ◌==◌, ◌&&◌, ◌||◌, nat_le, not, List, [], ◌∷◌, ◌++◌, length, map, find, count_by, Option, Some, None, is_some, if◌then◌else◌}
 use Rattle.std.specs.Map.{lookup, remove_entry}
-use Rattle.dam_book.specs.Name.{IsName, IsParticipant}
-use Rattle.dam_book.specs.Order.{IsOrder, is_hour, last_period}
+use Rattle.std.specs.List.{list_any}
+use Rattle.dam_book.specs.Name.{IsName, IsParticipant, same_text}
+use Rattle.dam_book.specs.Volumes.{Pair, have_beyond}
+use Rattle.dam_book.specs.Order.{IsOrder, is_hour, is_block, is_beyond, is_parent, parent_of, amended}
 use Rattle.dam_book.specs.declared.order.Order.{Order}
 use Rattle.dam_book.specs.declared.command.Command.{Command}
-use Rattle.dam_book.specs.declared.command.Command.TheVariants.{Submit, Cancel, Close}
+use Rattle.dam_book.specs.declared.command.Command.TheVariants.{Submit, Amend, Cancel, Close}
 use Rattle.dam_book.specs.declared.command.Reply.{Reply}
 use Rattle.dam_book.specs.declared.command.Reply.TheVariants.{Done, Refused}
 use Rattle.dam_book.specs.declared.command.Reason.{Reason}
-use Rattle.dam_book.specs.declared.command.Reason.TheVariants.{Closed, PeriodOutOfDay, NameTaken, UnknownOrder, HourlyFull}
+use Rattle.dam_book.specs.declared.command.Reason.TheVariants.{Closed, PeriodOutOfDay, NameTaken, UnknownOrder, WrongShape, UnknownParent, ParentNotBlock, HourlyFull, BlocksFull, HasChildren}
 use Rattle.dam_book.specs.declared.command.Entry.{Entry}
-use Rattle.dam_book.specs.declared.limits.TheConstants.{MOST_HOURLY}
+use Rattle.dam_book.specs.declared.limits.TheConstants.{MOST_HOURLY, MOST_BLOCKS}
 
 -- a participant and the name of one of its orders
 abbrev pub Key : Type 0
 Key = List ℕ × List ℕ
 
 abbrev pub same_key : Key → Key → Bool
-same_key k l = pointwise nat_eq k.0 l.0 && pointwise nat_eq k.1 l.1
+same_key k l = same_text k.0 l.0 && same_text k.1 l.1
 
 abbrev pub Row : Type 0
 Row = Key × Order
@@ -41,41 +42,97 @@ is_day periods = (periods == 23) || ((periods == 24) || (periods == 25))
 abbrev pub order_at : BookState → Key → Option Order
 order_at b k = lookup (same_key k) b.rows
 
-abbrev pub hourly_count : BookState → ℕ
-hourly_count b = count_by (λ (r : Row). is_hour r.1) b.rows
+abbrev pub hourly_count : List Row → ℕ
+hourly_count rows = count_by (λ (r : Row). is_hour r.1) rows
+
+abbrev pub block_count : List Row → ℕ
+block_count rows = count_by (λ (r : Row). is_block r.1) rows
 
 -- The reasons to refuse a command, each with the test for it.
 
 abbrev pub is_out_of_day : BookState → Command → Bool
-is_out_of_day b (Submit who name order) = nat_lt b.periods (last_period order)
+is_out_of_day b (Submit who name order) = is_beyond b.periods order
+is_out_of_day b (Amend who name price volumes) = have_beyond b.periods volumes
 is_out_of_day b (Cancel who name) = false
 is_out_of_day b Close = false
 
 abbrev pub is_name_taken : BookState → Command → Bool
 is_name_taken b (Submit who name order) = is_some (order_at b (who, name))
+is_name_taken b (Amend who name price volumes) = false
 is_name_taken b (Cancel who name) = false
 is_name_taken b Close = false
 
 abbrev pub is_unknown_order : BookState → Command → Bool
 is_unknown_order b (Submit who name order) = false
+is_unknown_order b (Amend who name price volumes) = not (is_some (order_at b (who, name)))
 is_unknown_order b (Cancel who name) = not (is_some (order_at b (who, name)))
 is_unknown_order b Close = false
 
+-- whether what is found is an order that passes the test
+abbrev pub is_found : (Order → Bool) → Option Order → Bool
+is_found test None = false
+is_found test (Some order) = test order
+
+abbrev pub is_wrong_shape : BookState → Command → Bool
+is_wrong_shape b (Submit who name order) = false
+is_wrong_shape b (Amend who name price volumes) = is_found is_hour (order_at b (who, name)) && not (length volumes == 1)
+is_wrong_shape b (Cancel who name) = false
+is_wrong_shape b Close = false
+
+-- whether there is a parent and what is found under its name passes the test
+abbrev pub parent_passes : (Option Order → Bool) → List Row → List ℕ → Option (List ℕ) → Bool
+parent_passes test rows who None = false
+parent_passes test rows who (Some parent) = test (lookup (same_key (who, parent)) rows)
+
+abbrev pub is_unknown_parent : BookState → Command → Bool
+is_unknown_parent b (Submit who name order) = parent_passes (λ o. not (is_some o)) b.rows who (parent_of order)
+is_unknown_parent b (Amend who name price volumes) = false
+is_unknown_parent b (Cancel who name) = false
+is_unknown_parent b Close = false
+
+abbrev pub is_parent_hourly : BookState → Command → Bool
+is_parent_hourly b (Submit who name order) = parent_passes (is_found is_hour) b.rows who (parent_of order)
+is_parent_hourly b (Amend who name price volumes) = false
+is_parent_hourly b (Cancel who name) = false
+is_parent_hourly b Close = false
+
 abbrev pub is_hourly_full : BookState → Command → Bool
-is_hourly_full b (Submit who name order) = is_hour order && nat_le MOST_HOURLY (hourly_count b)
+is_hourly_full b (Submit who name order) = is_hour order && nat_le MOST_HOURLY (hourly_count b.rows)
+is_hourly_full b (Amend who name price volumes) = false
 is_hourly_full b (Cancel who name) = false
 is_hourly_full b Close = false
+
+abbrev pub is_blocks_full : BookState → Command → Bool
+is_blocks_full b (Submit who name order) = is_block order && nat_le MOST_BLOCKS (block_count b.rows)
+is_blocks_full b (Amend who name price volumes) = false
+is_blocks_full b (Cancel who name) = false
+is_blocks_full b Close = false
+
+-- whether the row is a block that names this order as its parent
+abbrev pub names_parent : Key → Row → Bool
+names_parent k r = is_parent k.1 (parent_of r.1) && same_text k.0 r.0.0
+
+abbrev pub has_children : BookState → Command → Bool
+has_children b (Submit who name order) = false
+has_children b (Amend who name price volumes) = false
+has_children b (Cancel who name) = list_any (names_parent (who, name)) b.rows
+has_children b Close = false
 
 abbrev pub applies : BookState → Command → Reason → Bool
 applies b c Closed = b.closed
 applies b c PeriodOutOfDay = is_out_of_day b c
 applies b c NameTaken = is_name_taken b c
 applies b c UnknownOrder = is_unknown_order b c
+applies b c WrongShape = is_wrong_shape b c
+applies b c UnknownParent = is_unknown_parent b c
+applies b c ParentNotBlock = is_parent_hourly b c
 applies b c HourlyFull = is_hourly_full b c
+applies b c BlocksFull = is_blocks_full b c
+applies b c HasChildren = has_children b c
 
 -- the order in which they are looked for
 abbrev pub reasons : List Reason
-reasons = Closed ∷ PeriodOutOfDay ∷ NameTaken ∷ UnknownOrder ∷ HourlyFull ∷ []
+reasons = Closed ∷ PeriodOutOfDay ∷ NameTaken ∷ UnknownOrder ∷ WrongShape ∷ UnknownParent ∷ ParentNotBlock ∷ HourlyFull ∷ BlocksFull ∷ HasChildren ∷ []
 
 -- the first reason that applies
 abbrev pub refusal : BookState → Command → Option Reason
@@ -90,9 +147,15 @@ reply_of (Some reason) = Refused reason
 abbrev pub reply_to : BookState → Command → Reply
 reply_to b c = reply_of (refusal b c)
 
--- what a command does that is not refused: a new order is the last, and one that leaves the book loses its place
+-- the rows with the order at this key changed at its place
+abbrev pub changed : Key → (Order → Order) → List Row → List Row
+changed k f [] = []
+changed k f (r ∷ rs) = if same_key k r.0 then (r.0, f r.1) ∷ rs else r ∷ changed k f rs
+
+-- what a command does that is not refused: a new order is the last, an amended one keeps its place, and one that leaves the book loses it
 abbrev pub carried_out : BookState → Command → BookState
 carried_out b (Submit who name order) = record b { rows = b.rows ++ ((who, name), order) ∷ [] }
+carried_out b (Amend who name price volumes) = record b { rows = changed (who, name) (amended price volumes) b.rows }
 carried_out b (Cancel who name) = record b { rows = remove_entry (same_key (who, name)) b.rows }
 carried_out b Close = record b { closed = true }
 
@@ -135,7 +198,7 @@ pub record IsRow (periods : ℕ) (r : Row) : Type 0 where
   pub who : IsParticipant r.0.0
   pub name : IsName r.0.1
   pub order : IsOrder r.1
-  pub in_day : last_period r.1 ≤ periods
+  pub in_day : is_beyond periods r.1 ≡ false
 
 abbrev pub AreRows : ℕ → List Row → Type 0
 AreRows periods [] = Unit {0}
@@ -146,8 +209,19 @@ abbrev pub are_unique : List Row → Bool
 are_unique [] = true
 are_unique (r ∷ rs) = not (is_some (lookup (same_key r.0) rs)) && are_unique rs
 
+-- the parent that the row names, if any, is a block of the same participant among these rows
+abbrev pub has_parent_in : List Row → Row → Bool
+has_parent_in rows r = not (parent_passes (λ o. not (is_found is_block o)) rows r.0.0 (parent_of r.1))
+
+-- the parents of the rows, if any, are blocks of the same participant at lesser places, the rows of `front` standing before
+abbrev pub are_linked : List Row → List Row → Bool
+are_linked front [] = true
+are_linked front (r ∷ rs) = has_parent_in front r && are_linked (front ++ r ∷ []) rs
+
 pub record IsBook (b : BookState) : Type 0 where
   pub day : is_day b.periods ≡ true
   pub rows : AreRows b.periods b.rows
   pub unique : are_unique b.rows ≡ true
-  pub few_hourly : hourly_count b ≤ MOST_HOURLY
+  pub linked : are_linked [] b.rows ≡ true
+  pub few_hourly : hourly_count b.rows ≤ MOST_HOURLY
+  pub few_blocks : block_count b.rows ≤ MOST_BLOCKS

@@ -3,6 +3,7 @@ pub mod Quantity
 pub mod Period
 pub mod Name
 pub mod Volumes
-pub mod HourTerms
+pub mod Terms
 pub mod Order
 pub mod Book
+pub mod Fields

@@ -1,5 +1,6 @@
 -- The texts that name orders and participants.
-use Rattle.std.specs.Prelude.{ℕ, Bool, true, ◌≡◌, ◌<◌, ◌≤◌, ◌==◌, ◌&&◌, ◌||◌, nat_le, List, length}
+use Rattle.std.specs.Prelude.{ℕ, Bool, true, ◌≡◌, ◌<◌, ◌≤◌, ◌==◌, ◌&&◌, ◌||◌, nat_le, nat_eq, List, length}
+use Rattle.std.specs.Cmp.Lexicographic.{pointwise}
 use Rattle.std.specs.List.{list_all}
 use Rattle.dam_book.specs.declared.name.TheConstants.{LONGEST_NAME, LONGEST_PARTICIPANT}
 
@@ -20,3 +21,7 @@ pub record IsParticipant (code : List ℕ) : Type 0 where
   pub nonempty : 0 < length code
   pub fits : length code ≤ LONGEST_PARTICIPANT
   pub letters : list_all is_letter_byte code ≡ true
+
+-- whether two texts have the same bytes
+abbrev pub same_text : List ℕ → List ℕ → Bool
+same_text s t = pointwise nat_eq s t

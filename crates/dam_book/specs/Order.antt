@@ -1,16 +1,41 @@
 -- What an order says.
-use Rattle.std.specs.Prelude.{ℕ, Bool, true}
-use Rattle.dam_book.specs.HourTerms.{IsHourOrder}
+use Rattle.std.specs.Prelude.{ℕ, ℤ, Bool, true, false, List, [], ◌∷◌, nat_lt, Option, None, Some}
+use Rattle.dam_book.specs.Name.{same_text}
+use Rattle.dam_book.specs.Volumes.{Pair, have_beyond}
+use Rattle.dam_book.specs.Terms.{IsHourOrder, IsBlockOrder}
 use Rattle.dam_book.specs.declared.order.Order.{Order}
-use Rattle.dam_book.specs.declared.order.Order.TheVariants.{Hour}
+use Rattle.dam_book.specs.declared.order.Order.TheVariants.{Hour, Block}
 
 -- each part is within its limits
 abbrev pub IsOrder : Order → Type 0
 IsOrder (Hour o) = IsHourOrder o
+IsOrder (Block o) = IsBlockOrder o
 
 abbrev pub is_hour : Order → Bool
 is_hour (Hour o) = true
+is_hour (Block o) = false
 
--- the last period in which the order has a volume
-abbrev pub last_period : Order → ℕ
-last_period (Hour o) = o.period
+abbrev pub is_block : Order → Bool
+is_block (Hour o) = false
+is_block (Block o) = true
+
+-- whether the order has a volume in a period above this number
+abbrev pub is_beyond : ℕ → Order → Bool
+is_beyond periods (Hour o) = nat_lt periods o.period
+is_beyond periods (Block o) = have_beyond periods o.volumes
+
+-- the name of the order that a block is accepted with
+abbrev pub parent_of : Order → Option (List ℕ)
+parent_of (Hour o) = None
+parent_of (Block o) = o.parent
+
+-- whether there is a parent and it has this name
+abbrev pub is_parent : List ℕ → Option (List ℕ) → Bool
+is_parent name None = false
+is_parent name (Some parent) = same_text name parent
+
+-- the order with another price and other volumes; an hourly order takes the first of these
+abbrev pub amended : ℤ → List Pair → Order → Order
+amended price [] (Hour o) = Hour o
+amended price (p ∷ ps) (Hour o) = Hour (record o { price = price; period = p.0; qty = p.1 })
+amended price volumes (Block o) = Block (record o { price = price; volumes = volumes })

@@ -1,5 +1,6 @@
 -- The volumes of an order, period by period.
 use Rattle.std.specs.Prelude.{ℕ, Bool, true, ◌≡◌, ◌<◌, ◌≤◌, ◌&&◌, nat_lt, List, [], ◌∷◌, length}
+use Rattle.std.specs.List.{list_any}
 use Rattle.dam_book.specs.Period.{IsPeriod}
 use Rattle.dam_book.specs.Quantity.{IsQuantity}
 use Rattle.dam_book.specs.declared.volumes.TheConstants.{MOST_VOLUMES}
@@ -12,6 +13,10 @@ Pair = ℕ × ℕ
 abbrev pub is_increasing : ℕ → List Pair → Bool
 is_increasing low [] = true
 is_increasing low (p ∷ ps) = nat_lt low p.0 && is_increasing p.0 ps
+
+-- whether there is a volume in a period above this number
+abbrev pub have_beyond : ℕ → List Pair → Bool
+have_beyond periods pairs = list_any (λ (p : Pair). nat_lt periods p.0) pairs
 
 -- each pair has a period of some day, and a volume within the limits
 abbrev pub ArePairs : List Pair → Type 0

@@ -1,13 +1,17 @@
-ghost use Rattle.std.specs.Prelude.{◌≡◌, ◌<◌, ◌≤◌, true, false, nat_eq, is_some, option_map, option_and_then, slice_get, length, remove, MatchResult, IfOk, IfSome, IfNone, OnOk, OnErr};
+ghost use Rattle.std.specs.Prelude.{◌≡◌, ◌∷◌, [], true, false, nat_eq, find, option_map, slice_get, length, MatchResult, IfOk, OnOk, OnErr};
+ghost use Rattle.std.specs.List.{list_any};
 ghost use Rattle.std.specs.Option.{option_copied};
-ghost use Rattle.std.specs.Map.{lookup, remove_entry};
-ghost use Rattle.dam_book.specs.Book.{IsBook, empty_book, is_day, same_key, order_at, hourly_count, refusal, reply_to, carried_out, book_after};
+ghost use Rattle.dam_book.specs.Book.{IsBook, empty_book, is_day, order_at, names_parent, applies, refusal, reply_to, carried_out, book_after};
 
 use crate::command::{Command, Reason, Reply};
-use crate::limits::MOST_HOURLY;
+use crate::limits::{MOST_BLOCKS, MOST_HOURLY};
 use crate::name::{Name, Participant};
-use crate::order::Order;
+use crate::order::{BlockOrder, Order};
+use crate::price::Price;
+use crate::volumes::Volumes;
+use indexmap::IndexMap;
 use std::alloc::{AllocError, Allocator, Global};
+use std::hash::{BuildHasherDefault, FoldHasher};
 use std::marker::Model;
 use thiserror::Error;
 
@@ -25,21 +29,25 @@ pub enum BeginFault {
 #[derive(Debug, Drop)]
 pub struct Book<A: Allocator = Global> {
     periods: u8,
-    rows: Vec<((Participant, Name), Order), A>,
+    orders: IndexMap<(Participant, Name), Order, BuildHasherDefault<FoldHasher>, A>,
+    // how many of the orders are hourly, and how many are blocks
+    hourly: usize,
+    blocks: usize,
     closed: bool,
 }
 
 impl<A: Allocator> Model for Book<A> {
-    ghost use Rattle.dam_book.specs.Book.{BookState, IsBook};
+    ghost use Rattle.std.specs.Prelude.{◌≡◌};
+    ghost use Rattle.dam_book.specs.Book.{BookState, IsBook, hourly_count, block_count};
 
     ghost Value = { BookState };
 
-    ghost view = { λ b. record { periods = b.periods; rows = b.rows.items; closed = b.closed } };
+    ghost view = { λ b. record { periods = b.periods; rows = b.orders.entries; closed = b.closed } };
 
-    ghost invariant = { λ b. IsBook (record { periods = b.periods; rows = b.rows.items; closed = b.closed }) };
+    ghost invariant = { λ b. IsBook (record { periods = b.periods; rows = b.orders.entries; closed = b.closed }) × (b.hourly ≡ hourly_count b.orders.entries) × (b.blocks ≡ block_count b.orders.entries) };
 }
 
-impl<A: Allocator> Book<A> {
+impl<A: Allocator + Copy> Book<A> {
     /// The empty book of a day of 23, 24 or 25 periods, open.
     pub fn begin(alloc: A, periods: u8) -> Result<Book<A>, BeginFault>
         ensures { MatchResult result (λ book. (is_day periods ≡ true) × (book ≡ empty_book periods)) (λ _. is_day periods ≡ false) }
@@ -47,7 +55,9 @@ impl<A: Allocator> Book<A> {
         match periods {
             23..=25 => Ok(Book {
                 periods,
-                rows: Vec::new(alloc),
+                orders: IndexMap::new(alloc),
+                hourly: 0,
+                blocks: 0,
                 closed: false,
             }),
             _ => Err(BeginFault::BadDay),
@@ -71,20 +81,20 @@ impl<A: Allocator> Book<A> {
     pub fn len(&self) -> usize
         ensures { result ≡ length self.now.rows }
     {
-        self.rows.len()
+        self.orders.len()
     }
 
     pub fn is_empty(&self) -> bool
         ensures { result ≡ nat_eq (length self.now.rows) 0 }
     {
-        self.rows.is_empty()
+        self.orders.len() == 0
     }
 
     /// The order at a place, counted from 0 in book order, with its participant and name.
     pub fn row(&self, place: usize) -> Option<(Participant, Name, &Order)>
         ensures { option_map (λ r. ((r.0, r.1), r.2.now)) result ≡ slice_get self.now.rows place }
     {
-        let ((who, name), order) = self.rows.get(place)?;
+        let ((who, name), order) = self.orders.get_index(place)?;
         Some((who.copy(), name.copy(), order))
     }
 
@@ -92,8 +102,20 @@ impl<A: Allocator> Book<A> {
     pub fn find(&self, who: &Participant, name: &Name) -> Option<&Order>
         ensures { option_copied result ≡ order_at self.now (who.now, name.now) }
     {
-        let place = place_of(&self.rows, who, name)?;
-        Some(&self.rows[place].1)
+        self.orders.get(&(who.copy(), name.copy()))
+    }
+
+    /// An equal book, on the same allocator.
+    pub fn try_copy(&self) -> Result<Book<A>, AllocError>
+        ensures { IfOk result (λ book. book ≡ self.now) }
+    {
+        Ok(Book {
+            periods: self.periods,
+            orders: self.orders.clone()?,
+            hourly: self.hourly,
+            blocks: self.blocks,
+            closed: self.closed,
+        })
     }
 
     /// Carries the command out, or refuses it for the first of the reasons that applies.
@@ -109,6 +131,12 @@ impl<A: Allocator> Book<A> {
         }
         match command {
             Command::Submit { who, name, order } => self.add(who, name, order)?,
+            Command::Amend {
+                who,
+                name,
+                price,
+                volumes,
+            } => self.amend(who, name, *price, volumes)?,
             Command::Cancel { who, name } => self.remove(who, name),
             Command::Close => self.close(),
         }
@@ -123,10 +151,10 @@ impl<A: Allocator> Book<A> {
         }
         match command {
             Command::Submit { who, name, order } => self.submit_refusal(who, name, order),
-            Command::Cancel { who, name } => match self.find(who, name) {
-                None => Some(Reason::UnknownOrder),
-                Some(_) => None,
-            },
+            Command::Amend {
+                who, name, volumes, ..
+            } => self.amend_refusal(who, name, volumes),
+            Command::Cancel { who, name } => self.cancel_refusal(who, name),
             Command::Close => None,
         }
     }
@@ -135,22 +163,69 @@ impl<A: Allocator> Book<A> {
         requires { self.now.closed ≡ false }
         ensures { result ≡ refusal self.now (Command.Submit who.now name.now order.now) }
     {
-        if order.last_period().get() > self.periods {
+        if order.is_beyond(self.periods) {
             return Some(Reason::PeriodOutOfDay);
         }
-        if self.find(who, name).is_some() {
+        if let Some(_) = self.find(who, name) {
             return Some(Reason::NameTaken);
         }
-        if order.is_hour() && self.hourly_count() >= MOST_HOURLY {
-            return Some(Reason::HourlyFull);
+        match order {
+            Order::Hour(_) if self.hourly >= MOST_HOURLY => Some(Reason::HourlyFull),
+            Order::Hour(_) => None,
+            Order::Block(block) => self.block_refusal(who, block),
+        }
+    }
+
+    // The reasons that look at the parent of a new block and at the room for it.
+    fn block_refusal(&self, who: &Participant, block: &BlockOrder) -> Option<Reason>
+        ensures { (name : _) → result ≡ find (applies self.now (Command.Submit who.now name (Order.Block block.now))) (Reason.UnknownParent ∷ Reason.ParentNotBlock ∷ Reason.HourlyFull ∷ Reason.BlocksFull ∷ Reason.HasChildren ∷ []) }
+    {
+        if let Some(parent) = block.parent() {
+            match self.find(who, parent) {
+                None => return Some(Reason::UnknownParent),
+                Some(Order::Hour(_)) => return Some(Reason::ParentNotBlock),
+                Some(Order::Block(_)) => {}
+            }
+        }
+        if self.blocks >= MOST_BLOCKS {
+            return Some(Reason::BlocksFull);
         }
         None
     }
 
-    fn hourly_count(&self) -> usize
-        ensures { result ≡ hourly_count self.now }
+    fn amend_refusal(&self, who: &Participant, name: &Name, volumes: &Volumes) -> Option<Reason>
+        requires { self.now.closed ≡ false }
+        ensures { (price : _) → result ≡ refusal self.now (Command.Amend who.now name.now price volumes.now) }
     {
-        self.rows.iter().filter(|row| row.1.is_hour()).count()
+        if volumes.is_beyond(self.periods) {
+            return Some(Reason::PeriodOutOfDay);
+        }
+        match self.find(who, name) {
+            None => Some(Reason::UnknownOrder),
+            Some(Order::Hour(_)) if volumes.pairs().len() != 1 => Some(Reason::WrongShape),
+            Some(_) => None,
+        }
+    }
+
+    fn cancel_refusal(&self, who: &Participant, name: &Name) -> Option<Reason>
+        requires { self.now.closed ≡ false }
+        ensures { result ≡ refusal self.now (Command.Cancel who.now name.now) }
+    {
+        let _parents_are_blocks = self.periods();
+        match self.find(who, name) {
+            None => Some(Reason::UnknownOrder),
+            Some(Order::Hour(_)) => None,
+            Some(Order::Block(_)) if self.has_children(who, name) => Some(Reason::HasChildren),
+            Some(Order::Block(_)) => None,
+        }
+    }
+
+    fn has_children(&self, who: &Participant, name: &Name) -> bool
+        ensures { result ≡ list_any (names_parent (who.now, name.now)) self.now.rows }
+    {
+        self.orders
+            .iter()
+            .any(|((owner, _), order)| order.has_parent(name) && *who == *owner)
     }
 
     fn add(&mut self, who: &Participant, name: &Name, order: &Order) -> Result<(), AllocError>
@@ -160,16 +235,48 @@ impl<A: Allocator> Book<A> {
     {
         let _who = who.as_bytes();
         let _name = name.as_bytes();
-        let _last = order.last_period();
-        self.rows.push(((who.copy(), name.copy()), order.copy()))?;
+        let _order = order.is_beyond(self.periods);
+        self.orders
+            .insert((who.copy(), name.copy()), order.copy())?;
+        if order.is_hour() {
+            self.hourly += 1;
+        } else {
+            self.blocks += 1;
+        }
+        Ok(())
+    }
+
+    fn amend(
+        &mut self,
+        who: &Participant,
+        name: &Name,
+        price: Price,
+        volumes: &Volumes,
+    ) -> Result<(), AllocError>
+        requires { refusal self.old (Command.Amend who.now name.now price volumes.now) ≡ None }
+        ensures ok { OnOk result (self.new ≡ carried_out self.old (Command.Amend who.now name.now price volumes.now)) }
+        ensures err { OnErr result (self.new ≡ self.old) }
+    {
+        let _cents = price.get();
+        let _pairs = volumes.pairs();
+        let key = (who.copy(), name.copy());
+        if let Some(order) = self.orders.get(&key) {
+            let order = order.amended(price, volumes);
+            self.orders.insert(key, order)?;
+        }
         Ok(())
     }
 
     fn remove(&mut self, who: &Participant, name: &Name)
+        requires { refusal self.old (Command.Cancel who.now name.now) ≡ None }
         ensures { self.new ≡ carried_out self.old (Command.Cancel who.now name.now) }
     {
-        if let Some(place) = place_of(&self.rows, who, name) {
-            self.rows.remove(place);
+        if let Some(order) = self.orders.shift_remove(&(who.copy(), name.copy())) {
+            if order.is_hour() {
+                self.hourly -= 1;
+            } else {
+                self.blocks -= 1;
+            }
         }
     }
 
@@ -178,18 +285,4 @@ impl<A: Allocator> Book<A> {
     {
         self.closed = true;
     }
-}
-
-/// The place of the participant's order of that name.
-fn place_of(rows: &[((Participant, Name), Order)], who: &Participant, name: &Name) -> Option<usize>
-    ensures found { option_and_then (λ i. option_map (λ r. r.1) (slice_get rows.now i)) result ≡ lookup (same_key (who.now, name.now)) rows.now }
-    ensures place { IfSome result (λ i. (i < length rows.now) × (remove rows.now i ≡ remove_entry (same_key (who.now, name.now)) rows.now)) }
-    ensures none { IfNone result (remove_entry (same_key (who.now, name.now)) rows.now ≡ rows.now) }
-{
-    for (place, row) in rows.iter().enumerate() {
-        if *who == row.0.0 && *name == row.0.1 {
-            return Some(place);
-        }
-    }
-    None
 }

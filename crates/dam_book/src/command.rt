@@ -2,6 +2,8 @@ ghost use Rattle.std.specs.Prelude.{◌≡◌};
 
 use crate::name::{Name, Participant};
 use crate::order::Order;
+use crate::price::Price;
+use crate::volumes::Volumes;
 
 /// What a participant or the operator asks of the book.
 #[derive(PartialEq, Eq, Hash, Debug, Drop)]
@@ -11,6 +13,14 @@ pub enum Command {
         who: Participant,
         name: Name,
         order: Order,
+    },
+    /// The participant's order of that name gets another limit price and other volumes, at its place;
+    /// an hourly order gets the period and the volume of the one pair.
+    Amend {
+        who: Participant,
+        name: Name,
+        price: Price,
+        volumes: Volumes,
     },
     /// The participant's order of that name leaves the book.
     Cancel { who: Participant, name: Name },
@@ -29,6 +39,17 @@ impl Command {
                 name: name.copy(),
                 order: order.copy(),
             },
+            Command::Amend {
+                who,
+                name,
+                price,
+                volumes,
+            } => Command::Amend {
+                who: who.copy(),
+                name: name.copy(),
+                price: *price,
+                volumes: volumes.copy(),
+            },
             Command::Cancel { who, name } => Command::Cancel {
                 who: who.copy(),
                 name: name.copy(),
@@ -43,14 +64,24 @@ impl Command {
 pub enum Reason {
     /// The book is closed; a further close is refused too.
     Closed,
-    /// A submit has a volume in a period that the day doesn't have.
+    /// A submit or an amend has a volume in a period that the day doesn't have.
     PeriodOutOfDay,
     /// A submit uses the name of an order that the participant has.
     NameTaken,
-    /// A cancel names an order that the participant doesn't have.
+    /// An amend or a cancel names an order that the participant doesn't have.
     UnknownOrder,
+    /// An amend gives an hourly order other than one period.
+    WrongShape,
+    /// A submit of a block names a parent that the participant doesn't have.
+    UnknownParent,
+    /// A submit of a block names an hourly order as its parent.
+    ParentNotBlock,
     /// A submit of an hourly order, where the book holds as many as it may.
     HourlyFull,
+    /// A submit of a block, where the book holds as many as it may.
+    BlocksFull,
+    /// A cancel of a block that another of the participant's blocks names as its parent.
+    HasChildren,
 }
 
 /// What the book answers to a command.

@@ -3,6 +3,8 @@
 
 mod book;
 mod command;
+mod fields;
+pub mod laws;
 mod limits;
 mod name;
 mod order;
@@ -14,9 +16,10 @@ mod volumes;
 
 pub use book::{BeginFault, Book};
 pub use command::{Command, Entry, Reason, Reply};
-pub use limits::MOST_HOURLY;
+pub use fields::{read_price, read_qty, read_volumes, write_price, write_qty, write_volumes};
+pub use limits::{MOST_BLOCKS, MOST_HOURLY};
 pub use name::{Name, Participant};
-pub use order::{HourOrder, Order, Side};
+pub use order::{BlockOrder, HourOrder, Order, Side};
 pub use period::Period;
 pub use price::Price;
 pub use quantity::Qty;

@@ -3,6 +3,7 @@ ghost use Rattle.std.specs.List.{list_all};
 ghost use Rattle.dam_book.specs.Name.{IsName, IsParticipant, is_letter_byte, is_name_byte};
 
 use arrayvec::ArrayVec;
+use std::alloc::AllocError;
 use std::marker::Model;
 
 /// The greatest number of bytes in an order's name.
@@ -15,7 +16,7 @@ pub const LONGEST_PARTICIPANT: usize = 8;
 /// `9` and `-`.
 ///
 /// A contract sees the bytes.
-#[derive(Clone, PartialEq, Eq, Hash, Debug, Drop)]
+#[derive(PartialEq, Eq, Hash, Debug, Drop)]
 pub struct Name {
     text: ArrayVec<u8, 12>,
 }
@@ -36,7 +37,7 @@ impl Model for Name {
 /// The code of a market participant: 1 to `LONGEST_PARTICIPANT` bytes of `A` to `Z`.
 ///
 /// A contract sees the bytes.
-#[derive(Clone, PartialEq, Eq, Hash, Debug, Drop)]
+#[derive(PartialEq, Eq, Hash, Debug, Drop)]
 pub struct Participant {
     code: ArrayVec<u8, 8>,
 }
@@ -87,6 +88,14 @@ fn text_of<const N: usize>(bytes: &[u8]) -> ArrayVec<u8, N>
     text
 }
 
+impl Clone for Name {
+    ghost is_clone = { λ x y. y ≡ x };
+
+    fn clone(&self) -> Result<Name, AllocError> {
+        Ok(self.copy())
+    }
+}
+
 impl Name {
     /// The name of these bytes, or `None` where they make no name.
     pub fn new(bytes: &[u8]) -> Option<Name>
@@ -114,6 +123,14 @@ impl Name {
         ensures valid { IsName self.now }
     {
         self.text.as_slice()
+    }
+}
+
+impl Clone for Participant {
+    ghost is_clone = { λ x y. y ≡ x };
+
+    fn clone(&self) -> Result<Participant, AllocError> {
+        Ok(self.copy())
     }
 }
 

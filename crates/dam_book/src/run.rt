@@ -10,7 +10,7 @@ use std::alloc::{AllocError, Allocator};
 ///
 /// An `Err` comes only where a growth was refused; the book then holds what the commands before
 /// that have made.
-pub fn replay<A: Allocator, B: Allocator>(
+pub fn replay<A: Allocator + Copy, B: Allocator>(
     alloc: B,
     book: &mut Book<A>,
     commands: &[Command],

@@ -1,5 +1,5 @@
 ghost use Rattle.std.specs.Prelude.{◌≡◌, ◌<◌, ◌≤◌, length, true, false, IfOk, IsErrOf};
-ghost use Rattle.dam_book.specs.Volumes.{ArePairs, IsVolumes, is_increasing};
+ghost use Rattle.dam_book.specs.Volumes.{ArePairs, IsVolumes, have_beyond, is_increasing};
 
 use crate::period::Period;
 use crate::quantity::Qty;
@@ -29,7 +29,7 @@ pub enum VolumesFault {
 ///
 /// A contract sees the list of the pairs. These are the hourly volumes of a profiled block order
 /// (EUPHEMIA Public Description, "Block Orders"); an hourly order has one pair.
-#[derive(Clone, PartialEq, Eq, Hash, Debug, Drop)]
+#[derive(PartialEq, Eq, Hash, Debug, Drop)]
 pub struct Volumes {
     pairs: ArrayVec<(Period, Qty), 25>,
 }
@@ -94,7 +94,7 @@ impl Volumes {
         })
     }
 
-    /// Equal volumes; unlike `clone`, it can't fail.
+    /// Equal volumes; it can't fail.
     pub fn copy(&self) -> Volumes
         ensures { result ≡ self.now }
     {
@@ -109,5 +109,15 @@ impl Volumes {
         ensures valid { IsVolumes self.now }
     {
         self.pairs.as_slice()
+    }
+
+    /// Whether there is a volume in a period above this number.
+    pub(crate) fn is_beyond(&self, periods: u8) -> bool
+        ensures { result ≡ have_beyond periods self.now }
+    {
+        self.pairs
+            .as_slice()
+            .iter()
+            .any(|(period, _)| period.get() > periods)
     }
 }
