@@ -26,6 +26,6 @@ equal_or_not false f = refl
 pub same_key-flipped : (k l : Key) → same_key k l ≡ false → same_key l k ≡ false
 same_key-flipped k l e =
     equal_or_not (same_key l k) (λ same.
-        let equal : l ≡ k = same_key-equal l k same in
-        let this : same_key k l ≡ true = ap (λ (x : Key). same_key k x) equal ∙ same_key-refl k in
-        absurd (cc))
+    let equal : l ≡ k = same_key-equal l k same in
+    let this : same_key k l ≡ true = ap (λ (x : Key). same_key k x) equal ∙ same_key-refl k in
+    absurd (cc))

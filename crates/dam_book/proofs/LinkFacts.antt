@@ -42,7 +42,7 @@ pub kind_at-lookup : (k : Key) (rs : List Row) (o : Order) → lookup (same_key 
 kind_at-lookup k [] o e = absurd (cc)
 kind_at-lookup k (x ∷ xs) o e =
     elim (same_key k x.0) as (λ b. cond b (Some x.1) (lookup (same_key k) xs) ≡ Some o → cond b (Some (is_block x.1)) (kind_at k xs) ≡ Some (is_block o))
-        [ true ↦ λ g. let same : x.1 ≡ o = cc in ap (λ (y : Order). Some (is_block y)) same | false ↦ λ g. kind_at-lookup k xs o g ] e
+    [ true ↦ λ g. let same : x.1 ≡ o = cc in ap (λ (y : Order). Some (is_block y)) same | false ↦ λ g. kind_at-lookup k xs o g ] e
 
 -- whether the parent of this participant, if any, is a block among the rows
 abbrev parent_stands : List Row → List ℕ → Option (List ℕ) → Bool
@@ -82,9 +82,9 @@ are_linked-served passes front other [] same named e = refl
 are_linked-served passes front other (x ∷ xs) same named e =
     let parts = linked_parts front x xs e in
     let more : (k : Key) → passes k ≡ true → kind_at k (other ++ x ∷ []) ≡ kind_at k (front ++ x ∷ []) =
-        λ k h. kind_at-append k other (x ∷ []) ∙ ap (λ (o : Option Bool). first_of o (kind_at k (x ∷ []))) (same k h) ∙ sym (kind_at-append k front (x ∷ [])) in
+    λ k h. kind_at-append k other (x ∷ []) ∙ ap (λ (o : Option Bool). first_of o (kind_at k (x ∷ []))) (same k h) ∙ sym (kind_at-append k front (x ∷ [])) in
     linked_cons other x xs (stands-served passes front other x.0.0 (parent_of x.1) same named.0 parts.0)
-        (are_linked-served passes (front ++ x ∷ []) (other ++ x ∷ []) xs more named.1 parts.1)
+    (are_linked-served passes (front ++ x ∷ []) (other ++ x ∷ []) xs more named.1 parts.1)
 
 -- A row more.
 
@@ -115,11 +115,12 @@ and_false false false e = refl
 NamesOnly-others : (gone : Key) (rs : List Row) → list_any (names_parent gone) rs ≡ false → NamesOnly (other_than gone) rs
 NamesOnly-others gone [] e = tt
 NamesOnly-others gone (x ∷ xs) e =
-    let parts = any_parts (names_parent gone x) (list_any (names_parent gone) xs) e in
-    ((λ p named.
-        let here : (is_parent gone.1 (Some p) && same_text gone.0 x.0.0) ≡ false = ap (λ (o : Option (List ℕ)). is_parent gone.1 o && same_text gone.0 x.0.0) (sym named) ∙ parts.0 in
-        ap (λ (b : Bool). not b) (and_false (same_text gone.1 p) (same_text gone.0 x.0.0) here)),
-    NamesOnly-others gone xs parts.1)
+    let parts = any_parts (names_parent gone x) (list_any (names_parent gone) xs) e in (
+      (λ p named.
+          let here : (is_parent gone.1 (Some p) && same_text gone.0 x.0.0) ≡ false = ap (λ (o : Option (List ℕ)). is_parent gone.1 o && same_text gone.0 x.0.0) (sym named) ∙ parts.0 in
+          ap (λ (b : Bool). not b) (and_false (same_text gone.1 p) (same_text gone.0 x.0.0) here)),
+      NamesOnly-others gone xs parts.1,
+    )
 
 not_true : (b : Bool) → not b ≡ true → b ≡ false
 not_true true e = cc
@@ -129,14 +130,15 @@ pub are_linked-remove_entry : (front rs : List Row) (gone : Key) → NamesOnly (
 are_linked-remove_entry front [] gone named e = refl
 are_linked-remove_entry front (x ∷ xs) gone named e =
     let parts = linked_parts front x xs e in
-    elim (same_key gone x.0) as (λ b. same_key gone x.0 ≡ b → are_linked front (cond b xs (x ∷ remove_entry (same_key gone) xs)) ≡ true)
-        [ true ↦ λ hit.
-            let without : (k : Key) → other_than gone k ≡ true → kind_at k front ≡ kind_at k (front ++ x ∷ []) = λ k h.
-                let apart : same_key k x.0 ≡ false = ap (λ (l : Key). same_key k l) (sym (same_key-equal gone x.0 hit)) ∙ same_key-flipped gone k (not_true (same_key gone k) h) in
-                let none : kind_at k (x ∷ []) ≡ None = ap (λ (b : Bool). cond b (Some (is_block x.1)) None) apart in
-                sym (kind_at-append k front (x ∷ []) ∙ ap (λ (o : Option Bool). first_of (kind_at k front) o) none ∙ first_of-none (kind_at k front)) in
-            are_linked-served (other_than gone) (front ++ x ∷ []) front xs without named.1 parts.1
-        | false ↦ λ miss. linked_cons front x (remove_entry (same_key gone) xs) parts.0 (are_linked-remove_entry (front ++ x ∷ []) xs gone named.1 parts.1) ] refl
+    elim (same_key gone x.0) as (λ b. same_key gone x.0 ≡ b → are_linked front (cond b xs (x ∷ remove_entry (same_key gone) xs)) ≡ true) [
+      | true ↦ λ hit.
+          let without : (k : Key) → other_than gone k ≡ true → kind_at k front ≡ kind_at k (front ++ x ∷ []) = λ k h.
+          let apart : same_key k x.0 ≡ false = ap (λ (l : Key). same_key k l) (sym (same_key-equal gone x.0 hit)) ∙ same_key-flipped gone k (not_true (same_key gone k) h) in
+          let none : kind_at k (x ∷ []) ≡ None = ap (λ (b : Bool). cond b (Some (is_block x.1)) None) apart in
+          sym (kind_at-append k front (x ∷ []) ∙ ap (λ (o : Option Bool). first_of (kind_at k front) o) none ∙ first_of-none (kind_at k front)) in
+          are_linked-served (other_than gone) (front ++ x ∷ []) front xs without named.1 parts.1
+      | false ↦ λ miss. linked_cons front x (remove_entry (same_key gone) xs) parts.0 (are_linked-remove_entry (front ++ x ∷ []) xs gone named.1 parts.1)
+    ] refl
 
 pub are_linked-removed : (rs : List Row) (gone : Key) → list_any (names_parent gone) rs ≡ false → are_linked [] rs ≡ true → are_linked [] (remove_entry (same_key gone) rs) ≡ true
 are_linked-removed rs gone free e = are_linked-remove_entry [] rs gone (NamesOnly-others gone rs free) e
@@ -153,14 +155,15 @@ are_linked-changed front [] k f kinds parents e = refl
 are_linked-changed front (x ∷ xs) k f kinds parents e =
     let parts = linked_parts front x xs e in
     let y : Row = (x.0, f x.1) in
-    elim (same_key k x.0) as (λ b. are_linked front (cond b ((x.0, f x.1) ∷ xs) (x ∷ changed k f xs)) ≡ true)
-        [ true ↦
-            let alike : (q : Key) → kind_at q (y ∷ []) ≡ kind_at q (x ∷ []) = λ q. ap (λ (b : Bool). cond (same_key q x.0) (Some b) None) (kinds x.1) in
-            let same : (q : Key) → true ≡ true → kind_at q (front ++ y ∷ []) ≡ kind_at q (front ++ x ∷ []) = λ q h.
-                kind_at-append q front (y ∷ []) ∙ ap (λ (o : Option Bool). first_of (kind_at q front) o) (alike q) ∙ sym (kind_at-append q front (x ∷ [])) in
-            linked_cons front y xs (ap (λ (o : Option (List ℕ)). parent_stands front x.0.0 o) (parents x.1) ∙ parts.0)
-                (are_linked-served (λ q. true) (front ++ x ∷ []) (front ++ y ∷ []) xs same (NamesOnly-any xs) parts.1)
-        | false ↦ linked_cons front x (changed k f xs) parts.0 (are_linked-changed (front ++ x ∷ []) xs k f kinds parents parts.1) ]
+    elim (same_key k x.0) as (λ b. are_linked front (cond b ((x.0, f x.1) ∷ xs) (x ∷ changed k f xs)) ≡ true) [
+      | true ↦
+          let alike : (q : Key) → kind_at q (y ∷ []) ≡ kind_at q (x ∷ []) = λ q. ap (λ (b : Bool). cond (same_key q x.0) (Some b) None) (kinds x.1) in
+          let same : (q : Key) → true ≡ true → kind_at q (front ++ y ∷ []) ≡ kind_at q (front ++ x ∷ []) = λ q h.
+          kind_at-append q front (y ∷ []) ∙ ap (λ (o : Option Bool). first_of (kind_at q front) o) (alike q) ∙ sym (kind_at-append q front (x ∷ [])) in
+          linked_cons front y xs (ap (λ (o : Option (List ℕ)). parent_stands front x.0.0 o) (parents x.1) ∙ parts.0)
+          (are_linked-served (λ q. true) (front ++ x ∷ []) (front ++ y ∷ []) xs same (NamesOnly-any xs) parts.1)
+      | false ↦ linked_cons front x (changed k f xs) parts.0 (are_linked-changed (front ++ x ∷ []) xs k f kinds parents parts.1)
+    ]
 
 -- An hourly order has no children.
 
@@ -179,10 +182,10 @@ childless : (k : Key) (front : List Row) (x : Row) (parent : Option (List ℕ)) 
 childless k front x None stands hour = refl
 childless k front x (Some p) stands hour =
     by_case (same_text k.1 p) (same_text k.0 x.0.0) (λ same_name same_who.
-        let name : k.1 ≡ p = (bytes_decides k.1 p).0 same_name in
-        let who : k.0 ≡ x.0.0 = (bytes_decides k.0 x.0.0).0 same_who in
-        let key : (x.0.0, p) ≡ k = ap₂ (λ (a b : List ℕ). let q : Key = (a, b) in q) (sym who) (sym name) in
-        hour (ap (λ (q : Key). kind_at q front) (sym key) ∙ true_at (kind_at (x.0.0, p) front) stands))
+    let name : k.1 ≡ p = (bytes_decides k.1 p).0 same_name in
+    let who : k.0 ≡ x.0.0 = (bytes_decides k.0 x.0.0).0 same_who in
+    let key : (x.0.0, p) ≡ k = ap₂ (λ (a b : List ℕ). let q : Key = (a, b) in q) (sym who) (sym name) in
+    hour (ap (λ (q : Key). kind_at q front) (sym key) ∙ true_at (kind_at (x.0.0, p) front) stands))
   where
     by_case : (a b : Bool) → (a ≡ true → b ≡ true → false ≡ true) → (a && b) ≡ false
     by_case true true f = sym (f refl refl)

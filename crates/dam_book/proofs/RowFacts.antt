@@ -26,7 +26,7 @@ lookup-remove_none : (test other : Key → Bool) (rs : List Row) → lookup test
 lookup-remove_none test other [] e = refl
 lookup-remove_none test other (x ∷ xs) e =
     elim (test x.0) as (λ b. test x.0 ≡ b → cond b (Some x.1) (lookup test xs) ≡ None → lookup test (cond (other x.0) xs (x ∷ remove_entry other xs)) ≡ None)
-        [ true ↦ λ t g. absurd (cc) | false ↦ λ t g. elim (other x.0) as (λ o. lookup test (cond o xs (x ∷ remove_entry other xs)) ≡ None) [ true ↦ g | false ↦ rw t (lookup-remove_none test other xs g) ] ] refl e
+    [ true ↦ λ t g. absurd (cc) | false ↦ λ t g. elim (other x.0) as (λ o. lookup test (cond o xs (x ∷ remove_entry other xs)) ≡ None) [ true ↦ g | false ↦ rw t (lookup-remove_none test other xs g) ] ] refl e
 
 pub is_none : (o : Option Order) → not (is_some o) ≡ true → o ≡ None
 is_none None e = refl
@@ -51,15 +51,15 @@ are_unique-push (x ∷ xs) r u e =
     let first = lookup-first x xs u in
     let apart = none_head (same_key r.0 x.0) x.1 (lookup (same_key r.0) xs) e in
     unique_cons x (xs ++ r ∷ [])
-        (lookup-push_none (same_key x.0) xs r first.0 (same_key-flipped r.0 x.0 apart.0))
-        (are_unique-push xs r first.1 apart.1)
+    (lookup-push_none (same_key x.0) xs r first.0 (same_key-flipped r.0 x.0 apart.0))
+    (are_unique-push xs r first.1 apart.1)
 
 pub are_unique-remove_entry : (test : Key → Bool) (rs : List Row) → are_unique rs ≡ true → are_unique (remove_entry test rs) ≡ true
 are_unique-remove_entry test [] u = refl
 are_unique-remove_entry test (x ∷ xs) u =
     let first = lookup-first x xs u in
     elim (test x.0) as (λ b. are_unique (cond b xs (x ∷ remove_entry test xs)) ≡ true)
-        [ true ↦ first.1 | false ↦ unique_cons x (remove_entry test xs) (lookup-remove_none (same_key x.0) test xs first.0) (are_unique-remove_entry test xs first.1) ]
+    [ true ↦ first.1 | false ↦ unique_cons x (remove_entry test xs) (lookup-remove_none (same_key x.0) test xs first.0) (are_unique-remove_entry test xs first.1) ]
 
 pub count_by-cons : (p : Row → Bool) (x : Row) (xs : List Row) → count_by p (x ∷ xs) ≡ cond (p x) 1 0 + count_by p xs
 count_by-cons p x xs =
@@ -74,10 +74,11 @@ count_by-remove_entry test kind (x ∷ xs) o e =
     let p : Row → Bool = λ r. kind r.1 in
     let before = count_by-cons p x xs in
     let after = count_by-cons p x (remove_entry test xs) in
-    elim (test x.0) as (λ b. cond b (Some x.1) (lookup test xs) ≡ Some o → count_by p (cond b xs (x ∷ remove_entry test xs)) + cond (kind o) 1 0 ≡ count_by p (x ∷ xs))
-        [ true ↦ λ g.
-            let same : x.1 ≡ o = cc in
-            let one : Order → ℕ = λ y. cond (kind y) 1 0 in
-            let kinds : one x.1 ≡ one o = ap one same in
-            omega (arith, before, kinds)
-        | false ↦ λ g. omega (arith, before, after, count_by-remove_entry test kind xs o g) ] e
+    elim (test x.0) as (λ b. cond b (Some x.1) (lookup test xs) ≡ Some o → count_by p (cond b xs (x ∷ remove_entry test xs)) + cond (kind o) 1 0 ≡ count_by p (x ∷ xs)) [
+      | true ↦ λ g.
+          let same : x.1 ≡ o = cc in
+          let one : Order → ℕ = λ y. cond (kind y) 1 0 in
+          let kinds : one x.1 ≡ one o = ap one same in
+          omega (arith, before, kinds)
+      | false ↦ λ g. omega (arith, before, after, count_by-remove_entry test kind xs o g)
+    ] e

@@ -120,9 +120,11 @@ Kept-remove b rows who name o hourly blocks removed found kept e =
     let others = count_by-remove_entry (same_key (who, name)) is_block b.rows o found in
     let less = IsBook-remove b who name o found kept.0 (clear_from_refusal b (Cancel who name) e) in
     let counted : hourly - cond (is_hour o) 1 0 ≡ hourly_count (remove_entry (same_key (who, name)) b.rows) = omega (arith, hours, kept.1) in
-    let blocked : blocks - cond (is_block o) 1 0 ≡ block_count (remove_entry (same_key (who, name)) b.rows) = omega (arith, others, kept.2) in
-    (subst (λ (rs : List Row). Kept (record b { rows = rs }) (hourly - cond (is_hour o) 1 0) (blocks - cond (is_block o) 1 0)) (sym removed) (less, counted, blocked),
-    omega (arith, hours, kept.1), omega (arith, others, kept.2))
+    let blocked : blocks - cond (is_block o) 1 0 ≡ block_count (remove_entry (same_key (who, name)) b.rows) = omega (arith, others, kept.2) in (
+      subst (λ (rs : List Row). Kept (record b { rows = rs }) (hourly - cond (is_hour o) 1 0) (blocks - cond (is_block o) 1 0)) (sym removed) (less, counted, blocked),
+      omega (arith, hours, kept.1),
+      omega (arith, others, kept.2),
+    )
 
 -- An amended order keeps its kind and its parent, and is within its limits.
 
@@ -165,7 +167,7 @@ Kept-changed b rows who name price volumes hourly blocks same kept ip iv e =
     let clear = clear_from_refusal b (Amend who name price volumes) e in
     let f : Order → Order = amended price volumes in
     let row : (r : Row) → IsRow b.periods r → IsRow b.periods (r.0, f r.1) =
-        λ r is. record { who = is.who; name = is.name; order = IsOrder-amended price volumes r.1 ip iv is.order; in_day = is_beyond-amended b.periods price volumes r.1 clear.in_day is.in_day } in
+    λ r is. record { who = is.who; name = is.name; order = IsOrder-amended price volumes r.1 ip iv is.order; in_day = is_beyond-amended b.periods price volumes r.1 clear.in_day is.in_day } in
     let hours = count_by-changed (who, name) f is_hour (is_hour-amended price volumes) b.rows in
     let others = count_by-changed (who, name) f is_block (is_block-amended price volumes) b.rows in
     let book : IsBook (record b { rows = changed (who, name) f b.rows }) = record {
@@ -259,7 +261,7 @@ changes b old rows who who' name name' price volumes order order' same w n found
     let clear : refusal b (Amend who name price volumes) ≡ None = ap (λ (x : BookState). refusal x (Amend who name price volumes)) same ∙ e in
     let there : lookup (same_key (who, name)) b.rows ≡ Some order = ap (λ (x : List ℕ). lookup (same_key (x, name)) b.rows) (sym w) ∙ ap (λ (x : List ℕ). lookup (same_key (who', x)) b.rows) (sym n) ∙ found in
     let at : rows ≡ changed (who, name) (amended price volumes) b.rows =
-        into ∙ inserted b.rows who who' name name' (amended price volumes order) order' w n o ∙ insert_entry-changed b.rows (who, name) (amended price volumes) order there in
+    into ∙ inserted b.rows who who' name name' (amended price volumes order) order' w n o ∙ insert_entry-changed b.rows (who, name) (amended price volumes) order there in
     record {
       changed_at = at;
       clear = clear;

@@ -152,7 +152,10 @@ impl<A: Allocator + Copy> Book<A> {
         match command {
             Command::Submit { who, name, order } => self.submit_refusal(who, name, order),
             Command::Amend {
-                who, name, volumes, ..
+                who,
+                name,
+                volumes,
+                ..
             } => self.amend_refusal(who, name, volumes),
             Command::Cancel { who, name } => self.cancel_refusal(who, name),
             Command::Close => None,
@@ -223,9 +226,7 @@ impl<A: Allocator + Copy> Book<A> {
     fn has_children(&self, who: &Participant, name: &Name) -> bool
         ensures { result ≡ list_any (names_parent (who.now, name.now)) self.now.rows }
     {
-        self.orders
-            .iter()
-            .any(|((owner, _), order)| order.has_parent(name) && *who == *owner)
+        self.orders.iter().any(|((owner, _), order)| order.has_parent(name) && *who == *owner)
     }
 
     fn add(&mut self, who: &Participant, name: &Name, order: &Order) -> Result<(), AllocError>
@@ -236,8 +237,7 @@ impl<A: Allocator + Copy> Book<A> {
         let _who = who.as_bytes();
         let _name = name.as_bytes();
         let _order = order.is_beyond(self.periods);
-        self.orders
-            .insert((who.copy(), name.copy()), order.copy())?;
+        self.orders.insert((who.copy(), name.copy()), order.copy())?;
         if order.is_hour() {
             self.hourly += 1;
         } else {

@@ -23,7 +23,10 @@ pub enum Command {
         volumes: Volumes,
     },
     /// The participant's order of that name leaves the book.
-    Cancel { who: Participant, name: Name },
+    Cancel {
+        who: Participant,
+        name: Name,
+    },
     /// The book takes no more orders.
     Close,
 }

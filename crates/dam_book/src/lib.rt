@@ -25,3 +25,6 @@ pub use price::Price;
 pub use quantity::Qty;
 pub use run::replay;
 pub use volumes::{Volumes, VolumesFault};
+
+#[cfg(test)]
+mod tests;

@@ -1,0 +1,97 @@
+use super::*;
+use std::test::Fail;
+
+#[test]
+fn ranges_of_numbers(rt: HostRuntime) {
+    for (cents, fits) in [
+        (-50_001, false),
+        (-50_000, true),
+        (400_000, true),
+        (400_001, false),
+    ] {
+        assert_eq!(rt;
+            Price::new(cents).map(|price| price.get()),
+            if fits { Some(cents) } else { None }
+        );
+    }
+    for (tenths, fits) in [(0, false), (1, true), (99_999, true), (100_000, false)] {
+        assert_eq!(rt;
+            Qty::new(tenths).map(|qty| qty.get()),
+            if fits { Some(tenths) } else { None }
+        );
+    }
+    for (number, fits) in [(0, false), (1, true), (25, true), (26, false)] {
+        assert_eq!(rt;
+            Period::new(number).map(|period| period.get()),
+            if fits { Some(number) } else { None }
+        );
+    }
+}
+
+#[test]
+fn ranges_of_texts(rt: HostRuntime) {
+    for (text, fits) in [
+        (b"B-1".as_slice(), true),
+        (b"ABCDEFGHIJKL".as_slice(), true),
+        (b"ABCDEFGHIJKLM".as_slice(), false),
+        (b"".as_slice(), false),
+        (b"b1".as_slice(), false),
+        (b"B 1".as_slice(), false),
+    ] {
+        match Name::new(text) {
+            Some(name) => assert!(rt; fits && name.copy().as_bytes() == text),
+            None => assert!(rt; !fits),
+        }
+    }
+    for (code, fits) in [
+        (b"A".as_slice(), true),
+        (b"ABCDEFGH".as_slice(), true),
+        (b"ABCDEFGHI".as_slice(), false),
+        (b"".as_slice(), false),
+        (b"A1".as_slice(), false),
+        (b"a".as_slice(), false),
+    ] {
+        match Participant::new(code) {
+            Some(who) => assert!(rt; fits && who.copy().as_bytes() == code),
+            None => assert!(rt; !fits),
+        }
+    }
+}
+
+#[test]
+fn faults_of_volumes(rt: HostRuntime) -> Result<(), Fail> {
+    let one = Period::new(1).ok_or("a period")?;
+    let two = Period::new(2).ok_or("a period")?;
+    let qty = Qty::new(10).ok_or("a volume")?;
+    assert_eq!(rt; Volumes::new(&[]).err(), Some(VolumesFault::NoVolume));
+    assert_eq!(rt;
+        Volumes::new(&[(one, qty); 26]).err(),
+        Some(VolumesFault::TooManyPeriods)
+    );
+    assert_eq!(rt;
+        Volumes::new(&[(one, qty); 25]).err(),
+        Some(VolumesFault::PeriodsNotIncreasing)
+    );
+    assert_eq!(rt;
+        Volumes::new(&[(two, qty), (one, qty)]).err(),
+        Some(VolumesFault::PeriodsNotIncreasing)
+    );
+    let volumes = Volumes::new(&[(one, qty), (two, qty)])
+        .ok()
+        .ok_or("volumes")?;
+    assert!(rt; volumes.copy().pairs() == [(one, qty), (two, qty)].as_slice());
+    Ok(())
+}
+
+#[test]
+fn days(rt: HostRuntime) -> Result<(), Fail> {
+    for periods in [0, 22, 26, 255] {
+        assert!(rt; matches!(Book::begin(rt.alloc(), periods), Err(BeginFault::BadDay)));
+    }
+    for periods in [23, 24, 25] {
+        let book = Book::begin(rt.alloc(), periods)?;
+        assert_eq!(rt; book.periods(), periods);
+        assert!(rt; !book.is_closed() && book.is_empty());
+    }
+    Ok(())
+}

@@ -1,0 +1,10 @@
+pub mod Machine
+pub mod Fields
+pub mod Left
+pub mod Rules
+pub mod Faults
+pub mod Written
+pub mod Sound
+pub mod Spelled
+pub mod FieldBytes
+pub mod WrittenFacts

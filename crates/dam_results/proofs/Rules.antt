@@ -1,0 +1,61 @@
+-- Which fields keep their rules.
+use Rattle.std.proofs.Common.{◌≡◌, ℕ, ◌<◌, ◌≤◌, ◌⊎◌, inl, inr, Bool, true, false, nat_lt, List, [], ◌∷◌, length, refl, codes, decimal, arith, ◌∙◌, sym, subst, Result, Ok, Err, MatchResult}
+use Rattle.std.specs.List.{list_any}
+use Rattle.std.specs.Str.{bytes_eq}
+use Rattle.std.proofs.lemmas.Bool.{lt-ltb}
+use Rattle.std.proofs.lemmas.Bool.Decides.{nat_tests}
+use Rattle.dam_book.specs.Period.{IsPeriod}
+use Rattle.dam_book.specs.Quantity.{IsQuantity}
+use Rattle.dam_book.specs.Volumes.{IsVolumes}
+use Rattle.dam_book.specs.Book.{is_day}
+use Rattle.dam_results.specs.Records.{Fields, form_field}
+use Rattle.dam_results.specs.Rules.{Periods, Keeps, IsLeastBroken, command_rules, form_rules, hour_rules, block_rules, submit_of, submit_rules}
+use Rattle.itoa.proofs.Decimal.{decimal_two}
+
+-- the days by their numbers of periods
+pub cases_day : (periods : ℕ) → is_day periods ≡ true → (periods ≡ 23) ⊎ (periods ≡ 24) ⊎ (periods ≡ 25)
+cases_day periods day = grind (arith, nat_tests)
+
+pub decimal_23 : decimal 23 ≡ codes "23"
+decimal_23 = decimal_two 23 (omega arith) (omega arith) ∙ refl
+
+pub decimal_24 : decimal 24 ≡ codes "24"
+decimal_24 = decimal_two 24 (omega arith) (omega arith) ∙ refl
+
+pub decimal_25 : decimal 25 ≡ codes "25"
+decimal_25 = decimal_two 25 (omega arith) (omega arith) ∙ refl
+
+pub Keeps-Periods : (field : List ℕ) → Keeps Periods field → list_any (bytes_eq field) (codes "23" ∷ codes "24" ∷ codes "25" ∷ []) ≡ true
+Keeps-Periods field k =
+    elim (cases_day k.0 k.1) [
+      | inl a ↦ let e : field ≡ codes "23" = cc (k.2, a, decimal_23) in rw e refl
+      | inr (inl b) ↦ let e : field ≡ codes "24" = cc (k.2, b, decimal_24) in rw e refl
+      | inr (inr d) ↦ let e : field ≡ codes "25" = cc (k.2, d, decimal_25) in rw e refl
+    ]
+
+-- one pair of a period and a volume makes volumes
+pub one_volume : (period qty : ℕ) → IsPeriod period → IsQuantity qty → IsVolumes ((period, qty) ∷ [])
+one_volume period qty p q =
+    let some : nat_lt 0 period ≡ true = lt-ltb 0 period (let h = p.at_least in omega arith) in
+    record { nonempty = omega arith; fits = omega arith; ranges = (p, q, tt); increasing = rw some refl }
+
+-- a first field that is no kind breaks its rule
+pub unknown_kind : (kind : List ℕ) (others : Fields) → bytes_eq kind (codes "submit") ≡ false → bytes_eq kind (codes "amend") ≡ false → bytes_eq kind (codes "cancel") ≡ false → bytes_eq kind (codes "close") ≡ false
+    → IsLeastBroken (command_rules (kind ∷ others)) (kind ∷ others) 1
+unknown_kind kind others a b c d = rw (a, b, c, d) (λ e. absurd (let g = rw (a, b, c, d) at e in cc))
+
+-- a fourth field of a submit that is no form of an order breaks its rule
+pub unknown_form : (form : List ℕ) (others : Fields) → bytes_eq form (codes "hour") ≡ false → bytes_eq form (codes "block") ≡ false → IsLeastBroken (form_rules form) (form ∷ others) 1
+unknown_form form others a b = rw (a, b) (λ e. absurd (let g = rw (a, b) at e in cc))
+
+-- the rules of a submit of each form
+pub hour_broken : (row : Fields) (n : ℕ) → form_field row ≡ codes "hour" → IsLeastBroken (submit_of hour_rules) row n → IsLeastBroken (submit_rules row) row n
+hour_broken row n e h = let P : List ℕ → Type 0 = λ form. IsLeastBroken (submit_of (form_rules form)) row n in subst P (sym e) h
+
+pub block_broken : (row : Fields) (n : ℕ) → form_field row ≡ codes "block" → IsLeastBroken (submit_of block_rules) row n → IsLeastBroken (submit_rules row) row n
+block_broken row n e h = let P : List ℕ → Type 0 = λ form. IsLeastBroken (submit_of (form_rules form)) row n in subst P (sym e) h
+
+-- another reason to fail
+pub other_fault : {A E : Type 0} (r : Result A E) (P : A → Type 0) (Q R : E → Type 0) → ((e : E) → Q e → R e) → MatchResult r P Q → MatchResult r P R
+other_fault (Ok x) P Q R f h = h
+other_fault (Err e) P Q R f h = f e h

@@ -1,0 +1,160 @@
+-- Written records: different commands have different records, and each keeps its rules.
+use Rattle.std.proofs.Common.{◌≡◌, ℕ, ℤ, zero, suc, ◌+◌, ◌^◌, ◌<◌, ◌≤◌, ◌⊎◌, inl, inr, Bool, true, false, List, [], ◌∷◌, ◌++◌, length, Option, None, Some, IfSome, map, refl, sym, ap, subst, ◌∙◌, arith, codes, decimal}
+use Rattle.std.specs.List.{AllByRecursion}
+use Rattle.std.proofs.lemmas.Fmt.{decimal_injective}
+use Rattle.dam_book.specs.Price.{IsPrice}
+use Rattle.dam_book.specs.Volumes.{Pair, IsVolumes}
+use Rattle.dam_book.specs.Fields.{price_text, volumes_text}
+use Rattle.dam_book.specs.Name.{IsName}
+use Rattle.dam_book.specs.Terms.{HourTerms, BlockTerms, IsHourOrder, IsBlockOrder}
+use Rattle.dam_book.specs.Order.{IsOrder}
+use Rattle.dam_book.specs.Book.{is_day}
+use Rattle.dam_book.specs.declared.order.Side.{Side}
+use Rattle.dam_book.specs.declared.order.Side.TheVariants.{Buy, Sell}
+use Rattle.dam_book.specs.declared.order.Order.{Order}
+use Rattle.dam_book.specs.declared.order.Order.TheVariants.{Hour, Block}
+use Rattle.dam_book.specs.declared.command.Command.{Command}
+use Rattle.dam_book.specs.declared.command.Command.TheVariants.{Submit, Amend, Cancel, Close}
+use Rattle.dam_results.specs.Records.{Fields, kind_field, day_row, row_of, order_fields, optional_text, side_word}
+use Rattle.dam_results.specs.Rules.{FieldRule, Keeps, IsLeastBroken, rules_of, command_rules, day_rules}
+use Rattle.dam_results.specs.Journal.{AreRecords, IsCommand}
+use Rattle.dam_results.proofs.Rules.{one_volume, cases_day}
+
+-- what the texts of prices and volumes owe
+pub record TextsDiffer : Type 0 where
+  pub prices : (p q : ℤ) → IsPrice p → IsPrice q → price_text p ≡ price_text q → p ≡ q
+  pub volumes : (v w : List Pair) → IsVolumes v → IsVolumes w → volumes_text v ≡ volumes_text w → v ≡ w
+
+abbrev terms : Side → ℤ → ℕ → ℕ → HourTerms
+terms side price period qty = record { side = side; price = price; period = period; qty = qty }
+
+side_word-injective : (a b : Side) → side_word a ≡ side_word b → a ≡ b
+side_word-injective Buy Buy e = refl
+side_word-injective Buy Sell e = absurd cc
+side_word-injective Sell Buy e = absurd cc
+side_word-injective Sell Sell e = refl
+
+abbrev first_pair : List Pair → Pair
+first_pair [] = (0, 0)
+first_pair (p ∷ ps) = p
+
+same_terms : (s t : Side) (p q : ℤ) (i j x y : ℕ) → s ≡ t → p ≡ q → i ≡ j → x ≡ y → terms s p i x ≡ terms t q j y
+same_terms s t p q i j x y a b d e = cc
+
+abbrev block_terms : Side → ℤ → List Pair → Option (List ℕ) → Option (List ℕ) → BlockTerms
+block_terms side price volumes parent group = record { side = side; price = price; volumes = volumes; parent = parent; group = group }
+
+same_block : (s t : Side) (p q : ℤ) (v w : List Pair) (a b c d : Option (List ℕ)) → s ≡ t → p ≡ q → v ≡ w → a ≡ b → c ≡ d → block_terms s p v a c ≡ block_terms t q w b d
+same_block s t p q v w a b c d e f g h k = cc
+
+-- a name is not empty, so the text of an optional name says whether there is one
+optional_text-injective : (a b : Option (List ℕ)) → IfSome a IsName → IfSome b IsName → optional_text a ≡ optional_text b → a ≡ b
+optional_text-injective None None h k e = refl
+optional_text-injective None (Some b) h k e = absurd (let n = k.nonempty in let l : length b ≡ 0 = ap length (sym e) in omega arith)
+optional_text-injective (Some a) None h k e = absurd (let n = h.nonempty in let l : length a ≡ 0 = ap length e in omega arith)
+optional_text-injective (Some a) (Some b) h k e = ap (λ (x : List ℕ). Some x) e
+
+same_hour : TextsDiffer → (o r : HourTerms) → IsHourOrder o → IsHourOrder r → order_fields (Hour o) ≡ order_fields (Hour r) → o ≡ r
+same_hour differ o r h k e =
+    let sides : side_word o.side ≡ side_word r.side = cc in
+    let prices : price_text o.price ≡ price_text r.price = cc in
+    let texts : volumes_text ((o.period, o.qty) ∷ []) ≡ volumes_text ((r.period, r.qty) ∷ []) = cc in
+    let pairs : (o.period, o.qty) ∷ [] ≡ (r.period, r.qty) ∷ [] =
+    differ.volumes _ _ (one_volume o.period o.qty h.period h.qty) (one_volume r.period r.qty k.period k.qty) texts in
+    same_terms _ _ _ _ _ _ _ _ (side_word-injective o.side r.side sides) (differ.prices o.price r.price h.price k.price prices)
+    (ap (λ (ps : List Pair). (first_pair ps).0) pairs) (ap (λ (ps : List Pair). (first_pair ps).1) pairs)
+
+same_block_order : TextsDiffer → (o r : BlockTerms) → IsBlockOrder o → IsBlockOrder r → order_fields (Block o) ≡ order_fields (Block r) → o ≡ r
+same_block_order differ o r h k e =
+    let sides : side_word o.side ≡ side_word r.side = cc in
+    let prices : price_text o.price ≡ price_text r.price = cc in
+    let volumes : volumes_text o.volumes ≡ volumes_text r.volumes = cc in
+    let parents : optional_text o.parent ≡ optional_text r.parent = cc in
+    let groups : optional_text o.group ≡ optional_text r.group = cc in
+    same_block _ _ _ _ _ _ _ _ _ _ (side_word-injective o.side r.side sides) (differ.prices o.price r.price h.price k.price prices)
+    (differ.volumes o.volumes r.volumes h.volumes k.volumes volumes) (optional_text-injective o.parent r.parent h.parent k.parent parents) (optional_text-injective o.group r.group h.group k.group groups)
+
+same_order : TextsDiffer → (o r : Order) → IsOrder o → IsOrder r → order_fields o ≡ order_fields r → o ≡ r
+same_order differ (Hour o) (Hour r) h k e = ap (λ (t : HourTerms). Hour t) (same_hour differ o r h k e)
+same_order differ (Hour o) (Block r) h k e = absurd cc
+same_order differ (Block o) (Hour r) h k e = absurd cc
+same_order differ (Block o) (Block r) h k e = ap (λ (t : BlockTerms). Block t) (same_block_order differ o r h k e)
+
+less_apart : (m n : ℕ) → m < n → m ≡ n → ⊥
+less_apart m n l e = omega arith
+
+-- the kinds differ in a byte
+abbrev first_byte : List ℕ → ℕ
+first_byte [] = 0
+first_byte (b ∷ bs) = b
+
+abbrev second_byte : List ℕ → ℕ
+second_byte [] = 0
+second_byte (b ∷ bs) = first_byte bs
+
+submit-amend : codes "submit" ≡ codes "amend" → ⊥
+submit-amend e = less_apart 97 115 (omega arith) (sym (ap first_byte e))
+
+submit-cancel : codes "submit" ≡ codes "cancel" → ⊥
+submit-cancel e = less_apart 99 115 (omega arith) (sym (ap first_byte e))
+
+submit-close : codes "submit" ≡ codes "close" → ⊥
+submit-close e = less_apart 99 115 (omega arith) (sym (ap first_byte e))
+
+amend-cancel : codes "amend" ≡ codes "cancel" → ⊥
+amend-cancel e = less_apart 97 99 (omega arith) (ap first_byte e)
+
+amend-close : codes "amend" ≡ codes "close" → ⊥
+amend-close e = less_apart 97 99 (omega arith) (ap first_byte e)
+
+cancel-close : codes "cancel" ≡ codes "close" → ⊥
+cancel-close e = less_apart 97 108 (omega arith) (ap second_byte e)
+
+row_of-injective : TextsDiffer → (c d : Command) → IsCommand c → IsCommand d → row_of c ≡ row_of d → c ≡ d
+row_of-injective differ (Submit a m o) (Submit b n r) h k e =
+    let who : a ≡ b = cc in
+    let name : m ≡ n = cc in
+    let fields : order_fields o ≡ order_fields r = cc in
+    let same : o ≡ r = same_order differ o r h.2 k.2 fields in
+    cc
+row_of-injective differ (Submit a m o) (Amend b n p v) h k e = absurd (submit-amend (ap kind_field e))
+row_of-injective differ (Submit a m o) (Cancel b n) h k e = absurd (submit-cancel (ap kind_field e))
+row_of-injective differ (Submit a m o) Close h k e = absurd (submit-close (ap kind_field e))
+row_of-injective differ (Amend a m p v) (Submit b n r) h k e = absurd (submit-amend (ap kind_field (sym e)))
+row_of-injective differ (Amend a m p v) (Amend b n q w) h k e =
+    let who : a ≡ b = cc in
+    let name : m ≡ n = cc in
+    let prices : price_text p ≡ price_text q = cc in
+    let texts : volumes_text v ≡ volumes_text w = cc in
+    let price : p ≡ q = differ.prices p q h.2 k.2 prices in
+    let volumes : v ≡ w = differ.volumes v w h.3 k.3 texts in
+    cc
+row_of-injective differ (Amend a m p v) (Cancel b n) h k e = absurd (amend-cancel (ap kind_field e))
+row_of-injective differ (Amend a m p v) Close h k e = absurd (amend-close (ap kind_field e))
+row_of-injective differ (Cancel a m) (Submit b n r) h k e = absurd (submit-cancel (ap kind_field (sym e)))
+row_of-injective differ (Cancel a m) (Amend b n q w) h k e = absurd (amend-cancel (ap kind_field (sym e)))
+row_of-injective differ (Cancel a m) (Cancel b n) h k e = cc
+row_of-injective differ (Cancel a m) Close h k e = absurd (cancel-close (ap kind_field e))
+row_of-injective differ Close (Submit b n r) h k e = absurd (submit-close (ap kind_field (sym e)))
+row_of-injective differ Close (Amend b n q w) h k e = absurd (amend-close (ap kind_field (sym e)))
+row_of-injective differ Close (Cancel b n) h k e = absurd (cancel-close (ap kind_field (sym e)))
+row_of-injective differ Close Close h k e = refl
+
+rows-injective : TextsDiffer → (cs ds : List Command) → AllByRecursion IsCommand cs → AllByRecursion IsCommand ds → map row_of cs ≡ map row_of ds → cs ≡ ds
+rows-injective differ [] [] h k e = refl
+rows-injective differ [] (d ∷ ds) h k e = absurd cc
+rows-injective differ (c ∷ cs) [] h k e = absurd cc
+rows-injective differ (c ∷ cs) (d ∷ ds) h k e =
+    let first : c ≡ d = row_of-injective differ c d h.0 k.0 (cc) in
+    let others : cs ≡ ds = rows-injective differ cs ds h.1 k.1 (cc) in
+    cc
+
+small_day : (periods : ℕ) → is_day periods ≡ true → periods < 2 ^ 64
+small_day periods day = elim (cases_day periods day) [ inl a ↦ omega arith | inr (inl b) ↦ omega arith | inr (inr d) ↦ omega arith ]
+
+-- records are at most one journal
+pub AreRecords-one : TextsDiffer → (rows : List Fields) (p q : ℕ) (cs ds : List Command) → AreRecords rows p cs → AreRecords rows q ds → (p ≡ q) × (cs ≡ ds)
+AreRecords-one differ rows p q cs ds h k =
+    let e : day_row p ∷ map row_of cs ≡ day_row q ∷ map row_of ds = sym h.written ∙ k.written in
+    let texts : decimal p ≡ decimal q = cc in
+    (decimal_injective p q (small_day p h.day) (small_day q k.day) texts, rows-injective differ cs ds h.valid k.valid (cc))

@@ -1,0 +1,30 @@
+use Rattle.std.proofs.Common.{◌≡◌, Option, Some, true, false, List, ℕ, refl, sym, ◌∙◌, inl, inr, ap}
+use Rattle.csv.specs.Reading.{strip_bom, default_config, reader_trim, reader_config, reader_state, owned_rows_reader, names_headers, reader_headers}
+use Rattle.csv.specs.declared.parser.State.TheVariants as st
+use Rattle.csv.specs.declared.reader.Trim.TheVariants as trim
+use Rattle.dam_results.specs.Reader.{unread}
+use Rattle.dam_results.proofs.Left.{rows_left-start}
+use Rattle.dam_results.proofs.journal.records.Goals as goal
+
+pub returns : goal.returns
+returns c =
+    let fresh = c.from_reader.ensures in
+    let setup = c.flexible.ensures in
+    let headless = c.has_headers.ensures in
+    let reader = c.into_byte_records.result in
+    let it = c.into_byte_records.ensures.rdr in
+    let untrimmed = rw (setup, headless) at fresh.trim ∙ c.new.ensures.trim in
+    let config = rw (setup, headless) at fresh.config ∙ c.new.ensures.config in
+    let names = rw (setup, headless) at fresh.has_headers in
+    let source : unread reader ≡ Some (strip_bom c.args.text.now) = rw it fresh.source in
+    record {
+      usable = record {
+        turns = c.into_byte_records.ensures.left;
+        untrimmed = rw it untrimmed;
+        ready = rw it (inr (inr (names, fresh.headers)));
+        config = rw it config;
+        between = rw (it, fresh.state) refl;
+        known = rw source refl;
+      };
+      rows = rows_left-start reader c.args.text.now c.requires (rw it fresh.state) source;
+    }

@@ -1,0 +1,45 @@
+-- The fault of a text that is no journal: the first one, in the order in which faults are looked for.
+use Rattle.std.specs.Prelude.{◌≡◌, ◌≢◌, ◌<◌, ◌≤◌, ◌⊎◌, ℕ, ◌+◌, List, [], ◌∷◌, ◌++◌, length, codes, Some, None}
+use Rattle.dam_book.specs.declared.command.Command.{Command}
+use Rattle.dam_results.specs.declared.limits.TheConstants.{MOST_BYTES, MOST_RECORDS}
+use Rattle.dam_results.specs.declared.journal.JournalFault.{JournalFault}
+use Rattle.dam_results.specs.declared.journal.JournalFault.TheVariants.{TooLong, NotAscii, TooManyRecords, NotDay, FieldCount, BadField, Memory}
+use Rattle.dam_results.specs.Records.{Fields, records_of, kind_field}
+use Rattle.dam_results.specs.Rules.{rules_of, IsLeastBroken}
+use Rattle.dam_results.specs.Journal.{AreRecords, first_high}
+
+-- the record of that number is within the limit, and a day where it is the first
+abbrev pub IsInPlace : ℕ → Fields → Type 0
+IsInPlace number row = (number ≤ MOST_RECORDS) × (number ≡ 1 → kind_field row ≡ codes "day")
+
+-- the record of that number has that fault
+abbrev pub IsRecordFault : ℕ → Fields → JournalFault → Type 0
+IsRecordFault number row TooManyRecords = MOST_RECORDS < number
+IsRecordFault number row NotDay = (number ≡ 1) × (kind_field row ≢ codes "day")
+IsRecordFault number row (FieldCount at) = IsInPlace number row × (at ≡ number) × (length row ≢ 9)
+IsRecordFault number row (BadField at field) = IsInPlace number row × (at ≡ number) × (length row ≡ 9) × IsLeastBroken (rules_of number row) row field
+IsRecordFault number row TooLong = ⊥
+IsRecordFault number row (NotAscii offset) = ⊥
+IsRecordFault number row Memory = ⊥
+
+-- one of the records has that fault, and those in front of it, where there are any, make a journal
+pub record HasFault (rows : List Fields) (fault : JournalFault) : Type 0 where
+  pub front : List Fields
+  pub row : Fields
+  pub rest : List Fields
+  pub parts : rows ≡ front ++ row ∷ rest
+  pub fine : (front ≡ []) ⊎ ((periods : ℕ) × (commands : List Command) × AreRecords front periods commands)
+  pub faulty : IsRecordFault (length front + 1) row fault
+
+-- these records make no journal, and this is their first fault; nothing is said of want of memory
+abbrev pub IsFaultOfRecords : List Fields → JournalFault → Type 0
+IsFaultOfRecords rows NotDay = (rows ≡ []) ⊎ HasFault rows NotDay
+IsFaultOfRecords rows Memory = Unit {0}
+IsFaultOfRecords rows fault = HasFault rows fault
+
+-- the text is no journal, and this is its first fault
+abbrev pub IsFaultOf : List ℕ → JournalFault → Type 0
+IsFaultOf text TooLong = MOST_BYTES < length text
+IsFaultOf text (NotAscii offset) = (length text ≤ MOST_BYTES) × (first_high text ≡ Some offset)
+IsFaultOf text Memory = Unit {0}
+IsFaultOf text fault = (length text ≤ MOST_BYTES) × (first_high text ≡ None) × IsFaultOfRecords (records_of text) fault

@@ -1,0 +1,36 @@
+-- The journal format: which texts read as which journals.
+use Rattle.std.specs.Prelude.{◌≡◌, ◌≤◌, ℕ, true, nat_lt, List, ◌∷◌, length, map, position, Option, None}
+use Rattle.std.specs.List.{AllByRecursion}
+use Rattle.dam_book.specs.Name.{IsName, IsParticipant}
+use Rattle.dam_book.specs.Price.{IsPrice}
+use Rattle.dam_book.specs.Volumes.{IsVolumes}
+use Rattle.dam_book.specs.Order.{IsOrder}
+use Rattle.dam_book.specs.Book.{is_day}
+use Rattle.dam_book.specs.declared.command.Command.{Command}
+use Rattle.dam_book.specs.declared.command.Command.TheVariants.{Submit, Amend, Cancel, Close}
+use Rattle.dam_results.specs.declared.limits.TheConstants.{MOST_BYTES, MOST_RECORDS}
+use Rattle.dam_results.specs.Records.{Fields, records_of, day_row, row_of}
+
+-- each part of a command is within its limits
+abbrev pub IsCommand : Command → Type 0
+IsCommand (Submit who name order) = IsParticipant who × IsName name × IsOrder order
+IsCommand (Amend who name price volumes) = IsParticipant who × IsName name × IsPrice price × IsVolumes volumes
+IsCommand (Cancel who name) = IsParticipant who × IsName name
+IsCommand Close = Unit {0}
+
+-- the offset of the first byte that isn't ASCII
+abbrev pub first_high : List ℕ → Option ℕ
+first_high text = position (nat_lt 127) text
+
+-- these records are a day and commands, as many as a text may hold
+pub record AreRecords (rows : List Fields) (periods : ℕ) (commands : List Command) : Type 0 where
+  pub few : length rows ≤ MOST_RECORDS
+  pub day : is_day periods ≡ true
+  pub valid : AllByRecursion IsCommand commands
+  pub written : rows ≡ day_row periods ∷ map row_of commands
+
+-- the text is a journal of these periods and commands
+pub record ReadsAs (text : List ℕ) (periods : ℕ) (commands : List Command) : Type 0 where
+  pub short : length text ≤ MOST_BYTES
+  pub ascii : first_high text ≡ None
+  pub records : AreRecords (records_of text) periods commands

@@ -1,0 +1,9 @@
+pub mod Records
+pub mod Row
+pub mod Rules
+pub mod Journal
+pub mod Faults
+pub mod Reader
+pub mod Replies
+pub mod Spelling
+pub mod Written

@@ -1,0 +1,34 @@
+-- The replies text: the day, and then a line for each entry.
+use Rattle.std.specs.Prelude.{ℕ, List, ◌++◌, decimal, codes}
+use Rattle.std.specs.List.{flat_map}
+use Rattle.dam_book.specs.declared.command.Reply.{Reply}
+use Rattle.dam_book.specs.declared.command.Reply.TheVariants.{Done, Refused}
+use Rattle.dam_book.specs.declared.command.Reason.{Reason}
+use Rattle.dam_book.specs.declared.command.Reason.TheVariants.{Closed, PeriodOutOfDay, NameTaken, UnknownOrder, WrongShape, UnknownParent, ParentNotBlock, HourlyFull, BlocksFull, HasChildren}
+use Rattle.dam_book.specs.declared.command.Entry.{Entry}
+
+abbrev pub reason_word : Reason → List ℕ
+reason_word Closed = codes "Closed"
+reason_word PeriodOutOfDay = codes "PeriodOutOfDay"
+reason_word NameTaken = codes "NameTaken"
+reason_word UnknownOrder = codes "UnknownOrder"
+reason_word WrongShape = codes "WrongShape"
+reason_word UnknownParent = codes "UnknownParent"
+reason_word ParentNotBlock = codes "ParentNotBlock"
+reason_word HourlyFull = codes "HourlyFull"
+reason_word BlocksFull = codes "BlocksFull"
+reason_word HasChildren = codes "HasChildren"
+
+abbrev pub reply_text : Reply → List ℕ
+reply_text Done = codes "done"
+reply_text (Refused reason) = codes "refused," ++ reason_word reason
+
+-- the entry's number, and the reply
+abbrev pub entry_line : Entry → List ℕ
+entry_line e = decimal e.number ++ (codes "," ++ (reply_text e.reply ++ codes "\n"))
+
+abbrev pub day_line : ℕ → List ℕ
+day_line periods = codes "day," ++ (decimal periods ++ codes "\n")
+
+abbrev pub replies_text : ℕ → List Entry → List ℕ
+replies_text periods entries = day_line periods ++ flat_map entry_line entries

@@ -1,0 +1,199 @@
+ghost use Rattle.std.specs.Prelude.{◌≡◌, ◌<◌, ◌≤◌, ◌+◌, ℕ, List, ◌∷◌, true, length, None, IfOk, IfErr, MatchResult};
+ghost use Rattle.csv.specs.Records.{fields_of};
+ghost use Rattle.dam_book.specs.Book.{is_day};
+ghost use Rattle.dam_book.specs.declared.command.Command.{Command};
+ghost use Rattle.dam_results.specs.Records.{records_of, kind_field, day_row, row_of};
+ghost use Rattle.dam_results.specs.Journal.{AreRecords, IsCommand, ReadsAs};
+ghost use Rattle.dam_results.specs.Journal;
+ghost use Rattle.dam_results.specs.Faults.{IsFaultOf, IsFaultOfRecords, IsRecordFault};
+ghost use Rattle.dam_results.specs.Reader.{IsOpen, rows_left};
+
+use crate::laws;
+use crate::limits::{MOST_BYTES, MOST_RECORDS};
+use crate::record::{read_command, read_day};
+use crate::row::Row;
+use csv::{ByteRecord, ByteRecordsIntoIter, ReaderBuilder};
+use dam_book::Command;
+use std::alloc::{AllocError, AllocFailed, Global};
+use thiserror::Error;
+
+/// What a journal's text says.
+#[derive(Debug, Drop)]
+pub struct JournalRead {
+    /// How many periods the delivery day has.
+    pub periods: u8,
+    pub commands: Vec<Command>,
+}
+
+/// Why a text is no journal, in the order in which it is looked for: first over the whole text, then
+/// record by record. Records and fields are numbered from 1.
+#[derive(Clone, Copy, PartialEq, Eq, Debug, Error)]
+pub enum JournalFault {
+    /// There are more than `MOST_BYTES` bytes.
+    #[error("the text is too long")]
+    TooLong,
+    /// The byte at this offset is the first over 127.
+    #[error("byte {0} is not ASCII")]
+    NotAscii(usize),
+    /// The record's number is over `MOST_RECORDS`.
+    #[error("too many records")]
+    TooManyRecords,
+    /// There is no record, or the first one is no `day`.
+    #[error("the first record is not a day")]
+    NotDay,
+    /// The record of this number doesn't have nine fields.
+    #[error("record {0} does not have nine fields")]
+    FieldCount(usize),
+    /// In the record of the first number, the field of the second is the least that breaks its rule.
+    #[error("field {1} of record {0} is bad")]
+    BadField(usize, usize),
+    /// Memory ran out; it may stand in place of any fault of a record.
+    #[error("out of memory")]
+    Memory,
+}
+
+impl From<AllocError> for JournalFault {
+    ghost use Rattle.std.specs.Prelude.{◌≡◌};
+    ghost use Rattle.dam_results.specs.declared.journal.JournalFault.TheVariants.{Memory};
+
+    ghost from_gives = { λ _ e. e ≡ Memory };
+
+    fn from(_error: AllocError) -> JournalFault {
+        JournalFault::Memory
+    }
+}
+
+impl<T: Drop> From<AllocFailed<T>> for JournalFault {
+    ghost use Rattle.std.specs.Prelude.{◌≡◌};
+    ghost use Rattle.dam_results.specs.declared.journal.JournalFault.TheVariants.{Memory};
+
+    ghost from_gives = { λ _ e. e ≡ Memory };
+
+    fn from(_error: AllocFailed<T>) -> JournalFault {
+        JournalFault::Memory
+    }
+}
+
+fn first_high(text: &[u8]) -> Option<usize>
+    ensures { result ≡ Journal.first_high text.now }
+{
+    text.iter().position(|byte| *byte > 127)
+}
+
+fn check_bytes(text: &[u8]) -> Result<(), JournalFault>
+    ensures { MatchResult result (λ _. (length text.now ≤ MOST_BYTES) × (Journal.first_high text.now ≡ None)) (IsFaultOf text.now) }
+{
+    if text.len() > MOST_BYTES {
+        return Err(JournalFault::TooLong);
+    }
+    match first_high(text) {
+        Some(offset) => Err(JournalFault::NotAscii(offset)),
+        None => Ok(()),
+    }
+}
+
+fn kind(record: &ByteRecord) -> &[u8]
+    ensures { result.now ≡ kind_field (fields_of record.entry.now) }
+{
+    match record.get(0) {
+        Some(kind) => kind,
+        None => &[],
+    }
+}
+
+fn read_first(record: &ByteRecord) -> Result<u8, JournalFault>
+    ensures { MatchResult result (λ periods. (is_day periods ≡ true) × (fields_of record.now ≡ day_row periods)) (IsRecordFault 1 (fields_of record.now)) }
+{
+    if kind(record) != b"day".as_slice() {
+        return Err(JournalFault::NotDay);
+    }
+    let Some(row) = Row::of(record) else {
+        return Err(JournalFault::FieldCount(1));
+    };
+    read_day(&row).map_err(|field| JournalFault::BadField(1, field))
+}
+
+fn read_later(number: usize, record: &ByteRecord) -> Result<Command, JournalFault>
+    requires { 1 < number }
+    ensures { MatchResult result (λ command. (number ≤ MOST_RECORDS) × IsCommand command × (fields_of record.now ≡ row_of command)) (IsRecordFault number (fields_of record.now)) }
+{
+    if number > MOST_RECORDS {
+        return Err(JournalFault::TooManyRecords);
+    }
+    let Some(row) = Row::of(record) else {
+        return Err(JournalFault::FieldCount(number));
+    };
+    read_command(&row).map_err(|field| JournalFault::BadField(number, field))
+}
+
+type Records<'a> = ByteRecordsIntoIter<&'a [u8]>;
+
+fn records<'a>(alloc: Global, text: &'a [u8]) -> Records<'a>
+    requires { Journal.first_high text.now ≡ None }
+    ensures usable { IsOpen result }
+    ensures rows { rows_left result ≡ records_of text.entry.now }
+{
+    ReaderBuilder::new()
+        .has_headers(false)
+        .flexible(true)
+        .from_reader(alloc, text)
+        .into_byte_records()
+}
+
+fn next_day(records: &mut Records) -> Result<u8, JournalFault>
+    requires { IsOpen records.old }
+    ensures { MatchResult result (λ periods. (is_day periods ≡ true) × IsOpen records.new × (rows_left records.old ≡ day_row periods ∷ rows_left records.new)) (IsFaultOfRecords (rows_left records.old)) }
+{
+    let Some(record) = records.next() else {
+        return Err(JournalFault::NotDay);
+    };
+    let Ok(record) = record else {
+        return Err(JournalFault::Memory);
+    };
+    read_first(&record)
+}
+
+fn read_commands(alloc: Global, periods: u8, records: Records) -> Result<JournalRead, JournalFault>
+    requires usable { IsOpen records }
+    requires day { is_day periods ≡ true }
+    ensures { MatchResult result (λ journal. AreRecords (day_row periods ∷ rows_left records.entry) journal.periods journal.commands.items) (IsFaultOfRecords (day_row periods ∷ rows_left records.entry)) }
+{
+    let mut commands = Vec::new(alloc);
+    for record in records {
+        let Ok(record) = record else {
+            return Err(JournalFault::Memory);
+        };
+        commands.push(read_later(commands.len() + 2, &record)?)?;
+    }
+    Ok(JournalRead { periods, commands })
+}
+
+fn read_text(alloc: Global, text: &[u8]) -> Result<JournalRead, JournalFault>
+    ensures ok { IfOk result (λ journal. ReadsAs text.now journal.periods journal.commands.items) }
+    ensures fault { IfErr result (IsFaultOf text.now) }
+{
+    check_bytes(text)?;
+    let mut records = records(alloc, text);
+    let periods = next_day(&mut records)?;
+    read_commands(alloc, periods, records)
+}
+
+/// The journal that a text says, or the first fault of the text.
+///
+/// `JournalFault` lists the faults in the order in which they are looked for. Nothing is kept of the
+/// records past the first faulty one. It isn't asked that the last command be a close.
+pub fn read_journal(alloc: Global, text: &[u8]) -> Result<JournalRead, JournalFault>
+    ensures ok { IfOk result (λ journal. ReadsAs text.now journal.periods journal.commands.items) }
+    ensures fault { IfErr result (IsFaultOf text.now) }
+
+    // A journal is read, unless memory runs out.
+    ensures exact { (periods : ℕ) (commands : List Command) → ReadsAs text.now periods commands
+        → MatchResult result (λ journal. (journal.periods ≡ periods) × (journal.commands.items ≡ commands)) (λ fault. fault ≡ JournalFault.Memory) }
+{
+    laws::text_is_one_journal();
+    laws::fault_is_no_journal();
+    read_text(alloc, text)
+}
+
+#[cfg(test)]
+mod tests;

@@ -1,0 +1,23 @@
+//! Laws of the journal format, each the contract of a function that does nothing but cite the laws
+//! that it rests on.
+ghost use Rattle.std.specs.Prelude.{◌≡◌, ℕ, List};
+ghost use Rattle.dam_book.specs.declared.command.Command.{Command};
+ghost use Rattle.dam_results.specs.declared.journal.JournalFault.{JournalFault};
+ghost use Rattle.dam_results.specs.declared.journal.JournalFault.TheVariants.{Memory};
+ghost use Rattle.dam_results.specs.Journal.{ReadsAs};
+ghost use Rattle.dam_results.specs.Faults.{IsFaultOf};
+
+use dam_book::laws::{price_texts_differ, volumes_texts_differ};
+
+/// A text is at most one journal.
+pub fn text_is_one_journal()
+    ensures { (text : List ℕ) (periods others : ℕ) (commands more : List Command) → ReadsAs text periods commands → ReadsAs text others more → (periods ≡ others) × (commands ≡ more) }
+{
+    price_texts_differ();
+    volumes_texts_differ();
+}
+
+/// A text that has a fault, other than want of memory, is no journal.
+pub fn fault_is_no_journal()
+    ensures { (text : List ℕ) (fault : JournalFault) (periods : ℕ) (commands : List Command) → IsFaultOf text fault → ReadsAs text periods commands → fault ≡ Memory }
+{}

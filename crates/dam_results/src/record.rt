@@ -1,0 +1,207 @@
+ghost use Rattle.std.specs.Prelude.{◌≡◌, ℕ, [], ◌∷◌, true, false, codes, decimal, IfSome, MatchOption, MatchResult};
+ghost use Rattle.dam_book.specs.Price.{IsPrice};
+ghost use Rattle.dam_book.specs.Period.{IsPeriod};
+ghost use Rattle.dam_book.specs.Quantity.{IsQuantity};
+ghost use Rattle.dam_book.specs.Name.{IsName, IsParticipant};
+ghost use Rattle.dam_book.specs.Order.{IsOrder};
+ghost use Rattle.dam_book.specs.Fields.{volumes_text};
+ghost use Rattle.dam_book.specs.Book.{is_day};
+ghost use Rattle.dam_results.specs.Records.{day_row, row_of, order_fields, optional_text, side_word};
+ghost use Rattle.dam_results.specs.Row.{fields_in};
+ghost use Rattle.dam_results.specs.Rules.{OneOf, Periods, OneVolume, NameOrEmpty, Keeps, IsLeastBroken, day_rules, hour_rules, block_rules, submit_of, submit_rules, amend_rules, cancel_rules, close_rules, command_rules};
+ghost use Rattle.dam_results.specs.Journal.{IsCommand};
+
+use crate::row::Row;
+use dam_book::{
+    BlockOrder, Command, HourOrder, Name, Order, Participant, Period, Qty, Side, laws, read_price, read_volumes,
+};
+
+// Each reader of a record answers what it says, or the number of the least field that breaks its
+// rule.
+
+fn check(kept: bool, field: usize) -> Result<(), usize>
+    ensures { MatchResult result (λ _. kept ≡ true) (λ broken. (broken ≡ field) × (kept ≡ false)) }
+{
+    if kept { Ok(()) } else { Err(field) }
+}
+
+fn read_periods(field: &[u8]) -> Option<u8>
+    ensures { MatchOption result (¬ (Keeps Periods field.now)) (λ periods. (is_day periods ≡ true) × (field.now ≡ decimal periods)) }
+{
+    match field {
+        b"23" => Some(23),
+        b"24" => Some(24),
+        b"25" => Some(25),
+        _ => None,
+    }
+}
+
+fn read_side(field: &[u8]) -> Option<Side>
+    ensures { MatchOption result (¬ (Keeps (OneOf (codes "buy" ∷ codes "sell" ∷ [])) field.now)) (λ side. field.now ≡ side_word side) }
+{
+    match field {
+        b"buy" => Some(Side::Buy),
+        b"sell" => Some(Side::Sell),
+        _ => None,
+    }
+}
+
+fn read_pair(field: &[u8]) -> Option<(Period, Qty)>
+    ensures { MatchOption result (¬ (Keeps OneVolume field.now)) (λ pair. IsPeriod pair.0 × IsQuantity pair.1 × (field.now ≡ volumes_text ((pair.0, pair.1) ∷ []))) }
+{
+    laws::volumes_texts_differ();
+    let Some(volumes) = read_volumes(field) else {
+        return None;
+    };
+    let pairs = volumes.pairs();
+    if pairs.len() == 1 {
+        Some(pairs[0])
+    } else {
+        None
+    }
+}
+
+// A name, or none where the field is empty.
+fn read_name_or_empty(field: &[u8]) -> Option<Option<Name>>
+    ensures { MatchOption result (¬ (Keeps NameOrEmpty field.now)) (λ name. IfSome name IsName × (field.now ≡ optional_text name)) }
+{
+    if field.is_empty() {
+        return Some(None);
+    }
+    let name = Name::new(field)?;
+    Some(Some(name))
+}
+
+/// The day of the first record: how many periods it has.
+pub(crate) fn read_day(row: &Row) -> Result<u8, usize>
+    requires { row.now.kind.now ≡ codes "day" }
+    ensures { MatchResult result (λ periods. (is_day periods ≡ true) × (fields_in row.now ≡ day_row periods)) (IsLeastBroken day_rules (fields_in row.now)) }
+{
+    let periods = read_periods(row.who).ok_or(2usize)?;
+    check(row.name.is_empty(), 3)?;
+    check(row.form.is_empty(), 4)?;
+    check(row.side.is_empty(), 5)?;
+    check(row.price.is_empty(), 6)?;
+    check(row.volumes.is_empty(), 7)?;
+    check(row.parent.is_empty(), 8)?;
+    check(row.group.is_empty(), 9)?;
+    Ok(periods)
+}
+
+fn read_hour(row: &Row) -> Result<Order, usize>
+    requires kind { row.now.kind.now ≡ codes "submit" }
+    requires who { IsParticipant row.now.who.now }
+    requires name { IsName row.now.name.now }
+    requires form { row.now.form.now ≡ codes "hour" }
+    ensures { MatchResult result (λ order. IsOrder order × (fields_in row.now ≡ codes "submit" ∷ row.now.who.now ∷ row.now.name.now ∷ order_fields order)) (IsLeastBroken (submit_of hour_rules) (fields_in row.now)) }
+{
+    let side = read_side(row.side).ok_or(5usize)?;
+    let price = read_price(row.price).ok_or(6usize)?;
+    let (period, qty) = read_pair(row.volumes).ok_or(7usize)?;
+    check(row.parent.is_empty(), 8)?;
+    check(row.group.is_empty(), 9)?;
+    Ok(Order::Hour(HourOrder::new(side, price, period, qty)))
+}
+
+fn read_block(row: &Row) -> Result<Order, usize>
+    requires kind { row.now.kind.now ≡ codes "submit" }
+    requires who { IsParticipant row.now.who.now }
+    requires name { IsName row.now.name.now }
+    requires form { row.now.form.now ≡ codes "block" }
+    ensures { MatchResult result (λ order. IsOrder order × (fields_in row.now ≡ codes "submit" ∷ row.now.who.now ∷ row.now.name.now ∷ order_fields order)) (IsLeastBroken (submit_of block_rules) (fields_in row.now)) }
+{
+    let side = read_side(row.side).ok_or(5usize)?;
+    let price = read_price(row.price).ok_or(6usize)?;
+    let volumes = read_volumes(row.volumes).ok_or(7usize)?;
+    let parent = read_name_or_empty(row.parent).ok_or(8usize)?;
+    let group = read_name_or_empty(row.group).ok_or(9usize)?;
+    let block = BlockOrder::new(side, price, volumes, parent, group);
+    let _valid = block.price();
+    Ok(Order::Block(block))
+}
+
+fn read_order(row: &Row) -> Result<Order, usize>
+    requires kind { row.now.kind.now ≡ codes "submit" }
+    requires who { IsParticipant row.now.who.now }
+    requires name { IsName row.now.name.now }
+    ensures { MatchResult result (λ order. IsOrder order × (fields_in row.now ≡ codes "submit" ∷ row.now.who.now ∷ row.now.name.now ∷ order_fields order)) (IsLeastBroken (submit_rules (fields_in row.now)) (fields_in row.now)) }
+{
+    match row.form {
+        b"hour" => read_hour(row),
+        b"block" => read_block(row),
+        _ => Err(4),
+    }
+}
+
+fn read_submit(row: &Row) -> Result<Command, usize>
+    requires { row.now.kind.now ≡ codes "submit" }
+    ensures { MatchResult result (λ command. IsCommand command × (fields_in row.now ≡ row_of command)) (IsLeastBroken (submit_rules (fields_in row.now)) (fields_in row.now)) }
+{
+    let who = Participant::new(row.who).ok_or(2usize)?;
+    let name = Name::new(row.name).ok_or(3usize)?;
+    let order = read_order(row)?;
+    Ok(Command::Submit { who, name, order })
+}
+
+fn read_amend(row: &Row) -> Result<Command, usize>
+    requires { row.now.kind.now ≡ codes "amend" }
+    ensures { MatchResult result (λ command. IsCommand command × (fields_in row.now ≡ row_of command)) (IsLeastBroken amend_rules (fields_in row.now)) }
+{
+    let who = Participant::new(row.who).ok_or(2usize)?;
+    let name = Name::new(row.name).ok_or(3usize)?;
+    check(row.form.is_empty(), 4)?;
+    check(row.side.is_empty(), 5)?;
+    let price = read_price(row.price).ok_or(6usize)?;
+    let volumes = read_volumes(row.volumes).ok_or(7usize)?;
+    check(row.parent.is_empty(), 8)?;
+    check(row.group.is_empty(), 9)?;
+    Ok(Command::Amend {
+        who,
+        name,
+        price,
+        volumes,
+    })
+}
+
+fn read_cancel(row: &Row) -> Result<Command, usize>
+    requires { row.now.kind.now ≡ codes "cancel" }
+    ensures { MatchResult result (λ command. IsCommand command × (fields_in row.now ≡ row_of command)) (IsLeastBroken cancel_rules (fields_in row.now)) }
+{
+    let who = Participant::new(row.who).ok_or(2usize)?;
+    let name = Name::new(row.name).ok_or(3usize)?;
+    check(row.form.is_empty(), 4)?;
+    check(row.side.is_empty(), 5)?;
+    check(row.price.is_empty(), 6)?;
+    check(row.volumes.is_empty(), 7)?;
+    check(row.parent.is_empty(), 8)?;
+    check(row.group.is_empty(), 9)?;
+    Ok(Command::Cancel { who, name })
+}
+
+fn read_close(row: &Row) -> Result<Command, usize>
+    requires { row.now.kind.now ≡ codes "close" }
+    ensures { MatchResult result (λ command. IsCommand command × (fields_in row.now ≡ row_of command)) (IsLeastBroken close_rules (fields_in row.now)) }
+{
+    check(row.who.is_empty(), 2)?;
+    check(row.name.is_empty(), 3)?;
+    check(row.form.is_empty(), 4)?;
+    check(row.side.is_empty(), 5)?;
+    check(row.price.is_empty(), 6)?;
+    check(row.volumes.is_empty(), 7)?;
+    check(row.parent.is_empty(), 8)?;
+    check(row.group.is_empty(), 9)?;
+    Ok(Command::Close)
+}
+
+/// The command of a later record.
+pub(crate) fn read_command(row: &Row) -> Result<Command, usize>
+    ensures { MatchResult result (λ command. IsCommand command × (fields_in row.now ≡ row_of command)) (IsLeastBroken (command_rules (fields_in row.now)) (fields_in row.now)) }
+{
+    match row.kind {
+        b"submit" => read_submit(row),
+        b"amend" => read_amend(row),
+        b"cancel" => read_cancel(row),
+        b"close" => read_close(row),
+        _ => Err(1),
+    }
+}

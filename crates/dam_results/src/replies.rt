@@ -1,0 +1,72 @@
+ghost use Rattle.std.specs.Prelude.{◌≡◌, ◌++◌, IfOk, OnOk};
+ghost use Rattle.dam_results.specs.Replies;
+
+use dam_book::{Entry, Reason, Reply};
+use itoa::Buffer;
+use std::alloc::{AllocError, Allocator};
+
+fn reason_word(reason: Reason) -> &'static str
+    ensures { result.now ≡ Replies.reason_word reason }
+{
+    match reason {
+        Reason::Closed => "Closed",
+        Reason::PeriodOutOfDay => "PeriodOutOfDay",
+        Reason::NameTaken => "NameTaken",
+        Reason::UnknownOrder => "UnknownOrder",
+        Reason::WrongShape => "WrongShape",
+        Reason::UnknownParent => "UnknownParent",
+        Reason::ParentNotBlock => "ParentNotBlock",
+        Reason::HourlyFull => "HourlyFull",
+        Reason::BlocksFull => "BlocksFull",
+        Reason::HasChildren => "HasChildren",
+    }
+}
+
+fn write_day<A: Allocator>(text: &mut Vec<u8, A>, periods: u8) -> Result<(), AllocError>
+    ensures { OnOk result (text.new.items ≡ text.old.items ++ Replies.day_line periods) }
+{
+    text.extend_from_slice(b"day,")?;
+    text.extend_from_slice(Buffer::new().format(periods).as_bytes())?;
+    text.extend_from_slice(b"\n")
+}
+
+fn write_reply<A: Allocator>(text: &mut Vec<u8, A>, reply: Reply) -> Result<(), AllocError>
+    ensures { OnOk result (text.new.items ≡ text.old.items ++ Replies.reply_text reply) }
+{
+    match reply {
+        Reply::Done => text.extend_from_slice(b"done"),
+        Reply::Refused(reason) => {
+            text.extend_from_slice(b"refused,")?;
+            text.extend_from_slice(reason_word(reason).as_bytes())
+        }
+    }
+}
+
+fn write_entry<A: Allocator>(text: &mut Vec<u8, A>, entry: &Entry) -> Result<(), AllocError>
+    ensures { OnOk result (text.new.items ≡ text.old.items ++ Replies.entry_line entry.now) }
+{
+    text.extend_from_slice(Buffer::new().format(entry.number).as_bytes())?;
+    text.extend_from_slice(b",")?;
+    write_reply(text, entry.reply)?;
+    text.extend_from_slice(b"\n")
+}
+
+/// The replies text of a day of so many periods: the line `day,<periods>`, and for each entry the
+/// line `<number>,done` or `<number>,refused,<Reason>`.
+pub fn replies_text<A: Allocator>(
+    alloc: A,
+    periods: u8,
+    entries: &[Entry],
+) -> Result<Vec<u8, A>, AllocError>
+    ensures { IfOk result (λ text. text.items ≡ Replies.replies_text periods entries.now) }
+{
+    let mut text = Vec::new(alloc);
+    write_day(&mut text, periods)?;
+    for entry in entries {
+        write_entry(&mut text, entry)?;
+    }
+    Ok(text)
+}
+
+#[cfg(test)]
+mod tests;

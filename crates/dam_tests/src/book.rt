@@ -1,0 +1,52 @@
+use crate::support::commands;
+use dam_book::{replay, Book, Reason, Reply};
+use std::test::Fail;
+
+const FAMILY: &str = "submit,A,K1,block,sell,4000,1:10,,
+submit,A,K2,block,sell,4000,1:10,K1,
+cancel,A,K1,,,,,,
+cancel,A,K2,,,,,,
+cancel,A,K1,,,,,,
+submit,A,K3,block,sell,4000,1:10,K1,
+submit,A,H1,hour,buy,5000,1:10,,
+submit,A,K3,block,sell,4000,1:10,H1,
+submit,A,K1,block,sell,4000,1:10,,
+close,,,,,,,,
+";
+
+#[test]
+fn a_linked_family_comes_and_goes(rt: HostRuntime) -> Result<(), Fail> {
+    let mut book = Book::begin(rt.alloc(), 24)?;
+    let commands = commands(rt.alloc(), FAMILY)?;
+    let entries = replay(rt.alloc(), &mut book, &commands)?;
+    let refused: Vec<(u32, Reply)> = entries
+        .iter()
+        .filter(|entry| entry.reply != Reply::Done)
+        .map(|entry| (entry.number, entry.reply))
+        .collect(rt.alloc())?;
+    let expected = [
+        (3, Reply::Refused(Reason::HasChildren)),
+        (6, Reply::Refused(Reason::UnknownParent)),
+        (8, Reply::Refused(Reason::ParentNotBlock)),
+    ];
+    assert!(rt; refused.as_slice() == expected.as_slice());
+    Ok(())
+}
+
+#[test]
+fn its_rows_and_its_copy(rt: HostRuntime) -> Result<(), Fail> {
+    let mut book = Book::begin(rt.alloc(), 24)?;
+    let commands = commands(rt.alloc(), FAMILY)?;
+    replay(rt.alloc(), &mut book, &commands)?;
+    let copy = book.try_copy()?;
+    assert_eq!(rt; (copy.len(), copy.periods(), copy.is_closed()), (2, 24, true));
+    for (place, name) in [b"H1".as_slice(), b"K1".as_slice()].iter().enumerate() {
+        let Some((who, held, order)) = copy.row(place) else {
+            return Err(Fail::from("a row"));
+        };
+        assert!(rt; who.as_bytes() == b"A".as_slice() && held.as_bytes() == *name);
+        assert!(rt; book.find(&who, &held) == Some(order));
+    }
+    assert!(rt; copy.row(2).is_none());
+    Ok(())
+}
