@@ -1,0 +1,318 @@
+//! What `dam replay` does, as a plain Rust program over std alone: the measure that `dam` is timed against.
+//!
+//! It reads the same journals, and prints the same replies and fault lines.
+
+use std::collections::HashMap;
+use std::fmt::{self, Display, Write as _};
+use std::io::{self, Read, Write};
+use std::process::ExitCode;
+
+const MOST_BYTES: usize = 4_194_304;
+const MOST_RECORDS: usize = 10_001;
+const MOST_HOURLY: usize = 4_000;
+const FIELDS: usize = 9;
+
+#[derive(Clone, Copy, PartialEq, Eq)]
+enum Side {
+    Buy,
+    Sell,
+}
+
+#[derive(Clone, Copy)]
+#[allow(dead_code)] // a replay prints no order, but its book holds them
+struct HourOrder {
+    side: Side,
+    price: i32,
+    period: u8,
+    volume: u32,
+}
+
+type Key = (String, String);
+
+enum Command {
+    Submit(Key, HourOrder),
+    Cancel(Key),
+    Close,
+}
+
+#[derive(Clone, Copy)]
+enum Reason {
+    Closed,
+    PeriodOutOfDay,
+    NameTaken,
+    UnknownOrder,
+    HourlyFull,
+}
+
+impl Display for Reason {
+    fn fmt(&self, f: &mut fmt::Formatter<'_>) -> fmt::Result {
+        f.write_str(match self {
+            Reason::Closed => "Closed",
+            Reason::PeriodOutOfDay => "PeriodOutOfDay",
+            Reason::NameTaken => "NameTaken",
+            Reason::UnknownOrder => "UnknownOrder",
+            Reason::HourlyFull => "HourlyFull",
+        })
+    }
+}
+
+enum Fault {
+    TooLong,
+    NotAscii(usize),
+    TooManyRecords,
+    NotDay,
+    FieldCount(usize),
+    BadField(usize, usize),
+}
+
+impl Display for Fault {
+    fn fmt(&self, f: &mut fmt::Formatter<'_>) -> fmt::Result {
+        match self {
+            Fault::TooLong => write!(f, "input: TooLong"),
+            Fault::NotAscii(offset) => write!(f, "input: NotAscii at {offset}"),
+            Fault::TooManyRecords => write!(f, "input: TooManyRecords"),
+            Fault::NotDay => write!(f, "input: NotDay"),
+            Fault::FieldCount(record) => write!(f, "input: FieldCount in record {record}"),
+            Fault::BadField(record, field) => {
+                write!(f, "input: BadField in record {record} field {field}")
+            }
+        }
+    }
+}
+
+/// The orders by participant and name, and their keys in book order; a cancelled one leaves a gap.
+struct Book {
+    periods: u8,
+    places: HashMap<Key, (usize, HourOrder)>,
+    order: Vec<Option<Key>>,
+    closed: bool,
+}
+
+impl Book {
+    fn new(periods: u8) -> Book {
+        Book {
+            periods,
+            places: HashMap::new(),
+            order: Vec::new(),
+            closed: false,
+        }
+    }
+
+    fn apply(&mut self, command: &Command) -> Result<(), Reason> {
+        if self.closed {
+            return Err(Reason::Closed);
+        }
+        match command {
+            Command::Submit(key, order) => self.submit(key, *order),
+            Command::Cancel(key) => {
+                let (place, _) = self.places.remove(key).ok_or(Reason::UnknownOrder)?;
+                self.order[place] = None;
+                Ok(())
+            }
+            Command::Close => {
+                self.closed = true;
+                Ok(())
+            }
+        }
+    }
+
+    fn submit(&mut self, key: &Key, order: HourOrder) -> Result<(), Reason> {
+        if order.period > self.periods {
+            return Err(Reason::PeriodOutOfDay);
+        }
+        if self.places.contains_key(key) {
+            return Err(Reason::NameTaken);
+        }
+        if self.places.len() >= MOST_HOURLY {
+            return Err(Reason::HourlyFull);
+        }
+        self.places.insert(key.clone(), (self.order.len(), order));
+        self.order.push(Some(key.clone()));
+        Ok(())
+    }
+}
+
+/// The fields of the next record, and where it ends; `None` where no record is left.
+fn next_record(text: &[u8], mut at: usize) -> Option<(Vec<Vec<u8>>, usize)> {
+    while at < text.len() && matches!(text[at], b'\n' | b'\r') {
+        at += 1;
+    }
+    if at == text.len() {
+        return None;
+    }
+    let mut fields = vec![Vec::new()];
+    let mut quoted = false;
+    let mut fresh = true;
+    while at < text.len() {
+        let byte = text[at];
+        at += 1;
+        let field = fields.last_mut()?;
+        match byte {
+            b'"' if quoted && text.get(at) == Some(&b'"') => {
+                field.push(byte);
+                at += 1;
+            }
+            b'"' if quoted => quoted = false,
+            _ if quoted => field.push(byte),
+            b'"' if fresh => quoted = true,
+            b',' => fields.push(Vec::new()),
+            b'\n' | b'\r' => break,
+            _ => field.push(byte),
+        }
+        fresh = byte == b',' && !quoted;
+    }
+    Some((fields, at))
+}
+
+/// A decimal number without leading zeros.
+fn number(text: &[u8]) -> Option<u32> {
+    let plain = text == b"0" || !text.starts_with(b"0");
+    if text.is_empty() || !plain || !text.iter().all(u8::is_ascii_digit) {
+        return None;
+    }
+    std::str::from_utf8(text).ok()?.parse().ok()
+}
+
+fn price(text: &[u8]) -> Option<i32> {
+    let value = match text.strip_prefix(b"-") {
+        Some(digits) => -i32::try_from(number(digits).filter(|n| *n > 0)?).ok()?,
+        None => i32::try_from(number(text)?).ok()?,
+    };
+    Some(value).filter(|cents| (-50_000..=400_000).contains(cents))
+}
+
+fn pair(text: &[u8]) -> Option<(u8, u32)> {
+    let colon = text.iter().position(|byte| *byte == b':')?;
+    let period = number(&text[..colon]).filter(|n| (1..=25).contains(n))?;
+    let volume = number(&text[colon + 1..]).filter(|n| (1..=99_999).contains(n))?;
+    Some((period as u8, volume))
+}
+
+fn word(text: &[u8], most: usize, is_fine: impl Fn(u8) -> bool) -> Option<String> {
+    let fits = !text.is_empty() && text.len() <= most && text.iter().all(|byte| is_fine(*byte));
+    fits.then(|| String::from_utf8_lossy(text).into_owned())
+}
+
+fn participant(text: &[u8]) -> Option<String> {
+    word(text, 8, |byte| byte.is_ascii_uppercase())
+}
+
+fn name(text: &[u8]) -> Option<String> {
+    word(text, 12, |byte| {
+        byte.is_ascii_uppercase() || byte.is_ascii_digit() || byte == b'-'
+    })
+}
+
+/// The first of these fields that isn't empty is at fault.
+fn all_empty(fields: &[Vec<u8>], from: usize) -> Result<(), usize> {
+    match fields[from - 1..].iter().position(|field| !field.is_empty()) {
+        Some(place) => Err(from + place),
+        None => Ok(()),
+    }
+}
+
+fn day(fields: &[Vec<u8>]) -> Result<u8, usize> {
+    let periods = number(&fields[1]).filter(|n| (23..=25).contains(n)).ok_or(2usize)?;
+    all_empty(fields, 3)?;
+    Ok(periods as u8)
+}
+
+/// The command of a record of nine fields, or the number of its first field that breaks a rule.
+fn command(fields: &[Vec<u8>]) -> Result<Command, usize> {
+    match fields[0].as_slice() {
+        b"submit" => {
+            let key = (participant(&fields[1]).ok_or(2usize)?, name(&fields[2]).ok_or(3usize)?);
+            if fields[3] != b"hour" {
+                return Err(4);
+            }
+            let side = match fields[4].as_slice() {
+                b"buy" => Side::Buy,
+                b"sell" => Side::Sell,
+                _ => return Err(5),
+            };
+            let price = price(&fields[5]).ok_or(6usize)?;
+            let (period, volume) = pair(&fields[6]).ok_or(7usize)?;
+            all_empty(fields, 8)?;
+            Ok(Command::Submit(key, HourOrder { side, price, period, volume }))
+        }
+        b"cancel" => {
+            let key = (participant(&fields[1]).ok_or(2usize)?, name(&fields[2]).ok_or(3usize)?);
+            all_empty(fields, 4)?;
+            Ok(Command::Cancel(key))
+        }
+        b"close" => {
+            all_empty(fields, 2)?;
+            Ok(Command::Close)
+        }
+        _ => Err(1),
+    }
+}
+
+fn read_journal(text: &[u8]) -> Result<(u8, Vec<Command>), Fault> {
+    if text.len() > MOST_BYTES {
+        return Err(Fault::TooLong);
+    }
+    if let Some(offset) = text.iter().position(|byte| !byte.is_ascii()) {
+        return Err(Fault::NotAscii(offset));
+    }
+    let mut periods = None;
+    let mut commands = Vec::new();
+    let mut at = 0;
+    let mut record = 0;
+    while let Some((fields, end)) = next_record(text, at) {
+        at = end;
+        record += 1;
+        if record > MOST_RECORDS {
+            return Err(Fault::TooManyRecords);
+        }
+        if record == 1 && fields[0] != b"day" {
+            return Err(Fault::NotDay);
+        }
+        if fields.len() != FIELDS {
+            return Err(Fault::FieldCount(record));
+        }
+        let bad = |field| Fault::BadField(record, field);
+        if record == 1 {
+            periods = Some(day(&fields).map_err(bad)?);
+        } else {
+            commands.push(command(&fields).map_err(bad)?);
+        }
+    }
+    Ok((periods.ok_or(Fault::NotDay)?, commands))
+}
+
+fn replies(periods: u8, commands: &[Command]) -> String {
+    let mut book = Book::new(periods);
+    let mut text = format!("day,{periods}\n");
+    for (place, command) in commands.iter().enumerate() {
+        let number = place + 1;
+        let written = match book.apply(command) {
+            Ok(()) => writeln!(text, "{number},done"),
+            Err(reason) => writeln!(text, "{number},refused,{reason}"),
+        };
+        debug_assert!(written.is_ok());
+    }
+    text
+}
+
+fn main() -> ExitCode {
+    let mut text = Vec::new();
+    let limit = MOST_BYTES as u64 + 1;
+    if io::stdin().lock().take(limit).read_to_end(&mut text).is_err() {
+        eprintln!("device: read");
+        return ExitCode::from(4);
+    }
+    let replies = match read_journal(&text) {
+        Ok((periods, commands)) => replies(periods, &commands),
+        Err(fault) => {
+            eprintln!("{fault}");
+            return ExitCode::from(1);
+        }
+    };
+    let mut out = io::stdout().lock();
+    if out.write_all(replies.as_bytes()).and_then(|()| out.flush()).is_err() {
+        eprintln!("device: write");
+        return ExitCode::from(4);
+    }
+    ExitCode::SUCCESS
+}

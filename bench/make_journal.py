@@ -1,0 +1,48 @@
+#!/usr/bin/env python3
+"""Prints a journal of 10,000 records: a day of 24 periods, hourly orders of 8 participants with cancels among
+them, and a close. Every run prints the same bytes."""
+
+import random
+
+RECORDS = 10_000
+PERIODS = 24
+PARTICIPANTS = ["ALPHA", "BRAVO", "CHARLIE", "DELTA", "ECHO", "FOXTROT", "GOLF", "HOTEL"]
+# Of a hundred commands, how many submit a new order, cancel one that stands, or ask for what the book refuses.
+SUBMITS, CANCELS = 62, 33
+
+
+def submit(who, name, rng):
+    side = rng.choice(["buy", "sell"])
+    price = rng.randint(-5_000, 30_000)
+    period = rng.randint(1, PERIODS)
+    volume = rng.randint(1, 5_000)
+    return f"submit,{who},{name},hour,{side},{price},{period}:{volume},,"
+
+
+def commands(count, rng):
+    standing, made = [], 0
+    for _ in range(count):
+        draw = rng.randrange(100)
+        if draw < SUBMITS or not standing:
+            made += 1
+            order = rng.choice(PARTICIPANTS), f"ORDER-{made}"
+            standing.append(order)
+            yield submit(*order, rng)
+        elif draw < SUBMITS + CANCELS:
+            who, name = standing.pop(rng.randrange(len(standing)))
+            yield f"cancel,{who},{name},,,,,,"
+        elif draw % 2 == 0:
+            yield submit(*rng.choice(standing), rng)
+        else:
+            yield f"cancel,{rng.choice(PARTICIPANTS)},NEVER-{made},,,,,,"
+
+
+def main():
+    rng = random.Random(20_240_601)
+    print(f"day,{PERIODS},,,,,,,")
+    for command in commands(RECORDS - 2, rng):
+        print(command)
+    print("close,,,,,,,,")
+
+
+main()

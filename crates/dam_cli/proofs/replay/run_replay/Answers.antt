@@ -1,0 +1,29 @@
+-- What is answered to the text that was read is answered to the given one.
+use Rattle.std.proofs.Common.{◌≡◌, ℕ, List}
+use Rattle.std.proofs.lemmas.Result.{err_from_is_err_and}
+use Rattle.dam_book.specs.declared.command.Command.{Command}
+use Rattle.dam_cli.specs.Replay.{AreRepliesTo, IsFaultOn}
+use Rattle.dam_cli.proofs.Runs.{known-fault, known-failed, known-done, known-exact}
+use Rattle.dam_cli.proofs.replay.run_replay.Goals as goal
+
+pub returns-in_err-replies-clause-fault : goal.returns-in_err-replies-clause-fault
+returns-in_err-replies-clause-fault g c =
+    let p = err_from_is_err_and c.from_residual-in_err-replies.result c.from_residual-in_err-replies.ensures.1 in
+    let fault = rw c.as_slice.ensures.value at c.in_err-replies.ensures.fault in
+    rw (p.1, p.2) (known-fault _ _ _ c.in_ok-text.ensures.text fault)
+
+pub returns-in_err-replies-clause-exact : goal.returns-in_err-replies-clause-exact
+returns-in_err-replies-clause-exact g c = λ periods commands.
+    let p = err_from_is_err_and c.from_residual-in_err-replies.result c.from_residual-in_err-replies.ensures.1 in
+    let failed = rw c.as_slice.ensures.value at c.in_err-replies.ensures.exact periods commands in
+    rw (p.1, p.2) (known-failed _ _ _ periods commands c.in_ok-text.ensures.text failed)
+
+pub returns-clause-done : goal.returns-clause-done
+returns-clause-done g c =
+    let done = rw c.as_slice.ensures.value at c.in_ok-replies.ensures.done in
+    known-done _ _ _ _ _ _ _ c.in_ok-text.ensures.text done c.as_slice-2.ensures.value c.write_text.ensures.done
+
+pub returns-clause-exact : goal.returns-clause-exact
+returns-clause-exact g c = λ periods commands.
+    let exact = rw c.as_slice.ensures.value at c.in_ok-replies.ensures.exact periods commands in
+    known-exact _ _ _ _ _ _ _ periods commands c.in_ok-text.ensures.text exact c.as_slice-2.ensures.value c.write_text.ensures.done c.write_text.ensures.fault

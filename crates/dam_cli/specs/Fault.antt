@@ -1,0 +1,50 @@
+-- The faults of a run: their lines, and the statuses that the program ends with.
+use Rattle.std.specs.Prelude.{ℕ, List, ◌++◌, decimal, codes}
+use Rattle.dam_results.specs.declared.journal.JournalFault.{JournalFault}
+use Rattle.dam_results.specs.declared.journal.JournalFault.TheVariants.{TooLong, NotAscii, TooManyRecords, NotDay, FieldCount, BadField}
+use Rattle.dam_results.specs.declared.journal.JournalFault.TheVariants.{Memory as NoMemory}
+use Rattle.dam_cli.specs.declared.fault.RunFault.{RunFault}
+use Rattle.dam_cli.specs.declared.fault.RunFault.TheVariants.{Read, Input, Memory, Write}
+
+-- what is printed of a fault of the input
+abbrev pub input_text : JournalFault → List ℕ
+input_text TooLong = codes "input: TooLong"
+input_text (NotAscii offset) = codes "input: NotAscii at " ++ decimal offset
+input_text TooManyRecords = codes "input: TooManyRecords"
+input_text NotDay = codes "input: NotDay"
+input_text (FieldCount at) = codes "input: FieldCount in record " ++ decimal at
+input_text (BadField at field) = codes "input: BadField in record " ++ (decimal at ++ (codes " field " ++ decimal field))
+input_text NoMemory = codes "memory"
+
+-- what is printed of a fault
+abbrev pub fault_text : RunFault → List ℕ
+fault_text Read = codes "device: read"
+fault_text (Input fault) = input_text fault
+fault_text Memory = codes "memory"
+fault_text Write = codes "device: write"
+
+-- 1 where the text that was read is at fault, 4 where the machine is
+abbrev pub input_status : JournalFault → ℕ
+input_status TooLong = 1
+input_status (NotAscii offset) = 1
+input_status TooManyRecords = 1
+input_status NotDay = 1
+input_status (FieldCount at) = 1
+input_status (BadField at field) = 1
+input_status NoMemory = 4
+
+abbrev pub fault_status : RunFault → ℕ
+fault_status Read = 4
+fault_status (Input fault) = input_status fault
+fault_status Memory = 4
+fault_status Write = 4
+
+-- the fault of a run whose input has that fault
+abbrev pub run_fault_of : JournalFault → RunFault
+run_fault_of TooLong = Input TooLong
+run_fault_of (NotAscii offset) = Input (NotAscii offset)
+run_fault_of TooManyRecords = Input TooManyRecords
+run_fault_of NotDay = Input NotDay
+run_fault_of (FieldCount at) = Input (FieldCount at)
+run_fault_of (BadField at field) = Input (BadField at field)
+run_fault_of NoMemory = Memory

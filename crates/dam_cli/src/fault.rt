@@ -1,0 +1,93 @@
+ghost use Rattle.std.specs.Prelude.{◌≡◌, ◌++◌, codes, string_bytes, IfOk};
+ghost use Rattle.dam_cli.specs.Fault.{fault_status, fault_text, run_fault_of};
+
+use dam_results::JournalFault;
+use std::alloc::{AllocError, Global};
+use std::error::Error;
+use std::fmt;
+
+/// Why a run didn't print its text.
+#[derive(Clone, Copy, PartialEq, Eq, Debug)]
+pub enum RunFault {
+    /// The reader failed.
+    Read,
+    /// What was read is no journal. Want of memory is answered as `Memory` of this type.
+    Input(JournalFault),
+    /// Memory ran out.
+    Memory,
+    /// The writer failed; a part of the text may have been written.
+    Write,
+}
+
+impl fmt::Display for RunFault {
+    ghost use Rattle.std.specs.Prelude.{Some};
+    ghost use Rattle.dam_cli.specs.Fault.{fault_text};
+
+    ghost output = { λ fault. Some (fault_text fault) };
+
+    fn fmt<W: fmt::Write>(&self, f: &mut fmt::Formatter<W>) -> fmt::Result {
+        match self {
+            RunFault::Read => f.write_str("device: read"),
+            RunFault::Input(JournalFault::TooLong) => f.write_str("input: TooLong"),
+            RunFault::Input(JournalFault::NotAscii(offset)) => write!(
+                f,
+                "input: NotAscii at {offset}"
+            ),
+            RunFault::Input(JournalFault::TooManyRecords) => f.write_str("input: TooManyRecords"),
+            RunFault::Input(JournalFault::NotDay) => f.write_str("input: NotDay"),
+            RunFault::Input(JournalFault::FieldCount(record)) => {
+                write!(f, "input: FieldCount in record {record}")
+            }
+            RunFault::Input(JournalFault::BadField(record, field)) => {
+                write!(f, "input: BadField in record {record} field {field}")
+            }
+            RunFault::Input(JournalFault::Memory) | RunFault::Memory => f.write_str("memory"),
+            RunFault::Write => f.write_str("device: write"),
+        }
+    }
+}
+
+impl Error for RunFault {}
+
+impl From<JournalFault> for RunFault {
+    ghost use Rattle.std.specs.Prelude.{◌≡◌};
+    ghost use Rattle.dam_cli.specs.Fault.{run_fault_of};
+
+    ghost from_gives = { λ fault e. e ≡ run_fault_of fault };
+
+    fn from(fault: JournalFault) -> RunFault {
+        match fault {
+            JournalFault::Memory => RunFault::Memory,
+            _ => RunFault::Input(fault),
+        }
+    }
+}
+
+impl From<AllocError> for RunFault {
+    ghost use Rattle.std.specs.Prelude.{◌≡◌};
+    ghost use Rattle.dam_cli.specs.declared.fault.RunFault.TheVariants.{Memory};
+
+    ghost from_gives = { λ _ e. e ≡ Memory };
+
+    fn from(_error: AllocError) -> RunFault {
+        RunFault::Memory
+    }
+}
+
+/// The status that the program ends with: 1 for a fault of the input, 4 for one of the machine.
+pub fn status(fault: &RunFault) -> u8
+    ensures { result ≡ fault_status fault.now }
+{
+    match fault {
+        RunFault::Input(JournalFault::Memory) => 4,
+        RunFault::Input(_) => 1,
+        RunFault::Read | RunFault::Memory | RunFault::Write => 4,
+    }
+}
+
+/// The line that the program prints on standard error, with its line feed.
+pub fn fault_line(alloc: Global, fault: &RunFault) -> Result<String, AllocError>
+    ensures { IfOk result (λ line. string_bytes line ≡ fault_text fault.now ++ codes "\n") }
+{
+    format!(in alloc; "{fault}\n")
+}

@@ -1,0 +1,36 @@
+ghost use Rattle.std.specs.Prelude.{◌≡◌, take, IfOk, IfErr, IfSome};
+ghost use Rattle.dam_cli.specs.Replay.{IsMachineFault};
+
+use crate::fault::RunFault;
+use dam_results::MOST_BYTES;
+use std::alloc::Global;
+use std::io::Read;
+
+/// How many bytes are read at most: one more than a journal may have, which shows that it has too many.
+pub const MOST_READ: usize = MOST_BYTES + 1;
+
+const CHUNK: usize = 65_536;
+
+/// The reader's bytes, to their end or to the first `MOST_READ` of them.
+///
+/// Any error of the reader ends it, one that asks to try again too. Each time that the reader is
+/// asked it has given at least one more byte than before, so it is asked at most once more than the
+/// bytes that are read.
+pub fn read_input<R: Read>(alloc: Global, reader: &mut R) -> Result<Vec<u8>, RunFault>
+    ensures text { IfOk result (λ text. IfSome (R.remaining reader.old) (λ given. text.items ≡ take MOST_READ given)) }
+    ensures fault { IfErr result IsMachineFault }
+{
+    let mut text = Vec::new(alloc);
+    let mut chunk = [0; CHUNK];
+    while text.len() < MOST_READ {
+        let room = CHUNK.min(MOST_READ - text.len());
+        let Ok(count) = reader.read(&mut chunk[..room]) else {
+            return Err(RunFault::Read);
+        };
+        if count == 0 {
+            break;
+        }
+        text.extend_from_slice(&chunk[..count])?;
+    }
+    Ok(text)
+}

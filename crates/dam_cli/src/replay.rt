@@ -1,0 +1,55 @@
+ghost use Rattle.std.specs.Prelude.{◌≡◌, ◌≢◌, ℕ, List, IfOk, IfErr, IfSome, OnOk, MatchResult};
+ghost use Rattle.std.specs.Io.KnownBytes.{Appends};
+ghost use Rattle.dam_book.specs.declared.command.Command.{Command};
+ghost use Rattle.dam_results.specs.Journal.{ReadsAs};
+ghost use Rattle.dam_cli.specs.Replay.{AreRepliesTo, IsFaultOn, IsMachineFault, replies_to};
+
+use crate::fault::RunFault;
+use crate::input::read_input;
+use dam_book::{Book, replay};
+use dam_results::{read_journal, replies_text};
+use std::alloc::Global;
+use std::io::{Read, Write};
+
+/// Reads a journal, runs its commands on the empty book of its day, and writes the reply to each.
+///
+/// The whole text is made before its first byte is written. Where the input is longer than a journal
+/// may be, not all of it is read.
+pub fn run_replay<R: Read, W: Write>(
+    alloc: Global,
+    reader: &mut R,
+    writer: &mut W,
+) -> Result<(), RunFault>
+    ensures done { OnOk result (IfSome (R.remaining reader.old) (λ given. (periods : ℕ) × (commands : List Command) × ReadsAs given periods commands × Appends (W.contents writer.old) (W.contents writer.new) (replies_to periods commands))) }
+    ensures fault { IfErr result (λ fault. IfSome (R.remaining reader.old) (λ given. IsFaultOn given fault)) }
+    ensures unwritten { IfErr result (λ fault. fault ≢ RunFault.Write → writer.new ≡ writer.old) }
+    ensures exact { (periods : ℕ) (commands : List Command) → IfSome (R.remaining reader.old) (λ given. ReadsAs given periods commands → MatchResult result (λ _. Appends (W.contents writer.old) (W.contents writer.new) (replies_to periods commands)) IsMachineFault) }
+{
+    let text = read_input(alloc, reader)?;
+    let replies = replay_text(alloc, text.as_slice())?;
+    write_text(writer, replies.as_slice())
+}
+
+/// The replies to a text, which may have been cut behind the first byte too many.
+fn replay_text(alloc: Global, text: &[u8]) -> Result<Vec<u8>, RunFault>
+    ensures done { IfOk result (λ replies. AreRepliesTo text.now replies.items) }
+    ensures fault { IfErr result (IsFaultOn text.now) }
+    ensures exact { (periods : ℕ) (commands : List Command) → ReadsAs text.now periods commands → MatchResult result (λ replies. replies.items ≡ replies_to periods commands) IsMachineFault }
+{
+    let journal = read_journal(alloc, text)?;
+    let Ok(mut book) = Book::begin(alloc, journal.periods) else {
+        unreachable!();
+    };
+    let entries = replay(alloc, &mut book, journal.commands.as_slice())?;
+    Ok(replies_text(alloc, journal.periods, entries.as_slice())?)
+}
+
+fn write_text<W: Write>(writer: &mut W, text: &[u8]) -> Result<(), RunFault>
+    ensures done { OnOk result (Appends (W.contents writer.old) (W.contents writer.new) text.now) }
+    ensures fault { IfErr result (λ fault. fault ≡ RunFault.Write) }
+{
+    if writer.write_all(text).is_err() || writer.flush().is_err() {
+        return Err(RunFault::Write);
+    }
+    Ok(())
+}

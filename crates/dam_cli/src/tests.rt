@@ -1,0 +1,179 @@
+use crate::fault::{RunFault, fault_line, status};
+use crate::input::MOST_READ;
+use crate::replay::run_replay;
+use dam_results::JournalFault;
+use std::io;
+use std::io::{Read, Write};
+use std::test::Fail;
+
+const STORED_RUN: &[u8] = b"day,24,,,,,,,
+submit,A,B1,hour,buy,5000,1:10,,
+submit,A,B1,hour,sell,3000,1:10,,
+cancel,A,B1,,,,,,
+cancel,A,B1,,,,,,
+submit,A,B1,hour,buy,5000,25:10,,
+close,,,,,,,,
+submit,A,B1,hour,buy,5000,1:10,,
+";
+
+const STORED_REPLIES: &[u8] = b"day,24
+1,done
+2,refused,NameTaken
+3,done
+4,refused,UnknownOrder
+5,refused,PeriodOutOfDay
+6,done
+7,refused,Closed
+";
+
+/// A reader that gives at most `step` bytes at a time, counts how often it is asked, and fails at
+/// the ask of number `failing`, counted from 1.
+#[derive(Drop)]
+struct Dripping<R> {
+    inner: R,
+    step: usize,
+    asked: usize,
+    failing: usize,
+}
+
+impl<R> Dripping<R> {
+    fn new(inner: R, step: usize) -> Dripping<R> {
+        Dripping {
+            inner,
+            step,
+            asked: 0,
+            failing: 0,
+        }
+    }
+}
+
+impl<R: Read> Read for Dripping<R> {
+    fn read(&mut self, buf: &mut [u8]) -> io::Result<usize> {
+        self.asked = self.asked.saturating_add(1);
+        if self.asked == self.failing {
+            return Err(io::Error::from(io::ErrorKind::Other));
+        }
+        let room = buf.len().min(self.step);
+        self.inner.read(&mut buf[..room])
+    }
+}
+
+/// How a writer fails.
+#[derive(Clone, Copy, PartialEq)]
+enum Breakage {
+    Refuses,
+    TakesNothing,
+    LosesAtFlush,
+}
+
+#[derive(Drop)]
+struct Broken(Breakage);
+
+impl Write for Broken {
+    fn write(&mut self, buf: &[u8]) -> io::Result<usize> {
+        match self.0 {
+            Breakage::Refuses => Err(io::Error::from(io::ErrorKind::BrokenPipe)),
+            Breakage::TakesNothing => Ok(0),
+            Breakage::LosesAtFlush => Ok(buf.len()),
+        }
+    }
+
+    fn flush(&mut self) -> io::Result<()> {
+        Err(io::Error::from(io::ErrorKind::Other))
+    }
+}
+
+#[test]
+fn each_fault_has_its_line_and_status(rt: HostRuntime) -> Result<(), Fail> {
+    let table = [
+        (RunFault::Read, "device: read\n", 4),
+        (
+            RunFault::Input(JournalFault::TooLong),
+            "input: TooLong\n",
+            1,
+        ),
+        (
+            RunFault::Input(JournalFault::NotAscii(14)),
+            "input: NotAscii at 14\n",
+            1,
+        ),
+        (
+            RunFault::Input(JournalFault::TooManyRecords),
+            "input: TooManyRecords\n",
+            1,
+        ),
+        (RunFault::Input(JournalFault::NotDay), "input: NotDay\n", 1),
+        (
+            RunFault::Input(JournalFault::FieldCount(2)),
+            "input: FieldCount in record 2\n",
+            1,
+        ),
+        (
+            RunFault::Input(JournalFault::BadField(2, 6)),
+            "input: BadField in record 2 field 6\n",
+            1,
+        ),
+        (RunFault::Input(JournalFault::Memory), "memory\n", 4),
+        (RunFault::Memory, "memory\n", 4),
+        (RunFault::Write, "device: write\n", 4),
+    ];
+    for (fault, line, number) in table {
+        assert_eq!(rt; fault_line(rt.alloc(), &fault)?.as_str(), line);
+        assert_eq!(rt; status(&fault), number, "{line}");
+    }
+    Ok(())
+}
+
+#[test]
+fn replays_the_stored_run(rt: HostRuntime) -> Result<(), Fail> {
+    let mut reader = Dripping::new(STORED_RUN, 1);
+    let mut written = Vec::new(rt.alloc());
+    assert_eq!(rt; run_replay(rt.alloc(), &mut reader, &mut written), Ok(()));
+    assert_eq!(rt; written.as_slice(), STORED_REPLIES);
+    assert_eq!(rt; reader.asked, STORED_RUN.len() + 1);
+    Ok(())
+}
+
+#[test]
+fn an_endless_reader_is_asked_up_to_the_limit(rt: HostRuntime) -> Result<(), Fail> {
+    let step = 1_000;
+    let mut reader = Dripping::new(io::repeat(b'\n'), step);
+    let mut written = Vec::new(rt.alloc());
+    let too_long = Err(RunFault::Input(JournalFault::TooLong));
+    assert_eq!(rt; run_replay(rt.alloc(), &mut reader, &mut written), too_long);
+    assert!(rt; written.is_empty());
+    assert!(rt; reader.asked > MOST_READ / step, "{}", reader.asked);
+    assert!(rt;
+        reader.asked <= MOST_READ / step + MOST_READ / 65_536 + 2,
+        "{}",
+        reader.asked
+    );
+    Ok(())
+}
+
+#[test]
+fn a_failed_read_ends_the_run(rt: HostRuntime) -> Result<(), Fail> {
+    for failing in 1..=STORED_RUN.len() + 1 {
+        let mut reader = Dripping::new(STORED_RUN, 1);
+        reader.failing = failing;
+        let mut written = Vec::new(rt.alloc());
+        let result = run_replay(rt.alloc(), &mut reader, &mut written);
+        assert_eq!(rt; result, Err(RunFault::Read), "at ask {failing}");
+        assert!(rt; written.is_empty());
+        assert_eq!(rt; reader.asked, failing);
+    }
+    Ok(())
+}
+
+#[test]
+fn a_failed_write_is_answered(rt: HostRuntime) {
+    for breakage in [
+        Breakage::Refuses,
+        Breakage::TakesNothing,
+        Breakage::LosesAtFlush,
+    ] {
+        let mut reader = STORED_RUN;
+        let result = run_replay(rt.alloc(), &mut reader, &mut Broken(breakage));
+        assert_eq!(rt; result, Err(RunFault::Write));
+    }
+}

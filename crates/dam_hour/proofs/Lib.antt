@@ -1,0 +1,11 @@
+pub mod Ranges
+pub mod Numbers
+pub mod Duality
+pub mod Fill
+pub mod Totals
+pub mod Supporting
+pub mod Existence
+pub mod Enumeration
+pub mod Midpoint
+pub mod Magnitude
+pub mod Answering

@@ -1,0 +1,9 @@
+use Rattle.std.proofs.Common.{◌≡◌, take}
+use Rattle.dam_hour.specs.Execution.{AreInRange}
+use Rattle.dam_hour.proofs.hour.Hour.build.Given as goal
+
+abbrev pub invariant-loop-step : goal.invariant-loop-step
+invariant-loop-step g l = record {
+  items : l.kept.items ≡ take l.step-index l.steps;
+  in_range : AreInRange l.kept.items;
+}

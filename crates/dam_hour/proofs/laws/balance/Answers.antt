@@ -1,0 +1,9 @@
+use Rattle.dam_hour.proofs.Supporting.{balance_within}
+use Rattle.dam_hour.proofs.Existence.{balance_exists}
+use Rattle.dam_hour.proofs.laws.balance.Goals as goal
+
+pub returns-clause-within : goal.returns-clause-within
+returns-clause-within c = balance_within
+
+pub returns-clause-exists : goal.returns-clause-exists
+returns-clause-exists c = balance_exists

@@ -1,0 +1,5 @@
+use Rattle.dam_hour.proofs.Magnitude.{execution_small}
+use Rattle.dam_hour.proofs.laws.magnitude.Goals as goal
+
+pub returns : goal.returns
+returns c = execution_small

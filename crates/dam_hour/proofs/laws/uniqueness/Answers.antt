@@ -1,0 +1,8 @@
+use Rattle.dam_hour.proofs.Existence.{ends_unique, best_unique}
+use Rattle.dam_hour.proofs.laws.uniqueness.Goals as goal
+
+pub returns-clause-ends : goal.returns-clause-ends
+returns-clause-ends c = ends_unique
+
+pub returns-clause-best : goal.returns-clause-best
+returns-clause-best c = best_unique

@@ -1,0 +1,14 @@
+use Rattle.dam_hour.proofs.Enumeration.{best_greatest_welfare, greatest_welfare_reached, greatest_welfare_bound, greatest_welfare_none, unbalanced_welfare}
+use Rattle.dam_hour.proofs.laws.welfare.Goals as goal
+
+pub returns-clause-best : goal.returns-clause-best
+returns-clause-best c = best_greatest_welfare
+
+pub returns-clause-reached : goal.returns-clause-reached
+returns-clause-reached c = greatest_welfare_reached
+
+pub returns-clause-bound : goal.returns-clause-bound
+returns-clause-bound c = greatest_welfare_bound
+
+pub returns-clause-none : goal.returns-clause-none
+returns-clause-none c steps net = (greatest_welfare_none steps net, unbalanced_welfare steps net)

@@ -1,0 +1,9 @@
+use Rattle.std.proofs.Common.{◌≡◌, ◌+◌, ◌*◌, ◌≤◌, drop}
+use Rattle.dam_hour.specs.Volumes.{full_surplus}
+use Rattle.dam_hour.proofs.volumes.surplus.Given as goal
+
+abbrev pub invariant-loop-step : goal.invariant-loop-step
+invariant-loop-step l = record {
+  value : l.total + full_surplus l.price (drop l.step-index l.steps) ≡ full_surplus l.price l.steps;
+  small : l.total ≤ l.step-index * (450000 * 99999);
+}

@@ -1,0 +1,84 @@
+-- The welfare of an execution, the best execution, and the greatest welfare at a net volume.
+use Rattle.std.specs.Prelude.{◌≡◌, ℕ, ◌*◌, ◌≤◌, ℤ, pos, neg_ℤ, ◌+ℤ◌, ◌-ℤ◌, ◌*ℤ◌, ◌≤ℤ◌, zero, suc, Bool, Option, Some, None, List, [], ◌∷◌, ◌++◌, map, filter, fold}
+use Rattle.std.specs.Int.{int_max}
+use Rattle.std.specs.List.{flat_map}
+use Rattle.std.specs.Ordering.{int_eq}
+use Rattle.dam_book.specs.declared.quantity.TheConstants.{GREATEST_QTY}
+use Rattle.dam_book.specs.declared.order.Side.{Side}
+use Rattle.dam_book.specs.declared.order.Side.TheVariants.{Buy, Sell}
+use Rattle.dam_hour.specs.declared.step.Step.{Step}
+use Rattle.dam_hour.specs.Execution.{IsExecution, executed_volume, Balances}
+
+-- a buy counts as it is, and a sell with the other sign
+abbrev pub signed : Side → ℤ → ℤ
+signed Buy z = z
+signed Sell z = neg_ℤ z
+
+-- limit times executed volume over buys, less the same over sells
+abbrev pub welfare_of : List Step → List ℕ → ℤ
+welfare_of (s ∷ ss) (x ∷ xs) = signed s.side (s.price *ℤ pos x) +ℤ welfare_of ss xs
+welfare_of _ _ = pos 0
+
+-- what the steps gain at a price: limit less price, times executed volume, over buys, less the same over sells
+abbrev pub surplus_at : ℤ → List Step → List ℕ → ℤ
+surplus_at p (s ∷ ss) (x ∷ xs) = signed s.side ((s.price -ℤ p) *ℤ pos x) +ℤ surplus_at p ss xs
+surplus_at p _ _ = pos 0
+
+-- at the first place where they differ the second has the greater volume, or they differ nowhere
+abbrev pub AtMostInOrder : List ℕ → List ℕ → Type 0
+AtMostInOrder (x ∷ xs) (y ∷ ys) = (x ≤ y) × (x ≡ y → AtMostInOrder xs ys)
+AtMostInOrder _ _ = Unit {0}
+
+-- ys ranks at or below xs: by welfare, then by bought volume, then by the volumes in book order
+pub record RanksAtOrBelow (ss : List Step) (ys xs : List ℕ) : Type 0 where
+  pub by_welfare : welfare_of ss ys ≤ℤ welfare_of ss xs
+  pub by_bought : welfare_of ss ys ≡ welfare_of ss xs → executed_volume Buy ss ys ≤ executed_volume Buy ss xs
+  pub by_order : welfare_of ss ys ≡ welfare_of ss xs → executed_volume Buy ss ys ≡ executed_volume Buy ss xs → AtMostInOrder ys xs
+
+-- a balanced execution that no other ranks above
+pub record IsBest (ss : List Step) (net : ℤ) (xs : List ℕ) : Type 0 where
+  pub execution : IsExecution ss xs
+  pub balance : Balances ss net xs
+  pub greatest : (ys : List ℕ) → IsExecution ss ys → Balances ss net ys → RanksAtOrBelow ss ys xs
+
+-- the bought and the sold volume and the welfare of the best execution
+pub record AreBestTotals (ss : List Step) (net : ℤ) (bought sold : ℕ) (welfare : ℤ) : Type 0 where
+  pub volumes : List ℕ
+  pub best : IsBest ss net volumes
+  pub bought_is : bought ≡ executed_volume Buy ss volumes
+  pub sold_is : sold ≡ executed_volume Sell ss volumes
+  pub welfare_is : welfare ≡ welfare_of ss volumes
+
+-- the greatest limit times the greatest volume: 400,000 cents per MWh by 99,999 tenths of a MW
+abbrev pub greatest_value : ℕ
+greatest_value = 39999600000
+
+-- volumes and a welfare within what so many steps can give
+pub record AreSmall (steps bought sold : ℕ) (welfare : ℤ) : Type 0 where
+  pub bought_at_most : bought ≤ steps * GREATEST_QTY
+  pub sold_at_most : sold ≤ steps * GREATEST_QTY
+  pub welfare_at_least : neg_ℤ (pos (steps * greatest_value)) ≤ℤ welfare
+  pub welfare_at_most : welfare ≤ℤ pos (steps * greatest_value)
+
+-- the numbers from 0 to n
+abbrev pub up_to : ℕ → List ℕ
+up_to zero = 0 ∷ []
+up_to (suc n) = up_to n ++ suc n ∷ []
+
+-- every execution of the steps
+abbrev pub executions : List Step → List (List ℕ)
+executions [] = [] ∷ []
+executions (s ∷ ss) = flat_map (λ x. map (λ xs. x ∷ xs) (executions ss)) (up_to s.qty)
+
+-- whether an execution balances
+abbrev pub does_balance : List Step → ℤ → List ℕ → Bool
+does_balance ss net xs = int_eq (pos (executed_volume Sell ss xs) +ℤ net) (pos (executed_volume Buy ss xs))
+
+-- the greatest number of a list, or None where there is none
+abbrev pub greatest_of : List ℤ → Option ℤ
+greatest_of [] = None
+greatest_of (z ∷ zs) = Some (fold int_max z zs)
+
+-- the greatest welfare of the executions that balance with the net volume, or None where none does
+unfoldable pub greatest_welfare : List Step → ℤ → Option ℤ
+greatest_welfare ss net = greatest_of (map (welfare_of ss) (filter (does_balance ss net) (executions ss)))

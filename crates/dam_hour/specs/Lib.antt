@@ -1,0 +1,4 @@
+pub mod Execution
+pub mod Price
+pub mod Best
+pub mod Volumes

@@ -1,0 +1,134 @@
+ghost use Rattle.std.specs.Prelude.{◌≡◌, ◌≤◌, ◌↔◌, pos, ◌+ℤ◌, ◌-ℤ◌, IsTrue};
+ghost use Rattle.std.specs.Int.{int_div_euclid};
+ghost use Rattle.dam_hour.specs.Execution.{IsHour, IsNetVolume, IsWithinOffers};
+ghost use Rattle.dam_hour.specs.Price.{price_between};
+ghost use Rattle.dam_hour.specs.Volumes.{IsHighEnough, IsLowEnough, IsLeastHighEnough, IsGreatestLowEnough};
+
+use crate::step::Step;
+use crate::volumes::{Bounds, offered};
+use dam_book::{Price, Side};
+
+/// The least price of the range, in cents per MWh.
+const LOWEST: i32 = -50_000;
+
+/// The greatest price of the range, in cents per MWh.
+const HIGHEST: i32 = 400_000;
+
+/// The number of cents from the least price to the greatest.
+const SPAN: u32 = (HIGHEST - LOWEST) as u32;
+
+/// The price so many cents above the least one.
+fn price_above(cents: u32) -> Price
+    requires { cents ≤ SPAN }
+    ensures { result ≡ LOWEST +ℤ pos cents }
+{
+    Price::new(LOWEST + cents as i32).unwrap()
+}
+
+/// The price so many cents below the greatest one.
+fn price_below(cents: u32) -> Price
+    requires { cents ≤ SPAN }
+    ensures { result ≡ HIGHEST -ℤ pos cents }
+{
+    Price::new(HIGHEST - cents as i32).unwrap()
+}
+
+/// Whether some execution balances: the net volume is at most all buys, and takes at most all sells.
+pub(crate) fn is_within_offers(steps: &[Step], net: i64) -> bool
+    requires steps { IsHour steps.now }
+    requires net { IsNetVolume net }
+    ensures { IsTrue result ↔ IsWithinOffers steps.now net }
+{
+    let buys = offered(steps, Side::Buy) as i64;
+    let sells = offered(steps, Side::Sell) as i64;
+    -sells <= net && net <= buys
+}
+
+/// Whether the buys that are better than the price find sells that are not worse, or net volume.
+///
+/// Where a price is high enough, so is every higher one.
+fn is_high_enough(steps: &[Step], net: i64, price: Price) -> bool
+    requires steps { IsHour steps.now }
+    requires net { IsNetVolume net }
+    ensures { IsTrue result ↔ IsHighEnough steps.now net price }
+{
+    let buys = Bounds::of(steps, Side::Buy, price);
+    let sells = Bounds::of(steps, Side::Sell, price);
+    buys.least as i64 <= sells.most as i64 + net
+}
+
+/// Whether the sells that are better than the price, and the net volume, find buys that are not worse.
+///
+/// Where a price is low enough, so is every lower one; and of two neighbours the lower is high enough
+/// or the higher is low enough.
+fn is_low_enough(steps: &[Step], net: i64, price: Price) -> bool
+    requires steps { IsHour steps.now }
+    requires net { IsNetVolume net }
+    ensures { IsTrue result ↔ IsLowEnough steps.now net price }
+{
+    let buys = Bounds::of(steps, Side::Buy, price);
+    let sells = Bounds::of(steps, Side::Sell, price);
+    sells.least as i64 + net <= buys.most as i64
+}
+
+/// The least price that is high enough, by bisection: it is the least supporting price.
+pub(crate) fn low_end(steps: &[Step], net: i64) -> Price
+    requires steps { IsHour steps.now }
+    requires net { IsNetVolume net }
+    requires within { IsWithinOffers steps.now net }
+    ensures { IsLeastHighEnough steps.now net result }
+{
+    let mut from = 0;
+    let mut to = SPAN;
+    while from < to {
+        let middle = from + (to - from) / 2;
+        if is_high_enough(steps, net, price_above(middle)) {
+            to = middle;
+        } else {
+            from = middle + 1;
+        }
+    }
+    price_above(to)
+}
+
+/// The greatest price that is low enough, by bisection: it is the greatest supporting price.
+pub(crate) fn high_end(steps: &[Step], net: i64) -> Price
+    requires steps { IsHour steps.now }
+    requires net { IsNetVolume net }
+    requires within { IsWithinOffers steps.now net }
+    ensures { IsGreatestLowEnough steps.now net result }
+{
+    let mut from = 0;
+    let mut to = SPAN;
+    while from < to {
+        let middle = from + (to - from) / 2;
+        if is_low_enough(steps, net, price_below(middle)) {
+            to = middle;
+        } else {
+            from = middle + 1;
+        }
+    }
+    price_below(to)
+}
+
+/// Half of the sum of two prices, rounded down, also below zero.
+fn middle(low: Price, high: Price) -> Price
+    ensures { result ≡ int_div_euclid (low +ℤ high) (pos 2) }
+{
+    Price::new((low.get() + high.get()).div_euclid(2)).unwrap()
+}
+
+/// The clearing price between the ends: the one that is no end of the range, where only one is; else
+/// the middle, a half cent rounded down, also below zero.
+pub(crate) fn price_between(low: Price, high: Price) -> Price
+    ensures { result ≡ price_between low high }
+{
+    let (low_cents, high_cents) = (low.get(), high.get());
+    if low_cents == LOWEST && high_cents < HIGHEST {
+        high
+    } else if LOWEST < low_cents && high_cents == HIGHEST {
+        low
+    } else {
+        middle(low, high)
+    }
+}

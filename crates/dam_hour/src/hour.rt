@@ -1,0 +1,214 @@
+ghost use Rattle.std.specs.Prelude.{◌≡◌, ◌≤◌, ◌-◌, take, pos, ◌*ℤ◌, ◌+ℤ◌, ℕ, List, length, slice_get, IfOk, IfSome, IfNone, IsTrue, ◌↔◌, [], None};
+ghost use Rattle.std.specs.Option.{option_map};
+ghost use Rattle.dam_hour.specs.Execution.{IsHour, IsNetVolume, IsWithinOffers, IsUnbalanced};
+ghost use Rattle.dam_hour.specs.Price.{AreEnds, price_between};
+ghost use Rattle.dam_hour.specs.Best.{IsBest, AreBestTotals, AreSmall, greatest_welfare};
+ghost use Rattle.dam_hour.specs.Volumes.{better_volume, at_volume, full_surplus, total_on, IsLeastHighEnough, AreTotals};
+
+use crate::ends::{high_end, is_within_offers, low_end, price_between};
+use crate::step::Step;
+use crate::volumes::{Bounds, surplus};
+use dam_book::{Price, Side};
+use std::alloc::{AllocError, Allocator, Global};
+use std::marker::Model;
+
+/// The most steps of one period: 4,000 hourly orders, and 24 blocks that may stand as steps.
+pub const GREATEST_STEPS: usize = 4_024;
+
+/// The greatest net volume of a period, of either sign: 24 blocks of 99,999 tenths of a MW.
+pub const GREATEST_NET: i64 = 2_399_976;
+
+/// One period: its steps in book order, at most `GREATEST_STEPS`.
+///
+/// A contract sees the list of the steps.
+#[derive(Drop)]
+pub struct Hour<A: Allocator = Global> {
+    steps: Vec<Step, A>,
+}
+
+impl<A: Allocator> Model for Hour<A> {
+    ghost use Rattle.std.specs.Prelude.{List};
+    ghost use Rattle.dam_hour.specs.declared.step.Step.{Step};
+    ghost use Rattle.dam_hour.specs.Execution.{IsHour};
+
+    ghost Value = { List Step };
+
+    ghost view = { λ h. h.steps.items };
+
+    ghost invariant = { λ h. IsHour h.steps.items };
+}
+
+/// What a period clears at; the volumes and the welfare are those of its steps alone.
+///
+/// The price is any that supports the execution, narrowed to one (EUPHEMIA Public Description,
+/// "Price Determination Sub-problem"): the end that a limit made where the other is the end of the
+/// range, else the middle of the two, a half cent rounded down. That choice is this project's own.
+#[derive(Clone, Copy, PartialEq, Eq, Debug)]
+pub struct Cleared {
+    /// The least supporting price.
+    pub low: Price,
+    /// The greatest supporting price.
+    pub high: Price,
+    /// The price of the period, from `low` to `high`.
+    pub price: Price,
+    /// The executed volume of the buying steps, in tenths of a MW.
+    pub bought: u64,
+    /// The executed volume of the selling steps, in tenths of a MW.
+    pub sold: u64,
+    /// The welfare of the execution, in cents per MWh times tenths of a MW.
+    pub welfare: i64,
+}
+
+/// The totals of the best execution, and a price that supports it.
+#[derive(Clone, Copy)]
+struct Totals {
+    low: Price,
+    bought: u64,
+    sold: u64,
+}
+
+impl Totals {
+    /// At the least supporting price the side that is short executes all that is not worse than it.
+    fn of(steps: &[Step], net: i64) -> Totals
+        requires steps { IsHour steps.now }
+        requires net { IsNetVolume net }
+        requires within { IsWithinOffers steps.now net }
+        ensures low { IsLeastHighEnough steps.now net result.low }
+        ensures totals { AreTotals steps.now net result.low result.bought result.sold }
+    {
+        let low = low_end(steps, net);
+        let buys = Bounds::of(steps, Side::Buy, low);
+        let sells = Bounds::of(steps, Side::Sell, low);
+        let supply = sells.most as i64 + net;
+        let demand = buys.most as i64;
+        if supply < demand {
+            Totals {
+                low,
+                bought: supply as u64,
+                sold: sells.most,
+            }
+        } else {
+            Totals {
+                low,
+                bought: buys.most,
+                sold: (demand - net) as u64,
+            }
+        }
+    }
+
+    /// What the steps in front of a place leave for a step of that side at the price.
+    fn left_for(self, steps: &[Step], side: Side, place: usize) -> u64
+        requires steps { IsHour steps.now }
+        requires place { place ≤ length steps.now }
+        ensures { result ≡ (total_on side self.bought self.sold - better_volume side self.low steps.now)
+            - at_volume side self.low (take place steps.now) }
+    {
+        let total = match side {
+            Side::Buy => self.bought,
+            Side::Sell => self.sold,
+        };
+        let all = Bounds::of(steps, side, self.low);
+        let front = Bounds::of(&steps[..place], side, self.low);
+        total
+            .saturating_sub(all.least)
+            .saturating_sub(front.most - front.least)
+    }
+}
+
+/// The welfare of an execution that balances and that the price supports: the surplus at the price,
+/// and the price times the net volume.
+fn welfare_at(steps: &[Step], net: i64, price: Price) -> i64
+    requires steps { IsHour steps.now }
+    requires net { IsNetVolume net }
+    ensures { result ≡ pos (full_surplus price steps.now) +ℤ price *ℤ net }
+{
+    surplus(steps, price) as i64 + i64::from(price.get()) * net
+}
+
+impl<A: Allocator> Hour<A> {
+    /// The hour of these steps, which stand in book order. The error is want of memory.
+    pub fn build(alloc: A, steps: &[Step]) -> Result<Hour<A>, AllocError>
+        requires { length steps.now ≤ GREATEST_STEPS }
+        ensures { IfOk result (λ hour. hour ≡ steps.now) }
+    {
+        let mut kept = Vec::with_capacity(alloc, steps.len())?;
+        for step in steps {
+            kept.push(step.in_range())?;
+        }
+        Ok(Hour { steps: kept })
+    }
+
+    /// The number of steps.
+    pub fn len(&self) -> usize
+        ensures value { result ≡ length self.now }
+        ensures steps { IsHour self.now }
+    {
+        self.steps.len()
+    }
+
+    /// Whether the hour has no step.
+    pub fn is_empty(&self) -> bool
+        ensures { IsTrue result ↔ (self.now ≡ []) }
+    {
+        self.steps.is_empty()
+    }
+
+    /// The steps in book order.
+    pub fn steps(&self) -> &[Step]
+        ensures value { result.now ≡ self.now }
+        ensures steps { IsHour self.now }
+    {
+        self.steps.as_slice()
+    }
+
+    /// The price, the totals and the welfare of the period at a net volume: what the accepted blocks
+    /// sell there less what they buy, in tenths of a MW.
+    ///
+    /// `None` exactly where no execution balances. The execution is the one of greatest welfare
+    /// (EUPHEMIA Public Description, "Welfare Maximization Problem"), then of greatest bought volume
+    /// ("Volume Indeterminacy Sub-problem"), then the one that comes last in the order of the volumes
+    /// in book order, which is this project's own. Takes no memory.
+    pub fn clear(&self, net: i64) -> Option<Cleared>
+        requires { IsNetVolume net }
+        ensures none { IfNone result (IsUnbalanced self.now net) }
+        ensures ends { IfSome result (λ c. AreEnds self.now net c.low c.high) }
+        ensures price { IfSome result (λ c. c.price ≡ price_between c.low c.high) }
+        ensures totals { IfSome result (λ c. AreBestTotals self.now net c.bought c.sold c.welfare) }
+        ensures small { IfSome result (λ c. AreSmall (length self.now) c.bought c.sold c.welfare) }
+        ensures welfare { greatest_welfare self.now net ≡ option_map (λ c. c.welfare) result }
+    {
+        let steps = self.steps();
+        if !is_within_offers(steps, net) {
+            return None;
+        }
+        let totals = Totals::of(steps, net);
+        let high = high_end(steps, net);
+        Some(Cleared {
+            low: totals.low,
+            high,
+            price: price_between(totals.low, high),
+            bought: totals.bought,
+            sold: totals.sold,
+            welfare: welfare_at(steps, net, totals.low),
+        })
+    }
+
+    /// The executed volume of the step at a place, counted from 0 in book order, in tenths of a MW:
+    /// that of the best execution, as `clear` has it.
+    ///
+    /// `None` exactly where `clear` is `None` or no step stands there. Takes no memory.
+    pub fn executed(&self, net: i64, place: usize) -> Option<u32>
+        requires { IsNetVolume net }
+        ensures best { (xs : List ℕ) → IsBest self.now net xs → result ≡ slice_get xs place }
+        ensures none { IsUnbalanced self.now net → result ≡ None }
+    {
+        let steps = self.steps();
+        let step = *steps.get(place)?;
+        if !is_within_offers(steps, net) {
+            return None;
+        }
+        let totals = Totals::of(steps, net);
+        let left = totals.left_for(steps, step.side, place);
+        Some(step.share(totals.low, left) as u32)
+    }
+}

@@ -1,0 +1,88 @@
+//! The laws of the definitions, each the contract of a function that does nothing.
+//!
+//! A caller that needs one of them in a proof calls the function, at no cost.
+
+ghost use Rattle.std.specs.Prelude.{◌≡◌, ◌↔◌, ℕ, ℤ, pos, ◌+ℤ◌, ◌*ℤ◌, ◌≤ℤ◌, ◌<ℤ◌, List, length, Some, None};
+ghost use Rattle.std.specs.Int.{int_div_euclid};
+ghost use Rattle.dam_book.specs.declared.order.Side.TheVariants.{Buy, Sell};
+ghost use Rattle.dam_book.specs.declared.price.TheConstants.{LOWEST_PRICE, HIGHEST_PRICE};
+ghost use Rattle.dam_hour.specs.declared.step.Step.{Step};
+ghost use Rattle.dam_hour.specs.Execution.{AreInRange, IsExecution, executed_volume, Balances, IsWithinOffers, IsUnbalanced};
+ghost use Rattle.dam_hour.specs.Price.{Supports, IsSupporting, AreEnds, price_between};
+ghost use Rattle.dam_hour.specs.Best.{AreSmall, IsBest, welfare_of, surplus_at, greatest_welfare};
+
+/// The exchange law: the supporting prices are all whole cents from the one end to the other, and
+/// each of them supports the best execution.
+///
+/// So at the price of the period no hourly order loses, and none that is better than it is cut.
+pub fn exchange()
+    ensures prices { (steps : List Step) (net low high p : ℤ) → AreEnds steps net low high
+        → IsSupporting steps net p ↔ ((low ≤ℤ p) × (p ≤ℤ high)) }
+    ensures best { (steps : List Step) (net low high p : ℤ) (xs : List ℕ) → AreEnds steps net low high
+        → IsBest steps net xs → low ≤ℤ p → p ≤ℤ high → Supports p steps xs }
+{}
+
+/// An execution balances exactly where the net volume is from minus all sells to all buys.
+pub fn balance()
+    ensures within { (steps : List Step) (net : ℤ) (xs : List ℕ) → IsExecution steps xs → Balances steps net xs
+        → IsWithinOffers steps net }
+    ensures exists { (steps : List Step) (net : ℤ) → IsWithinOffers steps net
+        → (xs : List ℕ) × (IsExecution steps xs × Balances steps net xs) }
+{}
+
+/// Where an execution balances there are a least and a greatest supporting price and a best
+/// execution.
+pub fn existence()
+    ensures ends { (steps : List Step) (net : ℤ) → AreInRange steps → IsWithinOffers steps net
+        → (low : ℤ) × (high : ℤ) × AreEnds steps net low high }
+    ensures best { (steps : List Step) (net : ℤ) → AreInRange steps → IsWithinOffers steps net
+        → (xs : List ℕ) × IsBest steps net xs }
+{}
+
+/// There is one least and one greatest supporting price, and one best execution.
+pub fn uniqueness()
+    ensures ends { (steps : List Step) (net low high other_low other_high : ℤ) → AreEnds steps net low high
+        → AreEnds steps net other_low other_high → (low ≡ other_low) × (high ≡ other_high) }
+    ensures best { (steps : List Step) (net : ℤ) (xs ys : List ℕ) → IsBest steps net xs → IsBest steps net ys
+        → xs ≡ ys }
+{}
+
+/// Which case of the period's price applies, and that the price lies between the ends.
+pub fn price()
+    ensures between { (low high : ℤ) → low ≤ℤ high
+        → (low ≤ℤ price_between low high) × (price_between low high ≤ℤ high) }
+    ensures low_open { (high : ℤ) → high <ℤ HIGHEST_PRICE → price_between LOWEST_PRICE high ≡ high }
+    ensures high_open { (low : ℤ) → LOWEST_PRICE <ℤ low → price_between low HIGHEST_PRICE ≡ low }
+    ensures inside { (low high : ℤ) → LOWEST_PRICE <ℤ low → high <ℤ HIGHEST_PRICE
+        → price_between low high ≡ int_div_euclid (low +ℤ high) (pos 2) }
+    ensures all_open { price_between LOWEST_PRICE HIGHEST_PRICE ≡ pos 175000 }
+{}
+
+/// The greatest welfare as a function of the net volume is the best execution's, and there is none
+/// exactly where nothing balances.
+pub fn welfare()
+    ensures best { (steps : List Step) (net : ℤ) (xs : List ℕ) → IsBest steps net xs
+        → greatest_welfare steps net ≡ Some (welfare_of steps xs) }
+    ensures reached { (steps : List Step) (net w : ℤ) → greatest_welfare steps net ≡ Some w
+        → (xs : List ℕ) × IsExecution steps xs × Balances steps net xs × (welfare_of steps xs ≡ w) }
+    ensures bound { (steps : List Step) (net w : ℤ) → greatest_welfare steps net ≡ Some w
+        → (xs : List ℕ) → IsExecution steps xs → Balances steps net xs → welfare_of steps xs ≤ℤ w }
+    ensures none { (steps : List Step) (net : ℤ) → (greatest_welfare steps net ≡ None) ↔ IsUnbalanced steps net }
+{}
+
+/// The welfare of a balanced execution is its surplus at any price and that price times the net
+/// volume; and at a price that supports it the surplus is at least 0, and the greatest there is.
+pub fn surplus()
+    ensures welfare { (p net : ℤ) (steps : List Step) (xs : List ℕ) → Balances steps net xs
+        → welfare_of steps xs ≡ surplus_at p steps xs +ℤ p *ℤ net }
+    ensures at_least_zero { (p : ℤ) (steps : List Step) (xs : List ℕ) → IsExecution steps xs → Supports p steps xs
+        → pos 0 ≤ℤ surplus_at p steps xs }
+    ensures greatest { (p : ℤ) (steps : List Step) (xs ys : List ℕ) → IsExecution steps xs → Supports p steps xs
+        → IsExecution steps ys → surplus_at p steps ys ≤ℤ surplus_at p steps xs }
+{}
+
+/// How large the executed volumes and the welfare of any execution can be: so much for each step.
+pub fn magnitude()
+    ensures { (steps : List Step) (xs : List ℕ) → AreInRange steps → IsExecution steps xs
+        → AreSmall (length steps) (executed_volume Buy steps xs) (executed_volume Sell steps xs) (welfare_of steps xs) }
+{}

@@ -1,0 +1,19 @@
+//! One period of the auction: its clearing price and the execution of its hourly orders.
+//!
+//! An [`Hour`] holds the steps of a period in book order. With a net volume of accepted blocks it
+//! answers the price (`clear`) and the executed volume of each step (`executed`). What these words
+//! mean stands in `specs/`: executions and their balance, supporting prices, the best execution.
+#![tactic(auto)]
+
+mod ends;
+mod hour;
+pub mod laws;
+#[cfg(test)]
+mod plain;
+mod step;
+#[cfg(test)]
+mod tests;
+mod volumes;
+
+pub use hour::{Cleared, GREATEST_NET, GREATEST_STEPS, Hour};
+pub use step::Step;

@@ -1,0 +1,67 @@
+ghost use Rattle.std.specs.Prelude.{◌≡◌, ◌≤◌, pos, negsuc, ◌≤ℤ◌};
+ghost use Rattle.dam_book.specs.Price.{IsPrice};
+ghost use Rattle.dam_book.specs.Quantity.{IsQuantity};
+ghost use Rattle.dam_hour.specs.Volumes.{margin_of, share};
+
+use dam_book::{Price, Qty, Side};
+
+/// An hourly order of one period, as the clearing sees it (EUPHEMIA Public Description, "Aggregated
+/// Hourly Orders": one step of a stepwise curve).
+///
+/// It buys or sells up to `qty` tenths of a MW, at its limit price in cents per MWh or better.
+#[derive(Clone, Copy, PartialEq, Eq, Debug)]
+pub struct Step {
+    pub side: Side,
+    pub price: Price,
+    pub qty: Qty,
+}
+
+impl Step {
+    /// How many cents better than the price the limit is: 0 at the price, below 0 where it is worse.
+    pub(crate) fn margin(self, price: Price) -> i32
+        ensures value { result ≡ margin_of self.side self.price price }
+        ensures at_least { negsuc 449999 ≤ℤ result }
+        ensures at_most { result ≤ℤ pos 450000 }
+    {
+        match self.side {
+            Side::Buy => self.price.get() - price.get(),
+            Side::Sell => price.get() - self.price.get(),
+        }
+    }
+
+    /// The step itself, of which a proof then knows that its limit and its volume are in range.
+    pub(crate) fn in_range(self) -> Step
+        ensures same { result ≡ self }
+        ensures limit { IsPrice result.price }
+        ensures volume { IsQuantity result.qty }
+    {
+        let _limit = self.price.get();
+        let _volume = self.qty.get();
+        self
+    }
+
+    /// The step's volume in tenths of a MW.
+    pub(crate) fn volume(self) -> u64
+        ensures value { result ≡ self.qty }
+        ensures small { result ≤ 99999 }
+    {
+        u64::from(self.qty.get())
+    }
+
+    /// The executed volume at that price, in tenths of a MW: all of a better step, none of a worse one,
+    /// and at the price as much as is left for it.
+    pub(crate) fn share(&self, price: Price, left: u64) -> u64
+        ensures value { result ≡ share (margin_of self.now.side self.now.price price) self.now.qty left }
+        ensures small { result ≤ 99999 }
+    {
+        let volume = self.volume();
+        let margin = self.margin(price);
+        if margin > 0 {
+            volume
+        } else if margin == 0 {
+            volume.min(left)
+        } else {
+            0
+        }
+    }
+}
