@@ -14,7 +14,7 @@ abbrev pub signed : Side → ℤ → ℤ
 signed Buy z = z
 signed Sell z = neg_ℤ z
 
--- limit times executed volume over buys, less the same over sells
+-- limit times executed volume over buys, less the same over sells, in cents per MWh times tenths of a MW
 abbrev pub welfare_of : List Step → List ℕ → ℤ
 welfare_of (s ∷ ss) (x ∷ xs) = signed s.side (s.price *ℤ pos x) +ℤ welfare_of ss xs
 welfare_of _ _ = pos 0

@@ -17,12 +17,12 @@ pub record IsHour (ss : List Step) : Type 0 where
   pub few : length ss ≤ GREATEST_STEPS
   pub in_range : AreInRange ss
 
--- a net volume that the blocks of a book can have in a period
+-- a net volume that the blocks of a book can have in a period: what the accepted ones sell there less what they buy, in tenths of a MW
 pub record IsNetVolume (net : ℤ) : Type 0 where
   pub at_least : neg_ℤ GREATEST_NET ≤ℤ net
   pub at_most : net ≤ℤ GREATEST_NET
 
--- a whole volume for each step, from 0 to the step's own
+-- a whole volume for each step, in tenths of a MW, from 0 to the step's own
 abbrev pub IsExecution : List Step → List ℕ → Type 0
 IsExecution [] [] = Unit {0}
 IsExecution (s ∷ ss) (x ∷ xs) = (x ≤ s.qty) × IsExecution ss xs

@@ -1,4 +1,4 @@
--- What a scan of the steps adds up at a price, and the two tests by which the ends of the supporting prices are found.
+-- What a scan of the steps adds up at a price, and the two tests by which the ends of the supporting prices are found. Only contracts inside the crate cite them.
 use Rattle.std.specs.Prelude.{◌≡◌, ℕ, zero, suc, min, ◌+◌, ◌*◌, ◌≤◌, ◌<◌, ℤ, pos, negsuc, ◌+ℤ◌, ◌-ℤ◌, ◌≤ℤ◌, List, [], ◌∷◌}
 use Rattle.dam_book.specs.Price.{IsPrice}
 use Rattle.dam_book.specs.declared.order.Side.{Side}
@@ -54,11 +54,11 @@ abbrev pub total_on : Side → ℕ → ℕ → ℕ
 total_on Buy bought sold = bought
 total_on Sell bought sold = sold
 
--- the buys that are better than the price find sells that are not worse
+-- the buys that are better than the price find sells that are not worse, with the net volume
 pub record IsHighEnough (ss : List Step) (net p : ℤ) : Type 0 where
   pub enough : pos (better_volume Buy p ss) ≤ℤ (pos (better_volume Sell p ss + at_volume Sell p ss) +ℤ net)
 
--- the sells that are better than the price find buys that are not worse
+-- the sells that are better than the price, with the net volume, find buys that are not worse
 pub record IsLowEnough (ss : List Step) (net p : ℤ) : Type 0 where
   pub enough : (pos (better_volume Sell p ss) +ℤ net) ≤ℤ pos (better_volume Buy p ss + at_volume Buy p ss)
 

@@ -41,8 +41,9 @@ impl<A: Allocator> Model for Hour<A> {
 /// What a period clears at; the volumes and the welfare are those of its steps alone.
 ///
 /// The price is any that supports the execution, narrowed to one (EUPHEMIA Public Description,
-/// "Price Determination Sub-problem"): the end that a limit made where the other is the end of the
-/// range, else the middle of the two, a half cent rounded down. That choice is this project's own.
+/// "Price Determination Sub-problem"): where just one of the two ends is the end of the range of
+/// prices, the other one; else the middle of the two, a half cent rounded down. That choice is this
+/// project's own. Prices are in cents per MWh.
 #[derive(Clone, Copy, PartialEq, Eq, Debug)]
 pub struct Cleared {
     /// The least supporting price.
@@ -165,9 +166,9 @@ impl<A: Allocator> Hour<A> {
     /// sell there less what they buy, in tenths of a MW.
     ///
     /// `None` exactly where no execution balances. The execution is the one of greatest welfare
-    /// (EUPHEMIA Public Description, "Welfare Maximization Problem"), then of greatest bought volume
-    /// ("Volume Indeterminacy Sub-problem"), then the one that comes last in the order of the volumes
-    /// in book order, which is this project's own. Takes no memory.
+    /// (EUPHEMIA Public Description, "Welfare Maximization Problem (Master Problem)"), then of greatest
+    /// bought volume ("Volume Indeterminacy Sub-problem"), then the one with the greater volume at the
+    /// first step in book order where two differ, which is this project's own. Takes no memory.
     pub fn clear(&self, net: i64) -> Option<Cleared>
         requires { IsNetVolume net }
         ensures none { IfNone result (IsUnbalanced self.now net) }

@@ -22,7 +22,7 @@ pub fn exchange()
         → IsBest steps net xs → low ≤ℤ p → p ≤ℤ high → Supports p steps xs }
 {}
 
-/// An execution balances exactly where the net volume is from minus all sells to all buys.
+/// Some execution balances exactly where the net volume is from minus all sells to all buys.
 pub fn balance()
     ensures within { (steps : List Step) (net : ℤ) (xs : List ℕ) → IsExecution steps xs → Balances steps net xs
         → IsWithinOffers steps net }
@@ -30,8 +30,8 @@ pub fn balance()
         → (xs : List ℕ) × (IsExecution steps xs × Balances steps net xs) }
 {}
 
-/// Where an execution balances there are a least and a greatest supporting price and a best
-/// execution.
+/// Where an execution balances there is a best execution, and where the limits and volumes are in
+/// range there are a least and a greatest supporting price.
 pub fn existence()
     ensures ends { (steps : List Step) (net : ℤ) → AreInRange steps → IsWithinOffers steps net
         → (low : ℤ) × (high : ℤ) × AreEnds steps net low high }
@@ -81,7 +81,8 @@ pub fn surplus()
         → IsExecution steps ys → surplus_at p steps ys ≤ℤ surplus_at p steps xs }
 {}
 
-/// How large the executed volumes and the welfare of any execution can be: so much for each step.
+/// How large the executed volumes and the welfare of any execution can be: for each step at most
+/// 99,999 tenths of a MW, and 39,999,600,000 cents per MWh times tenths of a MW.
 pub fn magnitude()
     ensures { (steps : List Step) (xs : List ℕ) → AreInRange steps → IsExecution steps xs
         → AreSmall (length steps) (executed_volume Buy steps xs) (executed_volume Sell steps xs) (welfare_of steps xs) }

@@ -1,5 +1,5 @@
 use crate::support::commands;
-use dam_book::{replay, Book, Reason, Reply};
+use dam_book::{Book, Reason, Reply, replay};
 use std::test::Fail;
 
 const FAMILY: &str = "submit,A,K1,block,sell,4000,1:10,,
@@ -39,7 +39,10 @@ fn its_rows_and_its_copy(rt: HostRuntime) -> Result<(), Fail> {
     let commands = commands(rt.alloc(), FAMILY)?;
     replay(rt.alloc(), &mut book, &commands)?;
     let copy = book.try_copy()?;
-    assert_eq!(rt; (copy.len(), copy.periods(), copy.is_closed()), (2, 24, true));
+    assert_eq!(rt;
+        (copy.len(), copy.periods(), copy.is_closed()),
+        (2, 24, true)
+    );
     for (place, name) in [b"H1".as_slice(), b"K1".as_slice()].iter().enumerate() {
         let Some((who, held, order)) = copy.row(place) else {
             return Err(Fail::from("a row"));

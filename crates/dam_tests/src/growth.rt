@@ -1,5 +1,7 @@
 use crate::support::commands;
-use dam_book::{read_price, read_qty, read_volumes, replay, write_price, write_qty, write_volumes, Book, Reply};
+use dam_book::{
+    Book, Reply, read_price, read_qty, read_volumes, replay, write_price, write_qty, write_volumes,
+};
 use dam_results::replies_text;
 use limited_alloc::RefusesNth;
 use std::test::Fail;

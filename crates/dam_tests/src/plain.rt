@@ -3,8 +3,8 @@
 
 use crate::support::commands;
 use dam_book::{
-    Book, BlockOrder, Command, HourOrder, Name, Order, Participant, Price, Reason, Reply, Volumes, MOST_BLOCKS,
-    MOST_HOURLY,
+    BlockOrder, Book, Command, HourOrder, MOST_BLOCKS, MOST_HOURLY, Name, Order, Participant,
+    Price, Reason, Reply, Volumes,
 };
 use std::alloc::{AllocError, Global};
 use std::test::Fail;
