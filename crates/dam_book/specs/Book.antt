@@ -25,7 +25,7 @@ same_key k l = same_text k.0 l.0 && same_text k.1 l.1
 abbrev pub Row : Type 0
 Row = Key × Order
 
--- the number of periods of the delivery day, the orders held in book order, and whether the book takes no more
+-- the number of periods of the delivery day, the orders held in book order, and whether the book takes no more commands
 pub record BookState : Type 0 where
   pub periods : ℕ
   pub rows : List Row
@@ -147,6 +147,13 @@ reply_of (Some reason) = Refused reason
 abbrev pub reply_to : BookState → Command → Reply
 reply_to b c = reply_of (refusal b c)
 
+-- whether the command brings a new order
+abbrev pub IsSubmit : Command → Type 0
+IsSubmit (Submit who name order) = Unit {0}
+IsSubmit (Amend who name price volumes) = ⊥
+IsSubmit (Cancel who name) = ⊥
+IsSubmit Close = ⊥
+
 -- the rows with the order at this key changed at its place
 abbrev pub changed : Key → (Order → Order) → List Row → List Row
 changed k f [] = []
@@ -209,7 +216,7 @@ abbrev pub are_unique : List Row → Bool
 are_unique [] = true
 are_unique (r ∷ rs) = not (is_some (lookup (same_key r.0) rs)) && are_unique rs
 
--- the parent that the row names, if any, is a block of the same participant among these rows
+-- the parent that the row names, if any, is a block of the same participant among these rows: there is none that isn't
 abbrev pub has_parent_in : List Row → Row → Bool
 has_parent_in rows r = not (parent_passes (λ o. not (is_found is_block o)) rows r.0.0 (parent_of r.1))
 

@@ -24,7 +24,7 @@ abbrev pub is_beyond : ℕ → Order → Bool
 is_beyond periods (Hour o) = nat_lt periods o.period
 is_beyond periods (Block o) = have_beyond periods o.volumes
 
--- the name of the order that a block is accepted with
+-- the name of the block without which a block is not accepted
 abbrev pub parent_of : Order → Option (List ℕ)
 parent_of (Hour o) = None
 parent_of (Block o) = o.parent
@@ -34,7 +34,7 @@ abbrev pub is_parent : List ℕ → Option (List ℕ) → Bool
 is_parent name None = false
 is_parent name (Some parent) = same_text name parent
 
--- the order with another price and other volumes; an hourly order takes the first of these
+-- the order with another price and other volumes; an hourly order takes the first of these, and there always is one
 abbrev pub amended : ℤ → List Pair → Order → Order
 amended price [] (Hour o) = Hour o
 amended price (p ∷ ps) (Hour o) = Hour (record o { price = price; period = p.0; qty = p.1 })

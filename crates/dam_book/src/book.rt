@@ -1,7 +1,7 @@
-ghost use Rattle.std.specs.Prelude.{◌≡◌, ◌∷◌, [], true, false, nat_eq, find, option_map, slice_get, length, MatchResult, IfOk, OnOk, OnErr};
+ghost use Rattle.std.specs.Prelude.{◌≡◌, ◌∷◌, [], true, false, None, nat_eq, find, option_map, slice_get, length, MatchResult, IfOk, OnOk, OnErr};
 ghost use Rattle.std.specs.List.{list_any};
 ghost use Rattle.std.specs.Option.{option_copied};
-ghost use Rattle.dam_book.specs.Book.{IsBook, empty_book, is_day, order_at, names_parent, applies, refusal, reply_to, carried_out, book_after};
+ghost use Rattle.dam_book.specs.Book.{IsBook, empty_book, is_day, order_at, IsSubmit, names_parent, applies, refusal, reply_to, carried_out, book_after};
 
 use crate::command::{Command, Reason, Reply};
 use crate::limits::{MOST_BLOCKS, MOST_HOURLY};
@@ -23,7 +23,7 @@ pub enum BeginFault {
     BadDay,
 }
 
-/// The orders of one delivery day, in the order of their submits, and whether more are taken.
+/// The orders of one delivery day, in the order of their submits, and whether more commands are taken.
 ///
 /// A contract sees the number of periods, the rows and whether the book is closed.
 #[derive(Debug, Drop)]
@@ -64,6 +64,7 @@ impl<A: Allocator + Copy> Book<A> {
         }
     }
 
+    /// How many periods the delivery day has.
     pub fn periods(&self) -> u8
         ensures value { result ≡ self.now.periods }
         ensures valid { IsBook self.now }
@@ -71,6 +72,7 @@ impl<A: Allocator + Copy> Book<A> {
         self.periods
     }
 
+    /// Whether every further command is refused.
     pub fn is_closed(&self) -> bool
         ensures { result ≡ self.now.closed }
     {
@@ -84,6 +86,7 @@ impl<A: Allocator + Copy> Book<A> {
         self.orders.len()
     }
 
+    /// Whether no order is held.
     pub fn is_empty(&self) -> bool
         ensures { result ≡ nat_eq (length self.now.rows) 0 }
     {
@@ -120,11 +123,13 @@ impl<A: Allocator + Copy> Book<A> {
 
     /// Carries the command out, or refuses it for the first of the reasons that applies.
     ///
-    /// An `Err` comes only where the room for a new order was refused; the book is then as it was.
+    /// An `Err` comes only where the room for the new order of a submit was refused; the book is then
+    /// as it was.
     pub fn apply(&mut self, command: &Command) -> Result<Reply, AllocError>
         ensures reply { IfOk result (λ reply. reply ≡ reply_to self.old command.now) }
         ensures ok { OnOk result (self.new ≡ book_after self.old command.now) }
         ensures err { OnErr result (self.new ≡ self.old) }
+        ensures err_only { OnErr result (IsSubmit command.now × (refusal self.old command.now ≡ None)) }
     {
         if let Some(reason) = self.refusal(command) {
             return Ok(Reply::Refused(reason));
@@ -136,7 +141,7 @@ impl<A: Allocator + Copy> Book<A> {
                 name,
                 price,
                 volumes,
-            } => self.amend(who, name, *price, volumes)?,
+            } => self.amend(who, name, *price, volumes),
             Command::Cancel { who, name } => self.remove(who, name),
             Command::Close => self.close(),
         }
@@ -252,19 +257,20 @@ impl<A: Allocator + Copy> Book<A> {
         name: &Name,
         price: Price,
         volumes: &Volumes,
-    ) -> Result<(), AllocError>
+    )
         requires { refusal self.old (Command.Amend who.now name.now price volumes.now) ≡ None }
-        ensures ok { OnOk result (self.new ≡ carried_out self.old (Command.Amend who.now name.now price volumes.now)) }
-        ensures err { OnErr result (self.new ≡ self.old) }
+        ensures { self.new ≡ carried_out self.old (Command.Amend who.now name.now price volumes.now) }
     {
         let _cents = price.get();
         let _pairs = volumes.pairs();
         let key = (who.copy(), name.copy());
         if let Some(order) = self.orders.get(&key) {
             let order = order.amended(price, volumes);
-            self.orders.insert(key, order)?;
+            // an insert at a key that is there takes no memory
+            let Ok(_) = self.orders.insert(key, order) else {
+                unreachable!();
+            };
         }
-        Ok(())
     }
 
     fn remove(&mut self, who: &Participant, name: &Name)

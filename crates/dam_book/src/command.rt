@@ -27,7 +27,7 @@ pub enum Command {
         who: Participant,
         name: Name,
     },
-    /// The book takes no more orders.
+    /// The book takes no more commands.
     Close,
 }
 
@@ -79,9 +79,9 @@ pub enum Reason {
     UnknownParent,
     /// A submit of a block names an hourly order as its parent.
     ParentNotBlock,
-    /// A submit of an hourly order, where the book holds as many as it may.
+    /// A submit of an hourly order, where the book holds `MOST_HOURLY`.
     HourlyFull,
-    /// A submit of a block, where the book holds as many as it may.
+    /// A submit of a block, where the book holds `MOST_BLOCKS`.
     BlocksFull,
     /// A cancel of a block that another of the participant's blocks names as its parent.
     HasChildren,
@@ -95,7 +95,7 @@ pub enum Reply {
     Refused(Reason),
 }
 
-/// One line of a journal: a command that reached the book, and the reply to it.
+/// An entry of a journal: a command that reached the book, and the reply to it.
 #[derive(PartialEq, Eq, Hash, Debug, Drop)]
 pub struct Entry {
     /// Counted from 1.

@@ -118,6 +118,7 @@ impl Name {
         }
     }
 
+    /// The bytes of its text.
     pub fn as_bytes(&self) -> &[u8]
         ensures value { result.now ≡ self.now }
         ensures valid { IsName self.now }
@@ -156,6 +157,7 @@ impl Participant {
         }
     }
 
+    /// The bytes of its text.
     pub fn as_bytes(&self) -> &[u8]
         ensures value { result.now ≡ self.now }
         ensures valid { IsParticipant self.now }

@@ -45,6 +45,7 @@ impl Model for HourOrder {
 }
 
 impl HourOrder {
+    /// The order of these parts.
     pub fn new(side: Side, price: Price, period: Period, qty: Qty) -> HourOrder
         ensures side { result.side ≡ side }
         ensures price { result.price ≡ price }
@@ -60,6 +61,7 @@ impl HourOrder {
         }
     }
 
+    /// Whether it buys or sells.
     pub fn side(&self) -> Side
         ensures { result ≡ self.now.side }
     {
@@ -73,6 +75,7 @@ impl HourOrder {
         self.price
     }
 
+    /// The one period in which the order has a volume.
     pub fn period(&self) -> Period
         ensures value { result ≡ self.now.period }
         ensures valid { IsHourOrder self.now }
@@ -80,6 +83,7 @@ impl HourOrder {
         self.period
     }
 
+    /// The volume, in tenths of a MW.
     pub fn qty(&self) -> Qty
         ensures { result ≡ self.now.qty }
     {
@@ -129,6 +133,7 @@ fn copy_of(name: &Option<Name>) -> Option<Name>
 }
 
 impl BlockOrder {
+    /// The order of these parts; whether the parent and the group stand in a book is not looked at.
     pub fn new(
         side: Side,
         price: Price,
@@ -155,6 +160,7 @@ impl BlockOrder {
         }
     }
 
+    /// Whether it buys or sells.
     pub fn side(&self) -> Side
         ensures { result ≡ self.now.side }
     {
@@ -169,13 +175,14 @@ impl BlockOrder {
         self.price
     }
 
+    /// The volume in each period, in tenths of a MW.
     pub fn volumes(&self) -> &Volumes
         ensures { result.now ≡ self.now.volumes }
     {
         &self.volumes
     }
 
-    /// The name of the block that this one is accepted with.
+    /// The name of the block without which this one is not accepted.
     pub fn parent(&self) -> Option<&Name>
         ensures { option_copied result ≡ self.now.parent }
     {

@@ -1,25 +1,24 @@
-ghost use Rattle.std.specs.Prelude.{◌≡◌, ◌<◌, ◌^◌, length, IfOk, OnOk};
+ghost use Rattle.std.specs.Prelude.{◌≡◌, ◌<◌, ◌^◌, length, IfOk};
 ghost use Rattle.dam_book.specs.Book.{IsLegalFrom, commands_of, entries_from, run_from};
 
 use crate::book::Book;
 use crate::command::{Command, Entry};
 use std::alloc::{AllocError, Allocator};
 
-/// Applies the commands one by one, and gives the journal of it: an entry for each command, numbered
-/// from 1, with the book's reply to it.
+/// Applies the commands one by one, and gives the book that they make and the journal of it: an entry
+/// for each command, numbered from 1, with the book's reply to it.
 ///
-/// An `Err` comes only where a growth was refused; the book then holds what the commands before
-/// that have made.
+/// An `Err` comes only where a growth was refused; the book is then gone.
 pub fn replay<A: Allocator + Copy, B: Allocator>(
     alloc: B,
-    book: &mut Book<A>,
+    mut book: Book<A>,
     commands: &[Command],
-) -> Result<Vec<Entry, B>, AllocError>
+) -> Result<(Book<A>, Vec<Entry, B>), AllocError>
     requires { length commands.now < 2 ^ 32 }
-    ensures entries { IfOk result (λ entries. entries.items ≡ entries_from 1 book.old commands.now) }
-    ensures legal { IfOk result (λ entries. IsLegalFrom 1 book.old entries.items) }
-    ensures commands { IfOk result (λ entries. commands_of entries.items ≡ commands.now) }
-    ensures book { OnOk result (book.new ≡ run_from book.old commands.now) }
+    ensures book { IfOk result (λ run. run.0 ≡ run_from book commands.now) }
+    ensures entries { IfOk result (λ run. run.1.items ≡ entries_from 1 book commands.now) }
+    ensures legal { IfOk result (λ run. IsLegalFrom 1 book run.1.items) }
+    ensures commands { IfOk result (λ run. commands_of run.1.items ≡ commands.now) }
 {
     let mut entries = Vec::with_capacity(alloc, commands.len())?;
     let mut number = 0;
@@ -32,5 +31,5 @@ pub fn replay<A: Allocator + Copy, B: Allocator>(
             reply,
         })?;
     }
-    Ok(entries)
+    Ok((book, entries))
 }

@@ -28,7 +28,7 @@ pub enum VolumesFault {
 /// by increasing period.
 ///
 /// A contract sees the list of the pairs. These are the hourly volumes of a profiled block order
-/// (EUPHEMIA Public Description, "Block Orders"); an hourly order has one pair.
+/// (EUPHEMIA Public Description, "Block Orders"); an amended hourly order takes them from one pair.
 #[derive(PartialEq, Eq, Hash, Debug, Drop)]
 pub struct Volumes {
     pairs: ArrayVec<(Period, Qty), 25>,

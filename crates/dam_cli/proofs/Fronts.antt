@@ -1,5 +1,5 @@
 -- A text and its front that is one byte longer than a journal may be: where one of them is short enough, they are equal.
-use Rattle.std.proofs.Common.{◌≡◌, ◌<◌, ◌≤◌, ℕ, ◌+◌, min, List, length, take, subst, sym, arith}
+use Rattle.std.proofs.Common.{◌≡◌, ◌≤◌, ℕ, List, length, take, subst, sym, arith}
 use Rattle.std.proofs.lemmas.List.{take_all, length-take}
 use Rattle.dam_book.specs.declared.command.Command.{Command}
 use Rattle.dam_results.specs.declared.limits.TheConstants.{MOST_BYTES}
@@ -11,7 +11,7 @@ use Rattle.dam_results.specs.Faults.{IsFaultOf}
 use Rattle.dam_cli.specs.declared.input.TheConstants.{MOST_READ}
 use Rattle.dam_cli.specs.declared.fault.RunFault.{RunFault}
 use Rattle.dam_cli.specs.declared.fault.RunFault.TheVariants.{Read, Input, Memory, Write}
-use Rattle.dam_cli.specs.Replay.{IsFaultOn}
+use Rattle.dam_cli.specs.Replay.{IsTextFault, IsFaultOn}
 
 front-of_short : (given : List ℕ) → length given ≤ MOST_BYTES → take MOST_READ given ≡ given
 front-of_short given short = take_all MOST_READ given (omega (arith, short))
@@ -32,10 +32,10 @@ fault-given given TooManyRecords is = subst (λ text. IsFaultOf text TooManyReco
 fault-given given NotDay is = subst (λ text. IsFaultOf text NotDay) (front-short given is.0) is
 fault-given given (FieldCount at) is = subst (λ text. IsFaultOf text (FieldCount at)) (front-short given is.0) is
 fault-given given (BadField at field) is = subst (λ text. IsFaultOf text (BadField at field)) (front-short given is.0) is
-fault-given given NoMemory is = tt
+fault-given given NoMemory is = subst (λ text. IsFaultOf text NoMemory) (front-short given is.0) is
 
--- a fault on the front is one on the text
-pub fault-on_given : (given : List ℕ) (fault : RunFault) → IsFaultOn (take MOST_READ given) fault → IsFaultOn given fault
+-- a fault of the front is one on the text
+pub fault-on_given : (given : List ℕ) (fault : RunFault) → IsTextFault (take MOST_READ given) fault → IsFaultOn given fault
 fault-on_given given Read is = tt
 fault-on_given given (Input fault) is = (fault-given given fault is.0, is.1)
 fault-on_given given Memory is = tt

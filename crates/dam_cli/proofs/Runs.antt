@@ -7,16 +7,16 @@ use Rattle.dam_results.specs.Journal.{ReadsAs}
 use Rattle.dam_cli.specs.declared.input.TheConstants.{MOST_READ}
 use Rattle.dam_cli.specs.declared.fault.RunFault.{RunFault}
 use Rattle.dam_cli.specs.declared.fault.RunFault.TheVariants.{Write}
-use Rattle.dam_cli.specs.Replay.{AreRepliesTo, IsFaultOn, IsMachineFault, replies_to}
+use Rattle.dam_cli.specs.Replay.{AreRepliesTo, IsTextFault, IsFaultOn, IsMachineFault, replies_to}
 use Rattle.dam_cli.proofs.Fronts.{reads-given, reads-front, fault-on_given}
 
 -- the text is the front that is read of the given bytes
 abbrev pub IsFrontOf : Option (List ℕ) → List ℕ → Type 0
 IsFrontOf known text = IfSome known (λ given. text ≡ take MOST_READ given)
 
-pub known-fault : (known : Option (List ℕ)) (text : List ℕ) (fault : RunFault) → IsFrontOf known text → IsFaultOn text fault → IfSome known (λ given. IsFaultOn given fault)
+pub known-fault : (known : Option (List ℕ)) (text : List ℕ) (fault : RunFault) → IsFrontOf known text → IsTextFault text fault → IfSome known (λ given. IsFaultOn given fault)
 known-fault None text fault front is = tt
-known-fault (Some given) text fault front is = fault-on_given given fault (subst (λ bs. IsFaultOn bs fault) front is)
+known-fault (Some given) text fault front is = fault-on_given given fault (subst (λ bs. IsTextFault bs fault) front is)
 
 reads-read : (given text : List ℕ) (periods : ℕ) (commands : List Command) → text ≡ take MOST_READ given → ReadsAs given periods commands → ReadsAs text periods commands
 reads-read given text periods commands front reads = subst (λ bs. ReadsAs bs periods commands) (sym front) (reads-front given periods commands reads)

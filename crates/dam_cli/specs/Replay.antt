@@ -24,9 +24,16 @@ IsMachineFault (Input fault) = ⊥
 IsMachineFault Memory = Unit {0}
 IsMachineFault Write = Unit {0}
 
--- a fault of the input is the first fault of the text
+-- what a text can be answered that was read: its first fault, or that memory ran out
+abbrev pub IsTextFault : List ℕ → RunFault → Type 0
+IsTextFault text Read = ⊥
+IsTextFault text (Input fault) = IsFaultOf text fault × (fault ≢ NoMemory)
+IsTextFault text Memory = Unit {0}
+IsTextFault text Write = ⊥
+
+-- what a run over a text can answer besides: that the reader or the writer failed
 abbrev pub IsFaultOn : List ℕ → RunFault → Type 0
 IsFaultOn text Read = Unit {0}
-IsFaultOn text (Input fault) = IsFaultOf text fault × (fault ≢ NoMemory)
+IsFaultOn text (Input fault) = IsTextFault text (Input fault)
 IsFaultOn text Memory = Unit {0}
 IsFaultOn text Write = Unit {0}

@@ -15,7 +15,7 @@ pub enum RunFault {
     Input(JournalFault),
     /// Memory ran out.
     Memory,
-    /// The writer failed; a part of the text may have been written.
+    /// The writer failed; a part of the text, or all of it, may have been written.
     Write,
 }
 

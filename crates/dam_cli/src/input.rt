@@ -1,4 +1,4 @@
-ghost use Rattle.std.specs.Prelude.{◌≡◌, take, IfOk, IfErr, IfSome};
+ghost use Rattle.std.specs.Prelude.{◌≡◌, ◌≢◌, take, IfOk, IfErr, IfSome};
 ghost use Rattle.dam_cli.specs.Replay.{IsMachineFault};
 
 use crate::fault::RunFault;
@@ -9,16 +9,17 @@ use std::io::Read;
 /// How many bytes are read at most: one more than a journal may have, which shows that it has too many.
 pub const MOST_READ: usize = MOST_BYTES + 1;
 
+/// How many bytes are asked for at a time.
 const CHUNK: usize = 65_536;
 
 /// The reader's bytes, to their end or to the first `MOST_READ` of them.
 ///
-/// Any error of the reader ends it, one that asks to try again too. Each time that the reader is
-/// asked it has given at least one more byte than before, so it is asked at most once more than the
-/// bytes that are read.
+/// Any error of the reader ends it, one that asks to try again too. Each answer but the last gives a
+/// byte or more, so the reader is asked at most once more than there are bytes read.
 pub fn read_input<R: Read>(alloc: Global, reader: &mut R) -> Result<Vec<u8>, RunFault>
     ensures text { IfOk result (λ text. IfSome (R.remaining reader.old) (λ given. text.items ≡ take MOST_READ given)) }
     ensures fault { IfErr result IsMachineFault }
+    ensures unwritten { result ≢ Err RunFault.Write }
 {
     let mut text = Vec::new(alloc);
     let mut chunk = [0; CHUNK];

@@ -2,7 +2,7 @@ ghost use Rattle.std.specs.Prelude.{◌≡◌, ◌≢◌, ℕ, List, IfOk, IfErr
 ghost use Rattle.std.specs.Io.KnownBytes.{Appends};
 ghost use Rattle.dam_book.specs.declared.command.Command.{Command};
 ghost use Rattle.dam_results.specs.Journal.{ReadsAs};
-ghost use Rattle.dam_cli.specs.Replay.{AreRepliesTo, IsFaultOn, IsMachineFault, replies_to};
+ghost use Rattle.dam_cli.specs.Replay.{AreRepliesTo, IsFaultOn, IsMachineFault, IsTextFault, replies_to};
 
 use crate::fault::RunFault;
 use crate::input::read_input;
@@ -11,10 +11,12 @@ use dam_results::{read_journal, replies_text};
 use std::alloc::Global;
 use std::io::{Read, Write};
 
-/// Reads a journal, runs its commands on the empty book of its day, and writes the reply to each.
+/// Reads a journal, runs its commands on the empty book of its day, and writes the day and the reply
+/// to each.
 ///
 /// The whole text is made before its first byte is written. Where the input is longer than a journal
-/// may be, not all of it is read.
+/// may be, not all of it is read. Of a reader that doesn't tell its bytes nothing is said, and no clause
+/// says that the reader or the writer failed where `Read` or `Write` is answered: tests show it.
 pub fn run_replay<R: Read, W: Write>(
     alloc: Global,
     reader: &mut R,
@@ -33,14 +35,14 @@ pub fn run_replay<R: Read, W: Write>(
 /// The replies to a text, which may have been cut behind the first byte too many.
 fn replay_text(alloc: Global, text: &[u8]) -> Result<Vec<u8>, RunFault>
     ensures done { IfOk result (λ replies. AreRepliesTo text.now replies.items) }
-    ensures fault { IfErr result (IsFaultOn text.now) }
+    ensures fault { IfErr result (IsTextFault text.now) }
     ensures exact { (periods : ℕ) (commands : List Command) → ReadsAs text.now periods commands → MatchResult result (λ replies. replies.items ≡ replies_to periods commands) IsMachineFault }
 {
     let journal = read_journal(alloc, text)?;
-    let Ok(mut book) = Book::begin(alloc, journal.periods) else {
+    let Ok(book) = Book::begin(alloc, journal.periods) else {
         unreachable!();
     };
-    let entries = replay(alloc, &mut book, journal.commands.as_slice())?;
+    let (_book, entries) = replay(alloc, book, journal.commands.as_slice())?;
     Ok(replies_text(alloc, journal.periods, entries.as_slice())?)
 }
 

@@ -8,3 +8,4 @@ pub mod Sound
 pub mod Spelled
 pub mod FieldBytes
 pub mod WrittenFacts
+pub mod WriterFacts

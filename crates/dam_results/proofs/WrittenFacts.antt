@@ -31,7 +31,7 @@ plain : (x : List ℕ) → HasFieldBytes x → IsPlain x
 plain [] h = refl
 plain (b ∷ x) h = let f = first_byte b x h in let m = unmarked b f.0 f.1 in let more = plain x f.2 in rw (m, more) refl
 
-plain_fields : (ns : List ℕ) (xs : Fields) → AreFields ns xs → ArePlain xs
+pub plain_fields : (ns : List ℕ) (xs : Fields) → AreFields ns xs → ArePlain xs
 plain_fields [] [] h = tt
 plain_fields [] (x ∷ xs) h = absurd h
 plain_fields (n ∷ ns) [] h = absurd h

@@ -7,3 +7,4 @@ pub mod Reader
 pub mod Replies
 pub mod Spelling
 pub mod Written
+pub mod Writer

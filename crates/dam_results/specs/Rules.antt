@@ -43,17 +43,15 @@ word text = OneOf (text ∷ [])
 abbrev pub day_rules : List FieldRule
 day_rules = word (codes "day") ∷ Periods ∷ Empty ∷ Empty ∷ Empty ∷ Empty ∷ Empty ∷ Empty ∷ Empty ∷ []
 
--- the rules of the fields 4 to 9 of a submit
-abbrev pub order_rules : List FieldRule
-order_rules = word (codes "hour") ∷ OneOf (codes "buy" ∷ codes "sell" ∷ []) ∷ LimitPrice ∷ OneVolume ∷ Empty ∷ Empty ∷ []
-
--- the rules of the fields 4 to 9 of a submit, by what stands in field 4; where that is no form of an order, it breaks the one rule
+-- the rules of the fields 4 to 9 of a submit of an hourly order
 abbrev pub hour_rules : List FieldRule
 hour_rules = word (codes "hour") ∷ OneOf (codes "buy" ∷ codes "sell" ∷ []) ∷ LimitPrice ∷ OneVolume ∷ Empty ∷ Empty ∷ []
 
+-- the same of a block
 abbrev pub block_rules : List FieldRule
 block_rules = word (codes "block") ∷ OneOf (codes "buy" ∷ codes "sell" ∷ []) ∷ LimitPrice ∷ AllVolumes ∷ NameOrEmpty ∷ NameOrEmpty ∷ []
 
+-- the same by what stands in field 4; where that is no form of an order, it breaks the one rule
 abbrev pub form_rules : List ℕ → List FieldRule
 form_rules form =
     if bytes_eq form (codes "hour") then hour_rules

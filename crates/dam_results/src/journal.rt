@@ -47,7 +47,7 @@ pub enum JournalFault {
     /// In the record of the first number, the field of the second is the least that breaks its rule.
     #[error("field {1} of record {0} is bad")]
     BadField(usize, usize),
-    /// Memory ran out; it may stand in place of any fault of a record.
+    /// Memory ran out; it may stand in place of any fault of a record, of `NotDay`, or of a journal.
     #[error("out of memory")]
     Memory,
 }

@@ -13,7 +13,8 @@ ghost use Rattle.dam_results.specs.Journal.{IsCommand};
 
 use crate::row::Row;
 use dam_book::{
-    BlockOrder, Command, HourOrder, Name, Order, Participant, Period, Qty, Side, laws, read_price, read_volumes,
+    BlockOrder, Command, HourOrder, Name, Order, Participant, Period, Qty, Side, laws, read_price,
+    read_volumes,
 };
 
 // Each reader of a record answers what it says, or the number of the least field that breaks its

@@ -16,9 +16,8 @@ close,,,,,,,,
 
 #[test]
 fn a_linked_family_comes_and_goes(rt: HostRuntime) -> Result<(), Fail> {
-    let mut book = Book::begin(rt.alloc(), 24)?;
     let commands = commands(rt.alloc(), FAMILY)?;
-    let entries = replay(rt.alloc(), &mut book, &commands)?;
+    let (_book, entries) = replay(rt.alloc(), Book::begin(rt.alloc(), 24)?, &commands)?;
     let refused: Vec<(u32, Reply)> = entries
         .iter()
         .filter(|entry| entry.reply != Reply::Done)
@@ -35,9 +34,8 @@ fn a_linked_family_comes_and_goes(rt: HostRuntime) -> Result<(), Fail> {
 
 #[test]
 fn its_rows_and_its_copy(rt: HostRuntime) -> Result<(), Fail> {
-    let mut book = Book::begin(rt.alloc(), 24)?;
     let commands = commands(rt.alloc(), FAMILY)?;
-    replay(rt.alloc(), &mut book, &commands)?;
+    let (book, _entries) = replay(rt.alloc(), Book::begin(rt.alloc(), 24)?, &commands)?;
     let copy = book.try_copy()?;
     assert_eq!(rt;
         (copy.len(), copy.periods(), copy.is_closed()),

@@ -50,15 +50,16 @@ fn each_refused_growth_of_a_copy(rt: HostRuntime) -> Result<(), Fail> {
     let steps = commands(rt.alloc(), STEPS)?;
     for nth in 1..TRIES {
         let heap = RefusesNth::new(rt.alloc(), nth);
-        let mut book = Book::begin(&heap, 24)?;
-        let ran = replay(rt.alloc(), &mut book, &steps);
+        let Ok((book, _entries)) = replay(rt.alloc(), Book::begin(&heap, 24)?, &steps) else {
+            assert!(rt; heap.has_refused());
+            continue;
+        };
         match book.try_copy() {
-            Err(_) => assert!(rt; heap.has_refused()),
-            Ok(copy) => assert!(rt; copy.len() == book.len()),
-        }
-        if !heap.has_refused() {
-            assert!(rt; ran.is_ok() && book.len() == 6 && nth > 4);
-            return Ok(());
+            Err(_) => assert!(rt; heap.has_refused() && book.len() == 6),
+            Ok(copy) => {
+                assert!(rt; !heap.has_refused() && copy.len() == 6 && nth > 4);
+                return Ok(());
+            }
         }
     }
     Err(Fail::from("more growths than were tried"))
@@ -69,8 +70,7 @@ fn each_refused_growth_of_replies(rt: HostRuntime) -> Result<(), Fail> {
     let steps = commands(rt.alloc(), STEPS)?;
     for nth in 1..TRIES {
         let heap = RefusesNth::new(rt.alloc(), nth);
-        let mut book = Book::begin(rt.alloc(), 24)?;
-        let Ok(entries) = replay(&heap, &mut book, &steps) else {
+        let Ok((_book, entries)) = replay(&heap, Book::begin(rt.alloc(), 24)?, &steps) else {
             assert!(rt; heap.has_refused());
             continue;
         };

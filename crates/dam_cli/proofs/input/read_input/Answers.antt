@@ -1,5 +1,5 @@
 -- The loop ends where the text is as long as it may be, or where the reader has no more.
-use Rattle.std.proofs.Common.{◌≡◌, ◌<◌, ◌≤◌, length, arith}
+use Rattle.std.proofs.Common.{◌≡◌, ◌<◌, length, arith}
 use Rattle.std.proofs.lemmas.List.{length-take}
 use Rattle.dam_cli.specs.declared.input.TheConstants.{MOST_READ}
 use Rattle.dam_cli.proofs.Readings.{read-most, read-ended}

@@ -1,8 +1,5 @@
 -- What is answered to the text that was read is answered to the given one.
-use Rattle.std.proofs.Common.{◌≡◌, ℕ, List}
 use Rattle.std.proofs.lemmas.Result.{err_from_is_err_and}
-use Rattle.dam_book.specs.declared.command.Command.{Command}
-use Rattle.dam_cli.specs.Replay.{AreRepliesTo, IsFaultOn}
 use Rattle.dam_cli.proofs.Runs.{known-fault, known-failed, known-done, known-exact}
 use Rattle.dam_cli.proofs.replay.run_replay.Goals as goal
 

@@ -1,0 +1,12 @@
+pub mod Sums
+pub mod Gains
+pub mod Ranks
+pub mod Choices
+pub mod Prices
+pub mod Empty
+pub mod Steps
+pub mod Permitting
+pub mod Clearing
+pub mod Verdicts
+pub mod FromBook
+pub mod RowSteps

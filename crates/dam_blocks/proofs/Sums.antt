@@ -1,0 +1,95 @@
+-- Sums over the accepted blocks.
+use Rattle.std.proofs.Common.{◌≡◌, ℕ, zero, suc, ◌+◌, ◌*◌, ℤ, pos, neg_ℤ, ◌+ℤ◌, ◌-ℤ◌, ◌*ℤ◌, ◌≤ℤ◌, Bool, true, false, Some, List, [], ◌∷◌, replicate, ap, ap₂, ◌∙◌, sym, refl, arith}
+use Rattle.std.specs.List.{slice_get}
+use Rattle.std.proofs.lemmas.Int.{ints}
+use borrow.Author.Differences.{up, down}
+use Rattle.dam_book.specs.Terms.{BlockTerms}
+use Rattle.dam_book.specs.declared.order.Side.{Side}
+use Rattle.dam_book.specs.declared.order.Side.TheVariants.{Buy, Sell}
+use Rattle.dam_hour.specs.Best.{signed}
+use Rattle.dam_blocks.specs.declared.problem.Block.{Block}
+use Rattle.dam_blocks.specs.Selection.{accepts, over_accepted, volume_in, net_volume_of, value_of, net_volume, block_value}
+use Rattle.dam_blocks.specs.Eligible.{surplus_in}
+
+pub over_accepted-plus : (f g : BlockTerms → ℤ) (bs : List Block) (sel : List Bool)
+    → over_accepted (λ o. f o +ℤ g o) bs sel ≡ over_accepted f bs sel +ℤ over_accepted g bs sel
+over_accepted-plus f g [] sel = refl
+over_accepted-plus f g (b ∷ bs) [] = refl
+over_accepted-plus f g (b ∷ bs) (true ∷ sel) = let rest = over_accepted-plus f g bs sel in omega (arith, ints, rest)
+over_accepted-plus f g (b ∷ bs) (false ∷ sel) = over_accepted-plus f g bs sel
+
+times_plus : (p a b c : ℤ) → a +ℤ b ≡ c → p *ℤ c ≡ p *ℤ a +ℤ p *ℤ b
+times_plus p a b c e =
+    let k : up a + up b + down c ≡ down a + down b + up c = omega (arith, ints) in
+    let m = ap (λ (n : ℕ). up p * n) k in
+    let n = ap (λ (n : ℕ). down p * n) k in
+    omega (arith, ints, m, n)
+
+times_zero : (p : ℤ) → p *ℤ pos 0 ≡ pos 0
+times_zero p = omega (arith, ints)
+
+pub over_accepted-times : (p : ℤ) (f : BlockTerms → ℤ) (bs : List Block) (sel : List Bool)
+    → p *ℤ over_accepted f bs sel ≡ over_accepted (λ o. p *ℤ f o) bs sel
+over_accepted-times p f [] sel = times_zero p
+over_accepted-times p f (b ∷ bs) [] = times_zero p
+over_accepted-times p f (b ∷ bs) (true ∷ sel) =
+    times_plus p (f b.order) (over_accepted f bs sel) (f b.order +ℤ over_accepted f bs sel) refl
+    ∙ ap (λ (z : ℤ). p *ℤ f b.order +ℤ z) (over_accepted-times p f bs sel)
+over_accepted-times p f (b ∷ bs) (false ∷ sel) = over_accepted-times p f bs sel
+
+pub over_accepted-same : (f g : BlockTerms → ℤ) (bs : List Block) (sel : List Bool) → ((o : BlockTerms) → f o ≡ g o)
+    → over_accepted f bs sel ≡ over_accepted g bs sel
+over_accepted-same f g [] sel h = refl
+over_accepted-same f g (b ∷ bs) [] h = refl
+over_accepted-same f g (b ∷ bs) (true ∷ sel) h = ap₂ (λ (x y : ℤ). x +ℤ y) (h b.order) (over_accepted-same f g bs sel h)
+over_accepted-same f g (b ∷ bs) (false ∷ sel) h = over_accepted-same f g bs sel h
+
+pub over_accepted-replicate : (f : BlockTerms → ℤ) (bs : List Block) (n : ℕ) → over_accepted f bs (replicate n false) ≡ pos 0
+over_accepted-replicate f [] n = refl
+over_accepted-replicate f (b ∷ bs) zero = refl
+over_accepted-replicate f (b ∷ bs) (suc n) = over_accepted-replicate f bs n
+
+pub over_accepted-zero : (bs : List Block) (sel : List Bool) → over_accepted (λ o. pos 0) bs sel ≡ pos 0
+over_accepted-zero [] sel = refl
+over_accepted-zero (b ∷ bs) [] = refl
+over_accepted-zero (b ∷ bs) (true ∷ sel) = let rest = over_accepted-zero bs sel in omega (arith, ints, rest)
+over_accepted-zero (b ∷ bs) (false ∷ sel) = over_accepted-zero bs sel
+
+-- a sum of numbers of which none is below 0
+pub over_accepted-at_least : (f : BlockTerms → ℤ) (bs : List Block) (sel : List Bool)
+    → ((i : ℕ) (b : Block) → accepts sel i ≡ true → slice_get bs i ≡ Some b → pos 0 ≤ℤ f b.order) → pos 0 ≤ℤ over_accepted f bs sel
+over_accepted-at_least f [] sel h = omega (arith, ints)
+over_accepted-at_least f (b ∷ bs) [] h = omega (arith, ints)
+over_accepted-at_least f (b ∷ bs) (true ∷ sel) h =
+    let here = h 0 b refl refl in
+    let rest = over_accepted-at_least f bs sel (λ i c a s. h (suc i) c a s) in
+    omega (arith, ints, here, rest)
+over_accepted-at_least f (b ∷ bs) (false ∷ sel) h = over_accepted-at_least f bs sel (λ i c a s. h (suc i) c a s)
+
+-- ---- what a block gains is its value and the price of what it adds to the net volume
+minus_times : (a b : ℤ) (x : ℕ) → (a -ℤ b) *ℤ pos x +ℤ b *ℤ pos x ≡ a *ℤ pos x
+minus_times a b x =
+    let e : up (a -ℤ b) + down a + up b ≡ down (a -ℤ b) + up a + down b = omega (arith, ints) in
+    let m = ap (λ (n : ℕ). n * x) e in
+    omega (arith, ints, m)
+
+times_neg : (p z : ℤ) (x : ℕ) → z ≡ neg_ℤ (pos x) → p *ℤ z +ℤ p *ℤ pos x ≡ pos 0
+times_neg p z x e = let s = times_plus p z (pos x) (pos 0) (omega (arith, ints)) in let n = times_zero p in omega (arith, ints, s, n)
+
+gain_split : (side : Side) (limit p : ℤ) (x : ℕ)
+    → p *ℤ neg_ℤ (signed side (pos x)) +ℤ signed side (limit *ℤ pos x) ≡ signed side ((limit -ℤ p) *ℤ pos x)
+gain_split Buy limit p x =
+    let m = minus_times limit p x in let n = times_neg p (neg_ℤ (pos x)) x refl in omega (arith, ints, m, n)
+gain_split Sell limit p x =
+    let twice : neg_ℤ (neg_ℤ (pos x)) ≡ pos x = omega (arith, ints) in
+    let m = minus_times limit p x in let n = ap (λ (z : ℤ). p *ℤ z) twice in omega (arith, ints, m, n)
+
+pub surplus_split : (t : ℕ) (p : ℤ) (o : BlockTerms) → p *ℤ net_volume_of t o +ℤ value_of t o ≡ surplus_in t p o
+surplus_split t p o = gain_split o.side o.price p (volume_in o.volumes t)
+
+pub accepted_surplus : (blocks : List Block) (sel : List Bool) (t : ℕ) (p : ℤ)
+    → p *ℤ net_volume blocks sel t +ℤ block_value blocks sel t ≡ over_accepted (surplus_in t p) blocks sel
+accepted_surplus blocks sel t p =
+    ap (λ (z : ℤ). z +ℤ block_value blocks sel t) (over_accepted-times p (net_volume_of t) blocks sel)
+    ∙ sym (over_accepted-plus (λ o. p *ℤ net_volume_of t o) (value_of t) blocks sel)
+    ∙ over_accepted-same (λ o. p *ℤ net_volume_of t o +ℤ value_of t o) (surplus_in t p) blocks sel (surplus_split t p)

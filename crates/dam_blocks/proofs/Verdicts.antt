@@ -1,0 +1,72 @@
+-- What the verdict on a selection rests on, and what it rules out.
+use Rattle.std.proofs.Common.{◌≡◌, ℕ, zero, suc, ◌+◌, ◌-◌, ◌<◌, ℤ, pos, negsuc, nat_abs, ◌≤ℤ◌, Bool, Some, List, [], ◌∷◌, length, take, ◌∙◌, sym, subst, refl, arith}
+use Rattle.std.specs.List.{slice_get}
+use Rattle.std.proofs.lemmas.Int.{ints}
+use Rattle.dam_book.specs.declared.limits.TheConstants.{MOST_BLOCKS}
+use Rattle.dam_hour.specs.declared.step.Step.{Step}
+use Rattle.dam_hour.specs.Execution.{Balances}
+use Rattle.dam_blocks.specs.declared.problem.Block.{Block}
+use Rattle.dam_blocks.specs.declared.scoring.Verdict.{Verdict}
+use Rattle.dam_blocks.specs.declared.scoring.Verdict.TheVariants.{NotAdmissible, Unbalanced, Losing, Eligible}
+use Rattle.dam_blocks.specs.Problem.{ProblemState}
+use Rattle.dam_blocks.specs.Selection.{net_volume, IsAdmissible}
+use Rattle.dam_blocks.specs.Eligible.{IsClearingPrice, ArePrices, surplus_of, HasNoLoss, selection_welfare, IsEligible}
+use Rattle.dam_blocks.specs.Score.{IsFirstUnbalanced, IsFirstLosing, IsVerdict}
+use Rattle.dam_blocks.proofs.Prices.{prices_unique}
+
+pub eligible_from : (problem : ProblemState) (sel : List Bool) (prices : List ℤ) (hours : List (List Step)) (w : ℤ) → hours ≡ problem.hours
+    → length sel ≡ MOST_BLOCKS → IsAdmissible problem.blocks sel → ArePrices problem.blocks sel 1 problem.hours (take (length problem.hours) prices)
+    → HasNoLoss problem.blocks sel (take (length hours) prices) → selection_welfare problem sel ≡ Some w → IsEligible problem sel w
+eligible_from problem sel prices hours w same long admissible are no_loss welfare = record {
+  as_long = long;
+  admissible = admissible;
+  prices = take (length problem.hours) prices;
+  are_prices = are;
+  no_loss = subst (λ (hs : List (List Step)). HasNoLoss problem.blocks sel (take (length hs) prices)) same no_loss;
+  welfare_is = welfare;
+}
+
+pub natural : (z : ℤ) → pos 0 ≤ℤ z → pos (nat_abs z) ≡ z
+natural (pos n) h = refl
+natural (negsuc n) h = absurd (let no : 0 < 0 = omega (arith, ints, h) in omega (arith, no))
+
+-- the verdict of an eligible selection is its welfare
+same_number : (v w : ℤ) → Some v ≡ Some w → v ≡ w
+same_number v w e = cc
+
+price_at : (blocks : List Block) (sel : List Bool) (t : ℕ) (hours : List (List Step)) (prices : List ℤ) (i : ℕ) (ss : List Step) → ArePrices blocks sel t hours prices
+    → slice_get hours i ≡ Some ss → (p : ℤ) × IsClearingPrice ss (net_volume blocks sel (i + t)) p
+price_at blocks sel t [] prices i ss are e = absurd (cc)
+price_at blocks sel t (hour ∷ hours) [] i ss are e = absurd are
+price_at blocks sel t (hour ∷ hours) (p ∷ prices) zero ss are e =
+    let same : hour ≡ ss = cc in
+    let first : t ≡ 0 + t = omega arith in
+    (p, subst (λ (n : ℕ). IsClearingPrice ss (net_volume blocks sel n) p) first (subst (λ (h : List Step). IsClearingPrice h (net_volume blocks sel t) p) same are.0))
+price_at blocks sel t (hour ∷ hours) (p ∷ prices) (suc i) ss are e =
+    let rest = price_at blocks sel (suc t) hours prices i ss are.1 e in
+    let next : i + suc t ≡ suc i + t = omega arith in
+    (rest.0, subst (λ (n : ℕ). IsClearingPrice ss (net_volume blocks sel n) rest.0) next rest.1)
+
+balanced : (problem : ProblemState) (sel : List Bool) (t : ℕ) (v : ℤ) → IsFirstUnbalanced problem sel t → IsEligible problem sel v → ⊥
+balanced problem sel t v u e =
+    let least = u.least in
+    let found = price_at problem.blocks sel 1 problem.hours e.prices (t - 1) u.hour e.are_prices u.stands in
+    let again : (t - 1) + 1 ≡ t = omega (arith, least) in
+    let supports = found.1.ends.low_supports in
+    u.unbalanced supports.volumes supports.execution (subst (λ (n : ℕ). Balances u.hour (net_volume problem.blocks sel n) supports.volumes) again supports.balance)
+
+none_loses : (problem : ProblemState) (sel : List Bool) (i : ℕ) (v : ℤ) (prices : List ℤ) → ArePrices problem.blocks sel 1 problem.hours prices
+    → IsFirstLosing problem.blocks sel prices i → IsEligible problem sel v → ⊥
+none_loses problem sel i v prices are l e =
+    let same = prices_unique problem.blocks sel 1 problem.hours e.prices prices e.are_prices are in
+    let gains = e.no_loss.surplus i l.block l.accepted l.stands in
+    let gains_here = subst (λ (ps : List ℤ). pos 0 ≤ℤ surplus_of ps l.block.order) same gains in
+    let loses = l.loses in
+    absurd (let no : 0 < 0 = omega (arith, ints, gains_here, loses) in omega (arith, no))
+
+pub verdict_eligible : (problem : ProblemState) (sel : List Bool) (verdict : Verdict) (v : ℤ) → IsVerdict problem sel verdict → IsEligible problem sel v
+    → (w : ℕ) × (verdict ≡ Eligible w) × (v ≡ pos w)
+verdict_eligible problem sel NotAdmissible v is e = absurd (is e.admissible)
+verdict_eligible problem sel (Unbalanced t) v is e = absurd (balanced problem sel t v is.1 e)
+verdict_eligible problem sel (Losing i) v is e = absurd (none_loses problem sel i v is.1.0 is.1.1 is.1.2 e)
+verdict_eligible problem sel (Eligible w) v is e = (w, refl, same_number v (pos w) (sym e.welfare_is ∙ is.welfare_is))

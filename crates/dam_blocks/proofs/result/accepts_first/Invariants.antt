@@ -1,0 +1,7 @@
+-- What is left of the two is ordered as they are.
+use Rattle.std.proofs.Common.{◌≡◌, drop}
+use Rattle.dam_blocks.specs.Result.{accepts_first}
+use Rattle.dam_blocks.proofs.result.accepts_first.Given as goal
+
+abbrev pub invariant-loop-place : goal.invariant-loop-place
+invariant-loop-place l = accepts_first (drop l.place l.first) (drop l.place l.second) ≡ accepts_first l.first l.second

@@ -1,0 +1,56 @@
+-- A period more, all of them, and one that doesn't balance.
+use Rattle.std.proofs.Common.{List, length, ap, ◌∙◌, sym, subst, take, arith, rules}
+use Rattle.std.specs.List.{slice_get}
+use Rattle.std.proofs.lemmas.Int.{ints}
+use Rattle.std.proofs.lemmas.Option.{slice_get_read}
+use Rattle.dam_hour.specs.declared.step.Step.{Step}
+use Rattle.dam_blocks.specs.Eligible.{ArePrices, welfare_from}
+use Rattle.dam_blocks.proofs.Clearing.{period_within, cleared_more, all_prices, all_welfare, first_unbalanced, day_small}
+use Rattle.dam_blocks.proofs.scoring.clear_day.Goals as goal
+
+pub returns-in_default : goal.returns-in_default
+returns-in_default g c =
+    let at = slice_get_read _ _ _ _ (search rules) c.loop-place-test.true c.index-hours-place.is in
+    first_unbalanced c.args.problem.now c.args.selection _ _ _ _ _ _ _ c.hours-hours.ensures.value at c.period_at-period.ensures
+    (omega (arith, ints, c.net_volume.ensures.value, c.net_volume.ensures.valid.at_least, c.net_volume.ensures.valid.at_most)) c.in_default.ensures.none c.loop-place.invariant
+
+pub overflow_add-welfare : goal.overflow_add-welfare
+overflow_add-welfare g c =
+    let at = slice_get_read _ _ c.loop-place.place _ (search rules) c.loop-place-test.true c.index-hours-place.is in
+    let there = ap (λ (hs : List (List Step)). slice_get hs c.loop-place.place) (sym c.hours-hours.ensures.value) ∙ at in
+    let w = period_within c.args.problem.now.hours c.loop-place.place c.index-hours-place.result _ _ _ _ c.hours-hours.ensures.valid.hours c.hours-hours.ensures.valid.few_hourly there c.in-Some.ensures.totals in
+    omega (arith, ints, w.0, w.1, c.block_value.ensures.low, c.block_value.ensures.high)
+
+pub overflow_add-welfare-in-loop-place : goal.overflow_add-welfare-in-loop-place
+overflow_add-welfare-in-loop-place g c =
+    let at = slice_get_read _ _ c.loop-place.place _ (search rules) c.loop-place-test.true c.index-hours-place.is in
+    let there = ap (λ (hs : List (List Step)). slice_get hs c.loop-place.place) (sym c.hours-hours.ensures.value) ∙ at in
+    let w = period_within c.args.problem.now.hours c.loop-place.place c.index-hours-place.result _ _ _ _ c.hours-hours.ensures.valid.hours c.hours-hours.ensures.valid.few_hourly there c.in-Some.ensures.totals in
+    let few = day_small (length c.args.problem.now.hours) c.hours-hours.ensures.valid.day in
+    let same = ap length c.hours-hours.ensures.value in
+    omega (arith, ints, w.0, w.1, c.block_value.ensures.low, c.block_value.ensures.high, few, same)
+
+pub loop-place-preserved : goal.loop-place-preserved
+loop-place-preserved g c =
+    let at = slice_get_read _ _ c.loop-place.place _ (search rules) c.loop-place-test.true c.index-hours-place.is in
+    let there = ap (λ (hs : List (List Step)). slice_get hs c.loop-place.place) (sym c.hours-hours.ensures.value) ∙ at in
+    let w = period_within c.args.problem.now.hours c.loop-place.place c.index-hours-place.result _ _ _ _ c.hours-hours.ensures.valid.hours c.hours-hours.ensures.valid.few_hourly there c.in-Some.ensures.totals in
+    let few = day_small (length c.args.problem.now.hours) c.hours-hours.ensures.valid.day in
+    let same = ap length c.hours-hours.ensures.value in
+    let net = c.net_volume.ensures.value in
+    cleared_more _ _ _ _ _ _ _ _ _ c.in-Some.cleared.low c.in-Some.cleared.high c.in-Some.cleared.price c.in-Some.cleared.welfare c.block_value.result _
+    at (omega (arith, few, same)) c.period_at-period.ensures
+    (omega (arith, ints, net, c.net_volume.ensures.valid.at_least, c.net_volume.ensures.valid.at_most))
+    c.in-Some.ensures.ends (record { low = c.in-Some.cleared.low; high = c.in-Some.cleared.high; ends = c.in-Some.ensures.ends; between = c.in-Some.ensures.price })
+    c.in-Some.ensures.welfare c.block_value.ensures.value w.0 w.1 (omega (arith, ints)) (omega (arith, ints))
+    (omega (arith, ints, w.0, w.1, c.block_value.ensures.low, c.block_value.ensures.high, few, same)) c.loop-place.invariant
+
+pub returns : goal.returns
+returns g c =
+    let few = day_small (length c.args.problem.now.hours) c.hours-hours.ensures.valid.day in
+    let same = ap length c.hours-hours.ensures.value in (
+      subst (λ (hs : List (List Step)). ArePrices c.args.problem.now.blocks c.args.selection 1 hs (take (length hs) c.loop-place.prices)) c.hours-hours.ensures.value
+          (all_prices _ _ _ _ _ _ c.loop-place-test.false (omega (arith, few, same)) c.loop-place.invariant),
+      ap (λ (hs : List (List Step)). welfare_from c.args.problem.now.blocks c.args.selection 1 hs) (sym c.hours-hours.ensures.value)
+          ∙ all_welfare _ _ _ _ _ _ c.loop-place-test.false c.loop-place.invariant,
+    )

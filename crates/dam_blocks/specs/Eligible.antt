@@ -1,0 +1,65 @@
+-- The prices and the welfare of a selection, surplus and no loss, and which selections are eligible.
+use Rattle.std.specs.Prelude.{◌≡◌, ℕ, suc, ℤ, pos, ◌+ℤ◌, ◌-ℤ◌, ◌*ℤ◌, ◌≤ℤ◌, Bool, true, Option, Some, None, option_map, List, [], ◌∷◌, length, slice_get}
+use Rattle.dam_book.specs.Terms.{BlockTerms}
+use Rattle.dam_book.specs.declared.limits.TheConstants.{MOST_BLOCKS}
+use Rattle.dam_hour.specs.Price.{AreEnds, price_between}
+use Rattle.dam_hour.specs.Best.{signed, greatest_welfare}
+use Rattle.dam_hour.specs.declared.step.Step.{Step}
+use Rattle.dam_blocks.specs.declared.problem.Block.{Block}
+use Rattle.dam_blocks.specs.Problem.{ProblemState}
+use Rattle.dam_blocks.specs.Selection.{accepts, volume_in, net_volume, block_value, IsAdmissible}
+
+-- the price of a period at a net volume
+pub record IsClearingPrice (ss : List Step) (net p : ℤ) : Type 0 where
+  pub low : ℤ
+  pub high : ℤ
+  pub ends : AreEnds ss net low high
+  pub between : p ≡ price_between low high
+
+-- each price is that of its period under the selection, from period t on
+abbrev pub ArePrices : List Block → List Bool → ℕ → List (List Step) → List ℤ → Type 0
+ArePrices blocks sel t [] [] = Unit {0}
+ArePrices blocks sel t (ss ∷ hours) (p ∷ prices) = IsClearingPrice ss (net_volume blocks sel t) p × ArePrices blocks sel (suc t) hours prices
+ArePrices blocks sel t [] (p ∷ prices) = ⊥
+ArePrices blocks sel t (ss ∷ hours) [] = ⊥
+
+-- what a block gains in a period at a price: limit less price, times volume, where it buys, and the same with the other sign where it sells
+abbrev pub surplus_in : ℕ → ℤ → BlockTerms → ℤ
+surplus_in t p o = signed o.side ((o.price -ℤ p) *ℤ pos (volume_in o.volumes t))
+
+-- the same, summed over the periods from t on
+abbrev pub surplus_from : ℕ → List ℤ → BlockTerms → ℤ
+surplus_from t [] o = pos 0
+surplus_from t (p ∷ prices) o = surplus_in t p o +ℤ surplus_from (suc t) prices o
+
+abbrev pub surplus_of : List ℤ → BlockTerms → ℤ
+surplus_of prices o = surplus_from 1 prices o
+
+-- no accepted block loses; a rejected one may have any surplus
+pub record HasNoLoss (blocks : List Block) (sel : List Bool) (prices : List ℤ) : Type 0 where
+  pub surplus : (i : ℕ) (b : Block) → accepts sel i ≡ true → slice_get blocks i ≡ Some b → pos 0 ≤ℤ surplus_of prices b.order
+
+abbrev pub added : Option ℤ → Option ℤ → Option ℤ
+added (Some x) (Some y) = Some (x +ℤ y)
+added _ _ = None
+
+-- the welfare of a period's hourly orders with what the accepted blocks are worth there; None where no execution balances
+abbrev pub period_welfare : List Block → List Bool → ℕ → List Step → Option ℤ
+period_welfare blocks sel t ss = option_map (λ w. w +ℤ block_value blocks sel t) (greatest_welfare ss (net_volume blocks sel t))
+
+abbrev pub welfare_from : List Block → List Bool → ℕ → List (List Step) → Option ℤ
+welfare_from blocks sel t [] = Some (pos 0)
+welfare_from blocks sel t (ss ∷ hours) = added (period_welfare blocks sel t ss) (welfare_from blocks sel (suc t) hours)
+
+-- the welfare of a selection; None where no execution balances some period
+abbrev pub selection_welfare : ProblemState → List Bool → Option ℤ
+selection_welfare problem sel = welfare_from problem.blocks sel 1 problem.hours
+
+-- a selection that the links and groups admit, with which every period balances and by which no accepted block loses, and its welfare
+pub record IsEligible (problem : ProblemState) (sel : List Bool) (welfare : ℤ) : Type 0 where
+  pub as_long : length sel ≡ MOST_BLOCKS
+  pub admissible : IsAdmissible problem.blocks sel
+  pub prices : List ℤ
+  pub are_prices : ArePrices problem.blocks sel 1 problem.hours prices
+  pub no_loss : HasNoLoss problem.blocks sel prices
+  pub welfare_is : selection_welfare problem sel ≡ Some welfare

@@ -1,0 +1,5 @@
+pub mod Problem
+pub mod Selection
+pub mod Eligible
+pub mod Score
+pub mod Result

@@ -1,0 +1,105 @@
+-- The problem of a closed book: the hourly orders of each period and the blocks, in book order.
+use Rattle.std.specs.Prelude.{◌≡◌, ℕ, zero, suc, ◌+◌, ◌-◌, ◌<◌, ◌≤◌, true, false, ◌==◌, Option, Some, None, List, [], ◌∷◌, ◌++◌, length, slice_get, filter_map, if◌then◌else◌}
+use Rattle.dam_book.specs.Name.{IsName, IsParticipant}
+use Rattle.dam_book.specs.Terms.{IsBlockOrder}
+use Rattle.dam_book.specs.Volumes.{have_beyond}
+use Rattle.dam_book.specs.Book.{Row, BookState, is_day}
+use Rattle.dam_book.specs.declared.order.Order.{Order}
+use Rattle.dam_book.specs.declared.order.Order.TheVariants.{Hour, Block as BlockOrder}
+use Rattle.dam_book.specs.declared.limits.TheConstants.{MOST_HOURLY, MOST_BLOCKS}
+use Rattle.dam_hour.specs.Execution.{AreInRange}
+use Rattle.dam_hour.specs.declared.step.Step.{Step}
+use Rattle.dam_blocks.specs.declared.problem.Block.{Block}
+use Rattle.dam_blocks.specs.declared.problem.Place.{Place}
+use Rattle.dam_blocks.specs.declared.problem.Place.TheVariants.{Hour as AtHour, Block as AtBlock}
+use Rattle.dam_blocks.specs.declared.problem.ProblemRow.{ProblemRow}
+
+-- the steps of each period of the day, the blocks, and the rows of the book with their places among these
+pub record ProblemState : Type 0 where
+  pub hours : List (List Step)
+  pub blocks : List Block
+  pub rows : List ProblemRow
+
+-- the order as a step, where it is an hourly order of this period
+abbrev pub step_in : ℕ → Order → Option Step
+step_in t (Hour o) = if o.period == t then Some (record { side = o.side; price = o.price; qty = o.qty }) else None
+step_in t (BlockOrder o) = None
+
+-- the hourly orders of a period
+abbrev pub steps_in : ℕ → List Row → List Step
+steps_in t rows = filter_map (λ (r : Row). step_in t r.1) rows
+
+-- those of `n` periods, from this one on
+abbrev pub hours_from : ℕ → ℕ → List Row → List (List Step)
+hours_from t zero rows = []
+hours_from t (suc n) rows = steps_in t rows ∷ hours_from (suc t) n rows
+
+-- the order with its participant and name, where it is a block
+abbrev pub block_under : List ℕ → List ℕ → Order → Option Block
+block_under who name (Hour o) = None
+block_under who name (BlockOrder o) = Some (record { who = who; name = name; order = o })
+
+abbrev pub blocks_in : List Row → List Block
+blocks_in rows = filter_map (λ (r : Row). block_under r.0.0 r.0.1 r.1) rows
+
+-- the place of an order behind the rows of `front`
+abbrev pub place_behind : List Row → Order → Place
+place_behind front (Hour o) = AtHour o.period (length (steps_in o.period front))
+place_behind front (BlockOrder o) = AtBlock (length (blocks_in front))
+
+abbrev pub rows_behind : List Row → List Row → List ProblemRow
+rows_behind front [] = []
+rows_behind front (r ∷ rs) = record { who = r.0.0; name = r.0.1; at = place_behind front r.1 } ∷ rows_behind (front ++ r ∷ []) rs
+
+abbrev pub problem_of : BookState → ProblemState
+problem_of b = record { hours = hours_from 1 b.periods b.rows; blocks = blocks_in b.rows; rows = rows_behind [] b.rows }
+
+-- What every problem keeps.
+
+-- the number of hourly orders
+abbrev pub hourly_orders : List (List Step) → ℕ
+hourly_orders [] = 0
+hourly_orders (ss ∷ hours) = length ss + hourly_orders hours
+
+abbrev pub AreHours : List (List Step) → Type 0
+AreHours [] = Unit {0}
+AreHours (ss ∷ hours) = AreInRange ss × AreHours hours
+
+-- the block's names and parts are within their limits, and its periods are the day's
+pub record IsBlock (periods : ℕ) (b : Block) : Type 0 where
+  pub who : IsParticipant b.who
+  pub name : IsName b.name
+  pub order : IsBlockOrder b.order
+  pub in_day : have_beyond periods b.order.volumes ≡ false
+
+abbrev pub AreBlocks : ℕ → List Block → Type 0
+AreBlocks periods [] = Unit {0}
+AreBlocks periods (b ∷ bs) = IsBlock periods b × AreBlocks periods bs
+
+-- p is the block that b names as its parent, a name of the same participant
+pub record IsParent (p b : Block) : Type 0 where
+  pub who : p.who ≡ b.who
+  pub name : b.order.parent ≡ Some p.name
+
+-- the parent of the block at place i is a block at a lesser place
+pub record HasParentBefore (blocks : List Block) (i : ℕ) (b : Block) : Type 0 where
+  pub place : ℕ
+  pub parent : Block
+  pub stands : slice_get blocks place ≡ Some parent
+  pub is_parent : IsParent parent b
+  pub lesser : place < i
+
+-- the order stands at its place
+abbrev pub StandsAt : ProblemState → ProblemRow → Place → Type 0
+StandsAt p r (AtHour t i) = (hour : List Step) × (slice_get p.hours (t - 1) ≡ Some hour) × (1 ≤ t) × (i < length hour)
+StandsAt p r (AtBlock i) = (b : Block) × (slice_get p.blocks i ≡ Some b) × (b.who ≡ r.who) × (b.name ≡ r.name)
+
+pub record IsProblem (p : ProblemState) : Type 0 where
+  pub day : is_day (length p.hours) ≡ true
+  pub hours : AreHours p.hours
+  pub few_hourly : hourly_orders p.hours ≤ MOST_HOURLY
+  pub blocks : AreBlocks (length p.hours) p.blocks
+  pub few_blocks : length p.blocks ≤ MOST_BLOCKS
+  pub unique : (i j : ℕ) (a b : Block) → slice_get p.blocks i ≡ Some a → slice_get p.blocks j ≡ Some b → a.who ≡ b.who → a.name ≡ b.name → i ≡ j
+  pub parents : (i : ℕ) (b : Block) (name : List ℕ) → slice_get p.blocks i ≡ Some b → b.order.parent ≡ Some name → HasParentBefore p.blocks i b
+  pub rows : (i : ℕ) (r : ProblemRow) → slice_get p.rows i ≡ Some r → StandsAt p r r.at

@@ -1,0 +1,40 @@
+-- What the score of a selection says.
+use Rattle.std.specs.Prelude.{◌≡◌, ℕ, ◌-◌, ◌<◌, ◌≤◌, ℤ, pos, ◌≤ℤ◌, ◌<ℤ◌, Bool, true, Some, List, slice_get}
+use Rattle.dam_hour.specs.Execution.{IsExecution, Balances, IsUnbalanced}
+use Rattle.dam_hour.specs.declared.step.Step.{Step}
+use Rattle.dam_blocks.specs.declared.problem.Block.{Block}
+use Rattle.dam_blocks.specs.declared.scoring.Verdict.{Verdict}
+use Rattle.dam_blocks.specs.declared.scoring.Verdict.TheVariants.{NotAdmissible, Unbalanced, Losing, Eligible}
+use Rattle.dam_blocks.specs.Problem.{ProblemState}
+use Rattle.dam_blocks.specs.Selection.{accepts, net_volume, IsAdmissible}
+use Rattle.dam_blocks.specs.Eligible.{ArePrices, surplus_of, IsEligible}
+
+-- some execution of the steps balances with the net volume
+pub record IsBalanced (ss : List Step) (net : ℤ) : Type 0 where
+  pub volumes : List ℕ
+  pub execution : IsExecution ss volumes
+  pub balance : Balances ss net volumes
+
+-- no execution of the period balances, and one of each period before it does
+pub record IsFirstUnbalanced (problem : ProblemState) (sel : List Bool) (t : ℕ) : Type 0 where
+  pub least : 1 ≤ t
+  pub hour : List Step
+  pub stands : slice_get problem.hours (t - 1) ≡ Some hour
+  pub unbalanced : IsUnbalanced hour (net_volume problem.blocks sel t)
+  pub before : (s : ℕ) (ss : List Step) → 1 ≤ s → s < t → slice_get problem.hours (s - 1) ≡ Some ss → IsBalanced ss (net_volume problem.blocks sel s)
+
+-- the accepted block at the place has a surplus below 0, and no accepted one before it has
+pub record IsFirstLosing (blocks : List Block) (sel : List Bool) (prices : List ℤ) (i : ℕ) : Type 0 where
+  pub block : Block
+  pub stands : slice_get blocks i ≡ Some block
+  pub accepted : accepts sel i ≡ true
+  pub loses : surplus_of prices block.order <ℤ pos 0
+  pub before : (j : ℕ) (b : Block) → j < i → accepts sel j ≡ true → slice_get blocks j ≡ Some b → pos 0 ≤ℤ surplus_of prices b.order
+
+-- the first of the faults, or the welfare
+abbrev pub IsVerdict : ProblemState → List Bool → Verdict → Type 0
+IsVerdict problem sel NotAdmissible = ¬ (IsAdmissible problem.blocks sel)
+IsVerdict problem sel (Unbalanced t) = IsAdmissible problem.blocks sel × IsFirstUnbalanced problem sel t
+IsVerdict problem sel (Losing i) =
+    IsAdmissible problem.blocks sel × ((prices : List ℤ) × ArePrices problem.blocks sel 1 problem.hours prices × IsFirstLosing problem.blocks sel prices i)
+IsVerdict problem sel (Eligible welfare) = IsEligible problem sel (pos welfare)

@@ -1,0 +1,76 @@
+-- Selections of blocks: what they take part in, and which of them the links and the groups admit.
+use Rattle.std.specs.Prelude.{◌≡◌, ◌≢◌, ℕ, zero, suc, ◌-◌, ◌^◌, ℤ, pos, neg_ℤ, ◌+ℤ◌, ◌*ℤ◌, Bool, true, false, nat_lt, ◌==◌, Some, List, [], ◌∷◌, ◌++◌, length, replicate, slice_get, slice_index_or, if◌then◌else◌}
+use Rattle.dam_book.specs.Terms.{BlockTerms}
+use Rattle.dam_book.specs.Volumes.{Pair}
+use Rattle.dam_book.specs.declared.limits.TheConstants.{MOST_BLOCKS}
+use Rattle.dam_hour.specs.Best.{signed}
+use Rattle.dam_blocks.specs.declared.problem.Block.{Block}
+use Rattle.dam_blocks.specs.Problem.{IsParent}
+
+-- A selection is the list of its acceptances, one for each place that a block of a book may have.
+
+-- whether the place is accepted
+abbrev pub accepts : List Bool → ℕ → Bool
+accepts sel i = slice_index_or sel i false
+
+-- the acceptances of the first places, with no other place accepted
+abbrev pub padded : List Bool → List Bool
+padded decided = decided ++ replicate (MOST_BLOCKS - length decided) false
+
+-- the empty selection
+abbrev pub nothing : List Bool
+nothing = replicate MOST_BLOCKS false
+
+-- the k-th choice over n places: the first of them is accepted by the first half of the choices, and so on
+abbrev pub choice : ℕ → ℕ → List Bool
+choice zero k = []
+choice (suc n) k = if nat_lt k (2 ^ n) then true ∷ choice n k else false ∷ choice n (k - 2 ^ n)
+
+-- the volume in a period, 0 where there is none
+abbrev pub volume_in : List Pair → ℕ → ℕ
+volume_in [] t = 0
+volume_in (p ∷ ps) t = if p.0 == t then p.1 else volume_in ps t
+
+-- the sum over the accepted blocks
+abbrev pub over_accepted : (BlockTerms → ℤ) → List Block → List Bool → ℤ
+over_accepted f (b ∷ bs) (true ∷ sel) = f b.order +ℤ over_accepted f bs sel
+over_accepted f (b ∷ bs) (false ∷ sel) = over_accepted f bs sel
+over_accepted f _ _ = pos 0
+
+-- what a block adds to the net volume of a period: its volume where it sells, and less than none where it buys
+abbrev pub net_volume_of : ℕ → BlockTerms → ℤ
+net_volume_of t o = neg_ℤ (signed o.side (pos (volume_in o.volumes t)))
+
+-- limit times volume in a period of a block that buys, and the same with the other sign of one that sells
+abbrev pub value_of : ℕ → BlockTerms → ℤ
+value_of t o = signed o.side (o.price *ℤ pos (volume_in o.volumes t))
+
+-- the accepted sell blocks' volume in a period less the accepted buy blocks'
+abbrev pub net_volume : List Block → List Bool → ℕ → ℤ
+net_volume blocks sel t = over_accepted (net_volume_of t) blocks sel
+
+-- the accepted buy blocks' limit times volume in a period less the accepted sell blocks'
+abbrev pub block_value : List Block → List Bool → ℕ → ℤ
+block_value blocks sel t = over_accepted (value_of t) blocks sel
+
+-- both are in one exclusive group of one participant
+pub record AreOfOneGroup (a b : Block) : Type 0 where
+  pub who : a.who ≡ b.who
+  pub group : List ℕ
+  pub first : a.order.group ≡ Some group
+  pub second : b.order.group ≡ Some group
+
+-- a parent is accepted with its child, and of one group no other
+pub record Permits (other : Block) (is_accepted : Bool) (block : Block) : Type 0 where
+  pub parent : IsParent other block → is_accepted ≡ true
+  pub group : is_accepted ≡ true → ¬ (AreOfOneGroup block other)
+
+-- a block stands at the place, and each other block permits it
+pub record IsAllowed (blocks : List Block) (sel : List Bool) (i : ℕ) : Type 0 where
+  pub block : Block
+  pub stands : slice_get blocks i ≡ Some block
+  pub others : (j : ℕ) (other : Block) → j ≢ i → slice_get blocks j ≡ Some other → Permits other (accepts sel j) block
+
+-- only blocks are accepted, each with its parent, and at most one of each group
+pub record IsAdmissible (blocks : List Block) (sel : List Bool) : Type 0 where
+  pub each : (i : ℕ) → accepts sel i ≡ true → IsAllowed blocks sel i

@@ -1,0 +1,97 @@
+ghost use Rattle.std.specs.Prelude.{◌≡◌, ◌≤◌, ◌≤ℤ◌, ◌*ℤ◌, pos, neg_ℤ, negsuc};
+ghost use Rattle.dam_hour.specs.Best.{signed};
+ghost use Rattle.dam_hour.specs.Execution.{IsNetVolume};
+ghost use Rattle.dam_blocks.specs.Selection.{volume_in, net_volume_of, value_of, net_volume, block_value};
+
+use crate::problem::Problem;
+use crate::selection::Selection;
+use dam_book::{BlockOrder, Period, Side, Volumes};
+use std::alloc::Allocator;
+
+/// The volume in a period, in tenths of a MW; 0 where there is none.
+pub(crate) fn volume_in(volumes: &Volumes, period: Period) -> u32
+    ensures value { result ≡ volume_in volumes.now period }
+    ensures small { result ≤ 99999 }
+{
+    let pairs = volumes.pairs();
+    for (own, qty) in pairs {
+        if *own == period {
+            return qty.get();
+        }
+    }
+    0
+}
+
+/// The amount, with the other sign for a sell.
+pub(crate) fn signed(side: Side, amount: i64) -> i64
+    requires at_least { negsuc 99999999999 ≤ℤ amount }
+    requires at_most { amount ≤ℤ pos 100000000000 }
+    ensures { result ≡ signed side amount }
+{
+    match side {
+        Side::Buy => amount,
+        Side::Sell => -amount,
+    }
+}
+
+/// Cents per MWh times tenths of a MW.
+pub(crate) fn times(cents: i32, volume: u32) -> i64
+    requires at_least { negsuc 449999 ≤ℤ cents }
+    requires at_most { cents ≤ℤ pos 450000 }
+    requires volume { volume ≤ 99999 }
+    ensures value { result ≡ cents *ℤ pos volume }
+    ensures low { negsuc 44999549999 ≤ℤ result }
+    ensures high { result ≤ℤ pos 44999550000 }
+{
+    i64::from(cents) * i64::from(volume)
+}
+
+fn net_volume_of(order: &BlockOrder, period: Period) -> i64
+    ensures value { result ≡ net_volume_of period order.now }
+    ensures low { negsuc 99998 ≤ℤ result }
+    ensures high { result ≤ℤ pos 99999 }
+{
+    let volume = i64::from(volume_in(order.volumes(), period));
+    -signed(order.side(), volume)
+}
+
+fn value_of(order: &BlockOrder, period: Period) -> i64
+    ensures value { result ≡ value_of period order.now }
+    ensures low { negsuc 44999549999 ≤ℤ result }
+    ensures high { result ≤ℤ pos 44999550000 }
+{
+    let volume = volume_in(order.volumes(), period);
+    signed(order.side(), times(order.price().get(), volume))
+}
+
+/// The accepted sell blocks' volume in a period less the accepted buy blocks', in tenths of a MW.
+pub fn net_volume<A: Allocator>(problem: &Problem<A>, selection: Selection, period: Period) -> i64
+    ensures value { result ≡ net_volume problem.now.blocks selection period }
+    ensures valid { IsNetVolume result }
+{
+    let blocks = problem.blocks();
+    let mut total = 0;
+    for (place, block) in blocks.iter().enumerate() {
+        if selection.has(place) {
+            total += net_volume_of(&block.order, period);
+        }
+    }
+    total
+}
+
+/// The accepted buy blocks' limit times volume in a period less the accepted sell blocks', in cents
+/// per MWh times tenths of a MW.
+pub fn block_value<A: Allocator>(problem: &Problem<A>, selection: Selection, period: Period) -> i64
+    ensures value { result ≡ block_value problem.now.blocks selection period }
+    ensures low { negsuc 1079989199999 ≤ℤ result }
+    ensures high { result ≤ℤ pos 1079989200000 }
+{
+    let blocks = problem.blocks();
+    let mut total = 0;
+    for (place, block) in blocks.iter().enumerate() {
+        if selection.has(place) {
+            total += value_of(&block.order, period);
+        }
+    }
+    total
+}

@@ -1,0 +1,72 @@
+ghost use Rattle.std.specs.Prelude.{◌≡◌, ◌↔◌, true, IsTrue};
+ghost use Rattle.dam_blocks.specs.Problem.{IsParent};
+ghost use Rattle.dam_blocks.specs.Selection.{accepts, AreOfOneGroup, Permits, IsAllowed, IsAdmissible};
+
+use crate::problem::{Block, Problem};
+use crate::selection::Selection;
+use dam_book::MOST_BLOCKS;
+use std::alloc::Allocator;
+
+/// Whether `parent` is the block that `child` is accepted with.
+fn is_parent(parent: &Block, child: &Block) -> bool
+    ensures { IsTrue result ↔ IsParent parent.now child.now }
+{
+    match child.order.parent() {
+        Some(name) => parent.who == child.who && parent.name == *name,
+        None => false,
+    }
+}
+
+/// Whether both are in one exclusive group of one participant.
+fn are_of_one_group(first: &Block, second: &Block) -> bool
+    ensures { IsTrue result ↔ AreOfOneGroup first.now second.now }
+{
+    match (first.order.group(), second.order.group()) {
+        (Some(group), Some(other)) => first.who == second.who && *group == *other,
+        _ => false,
+    }
+}
+
+/// Whether a block lets another be accepted: where it is accepted itself it isn't of its group, and
+/// else it isn't its parent.
+fn permits(other: &Block, is_accepted: bool, block: &Block) -> bool
+    ensures { IsTrue result ↔ Permits other.now is_accepted block.now }
+{
+    if is_accepted {
+        !are_of_one_group(block, other)
+    } else {
+        !is_parent(other, block)
+    }
+}
+
+/// Whether the place is a block's, and each other block permits it.
+fn is_allowed<A: Allocator>(problem: &Problem<A>, selection: Selection, place: usize) -> bool
+    requires { accepts selection place ≡ true }
+    ensures { IsTrue result ↔ IsAllowed problem.now.blocks selection place }
+{
+    let blocks = problem.blocks();
+    let Some(block) = blocks.get(place) else {
+        return false;
+    };
+    for (at, other) in blocks.iter().enumerate() {
+        if at != place && !permits(other, selection.has(at), block) {
+            return false;
+        }
+    }
+    true
+}
+
+/// Whether the links and the exclusive groups admit the selection: it accepts blocks of the problem
+/// alone, each with its parent, and at most one of each group of a participant.
+///
+/// (EUPHEMIA Public Description, "Linked Block Orders" and "Block Orders in an Exclusive group".)
+pub fn admissible<A: Allocator>(problem: &Problem<A>, selection: Selection) -> bool
+    ensures { IsTrue result ↔ IsAdmissible problem.now.blocks selection }
+{
+    for place in 0..MOST_BLOCKS {
+        if selection.has(place) && !is_allowed(problem, selection, place) {
+            return false;
+        }
+    }
+    true
+}

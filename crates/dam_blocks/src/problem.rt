@@ -1,0 +1,170 @@
+ghost use Rattle.std.specs.Prelude.{◌≡◌, ◌+◌, ◌-◌, ◌<◌, ◌↔◌, true, false, length, slice_get, option_map, IfOk, IsErrOf};
+ghost use Rattle.std.specs.Option.{option_copied};
+ghost use Rattle.dam_blocks.specs.Problem.{IsProblem, problem_of};
+
+use crate::rows::{blocks_of, hours_of, rows_of};
+use dam_book::{BlockOrder, Book, Name, Participant, Period};
+use dam_hour::{Hour, Step};
+use std::alloc::{AllocError, Allocator, Global};
+use std::marker::Model;
+use thiserror::Error;
+
+/// The greatest number of periods of a delivery day.
+pub(crate) const MOST_PERIODS: usize = 25;
+
+/// The period at a place of the day, counted from 0.
+pub(crate) fn period_at(place: usize) -> Period
+    requires { place < MOST_PERIODS }
+    ensures { result ≡ place + 1 }
+{
+    Period::new(place as u8 + 1).unwrap()
+}
+
+/// A block order with the participant and the name that it stands under.
+#[derive(PartialEq, Eq, Debug, Drop)]
+pub struct Block {
+    pub who: Participant,
+    pub name: Name,
+    pub order: BlockOrder,
+}
+
+/// Where an order of the book stands in the problem; places count from 0 in book order.
+#[derive(Clone, Copy, PartialEq, Eq, Debug)]
+pub enum Place {
+    /// The period, and the place among its hourly orders.
+    Hour(Period, usize),
+    /// The place among the blocks.
+    Block(usize),
+}
+
+/// An order of the book and where it stands in the problem.
+#[derive(PartialEq, Eq, Debug, Drop)]
+pub struct ProblemRow {
+    pub who: Participant,
+    pub name: Name,
+    pub at: Place,
+}
+
+/// Why a book makes no problem.
+#[derive(Clone, Copy, PartialEq, Eq, Debug, Error)]
+pub enum ProblemFault {
+    /// The book isn't closed.
+    #[error("the book is still open")]
+    StillOpen,
+    /// A growth was refused.
+    #[error("out of memory")]
+    Memory,
+}
+
+impl From<AllocError> for ProblemFault {
+    ghost use Rattle.std.specs.Prelude.{◌≡◌};
+    ghost use Rattle.dam_blocks.specs.declared.problem.ProblemFault.TheVariants.{Memory};
+
+    ghost from_gives = { λ _ e. e ≡ Memory };
+
+    fn from(_error: AllocError) -> ProblemFault {
+        ProblemFault::Memory
+    }
+}
+
+/// What a closed book asks to be cleared: the hourly orders of each period, and the blocks.
+///
+/// A contract sees the steps of each period, the blocks and the rows.
+#[derive(Drop)]
+pub struct Problem<A: Allocator = Global> {
+    hours: Vec<Hour<A>, A>,
+    blocks: Vec<Block, A>,
+    rows: Vec<ProblemRow, A>,
+}
+
+impl<A: Allocator> Model for Problem<A> {
+    ghost use Rattle.dam_blocks.specs.Problem.{ProblemState, IsProblem};
+
+    ghost Value = { ProblemState };
+
+    ghost view = { λ p. record { hours = p.hours.items; blocks = p.blocks.items; rows = p.rows.items } };
+
+    ghost invariant = { λ p. IsProblem (record { hours = p.hours.items; blocks = p.blocks.items; rows = p.rows.items }) };
+}
+
+impl<A: Allocator + Copy> Problem<A> {
+    /// The problem of a closed book; of an open one `StillOpen`, before any memory is asked for.
+    pub fn of_book<B: Allocator + Copy>(
+        alloc: A,
+        book: &Book<B>,
+    ) -> Result<Problem<A>, ProblemFault>
+        ensures ok { IfOk result (λ problem. (book.now.closed ≡ true) × (problem ≡ problem_of book.now)) }
+        ensures still_open { IsErrOf result ProblemFault.StillOpen ↔ (book.now.closed ≡ false) }
+    {
+        if !book.is_closed() {
+            return Err(ProblemFault::StillOpen);
+        }
+        let _limits = book.periods();
+        Ok(Problem {
+            hours: hours_of(alloc, book)?,
+            blocks: blocks_of(alloc, book)?,
+            rows: rows_of(alloc, book)?,
+        })
+    }
+}
+
+impl<A: Allocator> Problem<A> {
+    /// The number of periods of the delivery day.
+    pub fn periods(&self) -> u8
+        ensures value { result ≡ length self.now.hours }
+        ensures valid { IsProblem self.now }
+    {
+        self.hours.len() as u8
+    }
+
+    pub fn block_count(&self) -> usize
+        ensures value { result ≡ length self.now.blocks }
+        ensures valid { IsProblem self.now }
+    {
+        self.blocks.len()
+    }
+
+    /// The hourly orders of a period, ready to be cleared; `None` past the last period.
+    pub fn hour(&self, period: Period) -> Option<&Hour<A>>
+        ensures { option_copied result ≡ slice_get self.now.hours (period - 1) }
+    {
+        self.hours.get(usize::from(period.get()) - 1)
+    }
+
+    /// The hourly orders of a period in book order; `None` past the last period.
+    pub fn steps(&self, period: Period) -> Option<&[Step]>
+        ensures { option_copied result ≡ slice_get self.now.hours (period - 1) }
+    {
+        self.hour(period).map(|hour| hour.steps())
+    }
+
+    /// The block at a place in book order; `None` past the last.
+    pub fn block(&self, place: usize) -> Option<&BlockOrder>
+        ensures { option_copied result ≡ option_map (λ b. b.order) (slice_get self.now.blocks place) }
+    {
+        self.blocks.get(place).map(|block| &block.order)
+    }
+
+    /// The hourly orders of every period, from the first on.
+    pub(crate) fn hours(&self) -> &[Hour<A>]
+        ensures value { result.now ≡ self.now.hours }
+        ensures valid { IsProblem self.now }
+    {
+        self.hours.as_slice()
+    }
+
+    /// The blocks in book order, each with its participant and name.
+    pub fn blocks(&self) -> &[Block]
+        ensures value { result.now ≡ self.now.blocks }
+        ensures valid { IsProblem self.now }
+    {
+        self.blocks.as_slice()
+    }
+
+    /// Every order of the book in book order, and where it stands in the problem.
+    pub fn rows(&self) -> &[ProblemRow]
+        ensures { result.now ≡ self.now.rows }
+    {
+        self.rows.as_slice()
+    }
+}

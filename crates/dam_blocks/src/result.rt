@@ -1,0 +1,89 @@
+ghost use Rattle.std.specs.Prelude.{◌≡◌, ◌⊎◌, ℤ, pos, MatchBool};
+ghost use Rattle.dam_blocks.specs.Eligible.{IsEligible};
+ghost use Rattle.dam_blocks.specs.Result.{accepts_first, RanksAbove, RanksAtOrBelow, IsResult};
+
+use crate::laws;
+use crate::problem::Problem;
+use crate::scoring::{Verdict, score};
+use crate::selection::{Best, Selection, choices};
+use dam_book::MOST_BLOCKS;
+use std::alloc::Allocator;
+
+/// Whether the first is the better result: it has the greater welfare, or the same, and at the first
+/// place where they differ it accepts.
+pub fn ranks_above(first: Best, second: Best) -> bool
+    ensures { MatchBool result
+        (RanksAbove (pos first.welfare) first.selection (pos second.welfare) second.selection)
+        (RanksAtOrBelow (pos first.welfare) first.selection (pos second.welfare) second.selection) }
+{
+    if first.welfare != second.welfare {
+        return first.welfare > second.welfare;
+    }
+    accepts_first(first.selection, second.selection)
+}
+
+/// Whether the first accepts at the first place where they differ.
+fn accepts_first(first: Selection, second: Selection) -> bool
+    ensures { result ≡ accepts_first first second }
+{
+    for place in 0..MOST_BLOCKS {
+        if first.has(place) != second.has(place) {
+            return first.has(place);
+        }
+    }
+    false
+}
+
+/// The empty selection and its welfare.
+fn best_of_none<A: Allocator>(problem: &Problem<A>) -> Best
+    ensures { IsEligible problem.now result.selection (pos result.welfare) }
+{
+    laws::empty_selection();
+    let _kept = problem.periods();
+    let selection = Selection::none();
+    match score(problem, selection) {
+        Verdict::Eligible(welfare) => Best { selection, welfare },
+        _ => unreachable!(),
+    }
+}
+
+/// The one of the two that ranks above the other.
+fn higher(first: &Best, second: &Best) -> Best
+    ensures either { (result ≡ first.now) ⊎ (result ≡ second.now) }
+    ensures first { RanksAtOrBelow (pos first.now.welfare) first.now.selection (pos result.welfare) result.selection }
+    ensures second { RanksAtOrBelow (pos second.now.welfare) second.now.selection (pos result.welfare) result.selection }
+{
+    if ranks_above(*first, *second) {
+        *first
+    } else {
+        *second
+    }
+}
+
+/// The better of `best` and this selection, where it is eligible.
+fn better<A: Allocator>(problem: &Problem<A>, best: Best, selection: Selection) -> Best
+    requires { IsEligible problem.now best.selection (pos best.welfare) }
+    ensures eligible { IsEligible problem.now result.selection (pos result.welfare) }
+    ensures kept { RanksAtOrBelow (pos best.welfare) best.selection (pos result.welfare) result.selection }
+    ensures tried { (v : ℤ) → IsEligible problem.now selection v
+        → RanksAtOrBelow v selection (pos result.welfare) result.selection }
+{
+    match score(problem, selection) {
+        Verdict::Eligible(welfare) => higher(&Best { selection, welfare }, &best),
+        _ => best,
+    }
+}
+
+/// The result of the problem, by trying every selection of its blocks.
+///
+/// It scores 2 to the power of the number of blocks selections, and takes no memory.
+pub fn best_of_all<A: Allocator>(problem: &Problem<A>) -> Best
+    ensures { IsResult problem.now result.selection (pos result.welfare) }
+{
+    let count = problem.block_count();
+    let mut best = best_of_none(problem);
+    for number in 0..choices(count) {
+        best = better(problem, best, Selection::choice(count, number));
+    }
+    best
+}

@@ -1,0 +1,98 @@
+ghost use Rattle.std.specs.Prelude.{◌≡◌, ◌≤◌, ◌≤ℤ◌, pos, negsuc, length, take, slice_get, Some, MatchResult, MatchOption, ℕ, ◌<◌};
+ghost use Rattle.dam_blocks.specs.declared.problem.Block.{Block};
+ghost use Rattle.dam_blocks.specs.Selection.{accepts};
+ghost use Rattle.dam_blocks.specs.Eligible.{ArePrices, HasNoLoss, selection_welfare};
+ghost use Rattle.dam_blocks.specs.Score.{IsFirstUnbalanced, IsFirstLosing, IsVerdict};
+
+use crate::accepted::{block_value, net_volume};
+use crate::gain::surplus;
+use crate::laws;
+use crate::links::admissible;
+use crate::problem::{MOST_PERIODS, Problem, period_at};
+use crate::selection::Selection;
+use dam_book::{Period, Price};
+use std::alloc::Allocator;
+
+/// What a selection is worth, or the first thing that speaks against it.
+#[derive(Clone, Copy, PartialEq, Eq, Debug)]
+pub enum Verdict {
+    /// A child without its parent, two blocks of one group, or a place that is no block of the problem.
+    NotAdmissible,
+    /// No execution balances with the selection in this period, the first such.
+    Unbalanced(Period),
+    /// At the prices of the selection this accepted block, the first such, has a surplus below 0.
+    Losing(usize),
+    /// The selection is eligible; its welfare in cents per MWh times tenths of a MW.
+    Eligible(u64),
+}
+
+/// The prices of the periods under a selection, and its welfare.
+#[derive(Clone, Copy)]
+struct Clearing {
+    prices: [Price; MOST_PERIODS],
+    welfare: i64,
+}
+
+/// Clears every period with the selection; the `Err` is the first period that doesn't balance.
+fn clear_day<A: Allocator>(problem: &Problem<A>, selection: Selection) -> Result<Clearing, Period>
+    ensures { MatchResult result
+        (λ c. ArePrices problem.now.blocks selection 1 problem.now.hours (take (length problem.now.hours) c.prices)
+        × (selection_welfare problem.now selection ≡ Some c.welfare))
+        (λ t. IsFirstUnbalanced problem.now selection t) }
+{
+    let hours = problem.hours();
+    let mut prices = [Price::new(0).unwrap(); MOST_PERIODS];
+    let mut welfare = 0;
+    for (place, hour) in hours.iter().enumerate() {
+        let period = period_at(place);
+        let Some(cleared) = hour.clear(net_volume(problem, selection, period)) else {
+            return Err(period);
+        };
+        prices[place] = cleared.price;
+        welfare += cleared.welfare + block_value(problem, selection, period);
+    }
+    Ok(Clearing { prices, welfare })
+}
+
+/// The first accepted block that loses at the prices.
+fn first_losing<A: Allocator>(
+    problem: &Problem<A>,
+    selection: Selection,
+    prices: &[Price],
+) -> Option<usize>
+    requires { length prices.now ≤ MOST_PERIODS }
+    ensures { MatchOption result
+        (HasNoLoss problem.now.blocks selection prices.now)
+        (λ place. IsFirstLosing problem.now.blocks selection prices.now place) }
+{
+    let blocks = problem.blocks();
+    for (place, block) in blocks.iter().enumerate() {
+        if selection.has(place) && surplus(&block.order, prices) < 0 {
+            return Some(place);
+        }
+    }
+    None
+}
+
+/// Whether the selection is eligible, and its welfare; or else the first fault: it isn't admissible, a
+/// period doesn't balance (the least such), or an accepted block loses at the prices (the least such).
+///
+/// A rejected block may have any surplus (EUPHEMIA Public Description, "Paradoxically Rejected Block
+/// Orders"). Takes no memory.
+pub fn score<A: Allocator>(problem: &Problem<A>, selection: Selection) -> Verdict
+    ensures { IsVerdict problem.now selection result }
+{
+    laws::eligible_welfare();
+    if !admissible(problem, selection) {
+        return Verdict::NotAdmissible;
+    }
+    let cleared = match clear_day(problem, selection) {
+        Ok(cleared) => cleared,
+        Err(period) => return Verdict::Unbalanced(period),
+    };
+    let prices = &cleared.prices[..problem.hours().len()];
+    match first_losing(problem, selection, prices) {
+        Some(place) => Verdict::Losing(place),
+        None => Verdict::Eligible(cleared.welfare as u64),
+    }
+}

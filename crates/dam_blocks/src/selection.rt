@@ -1,0 +1,86 @@
+ghost use Rattle.std.specs.Prelude.{◌≡◌, ◌<◌, ◌≤◌, ◌^◌, true, length, slice_set};
+ghost use Rattle.dam_blocks.specs.Selection.{accepts, padded, nothing, choice};
+
+use dam_book::MOST_BLOCKS;
+use std::marker::Model;
+
+/// A set of blocks of a problem, by their places in book order.
+///
+/// A contract sees the list of its acceptances, one for each place that a block of a book may have.
+#[derive(Clone, Copy, PartialEq, Eq, Debug)]
+pub struct Selection {
+    accepted: [bool; MOST_BLOCKS],
+}
+
+impl Model for Selection {
+    ghost use Rattle.std.specs.Prelude.{List, Bool};
+
+    ghost Value = { List Bool };
+
+    ghost view = { λ s. s.accepted };
+
+    ghost inverse = { λ sel. record { accepted = sel } };
+}
+
+/// The number of choices over so many places.
+pub(crate) fn choices(count: usize) -> u32
+    requires { count ≤ MOST_BLOCKS }
+    ensures { result ≡ 2 ^ count }
+{
+    1 << count
+}
+
+impl Selection {
+    /// The selection that accepts no block.
+    pub fn none() -> Selection
+        ensures { result ≡ nothing }
+    {
+        Selection {
+            accepted: [false; MOST_BLOCKS],
+        }
+    }
+
+    /// The selection with the block at this place accepted too.
+    pub fn with(mut self, place: usize) -> Selection
+        requires { place < MOST_BLOCKS }
+        ensures { result ≡ slice_set self place true }
+    {
+        self.accepted[place] = true;
+        self
+    }
+
+    /// Whether the block at this place is accepted; no place past the last is.
+    pub fn has(self, place: usize) -> bool
+        ensures value { result ≡ accepts self place }
+        ensures places { length self ≡ MOST_BLOCKS }
+    {
+        self.accepted.get(place).copied().unwrap_or(false)
+    }
+
+    /// The choice of this number over the first `count` places, of which there are 2 to the power
+    /// `count`: the first half of them accepts the first place, and so on within each half.
+    pub fn choice(count: usize, number: u32) -> Selection
+        requires count { count ≤ MOST_BLOCKS }
+        requires number { number < 2 ^ count }
+        ensures { result ≡ padded (choice count number) }
+    {
+        let mut selection = Selection::none();
+        let mut rest = number;
+        for place in 0..count {
+            let half = choices(count - 1 - place);
+            if rest < half {
+                selection = selection.with(place);
+            } else {
+                rest -= half;
+            }
+        }
+        selection
+    }
+}
+
+/// An eligible selection and its welfare, in cents per MWh times tenths of a MW.
+#[derive(Clone, Copy, PartialEq, Eq, Debug)]
+pub struct Best {
+    pub selection: Selection,
+    pub welfare: u64,
+}

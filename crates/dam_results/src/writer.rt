@@ -1,0 +1,205 @@
+ghost use Rattle.std.specs.Prelude.{◌≡◌, ◌<◌, ◌++◌, ◌∷◌, [], ℕ, List, true, length, map, IfOk, OnOk};
+ghost use Rattle.std.specs.Option.{option_copied};
+ghost use Rattle.csv.specs.Writing.{default_writer, row_text};
+ghost use Rattle.dam_book.specs.Price.{IsPrice};
+ghost use Rattle.dam_book.specs.Volumes.{IsVolumes};
+ghost use Rattle.dam_book.specs.Terms.{IsHourOrder};
+ghost use Rattle.dam_book.specs.Fields.{price_text, volumes_text};
+ghost use Rattle.dam_book.specs.Book.{is_day, commands_of};
+ghost use Rattle.dam_results.specs.Records.{optional_text, side_word, day_row};
+ghost use Rattle.dam_results.specs.Journal.{ReadsAs};
+ghost use Rattle.dam_results.specs.Written.{row_line};
+ghost use Rattle.dam_results.specs.Written;
+ghost use Rattle.dam_results.specs.Writer.{Wrote, PutsCommand};
+
+use crate::limits::MOST_RECORDS;
+use csv::{Writer, WriterBuilder};
+use dam_book::{
+    BlockOrder, Command, Entry, HourOrder, Name, Order, Participant, Price, Side, Volumes,
+    write_price, write_volumes,
+};
+use itoa::Buffer;
+use std::alloc::{AllocError, Global};
+
+fn side_field<'a>(side: Side) -> &'a [u8]
+    ensures { result.now ≡ side_word side }
+{
+    match side {
+        Side::Buy => b"buy",
+        Side::Sell => b"sell",
+    }
+}
+
+fn price_field(alloc: Global, price: Price) -> Result<Vec<u8>, AllocError>
+    ensures { IfOk result (λ field. IsPrice price × (field.items ≡ price_text price)) }
+{
+    let _in_range = price.get();
+    let mut field = Vec::new(alloc);
+    write_price(&mut field, price)?;
+    Ok(field)
+}
+
+fn volumes_field(alloc: Global, volumes: &Volumes) -> Result<Vec<u8>, AllocError>
+    ensures { IfOk result (λ field. IsVolumes volumes.now × (field.items ≡ volumes_text volumes.now)) }
+{
+    let _valid = volumes.pairs();
+    let mut field = Vec::new(alloc);
+    write_volumes(&mut field, volumes)?;
+    Ok(field)
+}
+
+fn name_field(name: Option<&Name>) -> &[u8]
+    ensures { result.now ≡ optional_text (option_copied name.entry) }
+{
+    match name {
+        None => b"",
+        Some(name) => name.as_bytes(),
+    }
+}
+
+fn one_volume(order: &HourOrder) -> Volumes
+    ensures value { result ≡ (order.now.period, order.now.qty) ∷ [] }
+    ensures valid { IsHourOrder order.now }
+{
+    match Volumes::new(&[(order.period(), order.qty())]) {
+        Ok(volumes) => volumes,
+        Err(_) => unreachable!(),
+    }
+}
+
+fn put_row(out: &mut Writer<Vec<u8>>, row: &[&[u8]]) -> Result<(), AllocError>
+    ensures { OnOk result ((text : List ℕ) → Wrote out.old text → Wrote out.new (text ++ row_text default_writer (map (λ f. f.now) row.now))) }
+{
+    if out.write_fields(row).is_err() {
+        return Err(AllocError);
+    }
+    Ok(())
+}
+
+fn put_day(out: &mut Writer<Vec<u8>>, periods: u8) -> Result<(), AllocError>
+    requires { is_day periods ≡ true }
+    ensures { OnOk result ((text : List ℕ) → Wrote out.old text → Wrote out.new (text ++ row_line (day_row periods))) }
+{
+    let mut number = Buffer::new();
+    let periods = number.format(periods).as_bytes();
+    put_row(out, &[b"day", periods, b"", b"", b"", b"", b"", b"", b""])
+}
+
+fn put_hour(
+    alloc: Global,
+    out: &mut Writer<Vec<u8>>,
+    who: &Participant,
+    name: &Name,
+    order: &HourOrder,
+) -> Result<(), AllocError>
+    ensures { OnOk result (PutsCommand out.old out.new (Command.Submit who.now name.now (Order.Hour order.now))) }
+{
+    let price = price_field(alloc, order.price())?;
+    let volumes = volumes_field(alloc, &one_volume(order))?;
+    put_row(
+        out,
+        &[
+            b"submit",
+            who.as_bytes(),
+            name.as_bytes(),
+            b"hour",
+            side_field(order.side()),
+            price.as_slice(),
+            volumes.as_slice(),
+            b"",
+            b"",
+        ],
+    )
+}
+
+fn put_block<'a>(
+    alloc: Global,
+    out: &mut Writer<Vec<u8>>,
+    who: &'a Participant,
+    name: &'a Name,
+    order: &'a BlockOrder,
+) -> Result<(), AllocError>
+    ensures { OnOk result (PutsCommand out.old out.new (Command.Submit who.entry.now name.entry.now (Order.Block order.entry.now))) }
+{
+    let price = price_field(alloc, order.price())?;
+    let volumes = volumes_field(alloc, order.volumes())?;
+    put_row(
+        out,
+        &[
+            b"submit",
+            who.as_bytes(),
+            name.as_bytes(),
+            b"block",
+            side_field(order.side()),
+            price.as_slice(),
+            volumes.as_slice(),
+            name_field(order.parent()),
+            name_field(order.group()),
+        ],
+    )
+}
+
+fn put_command(
+    alloc: Global,
+    out: &mut Writer<Vec<u8>>,
+    command: &Command,
+) -> Result<(), AllocError>
+    ensures { OnOk result (PutsCommand out.old out.new command.now) }
+{
+    match command {
+        Command::Submit {
+            who,
+            name,
+            order: Order::Hour(order),
+        } => put_hour(alloc, out, who, name, order),
+        Command::Submit {
+            who,
+            name,
+            order: Order::Block(order),
+        } => put_block(alloc, out, who, name, order),
+        Command::Amend {
+            who,
+            name,
+            price,
+            volumes,
+        } => {
+            let price = price_field(alloc, *price)?;
+            let volumes = volumes_field(alloc, volumes)?;
+            let (who, name) = (who.as_bytes(), name.as_bytes());
+            let (price, volumes) = (price.as_slice(), volumes.as_slice());
+            put_row(
+                out,
+                &[b"amend", who, name, b"", b"", price, volumes, b"", b""],
+            )
+        }
+        Command::Cancel { who, name } => {
+            let (who, name) = (who.as_bytes(), name.as_bytes());
+            put_row(out, &[b"cancel", who, name, b"", b"", b"", b"", b"", b""])
+        }
+        Command::Close => put_row(out, &[b"close", b"", b"", b"", b"", b"", b"", b"", b""]),
+    }
+}
+
+/// The written journal: the record of the day, and then that of each entry's command, refused ones
+/// too. The fields of a record are joined by commas, with no quotes, and each record ends in one LF.
+///
+/// It fails only where memory runs out.
+pub fn journal_text(alloc: Global, periods: u8, entries: &[Entry]) -> Result<Vec<u8>, AllocError>
+    requires day { is_day periods ≡ true }
+    requires few { length entries.now < MOST_RECORDS }
+    ensures text { IfOk result (λ text. text.items ≡ Written.journal_text periods entries.now) }
+    ensures reads { IfOk result (λ text. ReadsAs text.items periods (commands_of entries.now)) }
+{
+    let mut out = WriterBuilder::new().from_writer(Vec::new(alloc));
+    put_day(&mut out, periods)?;
+    for entry in entries {
+        put_command(alloc, &mut out, &entry.command)?;
+    }
+    match out.into_inner() {
+        Ok(text) => Ok(text),
+        Err(_) => Err(AllocError),
+    }
+}
+
+#[cfg(test)]
+mod tests;
