@@ -251,13 +251,7 @@ impl<A: Allocator + Copy> Book<A> {
         Ok(())
     }
 
-    fn amend(
-        &mut self,
-        who: &Participant,
-        name: &Name,
-        price: Price,
-        volumes: &Volumes,
-    )
+    fn amend(&mut self, who: &Participant, name: &Name, price: Price, volumes: &Volumes)
         requires { refusal self.old (Command.Amend who.now name.now price volumes.now) ≡ None }
         ensures { self.new ≡ carried_out self.old (Command.Amend who.now name.now price volumes.now) }
     {

@@ -13,10 +13,10 @@ invariant_of-self g c =
 pub returns-in-Ok : goal.returns-in-Ok
 returns-in-Ok g c =
     (changes _ c.args.self.now _ c.args.who.now _ c.args.name.now _ c.args.price c.args.volumes.now c.in-Some.order.now _ c.self.view_is c.copy.ensures c.copy-2.ensures
-        (sym c.in-Some.ensures.value) c.amended-order.ensures c.in-Ok.ensures.entries c.requires).done
+    (sym c.in-Some.ensures.value) c.amended-order.ensures c.in-Ok.ensures.entries c.requires).done
 
 pub returns-in_default : goal.returns-in_default
 returns-in_default g c =
     absurd (amend_finds _ c.copy.result c.copy-2.result c.args.price c.args.volumes.now
-        (refusal_same _ c.args.self.now _ (Amend c.args.who.now c.args.name.now c.args.price c.args.volumes.now) c.self.view_is (ap₂ (λ who name. Amend who name c.args.price c.args.volumes.now) c.copy.ensures c.copy-2.ensures) c.requires)
-        (sym c.in_default.ensures.value))
+    (refusal_same _ c.args.self.now _ (Amend c.args.who.now c.args.name.now c.args.price c.args.volumes.now) c.self.view_is (ap₂ (λ who name. Amend who name c.args.price c.args.volumes.now) c.copy.ensures c.copy-2.ensures) c.requires)
+    (sym c.in_default.ensures.value))
