@@ -88,16 +88,27 @@ fn problem_of(alloc: Global, mut book: Book) -> Result<Problem, Fail> {
     Ok(Problem::of_book(alloc, &book)?)
 }
 
+/// Whether the selection accepts just these of the first places.
+fn accepts_just(selection: Selection, accepted: &[bool]) -> bool {
+    for (place, is_accepted) in accepted.iter().enumerate() {
+        if selection.has(place) != *is_accepted {
+            return false;
+        }
+    }
+    true
+}
+
 /// Compares the result with this welfare and these acceptances.
 fn check(rt: &impl Abort, problem: &Problem, welfare: u64, accepted: &[bool]) {
     let best = best_of_all(problem);
-    assert_eq!(rt; best.welfare, welfare);
+    let verdict = score(problem, best.selection);
+    let is_above = ranks_above(best, best);
+    let is_just = accepts_just(best.selection, accepted);
     assert_eq!(rt; problem.block_count(), accepted.len());
-    for (place, is_accepted) in accepted.iter().enumerate() {
-        assert_eq!(rt; best.selection.has(place), *is_accepted);
-    }
-    assert_eq!(rt; score(problem, best.selection), Verdict::Eligible(welfare));
-    assert!(rt; !ranks_above(best, best));
+    assert_eq!(rt; best.welfare, welfare);
+    assert_eq!(rt; verdict, Verdict::Eligible(welfare));
+    assert!(rt; is_just);
+    assert!(rt; !is_above);
 }
 
 #[test]
