@@ -1,13 +1,15 @@
--- What `clear` and `executed` answer, from the totals at the least supporting price.
+-- What `clear`, `executed` and `execution` answer, from the totals at the least supporting price.
 use Rattle.std.proofs.Common.{◌≡◌, ℕ, ◌-◌, ℤ, pos, ◌+ℤ◌, ◌*ℤ◌, Some, None, List, take, ap, ◌∙◌, sym, subst}
 use Rattle.std.specs.List.{slice_get}
+use Rattle.dam_book.specs.declared.order.Side.TheVariants.{Buy, Sell}
 use Rattle.dam_hour.specs.declared.step.Step.{Step}
 use Rattle.dam_hour.specs.Execution.{AreInRange, IsHour, IsWithinOffers, IsUnbalanced}
 use Rattle.dam_hour.specs.Price.{AreEnds}
 use Rattle.dam_hour.specs.Best.{IsBest, AreBestTotals, greatest_welfare}
-use Rattle.dam_hour.specs.Volumes.{margin_of, at_volume, better_volume, full_surplus, share, total_on, AreTotals, IsLeastHighEnough, IsGreatestLowEnough}
+use Rattle.dam_hour.specs.Volumes.{margin_of, at_volume, better_volume, full_surplus, share, fill, total_on, AreTotals, IsLeastHighEnough, IsGreatestLowEnough}
 use Rattle.dam_hour.proofs.Fill.{fill_place, execution_past}
 use Rattle.dam_hour.proofs.Totals.{best_at, left_at, best_is_best, best_bought, best_sold, best_welfare}
+use Rattle.dam_hour.proofs.Filling.{fill_from_totals}
 use Rattle.dam_hour.proofs.Supporting.{ends_from, balance_within}
 use Rattle.dam_hour.proofs.Existence.{best_unique}
 use Rattle.dam_hour.proofs.Enumeration.{best_greatest_welfare}
@@ -71,3 +73,10 @@ pub totals_balanced : (ss ss' : List Step) (net net' p : ℤ) (bought sold : ℕ
 totals_balanced ss ss' net net' p bought sold e n t =
     both_same (λ s z. ¬ (IsUnbalanced s z)) ss ss' net net' e n
     (best_balanced ss' net' (best_at p ss' bought sold) (best_is_best ss' net' p bought sold t))
+
+-- the whole best execution
+pub execution_answer : (ss ss' : List Step) (net net' p : ℤ) (bought sold buys sells : ℕ) (out : List ℕ) → ss' ≡ ss → net' ≡ net → AreTotals ss' net' p bought sold
+    → buys ≡ bought - better_volume Buy p ss' → sells ≡ sold - better_volume Sell p ss' → out ≡ fill p ss' (λ side. total_on side buys sells) → IsBest ss net out
+execution_answer ss ss' net net' p bought sold buys sells out e n t b s filled =
+    both_same (λ s z. IsBest s z out) ss ss' net net' e n
+    (subst (λ (xs : List ℕ). IsBest ss' net' xs) (sym (fill_from_totals p ss' bought sold buys sells out b s filled)) (best_is_best ss' net' p bought sold t))

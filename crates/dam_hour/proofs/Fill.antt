@@ -8,14 +8,8 @@ use Rattle.dam_hour.specs.declared.step.Step.{Step}
 use Rattle.dam_hour.specs.Execution.{IsExecution, executed_volume, offered_volume, volume_on}
 use Rattle.dam_hour.specs.Best.{AtMostInOrder}
 use Rattle.dam_hour.specs.Price.{Supports}
-use Rattle.dam_hour.specs.Volumes.{margin_of, if_better, if_at, better_volume, at_volume, share}
+use Rattle.dam_hour.specs.Volumes.{margin_of, if_better, if_at, better_volume, at_volume, share, fill}
 use Rattle.dam_hour.proofs.Numbers.{margin_better, margin_worse, better_margin, worse_margin}
-
-abbrev pub fill : ℤ → List Step → (Side → ℕ) → List ℕ
-fill p [] left = []
-fill p (s ∷ ss) left =
-    share (margin_of s.side s.price p) s.qty (left s.side)
-    ∷ fill p ss (λ side. left side - volume_on side s.side (if_at (margin_of s.side s.price p) s.qty))
 
 -- the executed volume of one side at the price
 abbrev pub taken : Side → ℤ → List Step → List ℕ → ℕ

@@ -3,9 +3,11 @@ pub mod Numbers
 pub mod Duality
 pub mod Fill
 pub mod Totals
+pub mod Filling
 pub mod Supporting
 pub mod Existence
 pub mod Enumeration
 pub mod Midpoint
 pub mod Magnitude
+pub mod Joining
 pub mod Answering

@@ -1,5 +1,5 @@
--- What a scan of the steps adds up at a price, and the two tests by which the ends of the supporting prices are found. Only contracts inside the crate cite them.
-use Rattle.std.specs.Prelude.{◌≡◌, ℕ, zero, suc, min, ◌+◌, ◌*◌, ◌≤◌, ◌<◌, ℤ, pos, negsuc, ◌+ℤ◌, ◌-ℤ◌, ◌≤ℤ◌, List, [], ◌∷◌}
+-- What a scan of the steps adds up at a price, how it fills them in book order, and the two tests by which the ends of the supporting prices are found. Only contracts inside the crate cite them.
+use Rattle.std.specs.Prelude.{◌≡◌, ℕ, zero, suc, min, ◌+◌, ◌-◌, ◌*◌, ◌≤◌, ◌<◌, ℤ, pos, negsuc, ◌+ℤ◌, ◌-ℤ◌, ◌≤ℤ◌, List, [], ◌∷◌}
 use Rattle.dam_book.specs.Price.{IsPrice}
 use Rattle.dam_book.specs.declared.order.Side.{Side}
 use Rattle.dam_book.specs.declared.order.Side.TheVariants.{Buy, Sell}
@@ -48,6 +48,13 @@ abbrev pub share : ℤ → ℕ → ℕ → ℕ
 share (pos zero) q left = min q left
 share (pos (suc n)) q left = q
 share (negsuc n) q left = 0
+
+-- the volumes of the steps in book order: where one stands at the price it leaves the later ones of its side that much less
+abbrev pub fill : ℤ → List Step → (Side → ℕ) → List ℕ
+fill p [] left = []
+fill p (s ∷ ss) left =
+    share (margin_of s.side s.price p) s.qty (left s.side)
+    ∷ fill p ss (λ side. left side - volume_on side s.side (if_at (margin_of s.side s.price p) s.qty))
 
 -- the total of the side
 abbrev pub total_on : Side → ℕ → ℕ → ℕ

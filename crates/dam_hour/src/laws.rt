@@ -2,8 +2,9 @@
 //!
 //! A caller that needs one of them in a proof calls the function, at no cost.
 
-ghost use Rattle.std.specs.Prelude.{◌≡◌, ◌↔◌, ℕ, ℤ, pos, ◌+ℤ◌, ◌*ℤ◌, ◌≤ℤ◌, ◌<ℤ◌, List, length, Some, None};
+ghost use Rattle.std.specs.Prelude.{◌≡◌, ◌↔◌, ℕ, ◌+◌, ◌≤◌, ℤ, pos, ◌+ℤ◌, ◌*ℤ◌, ◌≤ℤ◌, ◌<ℤ◌, List, ◌++◌, length, slice_get, Some, None};
 ghost use Rattle.std.specs.Int.{int_div_euclid};
+ghost use Rattle.dam_book.specs.declared.order.Side.{Side};
 ghost use Rattle.dam_book.specs.declared.order.Side.TheVariants.{Buy, Sell};
 ghost use Rattle.dam_book.specs.declared.price.TheConstants.{LOWEST_PRICE, HIGHEST_PRICE};
 ghost use Rattle.dam_hour.specs.declared.step.Step.{Step};
@@ -86,4 +87,31 @@ pub fn surplus()
 pub fn magnitude()
     ensures { (steps : List Step) (xs : List ℕ) → AreInRange steps → IsExecution steps xs
         → AreSmall (length steps) (executed_volume Buy steps xs) (executed_volume Sell steps xs) (welfare_of steps xs) }
+{}
+
+/// An execution has one volume for each step, and none is greater than its step's own.
+pub fn lengths()
+    ensures length { (steps : List Step) (xs : List ℕ) → IsExecution steps xs → length xs ≡ length steps }
+    ensures at_most { (steps : List Step) (xs : List ℕ) (place : ℕ) (step : Step) (x : ℕ) → IsExecution steps xs
+        → slice_get steps place ≡ Some step → slice_get xs place ≡ Some x → x ≤ step.qty }
+{}
+
+/// The executions of some steps and then others are those of the first and then those of the second;
+/// their executed volumes and their welfare add up.
+pub fn joining()
+    ensures joined { (ss ts : List Step) (xs ys : List ℕ) → IsExecution ss xs → IsExecution ts ys
+        → IsExecution (ss ++ ts) (xs ++ ys) }
+    ensures parted { (ss ts : List Step) (zs : List ℕ) → IsExecution (ss ++ ts) zs
+        → (xs : List ℕ) × (ys : List ℕ) × (zs ≡ xs ++ ys) × IsExecution ss xs × IsExecution ts ys }
+    ensures volume { (side : Side) (ss ts : List Step) (xs ys : List ℕ) → IsExecution ss xs
+        → executed_volume side (ss ++ ts) (xs ++ ys) ≡ executed_volume side ss xs + executed_volume side ts ys }
+    ensures welfare { (ss ts : List Step) (xs ys : List ℕ) → IsExecution ss xs
+        → welfare_of (ss ++ ts) (xs ++ ys) ≡ welfare_of ss xs +ℤ welfare_of ts ys }
+{}
+
+/// The price of the period supports the best execution: no hourly order loses at it, and none that is
+/// better than it is cut.
+pub fn support()
+    ensures { (steps : List Step) (net low high : ℤ) (xs : List ℕ) → AreEnds steps net low high → IsBest steps net xs
+        → Supports (price_between low high) steps xs }
 {}

@@ -1,7 +1,7 @@
 ghost use Rattle.std.specs.Prelude.{◌≡◌, ◌≤◌, pos, negsuc, ◌≤ℤ◌};
 ghost use Rattle.dam_book.specs.Price.{IsPrice};
 ghost use Rattle.dam_book.specs.Quantity.{IsQuantity};
-ghost use Rattle.dam_hour.specs.Volumes.{margin_of, share};
+ghost use Rattle.dam_hour.specs.Volumes.{margin_of, if_at, share};
 
 use dam_book::{Price, Qty, Side};
 
@@ -46,6 +46,15 @@ impl Step {
         ensures small { result ≤ 99999 }
     {
         u64::from(self.qty.get())
+    }
+
+    /// The step's volume where its limit is the price, and else 0, in tenths of a MW.
+    pub(crate) fn volume_at(&self, price: Price) -> u64
+        ensures { result ≡ if_at (margin_of self.now.side self.now.price price) self.now.qty }
+    {
+        let volume = self.volume();
+        let margin = self.margin(price);
+        if margin == 0 { volume } else { 0 }
     }
 
     /// The executed volume at that price, in tenths of a MW: all of a better step, none of a worse one,

@@ -75,6 +75,11 @@ fn check(
         assert_eq!(rt; hour.executed(net, place), None);
     }
     assert_eq!(rt; hour.executed(net, usize::MAX), None);
+    let execution = hour.execution(alloc, net)?;
+    assert_eq!(rt; execution.is_some(), line.is_some());
+    if let Some(volumes) = execution {
+        assert_eq!(rt; volumes.as_slice(), executed);
+    }
     Ok(())
 }
 
@@ -209,11 +214,31 @@ fn kind(number: u32) -> Option<Step> {
     step_of((side, limit, 1 + number / 8 % 2))
 }
 
+/// Compares the whole execution with the volume at each place.
+fn compare_execution(
+    rt: &impl Abort,
+    alloc: Global,
+    hour: &Hour,
+    net: i64,
+) -> Result<(), AllocError> {
+    assert!(rt; -GREATEST_NET <= net && net <= GREATEST_NET);
+    let Some(volumes) = hour.execution(alloc, net)? else {
+        assert!(rt; hour.clear(net).is_none());
+        return Ok(());
+    };
+    assert_eq!(rt; volumes.len(), hour.len());
+    for (place, volume) in volumes.iter().enumerate() {
+        assert_eq!(rt; hour.executed(net, place), Some(*volume));
+    }
+    Ok(())
+}
+
 /// Compares the hour with the merge and with the slow program at nets from -7 to 7.
 fn compare(rt: &impl Abort, alloc: Global, steps: &[Step]) -> Result<(), AllocError> {
     assert!(rt; steps.len() <= 3);
     let hour = Hour::build(alloc, steps)?;
     for net in -7..=7 {
+        compare_execution(rt, alloc, &hour, net)?;
         assert!(rt; -GREATEST_NET <= net && net <= GREATEST_NET);
         let found = hour.clear(net).map(found_of);
         let tried = try_all(steps, net, WINDOW);

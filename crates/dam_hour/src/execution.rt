@@ -1,0 +1,66 @@
+ghost use Rattle.std.specs.Prelude.{◌≡◌, ◌-◌, IfOk};
+ghost use Rattle.dam_book.specs.declared.order.Side.TheVariants.{Buy, Sell};
+ghost use Rattle.dam_hour.specs.Execution.{volume_on};
+ghost use Rattle.dam_hour.specs.Volumes.{margin_of, if_at, total_on, fill};
+
+use crate::step::Step;
+use dam_book::{Price, Side};
+use std::alloc::{AllocError, Allocator};
+
+/// What is left at a price for the steps of each side, in tenths of a MW.
+#[derive(Clone, Copy)]
+pub(crate) struct Left {
+    pub(crate) buys: u64,
+    pub(crate) sells: u64,
+}
+
+impl Left {
+    /// What is left for a step of the side.
+    fn on(self, side: Side) -> u64
+        ensures { result ≡ total_on side self.buys self.sells }
+    {
+        match side {
+            Side::Buy => self.buys,
+            Side::Sell => self.sells,
+        }
+    }
+
+    /// What is left behind a step: where it stands at the price, less by what it takes.
+    fn behind(self, step: Step, price: Price) -> Left
+        ensures buys { result.buys ≡ self.buys - volume_on Buy step.side (if_at (margin_of step.side step.price price) step.qty) }
+        ensures sells { result.sells ≡ self.sells - volume_on Sell step.side (if_at (margin_of step.side step.price price) step.qty) }
+    {
+        let side = step.side;
+        let taken = step.volume_at(price);
+        match side {
+            Side::Buy => Left {
+                buys: self.buys.saturating_sub(taken),
+                sells: self.sells,
+            },
+            Side::Sell => Left {
+                buys: self.buys,
+                sells: self.sells.saturating_sub(taken),
+            },
+        }
+    }
+}
+
+/// The executed volumes of the steps at a price, in tenths of a MW: what is left at the price goes to
+/// the steps in book order.
+pub(crate) fn fill<B: Allocator>(
+    alloc: B,
+    steps: &[Step],
+    price: Price,
+    left: Left,
+) -> Result<Vec<u32, B>, AllocError>
+    ensures { IfOk result (λ volumes. volumes.items ≡ fill price steps.now (λ side. total_on side left.buys left.sells)) }
+{
+    let mut volumes = Vec::with_capacity(alloc, steps.len())?;
+    let mut left = left;
+    for step in steps {
+        let share = step.share(price, left.on(step.side));
+        volumes.push(share as u32)?;
+        left = left.behind(*step, price);
+    }
+    Ok(volumes)
+}
