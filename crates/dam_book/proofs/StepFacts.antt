@@ -1,9 +1,9 @@
 -- The step keeps what every book keeps.
-use Rattle.std.proofs.Common.{◌≡◌, ℕ, ℤ, ◌+◌, ◌-◌, ◌<◌, ◌≤◌, Bool, true, false, not, cond, if◌then◌else◌, ◌&&◌, List, [], ◌∷◌, ◌++◌, Option, Some, None, is_some, count_by, nat_lt, nat_le, refl, sym, ap, ap₂, subst, ◌∙◌, arith}
+use Rattle.std.proofs.Common.{◌≡◌, ℕ, ℤ, ◌+◌, ◌-◌, ◌≤◌, Bool, true, false, not, cond, if◌then◌else◌, ◌&&◌, List, [], ◌∷◌, ◌++◌, Option, Some, None, is_some, nat_lt, nat_le, refl, sym, ap, ap₂, subst, ◌∙◌, arith}
 use Rattle.std.proofs.lemmas.Bool.Decides.{nat_tests}
 use Rattle.std.proofs.lemmas.List.Sums.{sum_by-append}
 use Rattle.std.specs.List.{list_any}
-use Rattle.std.specs.Map.{lookup, remove_entry}
+use Rattle.std.specs.Map.{lookup, remove_entry, set_value}
 use Rattle.std.specs.Prelude.{find}
 use Rattle.indexmap.specs.IndexMap.{insert_entry}
 use Rattle.dam_book.specs.Price.{IsPrice}
@@ -14,13 +14,13 @@ use Rattle.dam_book.specs.Order.{IsOrder, is_hour, is_block, is_beyond, parent_o
 use Rattle.dam_book.specs.declared.order.Order.{Order}
 use Rattle.dam_book.specs.declared.order.Order.TheVariants.{Hour, Block}
 use Rattle.dam_book.specs.declared.command.Command.{Command}
-use Rattle.dam_book.specs.declared.command.Command.TheVariants.{Submit, Amend, Cancel, Close}
+use Rattle.dam_book.specs.declared.command.Command.TheVariants.{Submit, Amend, Cancel}
 use Rattle.dam_book.specs.declared.command.Reason.{Reason}
 use Rattle.dam_book.specs.declared.command.Reason.TheVariants.{Closed, PeriodOutOfDay, NameTaken, UnknownOrder, WrongShape, UnknownParent, ParentNotBlock, HourlyFull, BlocksFull, HasChildren}
 use Rattle.dam_book.specs.declared.limits.TheConstants.{MOST_HOURLY, MOST_BLOCKS}
-use Rattle.dam_book.specs.Book.{Key, Row, BookState, same_key, order_at, is_found, parent_passes, hourly_count, block_count, names_parent, applies, reasons, refusal, carried_out, book_after, changed, IsRow, AreRows, has_parent_in, are_linked, IsBook}
+use Rattle.dam_book.specs.Book.{Row, BookState, same_key, order_at, is_found, parent_passes, hourly_count, block_count, applies, refusal, carried_out, book_after, changed, IsRow, IsBook}
 use Rattle.dam_book.proofs.RowFacts.{none_head, AreRows-push, AreRows-remove_entry, are_unique-push, are_unique-remove_entry, count_by-remove_entry}
-use Rattle.dam_book.proofs.ChangeFacts.{insert_entry-absent, insert_entry-changed, are_unique-changed, AreRows-changed, count_by-changed}
+use Rattle.dam_book.proofs.ChangeFacts.{insert_entry-absent, set_value-changed, are_unique-changed, AreRows-changed, count_by-changed}
 use Rattle.dam_book.proofs.LinkFacts.{any_parts, are_linked-push, are_linked-removed, are_linked-changed, no_children_of_hour}
 
 -- no reason applies to a command that is not refused
@@ -221,7 +221,7 @@ pub Kept-push_block : (b : BookState) (rows : List Row) (who name : List ℕ) (o
     → Kept b hourly blocks → IsParticipant who → IsName name → IsOrder order → refusal b (Submit who name order) ≡ None → is_hour order ≡ false → Kept (record b { rows = rows }) hourly (blocks + 1)
 Kept-push_block b rows who name order hourly blocks pushed kept p n o e kind = block_more (record b { rows = rows }) order hourly blocks kind (Kept-push b rows who name order hourly blocks pushed kept p n o e)
 
--- What an insert into the map makes of the book, where the key is new and where it is there.
+-- What an insert at a new key of the map and a write at one that is there make of the book.
 
 inserted : (rows : List Row) (who who' name name' : List ℕ) (order order' : Order) → who' ≡ who → name' ≡ name → order' ≡ order
     → insert_entry same_key rows (who', name') order' ≡ insert_entry same_key rows (who, name) order
@@ -245,6 +245,11 @@ adds b old rows who who' name name' order order' same w n o into e =
       done = ap (λ (rs : List Row). let x : BookState = record b { rows = rs } in x) pushed ∙ ap (λ (x : BookState). let y : BookState = record x { rows = x.rows ++ ((who, name), order) ∷ [] } in y) same;
     }
 
+written : (rows : List Row) (who who' name name' : List ℕ) (order order' : Order) → who' ≡ who → name' ≡ name → order' ≡ order
+    → set_value (same_key (who', name')) rows order' ≡ set_value (same_key (who, name)) rows order
+written rows who who' name name' order order' w n o =
+    ap (λ (x : List ℕ). set_value (same_key (x, name')) rows order') w ∙ ap (λ (x : List ℕ). set_value (same_key (who, x)) rows order') n ∙ ap (λ (x : Order). set_value (same_key (who, name)) rows x) o
+
 some_from_test : (o : Option Order) → not (is_some o) ≡ false → (x : Order) × (o ≡ Some x)
 some_from_test None e = absurd (cc)
 some_from_test (Some x) e = (x, refl)
@@ -256,12 +261,12 @@ pub record Changes (b old : BookState) (rows : List Row) (who name : List ℕ) (
 
 pub changes : (b old : BookState) (rows : List Row) (who who' name name' : List ℕ) (price : ℤ) (volumes : List Pair) (order order' : Order) → b ≡ old → who' ≡ who → name' ≡ name
     → lookup (same_key (who', name')) b.rows ≡ Some order → order' ≡ amended price volumes order
-    → rows ≡ insert_entry same_key b.rows (who', name') order' → refusal old (Amend who name price volumes) ≡ None → Changes b old rows who name price volumes
+    → rows ≡ set_value (same_key (who', name')) b.rows order' → refusal old (Amend who name price volumes) ≡ None → Changes b old rows who name price volumes
 changes b old rows who who' name name' price volumes order order' same w n found o into e =
     let clear : refusal b (Amend who name price volumes) ≡ None = ap (λ (x : BookState). refusal x (Amend who name price volumes)) same ∙ e in
     let there : lookup (same_key (who, name)) b.rows ≡ Some order = ap (λ (x : List ℕ). lookup (same_key (x, name)) b.rows) (sym w) ∙ ap (λ (x : List ℕ). lookup (same_key (who', x)) b.rows) (sym n) ∙ found in
     let at : rows ≡ changed (who, name) (amended price volumes) b.rows =
-    into ∙ inserted b.rows who who' name name' (amended price volumes order) order' w n o ∙ insert_entry-changed b.rows (who, name) (amended price volumes) order there in
+    into ∙ written b.rows who who' name name' (amended price volumes order) order' w n o ∙ set_value-changed b.rows (who, name) (amended price volumes) order there in
     record {
       changed_at = at;
       clear = clear;
@@ -269,9 +274,11 @@ changes b old rows who who' name name' price volumes order order' same w n found
     }
 
 -- an amend that is not refused finds its order
-pub amend_finds : (b : BookState) (who name : List ℕ) (price : ℤ) (volumes : List Pair) → refusal b (Amend who name price volumes) ≡ None → order_at b (who, name) ≡ None → ⊥
-amend_finds b who name price volumes e none =
-    let some = some_from_test (order_at b (who, name)) (clear_from_refusal b (Amend who name price volumes) e).known in
+pub amend_finds : (b old : BookState) (who who' name name' : List ℕ) (price : ℤ) (volumes : List Pair) → b ≡ old → who' ≡ who → name' ≡ name
+    → order_at b (who', name') ≡ None → refusal old (Amend who name price volumes) ≡ None → ⊥
+amend_finds b old who who' name name' price volumes same w n none e =
+    let clear = clear_from_refusal b (Amend who' name' price volumes) (refusal_same b old (Amend who' name' price volumes) (Amend who name price volumes) same (ap₂ (λ (x y : List ℕ). Amend x y price volumes) w n) e) in
+    let some = some_from_test (order_at b (who', name')) clear.known in
     let apart : None ≡ Some some.0 = sym none ∙ some.1 in cc
 
 -- The reasons that the code leaves out, since they can't apply.

@@ -3,6 +3,7 @@ ghost use Rattle.std.specs.List.{list_any};
 ghost use Rattle.std.specs.Option.{option_copied};
 ghost use Rattle.dam_book.specs.Book.{IsBook, empty_book, is_day, order_at, IsSubmit, names_parent, applies, refusal, reply_to, carried_out, book_after};
 
+use crate::boxed::BoxedOrder;
 use crate::command::{Command, Reason, Reply};
 use crate::limits::{MOST_BLOCKS, MOST_HOURLY};
 use crate::name::{Name, Participant};
@@ -29,7 +30,7 @@ pub enum BeginFault {
 #[derive(Debug, Drop)]
 pub struct Book<A: Allocator = Global> {
     periods: u8,
-    orders: IndexMap<(Participant, Name), Order, BuildHasherDefault<FoldHasher>, A>,
+    orders: IndexMap<(Participant, Name), BoxedOrder<A>, BuildHasherDefault<FoldHasher>, A>,
     // how many of the orders are hourly, and how many are blocks
     hourly: usize,
     blocks: usize,
@@ -98,14 +99,14 @@ impl<A: Allocator + Copy> Book<A> {
         ensures { option_map (λ r. ((r.0, r.1), r.2.now)) result ≡ slice_get self.now.rows place }
     {
         let ((who, name), order) = self.orders.get_index(place)?;
-        Some((who.copy(), name.copy(), order))
+        Some((who.copy(), name.copy(), order.get()))
     }
 
     /// The participant's order of that name.
     pub fn find(&self, who: &Participant, name: &Name) -> Option<&Order>
         ensures { option_copied result ≡ order_at self.now (who.now, name.now) }
     {
-        self.orders.get(&(who.copy(), name.copy()))
+        Some(self.orders.get(&(who.copy(), name.copy()))?.get())
     }
 
     /// An equal book, on the same allocator.
@@ -231,7 +232,7 @@ impl<A: Allocator + Copy> Book<A> {
     fn has_children(&self, who: &Participant, name: &Name) -> bool
         ensures { result ≡ list_any (names_parent (who.now, name.now)) self.now.rows }
     {
-        self.orders.iter().any(|((owner, _), order)| order.has_parent(name) && *who == *owner)
+        self.orders.iter().any(|((owner, _), order)| order.get().has_parent(name) && *who == *owner)
     }
 
     fn add(&mut self, who: &Participant, name: &Name, order: &Order) -> Result<(), AllocError>
@@ -242,7 +243,8 @@ impl<A: Allocator + Copy> Book<A> {
         let _who = who.as_bytes();
         let _name = name.as_bytes();
         let _order = order.is_beyond(self.periods);
-        self.orders.insert((who.copy(), name.copy()), order.copy())?;
+        let boxed = BoxedOrder::new(*self.orders.allocator(), order.copy())?;
+        self.orders.insert((who.copy(), name.copy()), boxed)?;
         if order.is_hour() {
             self.hourly += 1;
         } else {
@@ -258,12 +260,8 @@ impl<A: Allocator + Copy> Book<A> {
         let _cents = price.get();
         let _pairs = volumes.pairs();
         let key = (who.copy(), name.copy());
-        if let Some(order) = self.orders.get(&key) {
-            let order = order.amended(price, volumes);
-            // an insert at a key that is there takes no memory
-            let Ok(_) = self.orders.insert(key, order) else {
-                unreachable!();
-            };
+        if let Some(order) = self.orders.get_mut(&key) {
+            order.amend(price, volumes);
         }
     }
 
@@ -272,7 +270,7 @@ impl<A: Allocator + Copy> Book<A> {
         ensures { self.new ≡ carried_out self.old (Command.Cancel who.now name.now) }
     {
         if let Some(order) = self.orders.shift_remove(&(who.copy(), name.copy())) {
-            if order.is_hour() {
+            if order.get().is_hour() {
                 self.hourly -= 1;
             } else {
                 self.blocks -= 1;

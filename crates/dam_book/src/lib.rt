@@ -2,6 +2,7 @@
 #![tactic(auto)]
 
 mod book;
+mod boxed;
 mod command;
 mod fields;
 pub mod laws;
@@ -21,7 +22,7 @@ pub use limits::{MOST_BLOCKS, MOST_HOURLY};
 pub use name::{Name, Participant};
 pub use order::{BlockOrder, HourOrder, Order, Side};
 pub use period::Period;
-pub use price::Price;
+pub use price::{HIGHEST_PRICE, LOWEST_PRICE, Price};
 pub use quantity::Qty;
 pub use run::replay;
 pub use volumes::{Volumes, VolumesFault};

@@ -1,0 +1,54 @@
+ghost use Rattle.std.specs.Prelude.{◌≡◌, IfOk};
+ghost use Rattle.dam_book.specs.Order.{amended};
+
+use crate::order::Order;
+use crate::price::Price;
+use crate::volumes::Volumes;
+use std::alloc::{AllocError, Allocator};
+use std::marker::Model;
+
+// An order in memory of its own, so that a list of orders moves a pointer for each. A contract sees the
+// order.
+#[derive(Debug, Drop)]
+pub(crate) struct BoxedOrder<A: Allocator> {
+    inner: Box<Order, A>,
+}
+
+impl<A: Allocator> Model for BoxedOrder<A> {
+    ghost use Rattle.dam_book.specs.declared.order.Order.{Order};
+
+    ghost Value = { Order };
+
+    ghost view = { λ b. b.inner.value };
+}
+
+impl<A: Allocator> BoxedOrder<A> {
+    pub(crate) fn new(alloc: A, order: Order) -> Result<BoxedOrder<A>, AllocError>
+        ensures { IfOk result (λ boxed. boxed ≡ order) }
+    {
+        Ok(BoxedOrder {
+            inner: Box::new(alloc, order)?,
+        })
+    }
+
+    pub(crate) fn get(&self) -> &Order
+        ensures { result.now ≡ self.now }
+    {
+        &self.inner
+    }
+
+    // Changes the order where it lies, which takes no memory.
+    pub(crate) fn amend(&mut self, price: Price, volumes: &Volumes)
+        ensures { self.new ≡ amended price volumes.now self.old }
+    {
+        *self.inner = self.inner.amended(price, volumes);
+    }
+}
+
+impl<A: Allocator + Copy> Clone for BoxedOrder<A> {
+    ghost is_clone = { λ x y. y ≡ x };
+
+    fn clone(&self) -> Result<BoxedOrder<A>, AllocError> {
+        BoxedOrder::new(*Box::allocator(&self.inner), self.inner.copy())
+    }
+}
