@@ -1,55 +1,24 @@
 -- Clearing the periods one by one.
-use Rattle.std.proofs.Common.{◌≡◌, ℕ, zero, suc, ◌+◌, ◌-◌, ◌*◌, ◌<◌, ◌≤◌, ℤ, pos, negsuc, neg_ℤ, ◌+ℤ◌, ◌*ℤ◌, ◌≤ℤ◌, Bool, true, false, ◌||◌, ◌==◌, ◌⊎◌, Option, Some, None, List, [], ◌∷◌, length, get_or, take, drop, ap, ap₂, ◌∙◌, sym, subst, refl, inl, inr, arith}
+use Rattle.std.proofs.Common.{◌≡◌, ℕ, zero, suc, ◌+◌, ◌-◌, ◌*◌, ◌<◌, ◌≤◌, ℤ, pos, neg_ℤ, ◌+ℤ◌, ◌≤ℤ◌, Bool, Option, Some, None, List, [], ◌∷◌, length, get_or, take, drop, ap, ap₂, ◌∙◌, sym, subst, refl, inl, inr, arith}
 use Rattle.std.specs.List.{slice_get}
 use Rattle.std.specs.Option.{option_map}
 use Rattle.std.proofs.lemmas.Int.{ints}
 use Rattle.std.proofs.lemmas.Bool.{cases_lt}
-use Rattle.std.proofs.lemmas.Bool.Decides.{nat_tests}
-use Rattle.dam_book.specs.Book.{is_day}
 use Rattle.std.proofs.lemmas.Option.{slice_get_within}
 use Rattle.std.proofs.lemmas.List.{drop_all, length-set}
 use Rattle.std.proofs.Math.ListN.{set}
-use Rattle.std.proofs.Math.Nat.{mul-le-mul}
-use Rattle.dam_book.specs.Price.{IsPrice}
-use Rattle.dam_book.specs.declared.order.Side.{Side}
-use Rattle.dam_book.specs.declared.order.Side.TheVariants.{Buy, Sell}
 use Rattle.dam_hour.specs.declared.step.Step.{Step}
-use Rattle.dam_hour.specs.Execution.{AreInRange, IsExecution, IsUnbalanced}
+use Rattle.dam_hour.specs.Execution.{AreInRange, IsBalanced, IsUnbalanced}
 use Rattle.dam_hour.specs.Price.{AreEnds}
-use Rattle.dam_hour.specs.Best.{signed, welfare_of, greatest_welfare, AreBestTotals}
+use Rattle.dam_hour.specs.Best.{greatest_welfare, AreBestTotals}
 use Rattle.dam_blocks.specs.declared.problem.Block.{Block}
 use Rattle.dam_blocks.specs.Problem.{ProblemState, AreHours, hourly_orders}
 use Rattle.dam_blocks.specs.Selection.{net_volume, block_value}
 use Rattle.dam_blocks.specs.Eligible.{IsClearingPrice, ArePrices, added, period_welfare, welfare_from}
-use Rattle.dam_blocks.specs.Score.{IsBalanced, IsFirstUnbalanced}
+use Rattle.dam_blocks.specs.Score.{IsFirstUnbalanced}
+use Rattle.dam_blocks.proofs.Magnitudes.{welfare_within}
 
--- ---- how large a welfare is
-price_times : (p : ℤ) (x : ℕ) → IsPrice p → x ≤ 99999 → (neg_ℤ (pos 39999600000) ≤ℤ (p *ℤ pos x)) × ((p *ℤ pos x) ≤ℤ pos 39999600000)
-price_times (pos n) x is h =
-    let limit = is.at_most in
-    let m : n * x ≤ 400000 * 99999 = mul-le-mul {n₁ = n} {m₁ = x} {n₂ = 400000} {m₂ = 99999} (omega (arith, ints, limit)) h in
-    (omega (arith, ints, m), omega (arith, ints, m))
-price_times (negsuc n) x is h =
-    let limit = is.at_least in
-    let m : suc n * x ≤ 50000 * 99999 = mul-le-mul {n₁ = suc n} {m₁ = x} {n₂ = 50000} {m₂ = 99999} (omega (arith, ints, limit)) h in
-    (omega (arith, ints, m), omega (arith, ints, m))
-
-signed_within : (side : Side) (z : ℤ) (n : ℕ) → neg_ℤ (pos n) ≤ℤ z → z ≤ℤ pos n → (neg_ℤ (pos n) ≤ℤ signed side z) × (signed side z ≤ℤ pos n)
-signed_within Buy z n l h = (l, h)
-signed_within Sell z n l h = (omega (arith, ints, l, h), omega (arith, ints, l, h))
-
-welfare_within : (ss : List Step) (xs : List ℕ) → AreInRange ss → IsExecution ss xs
-    → (neg_ℤ (pos (length ss * 39999600000)) ≤ℤ welfare_of ss xs) × (welfare_of ss xs ≤ℤ pos (length ss * 39999600000))
-welfare_within [] [] r e = (omega (arith, ints), omega (arith, ints))
-welfare_within [] (x ∷ xs) r e = absurd e
-welfare_within (s ∷ ss) [] r e = absurd e
-welfare_within (s ∷ ss) (x ∷ xs) r e =
-    let q = r.1.at_most in let fit = e.0 in
-    let own = price_times s.price x r.0 (omega (arith, q, fit)) in
-    let here = signed_within s.side (s.price *ℤ pos x) 39999600000 own.0 own.1 in
-    let rest = welfare_within ss xs r.2 e.1 in
-    (omega (arith, ints, here.0, rest.0), omega (arith, ints, here.1, rest.1))
-
+-- ---- one period
 hour_at : (hours : List (List Step)) (i most : ℕ) (ss : List Step) → AreHours hours → hourly_orders hours ≤ most → slice_get hours i ≡ Some ss
     → AreInRange ss × (length ss ≤ most)
 hour_at [] i most ss are few e = absurd (cc)
@@ -69,8 +38,8 @@ period_within hours i ss net bought sold w are few at t =
 -- ---- the periods so far
 pub record IsClearedSoFar (blocks : List Block) (sel : List Bool) (hours : List (List Step)) (place : ℕ) (welfare : ℤ) (prices : List ℤ) : Type 0 where
   pub sum : added (Some welfare) (welfare_from blocks sel (place + 1) (drop place hours)) ≡ welfare_from blocks sel 1 hours
-  pub low : neg_ℤ (pos (place * 161078389200000)) ≤ℤ welfare
-  pub high : welfare ≤ℤ pos (place * 161078389200000)
+  pub low : neg_ℤ (pos (place * 160958390400000)) ≤ℤ welfare
+  pub high : welfare ≤ℤ pos (place * 160958390400000)
   pub long : length prices ≡ 25
   pub each : (k : ℕ) (ss : List Step) → k < place → slice_get hours k ≡ Some ss → IsClearingPrice ss (net_volume blocks sel (k + 1)) (get_or prices k (pos 0))
 
@@ -117,7 +86,7 @@ pub cleared_more : (blocks : List Block) (sel : List Bool) (hours : List (List S
     (net low high p g value after : ℤ)
     → slice_get hours place ≡ Some ss → place < 25 → t ≡ place + 1 → net ≡ net_volume blocks sel t → AreEnds ss net low high → IsClearingPrice ss net p
     → greatest_welfare ss net ≡ Some g → value ≡ block_value blocks sel t → neg_ℤ (pos 159998400000000) ≤ℤ g → g ≤ℤ pos 159998400000000
-    → neg_ℤ (pos 1079989200000) ≤ℤ value → value ≤ℤ pos 1079989200000 → after ≡ welfare +ℤ (g +ℤ value)
+    → neg_ℤ (pos 959990400000) ≤ℤ value → value ≤ℤ pos 959990400000 → after ≡ welfare +ℤ (g +ℤ value)
     → IsClearedSoFar blocks sel hours place welfare prices → IsClearedSoFar blocks sel hours (place + 1) after (set prices place p)
 cleared_more blocks sel hours place t welfare prices ss net low high p g value after at room period net_is ends price great value_is gl gh vl vh e so_far =
     let one : suc place ≡ place + 1 = omega arith in
@@ -183,7 +152,7 @@ pub first_unbalanced : (problem : ProblemState) (sel : List Bool) (hours : List 
 first_unbalanced problem sel hours place t welfare prices ss net same at period net_is none so_far =
     let back : t - 1 ≡ place = omega (arith, period) in
     record {
-      least = omega (arith, period);
+      from_one = omega (arith, period);
       hour = ss;
       stands = ap₂ (λ (hs : List (List Step)) (n : ℕ). slice_get hs n) (sym same) back ∙ at;
       unbalanced = subst (λ (z : ℤ). IsUnbalanced ss z) net_is none;
@@ -192,20 +161,5 @@ first_unbalanced problem sel hours place t welfare prices ss net same at period 
           let price = so_far.each (s - 1) other (omega (arith, least, less, period)) there in
           let again : (s - 1) + 1 ≡ s = omega (arith, least) in
           let supports = price.ends.low_supports in
-          subst (λ (n : ℕ). IsBalanced other (net_volume problem.blocks sel n)) again (record {
-            volumes = supports.volumes;
-            execution = supports.execution;
-            balance = supports.balance;
-          }));
+          subst (λ (n : ℕ). IsBalanced other (net_volume problem.blocks sel n)) again (supports.volumes, supports.execution, supports.balance));
     }
-
-day_is : (a b c : Bool) → (a || (b || c)) ≡ true → (a ≡ true) ⊎ ((b ≡ true) ⊎ (c ≡ true))
-day_is true b c e = inl refl
-day_is false true c e = inr (inl refl)
-day_is false false c e = inr (inr e)
-
-pub day_small : (n : ℕ) → is_day n ≡ true → n ≤ 25
-day_small n e = elim (day_is (n == 23) (n == 24) (n == 25) e) [
-  | inl a ↦ (let is : n ≡ 23 = grind (arith, nat_tests) in omega (arith, is))
-  | inr r ↦ elim r [ inl b ↦ (let is : n ≡ 24 = grind (arith, nat_tests) in omega (arith, is)) | inr d ↦ (let is : n ≡ 25 = grind (arith, nat_tests) in omega (arith, is)) ]
-]

@@ -12,7 +12,7 @@ use Rattle.dam_book.specs.Terms.{HourTerms, BlockTerms}
 use Rattle.dam_book.specs.Order.{IsOrder, is_hour, is_block}
 use Rattle.dam_book.specs.Book.{Key, Row, BookState, same_key, is_day, hourly_count, block_count, is_found, parent_passes, IsRow, AreRows, are_unique, has_parent_in, are_linked, IsBook}
 use Rattle.dam_book.specs.declared.order.Order.{Order}
-use Rattle.dam_book.specs.declared.order.Order.TheVariants.{Hour, Block as BlockOrder}
+use Rattle.dam_book.specs.declared.order.Order.TheVariants.{Hour, Block as BlockVariant}
 use Rattle.dam_hour.specs.declared.step.Step.{Step}
 use Rattle.dam_hour.specs.Execution.{AreInRange}
 use Rattle.dam_blocks.specs.declared.problem.Block.{Block}
@@ -33,7 +33,7 @@ hour_stands t (suc n) (suc i) rows l =
 in_range_option : (t : ℕ) (o : Order) (ss : List Step) → IsOrder o → AreInRange ss → AreInRange (cons_option (step_in t o) ss)
 in_range_option t (Hour o) ss is are =
     elim (o.period == t) as (λ b. AreInRange (cons_option (cond b (Some (record { side = o.side; price = o.price; qty = o.qty })) None) ss)) [ true ↦ (is.price, is.qty, are) | false ↦ are ]
-in_range_option t (BlockOrder o) ss is are = are
+in_range_option t (BlockVariant o) ss is are = are
 
 steps_in_range : (t periods : ℕ) (rows : List Row) → AreRows periods rows → AreInRange (steps_in t rows)
 steps_in_range t periods [] are = tt
@@ -82,7 +82,7 @@ hours_once t (suc n) k o rs =
       | false ↦ λ e. (let here = steps_apart t k o rs e in let rest = hours_once (suc t) n k o rs in omega (arith, here, rest))
     ] refl
 
-hours_kept : (t n : ℕ) (k : Key) (o : BlockTerms) (rs : List Row) → hourly_orders (hours_from t n ((k, BlockOrder o) ∷ rs)) ≡ hourly_orders (hours_from t n rs)
+hours_kept : (t n : ℕ) (k : Key) (o : BlockTerms) (rs : List Row) → hourly_orders (hours_from t n ((k, BlockVariant o) ∷ rs)) ≡ hourly_orders (hours_from t n rs)
 hours_kept t zero k o rs = refl
 hours_kept t (suc n) k o rs = ap (λ (m : ℕ). length (steps_in t rs) + m) (hours_kept (suc t) n k o rs)
 
@@ -92,7 +92,7 @@ hours_none t (suc n) = let rest = hours_none (suc t) n in omega (arith, rest)
 
 hours_more : (t n : ℕ) (k : Key) (o : Order) (rs : List Row) → hourly_orders (hours_from t n ((k, o) ∷ rs)) ≤ hourly_orders (hours_from t n rs) + cond (is_hour o) 1 0
 hours_more t n k (Hour o) rs = hours_once t n k o rs
-hours_more t n k (BlockOrder o) rs = let e = hours_kept t n k o rs in omega (arith, e)
+hours_more t n k (BlockVariant o) rs = let e = hours_kept t n k o rs in omega (arith, e)
 
 few_hours : (t n : ℕ) (rows : List Row) → hourly_orders (hours_from t n rows) ≤ hourly_count rows
 few_hours t n [] = let e = hours_none t n in omega (arith, e)
@@ -104,7 +104,7 @@ one_period t k (Hour o) rs = elim (o.period == t) as (λ b. (o.period == t) ≡ 
   | true ↦ λ e. (let s = steps_same t k o rs e in omega (arith, s))
   | false ↦ λ e. (let s = steps_apart t k o rs e in omega (arith, s))
 ] refl
-one_period t k (BlockOrder o) rs = omega arith
+one_period t k (BlockVariant o) rs = omega arith
 
 pub few_steps : (t : ℕ) (rows : List Row) → length (steps_in t rows) ≤ hourly_count rows
 few_steps t [] = omega arith
@@ -113,7 +113,7 @@ few_steps t (r ∷ rs) = let here = one_period t r.0 r.1 rs in let rest = few_st
 -- ---- the blocks
 blocks_option : (periods : ℕ) (k : Key) (o : Order) (bs : List Block) → IsRow periods (k, o) → AreBlocks periods bs → AreBlocks periods (cons_option (block_under k.0 k.1 o) bs)
 blocks_option periods k (Hour o) bs is are = are
-blocks_option periods k (BlockOrder o) bs is are = (record { who = is.who; name = is.name; order = is.order; in_day = is.in_day }, are)
+blocks_option periods k (BlockVariant o) bs is are = (record { who = is.who; name = is.name; order = is.order; in_day = is.in_day }, are)
 
 blocks_are : (periods : ℕ) (rows : List Row) → AreRows periods rows → AreBlocks periods (blocks_in rows)
 blocks_are periods [] are = tt
@@ -121,7 +121,7 @@ blocks_are periods (r ∷ rs) are = blocks_option periods r.0 r.1 (blocks_in rs)
 
 block_more : (k : Key) (o : Order) (bs : List Block) → length (cons_option (block_under k.0 k.1 o) bs) ≡ cond (is_block o) 1 0 + length bs
 block_more k (Hour o) bs = omega arith
-block_more k (BlockOrder o) bs = omega arith
+block_more k (BlockVariant o) bs = omega arith
 
 few_blocks : (rows : List Row) → length (blocks_in rows) ≤ block_count rows
 few_blocks [] = omega arith
@@ -161,18 +161,18 @@ block_found (r ∷ rs) k i b at same none =
     by_order : (l : Key) (o : Order) (rs : List Row) (k : Key) (i : ℕ) (b : Block) → slice_get (cons_option (block_under l.0 l.1 o) (blocks_in rs)) i ≡ Some b
         → same_key k (b.who, b.name) ≡ true → same_key k l ≡ false → ((j : ℕ) → slice_get (blocks_in rs) j ≡ Some b → ⊥) → ⊥
     by_order l (Hour o) rs k i b at same apart rest = rest i at
-    by_order l (BlockOrder o) rs k zero b at same apart rest =
+    by_order l (BlockVariant o) rs k zero b at same apart rest =
         let who : l.0 ≡ b.who = cc in let name : l.1 ≡ b.name = cc in
         let again : same_key k (b.who, b.name) ≡ same_key k l = ap₂ (λ (x y : List ℕ). same_key k (x, y)) (sym who) (sym name) in
         absurd (cc)
-    by_order l (BlockOrder o) rs k (suc i) b at same apart rest = rest i at
+    by_order l (BlockVariant o) rs k (suc i) b at same apart rest = rest i at
 
 abbrev pub AreApart : List Block → Type 0
 AreApart bs = (i j : ℕ) (a b : Block) → slice_get bs i ≡ Some a → slice_get bs j ≡ Some b → a.who ≡ b.who → a.name ≡ b.name → i ≡ j
 
 apart_option : (k : Key) (o : Order) (rs : List Row) → lookup (same_key k) rs ≡ None → AreApart (blocks_in rs) → AreApart (cons_option (block_under k.0 k.1 o) (blocks_in rs))
 apart_option k (Hour o) rs none apart = apart
-apart_option k (BlockOrder o) rs none apart = λ i j a b at_i at_j who name. cases k o rs none apart i j a b at_i at_j who name
+apart_option k (BlockVariant o) rs none apart = λ i j a b at_i at_j who name. cases k o rs none apart i j a b at_i at_j who name
   where
     cases : (k : Key) (o : BlockTerms) (rs : List Row) → lookup (same_key k) rs ≡ None → AreApart (blocks_in rs) → (i j : ℕ) (a b : Block)
         → slice_get (record { who = k.0; name = k.1; order = o } ∷ blocks_in rs) i ≡ Some a → slice_get (record { who = k.0; name = k.1; order = o } ∷ blocks_in rs) j ≡ Some b
@@ -201,19 +201,19 @@ true_not true e = absurd (cc)
 true_not false e = refl
 
 -- what is found is a block
-block_in : (o : Option Order) → not (is_found is_block o) ≡ false → (p : BlockTerms) × (o ≡ Some (BlockOrder p))
+block_in : (o : Option Order) → not (is_found is_block o) ≡ false → (p : BlockTerms) × (o ≡ Some (BlockVariant p))
 block_in None e = absurd (cc)
 block_in (Some (Hour p)) e = absurd (cc)
-block_in (Some (BlockOrder p)) e = (p, refl)
+block_in (Some (BlockVariant p)) e = (p, refl)
 
 -- .. and has a place among the blocks
-place_of_found : (rs : List Row) (k : Key) (p : BlockTerms) → lookup (same_key k) rs ≡ Some (BlockOrder p)
+place_of_found : (rs : List Row) (k : Key) (p : BlockTerms) → lookup (same_key k) rs ≡ Some (BlockVariant p)
     → (i : ℕ) × (b : Block) × (slice_get (blocks_in rs) i ≡ Some b) × (k.0 ≡ b.who) × (k.1 ≡ b.name)
 place_of_found [] k p e = absurd (cc)
 place_of_found (r ∷ rs) k p e =
-    elim (same_key k r.0) as (λ t. same_key k r.0 ≡ t → cond t (Some r.1) (lookup (same_key k) rs) ≡ Some (BlockOrder p)
+    elim (same_key k r.0) as (λ t. same_key k r.0 ≡ t → cond t (Some r.1) (lookup (same_key k) rs) ≡ Some (BlockVariant p)
     → (i : ℕ) × (b : Block) × (slice_get (blocks_in (r ∷ rs)) i ≡ Some b) × (k.0 ≡ b.who) × (k.1 ≡ b.name)) [
-      | true ↦ λ t f. (let is : r.1 ≡ BlockOrder p = cc in let equal = same_key-equal k r.0 t in
+      | true ↦ λ t f. (let is : r.1 ≡ BlockVariant p = cc in let equal = same_key-equal k r.0 t in
           (0, record { who = r.0.0; name = r.0.1; order = p }, ap (λ (o : Order). slice_get (cons_option (block_under r.0.0 r.0.1 o) (blocks_in rs)) 0) is, equal.0, equal.1))
       | false ↦ λ t f. (let found = place_of_found rs k p f in behind r.0 r.1 (blocks_in rs) k found.0 found.1 found.2 found.3 found.4)
     ] refl e
@@ -221,7 +221,7 @@ place_of_found (r ∷ rs) k p e =
     behind : (l : Key) (o : Order) (bs : List Block) (k : Key) (i : ℕ) (b : Block) → slice_get bs i ≡ Some b → k.0 ≡ b.who → k.1 ≡ b.name
         → (i : ℕ) × (b : Block) × (slice_get (cons_option (block_under l.0 l.1 o) bs) i ≡ Some b) × (k.0 ≡ b.who) × (k.1 ≡ b.name)
     behind l (Hour o) bs k i b at who name = (i, b, at, who, name)
-    behind l (BlockOrder o) bs k i b at who name = (suc i, b, at, who, name)
+    behind l (BlockVariant o) bs k i b at who name = (suc i, b, at, who, name)
 
 get_front : (xs ys : List Block) (i : ℕ) (b : Block) → slice_get xs i ≡ Some b → slice_get (xs ++ ys) i ≡ Some b
 get_front [] ys i b e = absurd (cc)
@@ -235,7 +235,7 @@ get_seam (x ∷ xs) ys b = get_seam xs ys b
 blocks-append : (front rs : List Row) → blocks_in (front ++ rs) ≡ blocks_in front ++ blocks_in rs
 blocks-append front rs = filter_map-append (λ (r : Row). block_under r.0.0 r.0.1 r.1) front rs
 
-parent_before : (front : List Row) (k : Key) (o : BlockTerms) (rest : List Row) (name : List ℕ) → has_parent_in front (k, BlockOrder o) ≡ true → o.parent ≡ Some name
+parent_before : (front : List Row) (k : Key) (o : BlockTerms) (rest : List Row) (name : List ℕ) → has_parent_in front (k, BlockVariant o) ≡ true → o.parent ≡ Some name
     → HasParentBefore (blocks_in (front ++ rest)) (length (blocks_in front)) (record { who = k.0; name = k.1; order = o })
 parent_before front k o rest name has parent =
     let passes : not (is_found is_block (lookup (same_key (k.0, name)) front)) ≡ false =
@@ -269,17 +269,17 @@ parents_before front (r ∷ rs) i b name linked at parent =
         let none : blocks_in (front ++ (k, Hour o) ∷ []) ≡ blocks_in front = blocks-append front ((k, Hour o) ∷ []) ∙ append-nil (blocks_in front) in
         subst (λ (bs : List Block). HasParentBefore (blocks_in (front ++ (k, Hour o) ∷ rs)) (length bs + i) b) none
         (subst (λ (ps : List Row). HasParentBefore (blocks_in ps) (length (blocks_in (front ++ (k, Hour o) ∷ [])) + i) b) (append_assoc front ((k, Hour o) ∷ []) rs) (rest i at))
-    by_order front k (BlockOrder o) rs zero b name has at parent rest =
+    by_order front k (BlockVariant o) rs zero b name has at parent rest =
         let is : record { who = k.0; name = k.1; order = o } ≡ b = same_some (record { who = k.0; name = k.1; order = o }) b at in
         let own : o.parent ≡ Some name = ap (λ (c : Block). c.order.parent) is ∙ parent in
         let here : length (blocks_in front) ≡ length (blocks_in front) + 0 = omega arith in
-        subst (λ (n : ℕ). HasParentBefore (blocks_in (front ++ (k, BlockOrder o) ∷ rs)) n b) here
-        (subst (λ (c : Block). HasParentBefore (blocks_in (front ++ (k, BlockOrder o) ∷ rs)) (length (blocks_in front)) c) is (parent_before front k o ((k, BlockOrder o) ∷ rs) name has own))
-    by_order front k (BlockOrder o) rs (suc i) b name has at parent rest =
-        let longer : length (blocks_in (front ++ (k, BlockOrder o) ∷ [])) + i ≡ length (blocks_in front) + suc i =
-        omega (arith, ap (λ (bs : List Block). length bs) (blocks-append front ((k, BlockOrder o) ∷ [])), length-append (blocks_in front) (record { who = k.0; name = k.1; order = o } ∷ [])) in
-        subst (λ (n : ℕ). HasParentBefore (blocks_in (front ++ (k, BlockOrder o) ∷ rs)) n b) longer
-        (subst (λ (ps : List Row). HasParentBefore (blocks_in ps) (length (blocks_in (front ++ (k, BlockOrder o) ∷ [])) + i) b) (append_assoc front ((k, BlockOrder o) ∷ []) rs) (rest i at))
+        subst (λ (n : ℕ). HasParentBefore (blocks_in (front ++ (k, BlockVariant o) ∷ rs)) n b) here
+        (subst (λ (c : Block). HasParentBefore (blocks_in (front ++ (k, BlockVariant o) ∷ rs)) (length (blocks_in front)) c) is (parent_before front k o ((k, BlockVariant o) ∷ rs) name has own))
+    by_order front k (BlockVariant o) rs (suc i) b name has at parent rest =
+        let longer : length (blocks_in (front ++ (k, BlockVariant o) ∷ [])) + i ≡ length (blocks_in front) + suc i =
+        omega (arith, ap (λ (bs : List Block). length bs) (blocks-append front ((k, BlockVariant o) ∷ [])), length-append (blocks_in front) (record { who = k.0; name = k.1; order = o } ∷ [])) in
+        subst (λ (n : ℕ). HasParentBefore (blocks_in (front ++ (k, BlockVariant o) ∷ rs)) n b) longer
+        (subst (λ (ps : List Row). HasParentBefore (blocks_in ps) (length (blocks_in (front ++ (k, BlockVariant o) ∷ [])) + i) b) (append_assoc front ((k, BlockVariant o) ∷ []) rs) (rest i at))
 
 -- ---- where the rows stand
 steps-append : (t : ℕ) (front rs : List Row) → steps_in t (front ++ rs) ≡ steps_in t front ++ steps_in t rs
@@ -304,9 +304,9 @@ row_stands n front k (Hour o) rs is =
     let longer = steps_same o.period k o rs same in
     let all = ap (λ (ss : List Step). length ss) (steps-append o.period front ((k, Hour o) ∷ rs)) ∙ length-append (steps_in o.period front) (steps_in o.period ((k, Hour o) ∷ rs)) in
     (steps_in o.period rows, stands, least, omega (arith, longer, all))
-row_stands n front k (BlockOrder o) rs is = (
+row_stands n front k (BlockVariant o) rs is = (
   record { who = k.0; name = k.1; order = o },
-  ap (λ (bs : List Block). slice_get bs (length (blocks_in front))) (blocks-append front ((k, BlockOrder o) ∷ rs)) ∙ get_seam (blocks_in front) (blocks_in rs) (record { who = k.0; name = k.1; order = o }),
+  ap (λ (bs : List Block). slice_get bs (length (blocks_in front))) (blocks-append front ((k, BlockVariant o) ∷ rs)) ∙ get_seam (blocks_in front) (blocks_in rs) (record { who = k.0; name = k.1; order = o }),
   refl,
   refl,
 )
@@ -323,12 +323,16 @@ rows_stand n all front (q ∷ rs) whole are zero r e =
 rows_stand n all front (q ∷ rs) whole are (suc i) r e = rows_stand n all (front ++ q ∷ []) rs (append_assoc front (q ∷ []) rs ∙ whole) are.1 i r e
 
 -- ---- all of it
-pub problem_is : (b : BookState) → IsBook b → IsProblem (problem_of b)
-problem_is b is =
+pub problem_is : (b : BookState) → IsBook b → b.closed ≡ true → IsProblem (problem_of b)
+problem_is b is closed =
     let long = length-hours_from 1 b.periods b.rows in
     let orders = few_hours 1 b.periods b.rows in let hourly = is.few_hourly in
     let blocks = few_blocks b.rows in let few = is.few_blocks in
     record {
+      book = b;
+      is_book = is;
+      is_closed = closed;
+      is_of_book = refl;
       day = ap is_day long ∙ is.day;
       hours = hours_in_range 1 b.periods b.periods b.rows is.rows;
       few_hourly = omega (arith, orders, hourly);
@@ -341,9 +345,9 @@ problem_is b is =
       rows = λ i r at. rows_stand b.periods b.rows [] b.rows refl is.rows i r at;
     }
 
-pub problem_kept : (b : BookState) (hours : List (List Step)) (blocks : List Block) (rows : List ProblemRow) → IsBook b → hours ≡ hours_from 1 b.periods b.rows → blocks ≡ blocks_in b.rows
+pub problem_kept : (b : BookState) (hours : List (List Step)) (blocks : List Block) (rows : List ProblemRow) → IsBook b → b.closed ≡ true → hours ≡ hours_from 1 b.periods b.rows → blocks ≡ blocks_in b.rows
     → rows ≡ rows_behind [] b.rows → IsProblem (record { hours = hours; blocks = blocks; rows = rows })
-problem_kept b hours blocks rows is e f g =
+problem_kept b hours blocks rows is closed e f g =
     subst (λ (hs : List (List Step)). IsProblem (record { hours = hs; blocks = blocks; rows = rows })) (sym e)
     (subst (λ (bs : List Block). IsProblem (record { hours = hours_from 1 b.periods b.rows; blocks = bs; rows = rows })) (sym f)
-    (subst (λ (rs : List ProblemRow). IsProblem (record { hours = hours_from 1 b.periods b.rows; blocks = blocks_in b.rows; rows = rs })) (sym g) (problem_is b is)))
+    (subst (λ (rs : List ProblemRow). IsProblem (record { hours = hours_from 1 b.periods b.rows; blocks = blocks_in b.rows; rows = rs })) (sym g) (problem_is b is closed)))

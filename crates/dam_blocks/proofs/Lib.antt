@@ -1,5 +1,6 @@
 pub mod Sums
 pub mod Gains
+pub mod Magnitudes
 pub mod Ranks
 pub mod Choices
 pub mod Prices

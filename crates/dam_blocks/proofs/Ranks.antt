@@ -1,6 +1,6 @@
 -- The order of selections is total, and the result is the only one.
-use Rattle.std.proofs.Common.{◌≡◌, ℤ, Bool, true, false, List, [], ◌∷◌, length, ap, ◌∙◌, sym, refl, arith}
-use Rattle.std.proofs.lemmas.Int.{ints}
+use Rattle.std.proofs.Common.{◌≡◌, ◌<◌, ◌⊎◌, inl, inr, ℤ, ◌≤ℤ◌, Bool, true, false, List, [], ◌∷◌, length, ap, ◌∙◌, sym, refl, arith}
+use Rattle.std.proofs.lemmas.Int.{ints, by_lt_z}
 use Rattle.dam_blocks.specs.Problem.{ProblemState}
 use Rattle.dam_blocks.specs.Result.{accepts_first, RanksAbove, RanksAtOrBelow, IsResult}
 
@@ -41,6 +41,28 @@ accepts_first-trans (false ∷ xs) (true ∷ ys) (false ∷ zs) l m e f = absurd
 
 pub ranks_self : (v : ℤ) (xs : List Bool) → RanksAtOrBelow v xs v xs
 ranks_self v xs = record { by_welfare = omega (arith, ints); by_order = λ e. accepts_first-self xs }
+
+-- with one welfare the lists decide
+by_list : (v w : ℤ) (xs ys : List Bool) (b : Bool) → accepts_first xs ys ≡ b → w ≤ℤ v → v ≤ℤ w → RanksAbove v xs w ys ⊎ RanksAtOrBelow v xs w ys
+by_list v w xs ys true e more less = inl (record { by_welfare = more; by_order = λ same. e })
+by_list v w xs ys false e more less = inr (record { by_welfare = less; by_order = λ same. e })
+
+-- of two, the first ranks above the second, or at or below it, and not both
+pub ranks_either : (v w : ℤ) (xs ys : List Bool) → RanksAbove v xs w ys ⊎ RanksAtOrBelow v xs w ys
+ranks_either v w xs ys = by_lt_z v w
+    (λ less. inr (record { by_welfare = omega (arith, ints, less); by_order = λ e. absurd (let no : 0 < 0 = omega (arith, ints, less, e) in omega (arith, no)) }))
+    (λ not_less. by_lt_z w v
+    (λ more. inl (record { by_welfare = omega (arith, ints, more); by_order = λ e. absurd (let no : 0 < 0 = omega (arith, ints, more, e) in omega (arith, no)) }))
+    (λ not_more. by_list v w xs ys (accepts_first xs ys) refl not_less not_more))
+
+pub ranks_apart : (v w : ℤ) (xs ys : List Bool) → RanksAbove v xs w ys → RanksAtOrBelow v xs w ys → ⊥
+ranks_apart v w xs ys above below =
+    let a = above.by_welfare in let b = below.by_welfare in
+    let same : v ≡ w = omega (arith, ints, a, b) in
+    true_or_false (accepts_first xs ys) (above.by_order same) (below.by_order same)
+  where
+    true_or_false : (b : Bool) → b ≡ true → b ≡ false → ⊥
+    true_or_false b e f = absurd (cc)
 
 pub above_below : (v : ℤ) (xs : List Bool) (w : ℤ) (ys : List Bool) → RanksAbove v xs w ys → RanksAtOrBelow w ys v xs
 above_below v xs w ys h = record { by_welfare = h.by_welfare; by_order = λ e. accepts_first-flipped xs ys (h.by_order (sym e)) }

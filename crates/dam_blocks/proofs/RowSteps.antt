@@ -9,7 +9,7 @@ use Rattle.std.proofs.lemmas.Option.{slice_get_within, get_or_from_slice_get}
 use Rattle.std.proofs.Math.ListN.{set}
 use Rattle.dam_book.specs.Terms.{HourTerms, BlockTerms}
 use Rattle.dam_book.specs.Book.{Key, Row}
-use Rattle.dam_book.specs.declared.order.Order.TheVariants.{Hour, Block as BlockOrder}
+use Rattle.dam_book.specs.declared.order.Order.TheVariants.{Hour, Block as BlockVariant}
 use Rattle.dam_hour.specs.declared.step.Step.{Step}
 use Rattle.dam_blocks.specs.declared.problem.Block.{Block}
 use Rattle.dam_blocks.specs.declared.problem.Place.TheVariants.{Hour as AtHour, Block as AtBlock}
@@ -96,20 +96,20 @@ steps_more t all place k o at =
     ∙ length-append (steps_in t (take place all)) (steps_in t ((k, Hour o) ∷ []))
     ∙ ap (λ (n : ℕ). length (steps_in t (take place all)) + n) (step_count (o.period == t) (record { side = o.side; price = o.price; qty = o.qty }))
 
-steps_kept : (t : ℕ) (all : List Row) (place : ℕ) (k : Key) (o : BlockTerms) → slice_get all place ≡ Some (k, BlockOrder o)
+steps_kept : (t : ℕ) (all : List Row) (place : ℕ) (k : Key) (o : BlockTerms) → slice_get all place ≡ Some (k, BlockVariant o)
     → length (steps_in t (take (place + 1) all)) ≡ length (steps_in t (take place all))
 steps_kept t all place k o at =
-    let sum = ap (λ (rs : List Row). length (steps_in t rs)) (take_at all place (k, BlockOrder o) at)
-    ∙ ap (λ (ss : List Step). length ss) (steps-append t (take place all) ((k, BlockOrder o) ∷ []))
-    ∙ length-append (steps_in t (take place all)) (steps_in t ((k, BlockOrder o) ∷ [])) in
+    let sum = ap (λ (rs : List Row). length (steps_in t rs)) (take_at all place (k, BlockVariant o) at)
+    ∙ ap (λ (ss : List Step). length ss) (steps-append t (take place all) ((k, BlockVariant o) ∷ []))
+    ∙ length-append (steps_in t (take place all)) (steps_in t ((k, BlockVariant o) ∷ [])) in
     omega (arith, sum)
 
-blocks_more : (all : List Row) (place : ℕ) (k : Key) (o : BlockTerms) → slice_get all place ≡ Some (k, BlockOrder o)
+blocks_more : (all : List Row) (place : ℕ) (k : Key) (o : BlockTerms) → slice_get all place ≡ Some (k, BlockVariant o)
     → length (blocks_in (take (place + 1) all)) ≡ length (blocks_in (take place all)) + 1
 blocks_more all place k o at =
-    ap (λ (rs : List Row). length (blocks_in rs)) (take_at all place (k, BlockOrder o) at)
-    ∙ ap (λ (bs : List Block). length bs) (blocks-append (take place all) ((k, BlockOrder o) ∷ []))
-    ∙ length-append (blocks_in (take place all)) (blocks_in ((k, BlockOrder o) ∷ []))
+    ap (λ (rs : List Row). length (blocks_in rs)) (take_at all place (k, BlockVariant o) at)
+    ∙ ap (λ (bs : List Block). length bs) (blocks-append (take place all) ((k, BlockVariant o) ∷ []))
+    ∙ length-append (blocks_in (take place all)) (blocks_in ((k, BlockVariant o) ∷ []))
 
 blocks_kept : (all : List Row) (place : ℕ) (k : Key) (o : HourTerms) → slice_get all place ≡ Some (k, Hour o)
     → length (blocks_in (take (place + 1) all)) ≡ length (blocks_in (take place all))
@@ -177,13 +177,13 @@ hour_placed all place k o rows rows' steps steps' blocks q at least most is push
     }
 
 pub block_placed : (all : List Row) (place : ℕ) (k : Key) (o : BlockTerms) (rows rows' : List ProblemRow) (steps : List ℕ) (blocks blocks' : ℕ) (q : ProblemRow)
-    → slice_get all place ≡ Some (k, BlockOrder o)
+    → slice_get all place ≡ Some (k, BlockVariant o)
     → q ≡ record { who = k.0; name = k.1; at = AtBlock blocks }
     → rows' ≡ rows ++ q ∷ [] → blocks' ≡ blocks + 1
     → IsPlacedSoFar all place rows steps blocks → IsPlacedSoFar all (place + 1) rows' steps blocks'
 block_placed all place k o rows rows' steps blocks blocks' q at is pushed counted so_far =
     record {
-      sum = rows_more all place (k, BlockOrder o) rows rows' q at
+      sum = rows_more all place (k, BlockVariant o) rows rows' q at
           (is ∙ ap (λ (n : ℕ). record { who = k.0; name = k.1; at = AtBlock n }) so_far.block_count) pushed so_far.sum;
       long = so_far.long;
       hourly = λ t low high. so_far.hourly t low high ∙ sym (steps_kept t all place k o at);
@@ -235,7 +235,7 @@ hour_counted all place k o rows rows' steps steps' blocks blocks' m period q at 
     (counted ∙ ap (λ (n : ℕ). set steps (n - 1) (get_or steps (n - 1) 0 + 1)) index) so_far)
 
 pub block_counted : (all : List Row) (place : ℕ) (k : Key) (o : BlockTerms) (rows rows' : List ProblemRow) (steps steps' : List ℕ) (blocks blocks' : ℕ) (q : ProblemRow)
-    → slice_get all place ≡ Some (k, BlockOrder o) → q ≡ record { who = k.0; name = k.1; at = AtBlock blocks } → rows' ≡ rows ++ q ∷ [] → steps' ≡ steps → blocks' ≡ blocks + 1
+    → slice_get all place ≡ Some (k, BlockVariant o) → q ≡ record { who = k.0; name = k.1; at = AtBlock blocks } → rows' ≡ rows ++ q ∷ [] → steps' ≡ steps → blocks' ≡ blocks + 1
     → IsPlacedSoFar all place rows steps blocks → IsPlacedSoFar all (place + 1) rows' steps' blocks'
 block_counted all place k o rows rows' steps steps' blocks blocks' q at is pushed kept counted so_far =
     subst (λ (xs : List ℕ). IsPlacedSoFar all (place + 1) rows' xs blocks') (sym kept) (block_placed all place k o rows rows' steps blocks blocks' q at is pushed counted so_far)

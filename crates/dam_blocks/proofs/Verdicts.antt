@@ -49,7 +49,7 @@ price_at blocks sel t (hour ∷ hours) (p ∷ prices) (suc i) ss are e =
 
 balanced : (problem : ProblemState) (sel : List Bool) (t : ℕ) (v : ℤ) → IsFirstUnbalanced problem sel t → IsEligible problem sel v → ⊥
 balanced problem sel t v u e =
-    let least = u.least in
+    let least = u.from_one in
     let found = price_at problem.blocks sel 1 problem.hours e.prices (t - 1) u.hour e.are_prices u.stands in
     let again : (t - 1) + 1 ≡ t = omega (arith, least) in
     let supports = found.1.ends.low_supports in

@@ -32,6 +32,7 @@ abbrev pub surplus_from : ℕ → List ℤ → BlockTerms → ℤ
 surplus_from t [] o = pos 0
 surplus_from t (p ∷ prices) o = surplus_in t p o +ℤ surplus_from (suc t) prices o
 
+-- what a block gains at the prices of the day
 abbrev pub surplus_of : List ℤ → BlockTerms → ℤ
 surplus_of prices o = surplus_from 1 prices o
 
@@ -39,6 +40,7 @@ surplus_of prices o = surplus_from 1 prices o
 pub record HasNoLoss (blocks : List Block) (sel : List Bool) (prices : List ℤ) : Type 0 where
   pub surplus : (i : ℕ) (b : Block) → accepts sel i ≡ true → slice_get blocks i ≡ Some b → pos 0 ≤ℤ surplus_of prices b.order
 
+-- the sum, where there are both
 abbrev pub added : Option ℤ → Option ℤ → Option ℤ
 added (Some x) (Some y) = Some (x +ℤ y)
 added _ _ = None
@@ -47,6 +49,7 @@ added _ _ = None
 abbrev pub period_welfare : List Block → List Bool → ℕ → List Step → Option ℤ
 period_welfare blocks sel t ss = option_map (λ w. w +ℤ block_value blocks sel t) (greatest_welfare ss (net_volume blocks sel t))
 
+-- the welfares of the periods from t on, summed; None where some period has none
 abbrev pub welfare_from : List Block → List Bool → ℕ → List (List Step) → Option ℤ
 welfare_from blocks sel t [] = Some (pos 0)
 welfare_from blocks sel t (ss ∷ hours) = added (period_welfare blocks sel t ss) (welfare_from blocks sel (suc t) hours)

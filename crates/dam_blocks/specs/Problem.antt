@@ -3,9 +3,9 @@ use Rattle.std.specs.Prelude.{◌≡◌, ℕ, zero, suc, ◌+◌, ◌-◌, ◌<�
 use Rattle.dam_book.specs.Name.{IsName, IsParticipant}
 use Rattle.dam_book.specs.Terms.{IsBlockOrder}
 use Rattle.dam_book.specs.Volumes.{have_beyond}
-use Rattle.dam_book.specs.Book.{Row, BookState, is_day}
+use Rattle.dam_book.specs.Book.{Row, BookState, is_day, IsBook}
 use Rattle.dam_book.specs.declared.order.Order.{Order}
-use Rattle.dam_book.specs.declared.order.Order.TheVariants.{Hour, Block as BlockOrder}
+use Rattle.dam_book.specs.declared.order.Order.TheVariants.{Hour, Block as BlockVariant}
 use Rattle.dam_book.specs.declared.limits.TheConstants.{MOST_HOURLY, MOST_BLOCKS}
 use Rattle.dam_hour.specs.Execution.{AreInRange}
 use Rattle.dam_hour.specs.declared.step.Step.{Step}
@@ -23,7 +23,7 @@ pub record ProblemState : Type 0 where
 -- the order as a step, where it is an hourly order of this period
 abbrev pub step_in : ℕ → Order → Option Step
 step_in t (Hour o) = if o.period == t then Some (record { side = o.side; price = o.price; qty = o.qty }) else None
-step_in t (BlockOrder o) = None
+step_in t (BlockVariant o) = None
 
 -- the hourly orders of a period
 abbrev pub steps_in : ℕ → List Row → List Step
@@ -37,20 +37,23 @@ hours_from t (suc n) rows = steps_in t rows ∷ hours_from (suc t) n rows
 -- the order with its participant and name, where it is a block
 abbrev pub block_under : List ℕ → List ℕ → Order → Option Block
 block_under who name (Hour o) = None
-block_under who name (BlockOrder o) = Some (record { who = who; name = name; order = o })
+block_under who name (BlockVariant o) = Some (record { who = who; name = name; order = o })
 
+-- the blocks, in book order
 abbrev pub blocks_in : List Row → List Block
 blocks_in rows = filter_map (λ (r : Row). block_under r.0.0 r.0.1 r.1) rows
 
 -- the place of an order behind the rows of `front`
 abbrev pub place_behind : List Row → Order → Place
 place_behind front (Hour o) = AtHour o.period (length (steps_in o.period front))
-place_behind front (BlockOrder o) = AtBlock (length (blocks_in front))
+place_behind front (BlockVariant o) = AtBlock (length (blocks_in front))
 
+-- the rows with the places of their orders, those of `front` standing before them
 abbrev pub rows_behind : List Row → List Row → List ProblemRow
 rows_behind front [] = []
 rows_behind front (r ∷ rs) = record { who = r.0.0; name = r.0.1; at = place_behind front r.1 } ∷ rows_behind (front ++ r ∷ []) rs
 
+-- the problem of a book: each period's hourly orders, the blocks, and where each row stands among these
 abbrev pub problem_of : BookState → ProblemState
 problem_of b = record { hours = hours_from 1 b.periods b.rows; blocks = blocks_in b.rows; rows = rows_behind [] b.rows }
 
@@ -61,6 +64,7 @@ abbrev pub hourly_orders : List (List Step) → ℕ
 hourly_orders [] = 0
 hourly_orders (ss ∷ hours) = length ss + hourly_orders hours
 
+-- each period's limits and volumes are in range
 abbrev pub AreHours : List (List Step) → Type 0
 AreHours [] = Unit {0}
 AreHours (ss ∷ hours) = AreInRange ss × AreHours hours
@@ -72,6 +76,7 @@ pub record IsBlock (periods : ℕ) (b : Block) : Type 0 where
   pub order : IsBlockOrder b.order
   pub in_day : have_beyond periods b.order.volumes ≡ false
 
+-- each block is one of a day of so many periods
 abbrev pub AreBlocks : ℕ → List Block → Type 0
 AreBlocks periods [] = Unit {0}
 AreBlocks periods (b ∷ bs) = IsBlock periods b × AreBlocks periods bs
@@ -94,7 +99,12 @@ abbrev pub StandsAt : ProblemState → ProblemRow → Place → Type 0
 StandsAt p r (AtHour t i) = (hour : List Step) × (slice_get p.hours (t - 1) ≡ Some hour) × (1 ≤ t) × (i < length hour)
 StandsAt p r (AtBlock i) = (b : Block) × (slice_get p.blocks i ≡ Some b) × (b.who ≡ r.who) × (b.name ≡ r.name)
 
+-- every problem is that of a closed book that keeps a book's facts: its rows are the book's, each once, in book order, with unique keys
 pub record IsProblem (p : ProblemState) : Type 0 where
+  pub book : BookState
+  pub is_book : IsBook book
+  pub is_closed : book.closed ≡ true
+  pub is_of_book : p ≡ problem_of book
   pub day : is_day (length p.hours) ≡ true
   pub hours : AreHours p.hours
   pub few_hourly : hourly_orders p.hours ≤ MOST_HOURLY

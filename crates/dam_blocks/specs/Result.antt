@@ -11,12 +11,12 @@ accepts_first (true ∷ xs) (false ∷ ys) = true
 accepts_first (false ∷ xs) (true ∷ ys) = false
 accepts_first _ _ = false
 
--- the first has the greater welfare, or the same, and it accepts where they first differ
+-- the greater welfare; or the same welfare, and it accepts where they first differ
 pub record RanksAbove (v : ℤ) (xs : List Bool) (w : ℤ) (ys : List Bool) : Type 0 where
   pub by_welfare : w ≤ℤ v
   pub by_order : v ≡ w → accepts_first xs ys ≡ true
 
--- the other way round, or they are the same
+-- the lesser welfare; or the same welfare, and it doesn't accept where they first differ, or they differ nowhere
 pub record RanksAtOrBelow (v : ℤ) (xs : List Bool) (w : ℤ) (ys : List Bool) : Type 0 where
   pub by_welfare : v ≤ℤ w
   pub by_order : v ≡ w → accepts_first xs ys ≡ false

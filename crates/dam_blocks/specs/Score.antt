@@ -1,6 +1,6 @@
 -- What the score of a selection says.
 use Rattle.std.specs.Prelude.{◌≡◌, ℕ, ◌-◌, ◌<◌, ◌≤◌, ℤ, pos, ◌≤ℤ◌, ◌<ℤ◌, Bool, true, Some, List, slice_get}
-use Rattle.dam_hour.specs.Execution.{IsExecution, Balances, IsUnbalanced}
+use Rattle.dam_hour.specs.Execution.{IsBalanced, IsUnbalanced}
 use Rattle.dam_hour.specs.declared.step.Step.{Step}
 use Rattle.dam_blocks.specs.declared.problem.Block.{Block}
 use Rattle.dam_blocks.specs.declared.scoring.Verdict.{Verdict}
@@ -9,15 +9,9 @@ use Rattle.dam_blocks.specs.Problem.{ProblemState}
 use Rattle.dam_blocks.specs.Selection.{accepts, net_volume, IsAdmissible}
 use Rattle.dam_blocks.specs.Eligible.{ArePrices, surplus_of, IsEligible}
 
--- some execution of the steps balances with the net volume
-pub record IsBalanced (ss : List Step) (net : ℤ) : Type 0 where
-  pub volumes : List ℕ
-  pub execution : IsExecution ss volumes
-  pub balance : Balances ss net volumes
-
 -- no execution of the period balances, and one of each period before it does
 pub record IsFirstUnbalanced (problem : ProblemState) (sel : List Bool) (t : ℕ) : Type 0 where
-  pub least : 1 ≤ t
+  pub from_one : 1 ≤ t
   pub hour : List Step
   pub stands : slice_get problem.hours (t - 1) ≡ Some hour
   pub unbalanced : IsUnbalanced hour (net_volume problem.blocks sel t)

@@ -3,6 +3,8 @@ use Rattle.std.specs.Prelude.{◌≡◌, ◌≢◌, ℕ, zero, suc, ◌-◌, ◌
 use Rattle.dam_book.specs.Terms.{BlockTerms}
 use Rattle.dam_book.specs.Volumes.{Pair}
 use Rattle.dam_book.specs.declared.limits.TheConstants.{MOST_BLOCKS}
+use Rattle.dam_book.specs.declared.order.Side.TheVariants.{Buy}
+use Rattle.dam_hour.specs.Execution.{volume_on}
 use Rattle.dam_hour.specs.Best.{signed}
 use Rattle.dam_blocks.specs.declared.problem.Block.{Block}
 use Rattle.dam_blocks.specs.Problem.{IsParent}
@@ -18,8 +20,8 @@ abbrev pub padded : List Bool → List Bool
 padded decided = decided ++ replicate (MOST_BLOCKS - length decided) false
 
 -- the empty selection
-abbrev pub nothing : List Bool
-nothing = replicate MOST_BLOCKS false
+abbrev pub empty_selection : List Bool
+empty_selection = replicate MOST_BLOCKS false
 
 -- the k-th choice over n places: the first of them is accepted by the first half of the choices, and so on
 abbrev pub choice : ℕ → ℕ → List Bool
@@ -37,9 +39,13 @@ over_accepted f (b ∷ bs) (true ∷ sel) = f b.order +ℤ over_accepted f bs se
 over_accepted f (b ∷ bs) (false ∷ sel) = over_accepted f bs sel
 over_accepted f _ _ = pos 0
 
--- what a block adds to the net volume of a period: its volume where it sells, and less than none where it buys
+-- what a block adds to the net volume of a period: its volume where it sells, and minus its volume where it buys
 abbrev pub net_volume_of : ℕ → BlockTerms → ℤ
 net_volume_of t o = neg_ℤ (signed o.side (pos (volume_in o.volumes t)))
+
+-- a block's volume in a period where it buys, 0 where it sells
+abbrev pub bought_volume_of : ℕ → BlockTerms → ℤ
+bought_volume_of t o = pos (volume_on Buy o.side (volume_in o.volumes t))
 
 -- limit times volume in a period of a block that buys, and the same with the other sign of one that sells
 abbrev pub value_of : ℕ → BlockTerms → ℤ
@@ -48,6 +54,10 @@ value_of t o = signed o.side (o.price *ℤ pos (volume_in o.volumes t))
 -- the accepted sell blocks' volume in a period less the accepted buy blocks'
 abbrev pub net_volume : List Block → List Bool → ℕ → ℤ
 net_volume blocks sel t = over_accepted (net_volume_of t) blocks sel
+
+-- the accepted buy blocks' volume in a period
+abbrev pub bought_volume : List Block → List Bool → ℕ → ℤ
+bought_volume blocks sel t = over_accepted (bought_volume_of t) blocks sel
 
 -- the accepted buy blocks' limit times volume in a period less the accepted sell blocks'
 abbrev pub block_value : List Block → List Bool → ℕ → ℤ

@@ -1,7 +1,8 @@
 ghost use Rattle.std.specs.Prelude.{◌≡◌, ◌≤◌, ◌≤ℤ◌, ◌*ℤ◌, pos, neg_ℤ, negsuc};
-ghost use Rattle.dam_hour.specs.Best.{signed};
+ghost use Rattle.dam_hour.specs.Best.{signed, greatest_value};
 ghost use Rattle.dam_hour.specs.Execution.{IsNetVolume};
-ghost use Rattle.dam_blocks.specs.Selection.{volume_in, net_volume_of, value_of, net_volume, block_value};
+ghost use Rattle.dam_blocks.specs.Selection.{volume_in, net_volume_of, bought_volume_of, value_of, net_volume, bought_volume, block_value};
+ghost use Rattle.dam_blocks.specs.Magnitude.{IsWithin, greatest_block_value};
 
 use crate::problem::Problem;
 use crate::selection::Selection;
@@ -55,10 +56,20 @@ fn net_volume_of(order: &BlockOrder, period: Period) -> i64
     -signed(order.side(), volume)
 }
 
+fn bought_volume_of(order: &BlockOrder, period: Period) -> u32
+    ensures value { pos result ≡ bought_volume_of period order.now }
+    ensures small { result ≤ 99999 }
+{
+    let volume = volume_in(order.volumes(), period);
+    match order.side() {
+        Side::Buy => volume,
+        Side::Sell => 0,
+    }
+}
+
 fn value_of(order: &BlockOrder, period: Period) -> i64
     ensures value { result ≡ value_of period order.now }
-    ensures low { negsuc 44999549999 ≤ℤ result }
-    ensures high { result ≤ℤ pos 44999550000 }
+    ensures size { IsWithin greatest_value result }
 {
     let volume = volume_in(order.volumes(), period);
     signed(order.side(), times(order.price().get(), volume))
@@ -79,12 +90,30 @@ pub fn net_volume<A: Allocator>(problem: &Problem<A>, selection: Selection, peri
     total
 }
 
+/// The accepted buy blocks' volume in a period, in tenths of a MW.
+pub fn bought_volume<A: Allocator>(
+    problem: &Problem<A>,
+    selection: Selection,
+    period: Period,
+) -> u64
+    ensures value { pos result ≡ bought_volume problem.now.blocks selection period }
+    ensures small { result ≤ 2399976 }
+{
+    let blocks = problem.blocks();
+    let mut total = 0;
+    for (place, block) in blocks.iter().enumerate() {
+        if selection.has(place) {
+            total += u64::from(bought_volume_of(&block.order, period));
+        }
+    }
+    total
+}
+
 /// The accepted buy blocks' limit times volume in a period less the accepted sell blocks', in cents
 /// per MWh times tenths of a MW.
 pub fn block_value<A: Allocator>(problem: &Problem<A>, selection: Selection, period: Period) -> i64
     ensures value { result ≡ block_value problem.now.blocks selection period }
-    ensures low { negsuc 1079989199999 ≤ℤ result }
-    ensures high { result ≤ℤ pos 1079989200000 }
+    ensures size { IsWithin greatest_block_value result }
 {
     let blocks = problem.blocks();
     let mut total = 0;

@@ -1,5 +1,6 @@
 ghost use Rattle.std.specs.Prelude.{◌≡◌, ◌≤◌, ◌-ℤ◌, ◌≤ℤ◌, pos, negsuc, length};
 ghost use Rattle.dam_blocks.specs.Eligible.{surplus_in, surplus_of};
+ghost use Rattle.dam_blocks.specs.Magnitude.{IsWithin, greatest_surplus};
 
 use crate::accepted::{signed, times, volume_in};
 use crate::problem::{MOST_PERIODS, period_at};
@@ -24,11 +25,15 @@ fn surplus_in(order: &BlockOrder, period: Period, price: Price) -> i64
     signed(order.side(), times(above, volume))
 }
 
-/// What a block gains at the prices of the periods, from the first on: volume times the difference
-/// between its limit and the price, in cents per MWh times tenths of a MW; below 0 where it loses.
+/// What a block gains at the prices, in cents per MWh times tenths of a MW; below 0 where it loses.
+///
+/// There is one price for each period of the day, in order; a block's periods past the list count
+/// nothing. In each period it is the volume times price less limit, for a sell, and times limit less
+/// price, for a buy.
 pub fn surplus(order: &BlockOrder, prices: &[Price]) -> i64
     requires { length prices.now ≤ MOST_PERIODS }
-    ensures { result ≡ surplus_of prices.now order.now }
+    ensures value { result ≡ surplus_of prices.now order.now }
+    ensures size { IsWithin greatest_surplus result }
 {
     let mut total = 0;
     for (place, price) in prices.iter().enumerate() {

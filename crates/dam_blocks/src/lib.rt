@@ -17,10 +17,10 @@ mod selection;
 #[cfg(test)]
 mod tests;
 
-pub use accepted::{block_value, net_volume};
+pub use accepted::{block_value, bought_volume, net_volume};
 pub use gain::surplus;
 pub use links::admissible;
-pub use problem::{Block, Place, Problem, ProblemFault, ProblemRow};
+pub use problem::{Block, MOST_PERIODS, Place, Problem, ProblemFault, ProblemRow};
 pub use result::{best_of_all, ranks_above};
 pub use scoring::{Verdict, score};
 pub use selection::{Best, Selection};

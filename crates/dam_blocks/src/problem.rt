@@ -10,7 +10,7 @@ use std::marker::Model;
 use thiserror::Error;
 
 /// The greatest number of periods of a delivery day.
-pub(crate) const MOST_PERIODS: usize = 25;
+pub const MOST_PERIODS: usize = 25;
 
 /// The period at a place of the day, counted from 0.
 pub(crate) fn period_at(place: usize) -> Period
@@ -117,6 +117,7 @@ impl<A: Allocator> Problem<A> {
         self.hours.len() as u8
     }
 
+    /// The number of blocks.
     pub fn block_count(&self) -> usize
         ensures value { result ≡ length self.now.blocks }
         ensures valid { IsProblem self.now }
@@ -163,7 +164,8 @@ impl<A: Allocator> Problem<A> {
 
     /// Every order of the book in book order, and where it stands in the problem.
     pub fn rows(&self) -> &[ProblemRow]
-        ensures { result.now ≡ self.now.rows }
+        ensures value { result.now ≡ self.now.rows }
+        ensures valid { IsProblem self.now }
     {
         self.rows.as_slice()
     }

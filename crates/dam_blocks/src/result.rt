@@ -38,7 +38,7 @@ fn accepts_first(first: Selection, second: Selection) -> bool
 fn best_of_none<A: Allocator>(problem: &Problem<A>) -> Best
     ensures { IsEligible problem.now result.selection (pos result.welfare) }
 {
-    laws::empty_selection();
+    laws::empty_is_eligible();
     let _kept = problem.periods();
     let selection = Selection::none();
     match score(problem, selection) {
@@ -76,7 +76,7 @@ fn better<A: Allocator>(problem: &Problem<A>, best: Best, selection: Selection) 
 
 /// The result of the problem, by trying every selection of its blocks.
 ///
-/// It scores 2 to the power of the number of blocks selections, and takes no memory.
+/// It scores each selection of the blocks, 2 to the power of their number. It takes no memory.
 pub fn best_of_all<A: Allocator>(problem: &Problem<A>) -> Best
     ensures { IsResult problem.now result.selection (pos result.welfare) }
 {

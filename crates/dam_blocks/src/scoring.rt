@@ -20,7 +20,8 @@ pub enum Verdict {
     NotAdmissible,
     /// No execution balances with the selection in this period, the first such.
     Unbalanced(Period),
-    /// At the prices of the selection this accepted block, the first such, has a surplus below 0.
+    /// At the prices of the selection the accepted block at this place, the first such, has a surplus
+    /// below 0; places count from 0 in book order.
     Losing(usize),
     /// The selection is eligible; its welfare in cents per MWh times tenths of a MW.
     Eligible(u64),
@@ -77,8 +78,8 @@ fn first_losing<A: Allocator>(
 /// Whether the selection is eligible, and its welfare; or else the first fault: it isn't admissible, a
 /// period doesn't balance (the least such), or an accepted block loses at the prices (the least such).
 ///
-/// A rejected block may have any surplus (EUPHEMIA Public Description, "Paradoxically Rejected Block
-/// Orders"). Takes no memory.
+/// No accepted block may lose (EUPHEMIA Public Description, "Price Determination Sub-problem"); a
+/// rejected one may have any surplus, also one over 0 (the same, "PRB reinsertion"). Takes no memory.
 pub fn score<A: Allocator>(problem: &Problem<A>, selection: Selection) -> Verdict
     ensures { IsVerdict problem.now selection result }
 {

@@ -1,5 +1,5 @@
 ghost use Rattle.std.specs.Prelude.{◌≡◌, ◌<◌, ◌≤◌, ◌^◌, true, length, slice_set};
-ghost use Rattle.dam_blocks.specs.Selection.{accepts, padded, nothing, choice};
+ghost use Rattle.dam_blocks.specs.Selection.{accepts, padded, empty_selection, choice};
 
 use dam_book::MOST_BLOCKS;
 use std::marker::Model;
@@ -33,7 +33,7 @@ pub(crate) fn choices(count: usize) -> u32
 impl Selection {
     /// The selection that accepts no block.
     pub fn none() -> Selection
-        ensures { result ≡ nothing }
+        ensures { result ≡ empty_selection }
     {
         Selection {
             accepted: [false; MOST_BLOCKS],
@@ -49,7 +49,8 @@ impl Selection {
         self
     }
 
-    /// Whether the block at this place is accepted; no place past the last is.
+    /// Whether the block at this place is accepted. A selection has 24 places, one for each block that a
+    /// book may have; no place past the last is accepted.
     pub fn has(self, place: usize) -> bool
         ensures value { result ≡ accepts self place }
         ensures places { length self ≡ MOST_BLOCKS }
@@ -78,7 +79,9 @@ impl Selection {
     }
 }
 
-/// An eligible selection and its welfare, in cents per MWh times tenths of a MW.
+/// A selection and a welfare, in cents per MWh times tenths of a MW.
+///
+/// The type promises nothing of them; what returns one says what it is.
 #[derive(Clone, Copy, PartialEq, Eq, Debug)]
 pub struct Best {
     pub selection: Selection,

@@ -5,7 +5,7 @@ use Rattle.dam_book.specs.declared.price.TheConstants.{LOWEST_PRICE, HIGHEST_PRI
 use Rattle.dam_book.specs.declared.order.Side.{Side}
 use Rattle.dam_book.specs.declared.order.Side.TheVariants.{Buy, Sell}
 use Rattle.dam_hour.specs.declared.step.Step.{Step}
-use Rattle.dam_hour.specs.Execution.{AreInRange, IsExecution, IsWithinOffers, executed_volume, offered_volume, volume_on, Balances}
+use Rattle.dam_hour.specs.Execution.{AreInRange, IsExecution, IsWithinOffers, executed_volume, offered_volume, volume_on, IsBalanced}
 use Rattle.dam_hour.specs.Price.{AreEnds}
 use Rattle.dam_hour.specs.Best.{AtMostInOrder, IsBest, welfare_of}
 use Rattle.dam_hour.specs.Volumes.{total_on, IsHighEnough, IsLowEnough, IsLeastHighEnough, IsGreatestLowEnough}
@@ -114,13 +114,13 @@ totals_within : (net : ℤ) (b s : ℕ) → neg_ℤ (pos s) ≤ℤ net → net �
 totals_within (pos n) b s l h = (n, 0, omega (arith, ints), omega arith, omega (arith, ints))
 totals_within (negsuc n) b s l h = (0, suc n, omega arith, omega (arith, ints), omega (arith, ints))
 
-pub balance_exists : (ss : List Step) (net : ℤ) → IsWithinOffers ss net → (xs : List ℕ) × (IsExecution ss xs × Balances ss net xs)
+pub balance_exists : (ss : List Step) (net : ℤ) → IsWithinOffers ss net → IsBalanced ss net
 balance_exists ss net w =
     let t = totals_within net (offered_volume Buy ss) (offered_volume Sell ss) w.at_least w.at_most in
     let left = total_on' t.0 t.1 in
     let b : executed_volume Buy ss (spread ss left) ≡ t.0 = (let e = spread_total Buy ss left in let m = t.2 in omega (arith, e, m)) in
     let s : executed_volume Sell ss (spread ss left) ≡ t.1 = (let e = spread_total Sell ss left in let m = t.3 in omega (arith, e, m)) in
-    (spread ss left, (spread_fits ss left, ap (λ (n : ℕ). pos n +ℤ net) s ∙ t.4 ∙ sym (ap pos b)))
+    (spread ss left, spread_fits ss left, ap (λ (n : ℕ). pos n +ℤ net) s ∙ t.4 ∙ sym (ap pos b))
   where
     total_on' : ℕ → ℕ → Side → ℕ
     total_on' b s side = total_on side b s

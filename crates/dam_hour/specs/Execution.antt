@@ -50,6 +50,10 @@ offered_volume side (s ∷ ss) = volume_on side s.side s.qty + offered_volume si
 abbrev pub Balances : List Step → ℤ → List ℕ → Type 0
 Balances ss net xs = pos (executed_volume Sell ss xs) +ℤ net ≡ pos (executed_volume Buy ss xs)
 
+-- some execution balances
+abbrev pub IsBalanced : List Step → ℤ → Type 0
+IsBalanced ss net = (xs : List ℕ) × IsExecution ss xs × Balances ss net xs
+
 -- no execution balances
 abbrev pub IsUnbalanced : List Step → ℤ → Type 0
 IsUnbalanced ss net = (xs : List ℕ) → IsExecution ss xs → ¬ (Balances ss net xs)

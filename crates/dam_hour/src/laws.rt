@@ -8,7 +8,7 @@ ghost use Rattle.dam_book.specs.declared.order.Side.{Side};
 ghost use Rattle.dam_book.specs.declared.order.Side.TheVariants.{Buy, Sell};
 ghost use Rattle.dam_book.specs.declared.price.TheConstants.{LOWEST_PRICE, HIGHEST_PRICE};
 ghost use Rattle.dam_hour.specs.declared.step.Step.{Step};
-ghost use Rattle.dam_hour.specs.Execution.{AreInRange, IsExecution, executed_volume, Balances, IsWithinOffers, IsUnbalanced};
+ghost use Rattle.dam_hour.specs.Execution.{AreInRange, IsExecution, executed_volume, Balances, IsWithinOffers, IsBalanced, IsUnbalanced};
 ghost use Rattle.dam_hour.specs.Price.{Supports, IsSupporting, AreEnds, price_between};
 ghost use Rattle.dam_hour.specs.Best.{AreSmall, IsBest, welfare_of, surplus_at, greatest_welfare};
 
@@ -27,8 +27,7 @@ pub fn exchange()
 pub fn balance()
     ensures within { (steps : List Step) (net : ℤ) (xs : List ℕ) → IsExecution steps xs → Balances steps net xs
         → IsWithinOffers steps net }
-    ensures exists { (steps : List Step) (net : ℤ) → IsWithinOffers steps net
-        → (xs : List ℕ) × (IsExecution steps xs × Balances steps net xs) }
+    ensures exists { (steps : List Step) (net : ℤ) → IsWithinOffers steps net → IsBalanced steps net }
 {}
 
 /// Where an execution balances there is a best execution, and where the limits and volumes are in

@@ -13,8 +13,8 @@ loop-place-preserved g c =
     let few = c.blocks-blocks.ensures.valid.few_blocks in
     elim c.if-has.branch [
       | then-has w ↦
-          sum_more (value_of c.args.period) 44999550000 _ _ _ _ w.value_of-total.result _ c.index-blocks-place.result
+          sum_more (value_of c.args.period) 39999600000 _ _ _ _ w.value_of-total.result _ c.index-blocks-place.result
           (slice_get_read _ _ _ _ (search rules) c.loop-place-test.true c.index-blocks-place.is) (sym c.has.ensures.value ∙ w.if-has.true)
-          w.value_of-total.ensures.value (omega (arith, ints)) (omega (arith, ints)) (omega (arith, ints, same, few, w.total-is)) c.loop-place.invariant
-      | else-has w ↦ sum_same (value_of c.args.period) 44999550000 _ _ _ _ _ (sym c.has.ensures.value ∙ w.if-has.false) (omega (arith, ints)) c.loop-place.invariant
+          w.value_of-total.ensures.value w.value_of-total.ensures.size.at_least w.value_of-total.ensures.size.at_most (omega (arith, ints, same, few, w.total-is)) c.loop-place.invariant
+      | else-has w ↦ sum_same (value_of c.args.period) 39999600000 _ _ _ _ _ (sym c.has.ensures.value ∙ w.if-has.false) (omega (arith, ints)) c.loop-place.invariant
     ]

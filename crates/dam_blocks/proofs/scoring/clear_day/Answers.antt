@@ -5,7 +5,8 @@ use Rattle.std.proofs.lemmas.Int.{ints}
 use Rattle.std.proofs.lemmas.Option.{slice_get_read}
 use Rattle.dam_hour.specs.declared.step.Step.{Step}
 use Rattle.dam_blocks.specs.Eligible.{ArePrices, welfare_from}
-use Rattle.dam_blocks.proofs.Clearing.{period_within, cleared_more, all_prices, all_welfare, first_unbalanced, day_small}
+use Rattle.dam_blocks.proofs.Clearing.{period_within, cleared_more, all_prices, all_welfare, first_unbalanced}
+use Rattle.dam_blocks.proofs.Magnitudes.{day_small}
 use Rattle.dam_blocks.proofs.scoring.clear_day.Goals as goal
 
 pub returns-in_default : goal.returns-in_default
@@ -19,7 +20,7 @@ overflow_add-welfare g c =
     let at = slice_get_read _ _ c.loop-place.place _ (search rules) c.loop-place-test.true c.index-hours-place.is in
     let there = ap (λ (hs : List (List Step)). slice_get hs c.loop-place.place) (sym c.hours-hours.ensures.value) ∙ at in
     let w = period_within c.args.problem.now.hours c.loop-place.place c.index-hours-place.result _ _ _ _ c.hours-hours.ensures.valid.hours c.hours-hours.ensures.valid.few_hourly there c.in-Some.ensures.totals in
-    omega (arith, ints, w.0, w.1, c.block_value.ensures.low, c.block_value.ensures.high)
+    omega (arith, ints, w.0, w.1, c.block_value.ensures.size.at_least, c.block_value.ensures.size.at_most)
 
 pub overflow_add-welfare-in-loop-place : goal.overflow_add-welfare-in-loop-place
 overflow_add-welfare-in-loop-place g c =
@@ -28,7 +29,7 @@ overflow_add-welfare-in-loop-place g c =
     let w = period_within c.args.problem.now.hours c.loop-place.place c.index-hours-place.result _ _ _ _ c.hours-hours.ensures.valid.hours c.hours-hours.ensures.valid.few_hourly there c.in-Some.ensures.totals in
     let few = day_small (length c.args.problem.now.hours) c.hours-hours.ensures.valid.day in
     let same = ap length c.hours-hours.ensures.value in
-    omega (arith, ints, w.0, w.1, c.block_value.ensures.low, c.block_value.ensures.high, few, same)
+    omega (arith, ints, w.0, w.1, c.block_value.ensures.size.at_least, c.block_value.ensures.size.at_most, few, same)
 
 pub loop-place-preserved : goal.loop-place-preserved
 loop-place-preserved g c =
@@ -42,8 +43,8 @@ loop-place-preserved g c =
     at (omega (arith, few, same)) c.period_at-period.ensures
     (omega (arith, ints, net, c.net_volume.ensures.valid.at_least, c.net_volume.ensures.valid.at_most))
     c.in-Some.ensures.ends (record { low = c.in-Some.cleared.low; high = c.in-Some.cleared.high; ends = c.in-Some.ensures.ends; between = c.in-Some.ensures.price })
-    c.in-Some.ensures.welfare c.block_value.ensures.value w.0 w.1 (omega (arith, ints)) (omega (arith, ints))
-    (omega (arith, ints, w.0, w.1, c.block_value.ensures.low, c.block_value.ensures.high, few, same)) c.loop-place.invariant
+    c.in-Some.ensures.welfare c.block_value.ensures.value w.0 w.1 c.block_value.ensures.size.at_least c.block_value.ensures.size.at_most
+    (omega (arith, ints, w.0, w.1, c.block_value.ensures.size.at_least, c.block_value.ensures.size.at_most, few, same)) c.loop-place.invariant
 
 pub returns : goal.returns
 returns g c =

@@ -1,0 +1,8 @@
+-- The sum so far; each block adds at most 99,999.
+use Rattle.std.proofs.Common.{pos}
+use Rattle.dam_blocks.specs.Selection.{bought_volume_of}
+use Rattle.dam_blocks.proofs.Steps.{IsSumSoFar}
+use Rattle.dam_blocks.proofs.accepted.bought_volume.Given as goal
+
+abbrev pub invariant-loop-place : goal.invariant-loop-place
+invariant-loop-place g l = IsSumSoFar (bought_volume_of l.period) 99999 l.blocks l.selection l.place (pos l.total)

@@ -1,6 +1,0 @@
--- The laws of one period give the prices and the welfare with no block.
-use Rattle.dam_blocks.proofs.Empty.{nothing_eligible}
-use Rattle.dam_blocks.proofs.laws.empty_selection.Goals as goal
-
-pub returns : goal.returns
-returns c = λ problem is. nothing_eligible (record { ends = c.existence.ensures.ends; best = c.existence.ensures.best; welfare = c.welfare.ensures.best }) problem is.hours

@@ -1,0 +1,6 @@
+-- The greatest welfare of a period is that of some execution.
+use Rattle.dam_blocks.proofs.Magnitudes.{welfare_size}
+use Rattle.dam_blocks.proofs.laws.magnitude.Goals as goal
+
+pub returns : goal.returns
+returns c = welfare_size (record { reached = c.welfare.ensures.reached })
