@@ -9,3 +9,5 @@ pub mod Spelled
 pub mod FieldBytes
 pub mod WrittenFacts
 pub mod WriterFacts
+pub mod Publishing
+pub mod Publication

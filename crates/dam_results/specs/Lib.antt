@@ -8,3 +8,5 @@ pub mod Replies
 pub mod Spelling
 pub mod Written
 pub mod Writer
+pub mod Published
+pub mod Cleared

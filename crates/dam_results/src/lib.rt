@@ -1,16 +1,26 @@
 //! The texts that the auction reads and prints.
 #![tactic(auto)]
 
+mod clearing;
 mod journal;
 pub mod laws;
 mod limits;
+mod lines;
+mod outcome;
+mod publish;
+mod published;
+pub mod publishing_laws;
 mod record;
 mod replies;
 mod row;
 pub mod spelling_laws;
+mod text;
 mod writer;
 
 pub use journal::{JournalFault, JournalRead, read_journal};
 pub use limits::{MOST_BYTES, MOST_RECORDS};
+pub use publish::results;
+pub use published::{PeriodResult, Results, RowResult};
 pub use replies::replies_text;
+pub use text::results_text;
 pub use writer::journal_text;

@@ -1,8 +1,8 @@
 ghost use Rattle.std.specs.Prelude.{◌≡◌, ◌++◌, IfOk, OnOk};
 ghost use Rattle.dam_results.specs.Replies;
 
+use crate::lines::{write_day, write_number};
 use dam_book::{Entry, Reason, Reply};
-use itoa::Buffer;
 use std::alloc::{AllocError, Allocator};
 
 fn reason_word(reason: Reason) -> &'static str
@@ -22,14 +22,6 @@ fn reason_word(reason: Reason) -> &'static str
     }
 }
 
-fn write_day<A: Allocator>(text: &mut Vec<u8, A>, periods: u8) -> Result<(), AllocError>
-    ensures { OnOk result (text.new.items ≡ text.old.items ++ Replies.day_line periods) }
-{
-    text.extend_from_slice(b"day,")?;
-    text.extend_from_slice(Buffer::new().format(periods).as_bytes())?;
-    text.extend_from_slice(b"\n")
-}
-
 fn write_reply<A: Allocator>(text: &mut Vec<u8, A>, reply: Reply) -> Result<(), AllocError>
     ensures { OnOk result (text.new.items ≡ text.old.items ++ Replies.reply_text reply) }
 {
@@ -45,7 +37,7 @@ fn write_reply<A: Allocator>(text: &mut Vec<u8, A>, reply: Reply) -> Result<(), 
 fn write_entry<A: Allocator>(text: &mut Vec<u8, A>, entry: &Entry) -> Result<(), AllocError>
     ensures { OnOk result (text.new.items ≡ text.old.items ++ Replies.entry_line entry.now) }
 {
-    text.extend_from_slice(Buffer::new().format(entry.number).as_bytes())?;
+    write_number(text, u64::from(entry.number))?;
     text.extend_from_slice(b",")?;
     write_reply(text, entry.reply)?;
     text.extend_from_slice(b"\n")
@@ -61,7 +53,7 @@ pub fn replies_text<A: Allocator>(
     ensures { IfOk result (λ text. text.items ≡ Replies.replies_text periods entries.now) }
 {
     let mut text = Vec::new(alloc);
-    write_day(&mut text, periods)?;
+    write_day(&mut text, u64::from(periods))?;
     for entry in entries {
         write_entry(&mut text, entry)?;
     }

@@ -1,0 +1,15 @@
+-- The period's results are those of its hour.
+use Rattle.std.proofs.Common.{arith, rules}
+use Rattle.std.proofs.lemmas.Int.{ints}
+use Rattle.dam_results.proofs.Publishing.{period_cleared}
+use Rattle.dam_results.proofs.clearing.clear_period.Goals as goal
+
+pub returns : goal.returns
+returns g c =
+    let net = c.net_volume-net.ensures.value in
+    let least = c.net_volume-net.ensures.valid.at_least in
+    let most = c.net_volume-net.ensures.valid.at_most in
+    period_cleared c.args.problem.now c.args.selection c.args.period c.in-Some.cleared.bought c.in-Some.cleared.sold c.bought_volume.result c.unwrap-hour.result.now _
+    c.in-Some.cleared.low c.in-Some.cleared.high c.in-Some.cleared.price c.in-Some.cleared.welfare c.in-Some-2.executed.items
+    (search rules) (omega (arith, ints, net, least, most)) c.in-Some.ensures.ends c.in-Some.ensures.price c.in-Some.ensures.totals (rw c.in-Some-2.is at c.in_ok-executed.ensures)
+    c.bought_volume.ensures.value

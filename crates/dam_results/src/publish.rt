@@ -1,0 +1,35 @@
+ghost use Rattle.std.specs.Prelude.{pos, IfOk};
+ghost use Rattle.dam_blocks.specs.Eligible.{IsEligible};
+ghost use Rattle.dam_results.specs.Published.{ArePublished};
+
+use crate::clearing::clear_day;
+use crate::outcome::outcomes;
+use crate::published::Results;
+use dam_blocks::{Best, Problem};
+use std::alloc::{AllocError, Allocator};
+
+/// What is published of an eligible selection: the price of each period at which it clears, with the
+/// volume that is bought there, and what becomes of each order.
+///
+/// The caller's condition is that `score` answers `Eligible` with that welfare. An `Err` is want of
+/// memory.
+pub fn results<A: Allocator + Copy, B: Allocator>(
+    alloc: A,
+    problem: &Problem<B>,
+    best: Best,
+) -> Result<Results<A>, AllocError>
+    requires { IsEligible problem.now best.selection (pos best.welfare) }
+    ensures { IfOk result (λ r. ArePublished problem.now best.selection r.welfare r.periods.items r.rows.items) }
+{
+    let Best { selection, welfare } = best;
+    let clearing = clear_day(alloc, problem, best)?;
+    let rows = outcomes(alloc, problem, selection, &clearing)?;
+    Ok(Results {
+        welfare,
+        periods: clearing.periods,
+        rows,
+    })
+}
+
+#[cfg(test)]
+mod tests;
