@@ -10,8 +10,9 @@ use Rattle.dam_results.specs.Journal.{ReadsAs}
 use Rattle.dam_results.specs.Faults.{IsFaultOf}
 use Rattle.dam_cli.specs.declared.input.TheConstants.{MOST_READ}
 use Rattle.dam_cli.specs.declared.fault.RunFault.{RunFault}
-use Rattle.dam_cli.specs.declared.fault.RunFault.TheVariants.{Read, Input, Memory, Write}
-use Rattle.dam_cli.specs.Replay.{IsTextFault, IsFaultOn}
+use Rattle.dam_cli.specs.declared.fault.RunFault.TheVariants.{Read, Input, StillOpen, Memory, Write}
+use Rattle.dam_cli.specs.Engine.{IsTextFault, IsFaultOn}
+use Rattle.dam_cli.specs.Clear.{IsClearFault}
 
 front-of_short : (given : List ℕ) → length given ≤ MOST_BYTES → take MOST_READ given ≡ given
 front-of_short given short = take_all MOST_READ given (omega (arith, short))
@@ -38,5 +39,13 @@ fault-given given NoMemory is = subst (λ text. IsFaultOf text NoMemory) (front-
 pub fault-on_given : (given : List ℕ) (fault : RunFault) → IsTextFault (take MOST_READ given) fault → IsFaultOn given fault
 fault-on_given given Read is = tt
 fault-on_given given (Input fault) is = (fault-given given fault is.0, is.1)
+fault-on_given given StillOpen is = absurd is
 fault-on_given given Memory is = tt
 fault-on_given given Write is = tt
+
+pub clear_fault-given : (given : List ℕ) (fault : RunFault) → IsClearFault (take MOST_READ given) fault → IsClearFault given fault
+clear_fault-given given Read is = tt
+clear_fault-given given (Input fault) is = (fault-given given fault is.0, is.1)
+clear_fault-given given StillOpen is = (is.0, is.1, reads-given given is.0 is.1 is.2, is.3)
+clear_fault-given given Memory is = tt
+clear_fault-given given Write is = tt

@@ -1,3 +1,4 @@
 pub mod Readings
 pub mod Fronts
 pub mod Runs
+pub mod Results

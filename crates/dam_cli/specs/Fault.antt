@@ -3,8 +3,10 @@ use Rattle.std.specs.Prelude.{ℕ, List, ◌++◌, decimal, codes}
 use Rattle.dam_results.specs.declared.journal.JournalFault.{JournalFault}
 use Rattle.dam_results.specs.declared.journal.JournalFault.TheVariants.{TooLong, NotAscii, TooManyRecords, NotDay, FieldCount, BadField}
 use Rattle.dam_results.specs.declared.journal.JournalFault.TheVariants.{Memory as NoMemory}
+use Rattle.dam_blocks.specs.declared.problem.ProblemFault.{ProblemFault}
+use Rattle.dam_blocks.specs.declared.problem.ProblemFault.TheVariants.{StillOpen as OpenBook, Memory as NoRoom}
 use Rattle.dam_cli.specs.declared.fault.RunFault.{RunFault}
-use Rattle.dam_cli.specs.declared.fault.RunFault.TheVariants.{Read, Input, Memory, Write}
+use Rattle.dam_cli.specs.declared.fault.RunFault.TheVariants.{Read, Input, StillOpen, Memory, Write}
 
 -- what is printed of a fault of the input
 abbrev pub input_text : JournalFault → List ℕ
@@ -20,6 +22,7 @@ input_text NoMemory = codes "memory"
 abbrev pub fault_text : RunFault → List ℕ
 fault_text Read = codes "device: read"
 fault_text (Input fault) = input_text fault
+fault_text StillOpen = codes "input: StillOpen"
 fault_text Memory = codes "memory"
 fault_text Write = codes "device: write"
 
@@ -36,6 +39,7 @@ input_status NoMemory = 4
 abbrev pub fault_status : RunFault → ℕ
 fault_status Read = 4
 fault_status (Input fault) = input_status fault
+fault_status StillOpen = 1
 fault_status Memory = 4
 fault_status Write = 4
 
@@ -48,3 +52,8 @@ run_fault_of NotDay = Input NotDay
 run_fault_of (FieldCount at) = Input (FieldCount at)
 run_fault_of (BadField at field) = Input (BadField at field)
 run_fault_of NoMemory = Memory
+
+-- the fault of a run whose book makes no problem
+abbrev pub open_fault_of : ProblemFault → RunFault
+open_fault_of OpenBook = StillOpen
+open_fault_of NoRoom = Memory

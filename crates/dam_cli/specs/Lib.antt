@@ -1,2 +1,4 @@
 pub mod Fault
+pub mod Engine
 pub mod Replay
+pub mod Clear

@@ -1,6 +1,7 @@
 ghost use Rattle.std.specs.Prelude.{◌≡◌, ◌++◌, codes, string_bytes, IfOk};
 ghost use Rattle.dam_cli.specs.Fault.{fault_status, fault_text, run_fault_of};
 
+use dam_blocks::ProblemFault;
 use dam_results::JournalFault;
 use std::alloc::{AllocError, Global};
 use std::error::Error;
@@ -13,6 +14,8 @@ pub enum RunFault {
     Read,
     /// What was read is no journal. Want of memory is answered as `Memory` of this type.
     Input(JournalFault),
+    /// The journal's commands leave the book open, so there is nothing to clear.
+    StillOpen,
     /// Memory ran out.
     Memory,
     /// The writer failed; a part of the text, or all of it, may have been written.
@@ -41,6 +44,7 @@ impl fmt::Display for RunFault {
             RunFault::Input(JournalFault::BadField(record, field)) => {
                 write!(f, "input: BadField in record {record} field {field}")
             }
+            RunFault::StillOpen => f.write_str("input: StillOpen"),
             RunFault::Input(JournalFault::Memory) | RunFault::Memory => f.write_str("memory"),
             RunFault::Write => f.write_str("device: write"),
         }
@@ -63,6 +67,20 @@ impl From<JournalFault> for RunFault {
     }
 }
 
+impl From<ProblemFault> for RunFault {
+    ghost use Rattle.std.specs.Prelude.{◌≡◌};
+    ghost use Rattle.dam_cli.specs.Fault.{open_fault_of};
+
+    ghost from_gives = { λ fault e. e ≡ open_fault_of fault };
+
+    fn from(fault: ProblemFault) -> RunFault {
+        match fault {
+            ProblemFault::StillOpen => RunFault::StillOpen,
+            ProblemFault::Memory => RunFault::Memory,
+        }
+    }
+}
+
 impl From<AllocError> for RunFault {
     ghost use Rattle.std.specs.Prelude.{◌≡◌};
     ghost use Rattle.dam_cli.specs.declared.fault.RunFault.TheVariants.{Memory};
@@ -80,7 +98,7 @@ pub fn status(fault: &RunFault) -> u8
 {
     match fault {
         RunFault::Input(JournalFault::Memory) => 4,
-        RunFault::Input(_) => 1,
+        RunFault::Input(_) | RunFault::StillOpen => 1,
         RunFault::Read | RunFault::Memory | RunFault::Write => 4,
     }
 }

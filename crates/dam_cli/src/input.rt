@@ -1,5 +1,5 @@
 ghost use Rattle.std.specs.Prelude.{◌≡◌, ◌≢◌, take, IfOk, IfErr, IfSome};
-ghost use Rattle.dam_cli.specs.Replay.{IsMachineFault};
+ghost use Rattle.dam_cli.specs.Engine.{IsMachineFault};
 
 use crate::fault::RunFault;
 use dam_results::MOST_BYTES;

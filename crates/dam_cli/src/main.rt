@@ -1,13 +1,18 @@
-//! `dam`, a day-ahead auction of electricity: `dam replay` reads a journal of commands from standard
-//! input, and prints the reply of the order book to each.
+//! `dam`, a day-ahead auction of electricity, which reads a journal of commands from standard input:
+//! `dam replay` prints the reply of the order book to each, `dam clear` the results of the closed book.
 #![tactic(auto)]
 
+mod clear;
 mod fault;
 mod input;
+mod journal_run;
+mod laws;
+mod output;
 mod replay;
 #[cfg(test)]
 mod tests;
 
+use clear::run_clear;
 use fault::{RunFault, fault_line, status};
 use replay::run_replay;
 use std::env;
@@ -18,6 +23,13 @@ use std::process::ExitCode;
 /// The status of a command line that asks for nothing there is.
 const REFUSED_LINE: u8 = 2;
 
+/// What a command line asks for.
+#[derive(Clone, Copy)]
+enum Job {
+    Replay,
+    Clear,
+}
+
 fn main(rt: HostRuntime) -> ExitCode {
     let words = match env::args(&rt) {
         Ok(words) => words,
@@ -26,20 +38,35 @@ fn main(rt: HostRuntime) -> ExitCode {
         }
         Err(_) => return refuse_line(&rt),
     };
-    if !asks_for_replay(words) {
+    let Some(job) = job_of(words) else {
         return refuse_line(&rt);
-    }
-    match run_replay(rt.alloc(), &mut rt.stdin(), &mut rt.stdout()) {
+    };
+    match carry_out(&rt, job) {
         Ok(()) => ExitCode::SUCCESS,
         Err(fault) => report(&rt, &fault),
     }
 }
 
-/// Whether the words, of which the first is the program's name, are those of a replay.
-fn asks_for_replay(mut words: Args) -> bool {
+/// The job that the words name, of which the first is the program's name.
+fn job_of(mut words: Args) -> Option<Job> {
     let _program = words.next();
-    let named = words.next().is_some_and(|word| word.as_str() == "replay");
-    named && words.next().is_none()
+    let job = match words.next()?.as_str() {
+        "replay" => Job::Replay,
+        "clear" => Job::Clear,
+        _ => return None,
+    };
+    match words.next() {
+        Some(_) => None,
+        None => Some(job),
+    }
+}
+
+/// Does the job from standard input to standard output.
+fn carry_out(rt: &HostRuntime, job: Job) -> Result<(), RunFault> {
+    match job {
+        Job::Replay => run_replay(rt.alloc(), &mut rt.stdin(), &mut rt.stdout()),
+        Job::Clear => run_clear(rt.alloc(), &mut rt.stdin(), &mut rt.stdout()),
+    }
 }
 
 /// Prints the fault's line, if there is memory for it, and gives its status.
@@ -51,6 +78,6 @@ fn report(rt: &HostRuntime, fault: &RunFault) -> ExitCode {
 }
 
 fn refuse_line(rt: &HostRuntime) -> ExitCode {
-    let _ = eprintln!(rt; "command line\nusage: dam replay < JOURNAL");
+    let _ = eprintln!(rt; "command line\nusage: dam replay|clear < JOURNAL");
     ExitCode::from(REFUSED_LINE)
 }

@@ -2,12 +2,14 @@ ghost use Rattle.std.specs.Prelude.{◌≡◌, ◌≢◌, ℕ, List, IfOk, IfErr
 ghost use Rattle.std.specs.Io.KnownBytes.{Appends};
 ghost use Rattle.dam_book.specs.declared.command.Command.{Command};
 ghost use Rattle.dam_results.specs.Journal.{ReadsAs};
-ghost use Rattle.dam_cli.specs.Replay.{AreRepliesTo, IsFaultOn, IsMachineFault, IsTextFault, replies_to};
+ghost use Rattle.dam_cli.specs.Engine.{IsFaultOn, IsMachineFault, IsTextFault};
+ghost use Rattle.dam_cli.specs.Replay.{AreRepliesTo, replies_to};
 
 use crate::fault::RunFault;
 use crate::input::read_input;
-use dam_book::{Book, replay};
-use dam_results::{read_journal, replies_text};
+use crate::journal_run::run_journal;
+use crate::output::write_text;
+use dam_results::replies_text;
 use std::alloc::Global;
 use std::io::{Read, Write};
 
@@ -32,26 +34,12 @@ pub fn run_replay<R: Read, W: Write>(
     write_text(writer, replies.as_slice())
 }
 
-/// The replies to a text, which may have been cut behind the first byte too many.
+/// The replies to a text.
 fn replay_text(alloc: Global, text: &[u8]) -> Result<Vec<u8>, RunFault>
     ensures done { IfOk result (λ replies. AreRepliesTo text.now replies.items) }
     ensures fault { IfErr result (IsTextFault text.now) }
     ensures exact { (periods : ℕ) (commands : List Command) → ReadsAs text.now periods commands → MatchResult result (λ replies. replies.items ≡ replies_to periods commands) IsMachineFault }
 {
-    let journal = read_journal(alloc, text)?;
-    let Ok(book) = Book::begin(alloc, journal.periods) else {
-        unreachable!();
-    };
-    let (_book, entries) = replay(alloc, book, journal.commands.as_slice())?;
-    Ok(replies_text(alloc, journal.periods, entries.as_slice())?)
-}
-
-fn write_text<W: Write>(writer: &mut W, text: &[u8]) -> Result<(), RunFault>
-    ensures done { OnOk result (Appends (W.contents writer.old) (W.contents writer.new) text.now) }
-    ensures fault { IfErr result (λ fault. fault ≡ RunFault.Write) }
-{
-    if writer.write_all(text).is_err() || writer.flush().is_err() {
-        return Err(RunFault::Write);
-    }
-    Ok(())
+    let run = run_journal(alloc, text)?;
+    Ok(replies_text(alloc, run.periods, run.entries.as_slice())?)
 }

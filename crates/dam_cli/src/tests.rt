@@ -114,6 +114,7 @@ fn each_fault_has_its_line_and_status(rt: HostRuntime) -> Result<(), Fail> {
             1,
         ),
         (RunFault::Input(JournalFault::Memory), "memory\n", 4),
+        (RunFault::StillOpen, "input: StillOpen\n", 1),
         (RunFault::Memory, "memory\n", 4),
         (RunFault::Write, "device: write\n", 4),
     ];
@@ -177,3 +178,5 @@ fn a_failed_write_is_answered(rt: HostRuntime) {
         assert_eq!(rt; result, Err(RunFault::Write));
     }
 }
+
+mod clearing;

@@ -1,0 +1,49 @@
+-- What the engines have in common: the run of a journal, and the faults of texts and of the machine.
+use Rattle.std.specs.Prelude.{◌≡◌, ◌≢◌, ℕ, List, Option}
+use Rattle.std.specs.Io.KnownBytes.{Appends}
+use Rattle.dam_book.specs.Book.{run, entries_of}
+use Rattle.dam_book.specs.declared.command.Command.{Command}
+use Rattle.dam_results.specs.declared.journal.JournalFault.TheVariants.{Memory as NoMemory}
+use Rattle.dam_results.specs.Journal.{ReadsAs}
+use Rattle.dam_results.specs.Faults.{IsFaultOf}
+use Rattle.dam_cli.specs.declared.fault.RunFault.{RunFault}
+use Rattle.dam_cli.specs.declared.fault.RunFault.TheVariants.{Read, Input, StillOpen, Memory, Write}
+use Rattle.dam_cli.specs.declared.journal_run.JournalRun.{JournalRun}
+
+-- the book that the commands make of the day's empty one, and the entry of each
+pub record IsRunOf (journal_run : JournalRun) (periods : ℕ) (commands : List Command) : Type 0 where
+  pub periods_are : journal_run.periods ≡ periods
+  pub book_is : journal_run.book ≡ run periods commands
+  pub entries_are : journal_run.entries.items ≡ entries_of periods commands
+
+-- the text is a journal, and this is a text that an engine may print for its periods and commands
+abbrev pub IsPrintedFor : (ℕ → List Command → List ℕ → Type 0) → List ℕ → List ℕ → Type 0
+IsPrintedFor Prints text printed = (periods : ℕ) × (commands : List Command) × ReadsAs text periods commands × Prints periods commands printed
+
+-- the writer took just one text, and it is such a one
+abbrev pub Writes : Option (List ℕ) → Option (List ℕ) → (List ℕ → Type 0) → Type 0
+Writes old new IsPrinted = (printed : List ℕ) × IsPrinted printed × Appends old new printed
+
+-- memory ran out, or the reader or the writer failed, which may happen with any text
+abbrev pub IsMachineFault : RunFault → Type 0
+IsMachineFault Read = Unit {0}
+IsMachineFault (Input fault) = ⊥
+IsMachineFault StillOpen = ⊥
+IsMachineFault Memory = Unit {0}
+IsMachineFault Write = Unit {0}
+
+-- what a text can be answered that was read: its first fault, or that memory ran out
+abbrev pub IsTextFault : List ℕ → RunFault → Type 0
+IsTextFault text Read = ⊥
+IsTextFault text (Input fault) = IsFaultOf text fault × (fault ≢ NoMemory)
+IsTextFault text StillOpen = ⊥
+IsTextFault text Memory = Unit {0}
+IsTextFault text Write = ⊥
+
+-- what a run over a text can answer besides: that the reader or the writer failed
+abbrev pub IsFaultOn : List ℕ → RunFault → Type 0
+IsFaultOn text Read = Unit {0}
+IsFaultOn text (Input fault) = IsTextFault text (Input fault)
+IsFaultOn text StillOpen = ⊥
+IsFaultOn text Memory = Unit {0}
+IsFaultOn text Write = Unit {0}

@@ -1,0 +1,59 @@
+ghost use Rattle.std.specs.Prelude.{◌≡◌, ◌≢◌, ℕ, List, IfOk, IfErr, IfSome, OnOk, MatchResult};
+ghost use Rattle.dam_book.specs.Book.{run};
+ghost use Rattle.dam_book.specs.declared.command.Command.{Command};
+ghost use Rattle.dam_results.specs.Journal.{ReadsAs};
+ghost use Rattle.dam_cli.specs.Engine.{Writes};
+ghost use Rattle.dam_cli.specs.Clear.{AreResultsTo, IsBookFault, IsClearedAs, IsClearFault};
+
+use crate::fault::RunFault;
+use crate::input::read_input;
+use crate::journal_run::run_journal;
+use crate::output::write_text;
+use dam_blocks::{Problem, best_of_all};
+use dam_book::Book;
+use dam_results::{results, results_text};
+use std::alloc::Global;
+use std::io::{Read, Write};
+
+/// Reads a journal, runs its commands on the empty book of its day, clears the book that they close,
+/// and writes the results: the price and volume of each period, and what becomes of each order.
+///
+/// The whole text is made before its first byte is written. Where the input is longer than a journal
+/// may be, not all of it is read. `StillOpen` comes where the book is open behind the last command.
+/// Of a reader that doesn't tell its bytes nothing is said, and no clause says that the reader or the
+/// writer failed where `Read` or `Write` is answered: tests show it.
+pub fn run_clear<R: Read, W: Write>(
+    alloc: Global,
+    reader: &mut R,
+    writer: &mut W,
+) -> Result<(), RunFault>
+    ensures done { OnOk result (IfSome (R.remaining reader.old) (λ given. (periods : ℕ) × (commands : List Command) × ReadsAs given periods commands × Writes (W.contents writer.old) (W.contents writer.new) (IsClearedAs (run periods commands)))) }
+    ensures fault { IfErr result (λ fault. IfSome (R.remaining reader.old) (λ given. IsClearFault given fault)) }
+    ensures unwritten { IfErr result (λ fault. fault ≢ RunFault.Write → writer.new ≡ writer.old) }
+    ensures exact { (periods : ℕ) (commands : List Command) → IfSome (R.remaining reader.old) (λ given. ReadsAs given periods commands → MatchResult result (λ _. Writes (W.contents writer.old) (W.contents writer.new) (IsClearedAs (run periods commands))) (IsBookFault (run periods commands))) }
+{
+    let text = read_input(alloc, reader)?;
+    let results = clear_text(alloc, text.as_slice())?;
+    write_text(writer, results.as_slice())
+}
+
+/// The results text of the book of a journal's text.
+fn clear_text(alloc: Global, text: &[u8]) -> Result<Vec<u8>, RunFault>
+    ensures done { IfOk result (λ results. AreResultsTo text.now results.items) }
+    ensures fault { IfErr result (IsClearFault text.now) }
+    ensures exact { (periods : ℕ) (commands : List Command) → ReadsAs text.now periods commands → MatchResult result (λ results. IsClearedAs (run periods commands) results.items) (IsBookFault (run periods commands)) }
+{
+    let run = run_journal(alloc, text)?;
+    clear_book(alloc, &run.book)
+}
+
+/// The results text of a closed book.
+fn clear_book(alloc: Global, book: &Book) -> Result<Vec<u8>, RunFault>
+    ensures done { IfOk result (λ results. IsClearedAs book.now results.items) }
+    ensures fault { IfErr result (IsBookFault book.now) }
+{
+    let problem = Problem::of_book(alloc, book)?;
+    let best = best_of_all(&problem);
+    let published = results(alloc, &problem, best)?;
+    Ok(results_text(alloc, &published)?)
+}
