@@ -1,7 +1,10 @@
 use crate::support::commands;
+use dam_blocks::{Problem, ProblemFault};
 use dam_book::{
-    Book, Reply, read_price, read_qty, read_volumes, replay, write_price, write_qty, write_volumes,
+    Book, Reply, Side, read_price, read_qty, read_volumes, replay, write_price, write_qty,
+    write_volumes,
 };
+use dam_hour::{Hour, Step};
 use dam_results::replies_text;
 use limited_alloc::RefusesNth;
 use std::test::Fail;
@@ -113,6 +116,49 @@ fn each_refused_growth_of_a_field(rt: HostRuntime) -> Result<(), Fail> {
         if !heap.has_refused() {
             assert!(rt; nth > 1);
             return Ok(());
+        }
+    }
+    Err(Fail::from("more growths than were tried"))
+}
+
+#[test]
+fn each_refused_growth_of_an_hour(rt: HostRuntime) -> Result<(), Fail> {
+    let step = Step {
+        side: Side::Buy,
+        price: read_price(b"5000").ok_or("a price")?,
+        qty: read_qty(b"10").ok_or("a volume")?,
+    };
+    for nth in 1..TRIES {
+        let heap = RefusesNth::new(rt.alloc(), nth);
+        match Hour::build(&heap, &[step; 9]) {
+            Err(_) => {
+                assert!(rt; heap.has_refused());
+                assert_eq!(rt; Hour::build(&heap, &[step; 9])?.len(), 9);
+            }
+            Ok(hour) => {
+                assert!(rt; !heap.has_refused() && hour.len() == 9 && nth > 1);
+                return Ok(());
+            }
+        }
+    }
+    Err(Fail::from("more growths than were tried"))
+}
+
+#[test]
+fn each_refused_growth_of_a_problem(rt: HostRuntime) -> Result<(), Fail> {
+    let steps = commands(rt.alloc(), STEPS)?;
+    let (book, _entries) = replay(rt.alloc(), Book::begin(rt.alloc(), 24)?, &steps)?;
+    for nth in 1..TRIES {
+        let heap = RefusesNth::new(rt.alloc(), nth);
+        match Problem::of_book(&heap, &book) {
+            Err(fault) => {
+                assert!(rt; heap.has_refused() && fault == ProblemFault::Memory);
+                assert_eq!(rt; Problem::of_book(&heap, &book)?.rows().len(), 6);
+            }
+            Ok(problem) => {
+                assert!(rt; !heap.has_refused() && problem.rows().len() == 6 && nth > 4);
+                return Ok(());
+            }
         }
     }
     Err(Fail::from("more growths than were tried"))

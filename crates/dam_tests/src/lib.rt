@@ -1,8 +1,14 @@
-//! Tests that cross crates, on journals as texts.
+//! Tests that cross crates, on journals as texts and on books drawn from a seed.
 #![tactic(auto)]
 
 #[cfg(test)]
 mod book;
+#[cfg(test)]
+mod clearing;
+#[cfg(test)]
+mod drawn;
+#[cfg(test)]
+mod enumeration;
 #[cfg(test)]
 mod growth;
 #[cfg(test)]
