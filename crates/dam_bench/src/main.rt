@@ -1,61 +1,56 @@
-//! Clears one period many times over, for the bench: `dam_bench STEPS CLEARS` makes a period of so
-//! many steps, clears it at nets over the whole range, and prints a sum over what came out.
+//! Measures for the bench, each with a sum over what came out:
+//! `dam_bench clears STEPS TIMES` makes a period of so many steps and clears it at nets over the whole
+//! range; `dam_bench scores TIMES` and `dam_bench passes TIMES` read a journal from standard input, and
+//! score selections of its problem, or go once through all its hourly orders, so many times.
 #![tactic(auto)]
 
-use dam_book::{Price, Qty, Side};
-use dam_hour::{GREATEST_NET, GREATEST_STEPS, Hour, Step};
-use std::alloc::{AllocError, Global};
+mod clears;
+mod scores;
+
+use clears::{hour_of, sum_of_clears};
+use scores::{problem_of, sum_of_passes, sum_of_scores};
+use std::env::Args;
+use std::io::Read;
 use std::{env, io};
 
-/// The nets that are cleared by turns, evenly over the range.
-const NETS: u32 = 4_001;
-
 fn main(rt: HostRuntime) -> io::Result<()> {
-    let mut words = env::args(&rt)?.skip(1);
-    let mut number = || {
-        let word = words.next()?;
-        word.parse::<u32>().ok()
+    let mut words = env::args(&rt)?;
+    let _program = words.next();
+    let Some(measure) = words.next() else {
+        return usage(&rt);
     };
-    let (Some(count), Some(clears)) = (number(), number()) else {
-        return eprintln!(rt; "usage: dam_bench STEPS CLEARS");
-    };
-    let hour = hour_of(rt.alloc(), count as usize)?;
-    let sum = sum_of_clears(&hour, clears);
-    println!(rt; "{sum}")
-}
-
-/// A period of so many steps, or of as many as there may be, with limits and volumes that vary.
-fn hour_of(alloc: Global, count: usize) -> Result<Hour, AllocError> {
-    let mut steps = Vec::new(alloc);
-    let mut state = 1u32;
-    for turn in 0..count.min(GREATEST_STEPS) {
-        state = state.wrapping_mul(1_664_525).wrapping_add(1_013_904_223);
-        if let Some(step) = step_of(state / 256) {
-            steps.push(step)?;
+    let first = number(&mut words);
+    let second = number(&mut words);
+    match (measure.as_str(), first, second) {
+        ("clears", Some(steps), Some(times)) => {
+            let hour = hour_of(rt.alloc(), steps as usize)?;
+            println!(rt; "{}", sum_of_clears(&hour, times))
         }
+        ("scores", Some(times), None) => measure_problem(&rt, times, true),
+        ("passes", Some(times), None) => measure_problem(&rt, times, false),
+        _ => usage(&rt),
     }
-    Hour::build(alloc, &steps)
 }
 
-fn step_of(number: u32) -> Option<Step> {
-    let side = if number % 2 == 0 {
-        Side::Buy
+fn number(words: &mut Args) -> Option<u32> {
+    let word = words.next()?;
+    word.parse::<u32>().ok()
+}
+
+fn usage(rt: &HostRuntime) -> io::Result<()> {
+    eprintln!(rt; "usage: dam_bench clears STEPS TIMES | scores TIMES | passes TIMES")
+}
+
+fn measure_problem(rt: &HostRuntime, times: u32, scores: bool) -> io::Result<()> {
+    let mut text = Vec::new(rt.alloc());
+    rt.stdin().read_to_end(&mut text)?;
+    let Some(problem) = problem_of(rt.alloc(), text.as_slice()) else {
+        return eprintln!(rt; "the journal makes no problem");
+    };
+    let sum = if scores {
+        sum_of_scores(&problem, times)
     } else {
-        Side::Sell
+        sum_of_passes(&problem, times)
     };
-    let price = Price::new((number / 2 % 60_000) as i32 - 5_000)?;
-    let qty = Qty::new(1 + number / 16 % 5_000)?;
-    Some(Step { side, price, qty })
-}
-
-fn sum_of_clears(hour: &Hour, clears: u32) -> u64 {
-    let mut sum = 0u64;
-    for turn in 0..clears {
-        let net = i64::from(turn.wrapping_mul(1_009) % NETS) * 1_199 - GREATEST_NET;
-        if let Some(cleared) = hour.clear(net) {
-            let price = u64::from(cleared.price.get().unsigned_abs());
-            sum = sum.wrapping_add(cleared.bought).wrapping_add(price);
-        }
-    }
-    sum
+    println!(rt; "{sum}")
 }
