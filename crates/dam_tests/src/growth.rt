@@ -1,11 +1,11 @@
 use crate::support::commands;
-use dam_blocks::{Problem, ProblemFault};
+use dam_blocks::{Problem, ProblemFault, best_of_all};
 use dam_book::{
     Book, Reply, Side, read_price, read_qty, read_volumes, replay, write_price, write_qty,
     write_volumes,
 };
 use dam_hour::{Hour, Step};
-use dam_results::replies_text;
+use dam_results::{replies_text, results, results_text};
 use limited_alloc::RefusesNth;
 use std::test::Fail;
 
@@ -157,6 +157,50 @@ fn each_refused_growth_of_a_problem(rt: HostRuntime) -> Result<(), Fail> {
             }
             Ok(problem) => {
                 assert!(rt; !heap.has_refused() && problem.rows().len() == 6 && nth > 4);
+                return Ok(());
+            }
+        }
+    }
+    Err(Fail::from("more growths than were tried"))
+}
+
+#[test]
+fn each_refused_growth_of_an_execution(rt: HostRuntime) -> Result<(), Fail> {
+    let step = Step {
+        side: Side::Buy,
+        price: read_price(b"5000").ok_or("a price")?,
+        qty: read_qty(b"10").ok_or("a volume")?,
+    };
+    let hour = Hour::build(rt.alloc(), &[step; 9])?;
+    for nth in 1..TRIES {
+        let heap = RefusesNth::new(rt.alloc(), nth);
+        match hour.execution(&heap, 15) {
+            Err(_) => assert!(rt; heap.has_refused() && hour.execution(&heap, 15)?.is_some()),
+            Ok(executed) => {
+                assert!(rt; !heap.has_refused() && executed.is_some() && nth > 1);
+                return Ok(());
+            }
+        }
+    }
+    Err(Fail::from("more growths than were tried"))
+}
+
+#[test]
+fn each_refused_growth_of_results(rt: HostRuntime) -> Result<(), Fail> {
+    let steps = commands(rt.alloc(), STEPS)?;
+    let (book, _entries) = replay(rt.alloc(), Book::begin(rt.alloc(), 24)?, &steps)?;
+    let problem = Problem::of_book(rt.alloc(), &book)?;
+    let best = best_of_all(&problem);
+    for nth in 1..TRIES {
+        let heap = RefusesNth::new(rt.alloc(), nth);
+        let Ok(published) = results(&heap, &problem, best) else {
+            assert!(rt; heap.has_refused());
+            continue;
+        };
+        match results_text(&heap, &published) {
+            Err(_) => assert!(rt; heap.has_refused()),
+            Ok(text) => {
+                assert!(rt; !heap.has_refused() && text.len() == 550 && nth > 4);
                 return Ok(());
             }
         }
