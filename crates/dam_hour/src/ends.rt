@@ -1,36 +1,31 @@
 ghost use Rattle.std.specs.Prelude.{◌≡◌, ◌≤◌, ◌↔◌, pos, ◌+ℤ◌, ◌-ℤ◌, IsTrue};
 ghost use Rattle.std.specs.Int.{int_div_euclid};
+ghost use Rattle.dam_book.specs.declared.price.TheConstants.{LOWEST_PRICE, HIGHEST_PRICE};
 ghost use Rattle.dam_hour.specs.Execution.{IsHour, IsNetVolume, IsWithinOffers};
 ghost use Rattle.dam_hour.specs.Price.{price_between};
 ghost use Rattle.dam_hour.specs.Volumes.{IsHighEnough, IsLowEnough, IsLeastHighEnough, IsGreatestLowEnough};
 
 use crate::step::Step;
 use crate::volumes::{Bounds, offered};
-use dam_book::{Price, Side};
-
-/// The least price of the range, in cents per MWh.
-const LOWEST: i32 = -50_000;
-
-/// The greatest price of the range, in cents per MWh.
-const HIGHEST: i32 = 400_000;
+use dam_book::{HIGHEST_PRICE, LOWEST_PRICE, Price, Side};
 
 /// The number of cents from the least price to the greatest.
-const SPAN: u32 = (HIGHEST - LOWEST) as u32;
+const SPAN: u32 = (HIGHEST_PRICE - LOWEST_PRICE) as u32;
 
 /// The price so many cents above the least one.
 fn price_above(cents: u32) -> Price
     requires { cents ≤ SPAN }
-    ensures { result ≡ LOWEST +ℤ pos cents }
+    ensures { result ≡ LOWEST_PRICE +ℤ pos cents }
 {
-    Price::new(LOWEST + cents as i32).unwrap()
+    Price::new(LOWEST_PRICE + cents as i32).unwrap()
 }
 
 /// The price so many cents below the greatest one.
 fn price_below(cents: u32) -> Price
     requires { cents ≤ SPAN }
-    ensures { result ≡ HIGHEST -ℤ pos cents }
+    ensures { result ≡ HIGHEST_PRICE -ℤ pos cents }
 {
-    Price::new(HIGHEST - cents as i32).unwrap()
+    Price::new(HIGHEST_PRICE - cents as i32).unwrap()
 }
 
 /// Whether some execution balances: the net volume is at most all buys, and takes at most all sells.
@@ -124,9 +119,9 @@ pub(crate) fn price_between(low: Price, high: Price) -> Price
     ensures { result ≡ price_between low high }
 {
     let (low_cents, high_cents) = (low.get(), high.get());
-    if low_cents == LOWEST && high_cents < HIGHEST {
+    if low_cents == LOWEST_PRICE && high_cents < HIGHEST_PRICE {
         high
-    } else if LOWEST < low_cents && high_cents == HIGHEST {
+    } else if LOWEST_PRICE < low_cents && high_cents == HIGHEST_PRICE {
         low
     } else {
         middle(low, high)

@@ -4,11 +4,7 @@
 ghost use Rattle.std.specs.Prelude.{◌<◌, length, IfSome};
 
 use crate::step::Step;
-use dam_book::Side;
-
-const LOWEST: i32 = -50_000;
-
-const HIGHEST: i32 = 400_000;
+use dam_book::{HIGHEST_PRICE, LOWEST_PRICE, Side};
 
 /// The totals and the price that a plain program finds.
 #[derive(Clone, Copy, PartialEq, Eq, Debug)]
@@ -44,9 +40,9 @@ impl Row {
 
 /// The price of the two ends.
 fn price_of(low: i32, high: i32) -> i32 {
-    if low == LOWEST && high < HIGHEST {
+    if low == LOWEST_PRICE && high < HIGHEST_PRICE {
         high
-    } else if low > LOWEST && high == HIGHEST {
+    } else if low > LOWEST_PRICE && high == HIGHEST_PRICE {
         low
     } else {
         low.wrapping_add(high) >> 1
@@ -126,7 +122,7 @@ pub(crate) fn merge(rows: &mut [Row], net: i64) -> bool {
 
 /// Reads the ends, the price and the totals off the executed rows.
 pub(crate) fn read(rows: &[Row]) -> Found {
-    let (mut low, mut high) = (LOWEST, HIGHEST);
+    let (mut low, mut high) = (LOWEST_PRICE, HIGHEST_PRICE);
     let (mut bought, mut sold, mut welfare) = (0u64, 0u64, 0i64);
     for row in rows {
         let limit = row.step.price.get();
@@ -243,11 +239,11 @@ fn widened(ends: (i32, i32), steps: &[Step], volumes: &Volumes, window: (i32, i3
             high = high.max(price);
         }
     }
-    if supports(steps, volumes, LOWEST) {
-        (low, high) = (LOWEST, high.max(LOWEST));
+    if supports(steps, volumes, LOWEST_PRICE) {
+        (low, high) = (LOWEST_PRICE, high.max(LOWEST_PRICE));
     }
-    if supports(steps, volumes, HIGHEST) {
-        (low, high) = (low.min(HIGHEST), HIGHEST);
+    if supports(steps, volumes, HIGHEST_PRICE) {
+        (low, high) = (low.min(HIGHEST_PRICE), HIGHEST_PRICE);
     }
     (low, high)
 }
@@ -275,7 +271,7 @@ fn ranks_above(one: &Tried, other: &Tried) -> bool {
 /// of the range does.
 pub(crate) fn try_all(steps: &[Step], net: i64, window: (i32, i32)) -> Option<Tried> {
     let mut best: Option<Tried> = None;
-    let (mut low, mut high) = (HIGHEST, LOWEST);
+    let (mut low, mut high) = (HIGHEST_PRICE, LOWEST_PRICE);
     for number in 0..count(steps) {
         let volumes = execution(steps, number);
         let (bought, sold, welfare) = totals(steps, &volumes);
