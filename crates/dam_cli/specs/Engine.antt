@@ -1,20 +1,12 @@
--- What the engines have in common: the run of a journal, and the faults of texts and of the machine.
-use Rattle.std.specs.Prelude.{◌≡◌, ◌≢◌, ℕ, List, Option}
+-- What the engines have in common: what is printed for a journal, and the faults of texts and of the machine.
+use Rattle.std.specs.Prelude.{◌≢◌, ℕ, List, Option}
 use Rattle.std.specs.Io.KnownBytes.{Appends}
-use Rattle.dam_book.specs.Book.{run, entries_of}
 use Rattle.dam_book.specs.declared.command.Command.{Command}
 use Rattle.dam_results.specs.declared.journal.JournalFault.TheVariants.{Memory as NoMemory}
 use Rattle.dam_results.specs.Journal.{ReadsAs}
 use Rattle.dam_results.specs.Faults.{IsFaultOf}
 use Rattle.dam_cli.specs.declared.fault.RunFault.{RunFault}
 use Rattle.dam_cli.specs.declared.fault.RunFault.TheVariants.{Read, Input, StillOpen, Memory, Write}
-use Rattle.dam_cli.specs.declared.journal_run.JournalRun.{JournalRun}
-
--- the book that the commands make of the day's empty one, and the entry of each
-pub record IsRunOf (journal_run : JournalRun) (periods : ℕ) (commands : List Command) : Type 0 where
-  pub periods_are : journal_run.periods ≡ periods
-  pub book_is : journal_run.book ≡ run periods commands
-  pub entries_are : journal_run.entries.items ≡ entries_of periods commands
 
 -- the text is a journal, and this is a text that an engine may print for its periods and commands
 abbrev pub IsPrintedFor : (ℕ → List Command → List ℕ → Type 0) → List ℕ → List ℕ → Type 0

@@ -43,8 +43,8 @@ fn clear_text(alloc: Global, text: &[u8]) -> Result<Vec<u8>, RunFault>
     ensures fault { IfErr result (IsClearFault text.now) }
     ensures exact { (periods : ℕ) (commands : List Command) → ReadsAs text.now periods commands → MatchResult result (λ results. IsClearedAs (run periods commands) results.items) (IsBookFault (run periods commands)) }
 {
-    let run = run_journal(alloc, text)?;
-    clear_book(alloc, &run.book)
+    let book = run_journal(alloc, text)?;
+    clear_book(alloc, &book)
 }
 
 /// The results text of a closed book.

@@ -1,39 +1,34 @@
-ghost use Rattle.std.specs.Prelude.{◌≡◌, ℕ, List, IfOk, IfErr, MatchResult};
+ghost use Rattle.std.specs.Prelude.{◌≡◌, ℕ, List, true, IfOk, IfErr, MatchResult};
+ghost use Rattle.dam_book.specs.Book.{empty_book, is_day, run};
 ghost use Rattle.dam_book.specs.declared.command.Command.{Command};
 ghost use Rattle.dam_results.specs.Journal.{ReadsAs};
-ghost use Rattle.dam_cli.specs.Engine.{IsMachineFault, IsRunOf, IsTextFault};
+ghost use Rattle.dam_cli.specs.Engine.{IsMachineFault, IsTextFault};
 
 use crate::fault::RunFault;
-use dam_book::{Book, Entry, replay};
+use dam_book::{Book, replay};
 use dam_results::read_journal;
 use std::alloc::Global;
 
-/// What a journal makes.
-#[derive(Drop)]
-pub struct JournalRun {
-    /// How many periods the delivery day has.
-    pub periods: u8,
-    /// The book behind the last command.
-    pub book: Book,
-    /// Each command, with the book's reply.
-    pub entries: Vec<Entry>,
-}
-
-/// Reads a text as a journal, and runs its commands on the empty book of its day. The text may have
-/// been cut behind the first byte too many.
-pub fn run_journal(alloc: Global, text: &[u8]) -> Result<JournalRun, RunFault>
-    ensures done { IfOk result (λ run. (periods : ℕ) × (commands : List Command) × ReadsAs text.now periods commands × IsRunOf run periods commands) }
-    ensures fault { IfErr result (IsTextFault text.now) }
-    ensures exact { (periods : ℕ) (commands : List Command) → ReadsAs text.now periods commands → MatchResult result (λ run. IsRunOf run periods commands) IsMachineFault }
+/// The empty book of a day that a journal may have.
+pub fn empty_book(alloc: Global, periods: u8) -> Book
+    requires { is_day periods ≡ true }
+    ensures { result ≡ empty_book periods }
 {
-    let journal = read_journal(alloc, text)?;
-    let Ok(empty) = Book::begin(alloc, journal.periods) else {
+    let Ok(book) = Book::begin(alloc, periods) else {
         unreachable!();
     };
-    let (book, entries) = replay(alloc, empty, journal.commands.as_slice())?;
-    Ok(JournalRun {
-        periods: journal.periods,
-        book,
-        entries,
-    })
+    book
+}
+
+/// Reads a text as a journal, and gives the book that its commands make of the empty one of its day.
+/// The text may have been cut behind the first byte too many.
+pub fn run_journal(alloc: Global, text: &[u8]) -> Result<Book, RunFault>
+    ensures done { IfOk result (λ book. (periods : ℕ) × (commands : List Command) × ReadsAs text.now periods commands × (book ≡ run periods commands)) }
+    ensures fault { IfErr result (IsTextFault text.now) }
+    ensures exact { (periods : ℕ) (commands : List Command) → ReadsAs text.now periods commands → MatchResult result (λ book. book ≡ run periods commands) IsMachineFault }
+{
+    let journal = read_journal(alloc, text)?;
+    let empty = empty_book(alloc, journal.periods);
+    let (book, _entries) = replay(alloc, empty, journal.commands.as_slice())?;
+    Ok(book)
 }

@@ -7,9 +7,9 @@ ghost use Rattle.dam_cli.specs.Replay.{AreRepliesTo, replies_to};
 
 use crate::fault::RunFault;
 use crate::input::read_input;
-use crate::journal_run::run_journal;
+use crate::journal_run::empty_book;
 use crate::output::write_text;
-use dam_results::replies_text;
+use dam_results::{read_journal, run_text};
 use std::alloc::Global;
 use std::io::{Read, Write};
 
@@ -40,6 +40,7 @@ fn replay_text(alloc: Global, text: &[u8]) -> Result<Vec<u8>, RunFault>
     ensures fault { IfErr result (IsTextFault text.now) }
     ensures exact { (periods : ℕ) (commands : List Command) → ReadsAs text.now periods commands → MatchResult result (λ replies. replies.items ≡ replies_to periods commands) IsMachineFault }
 {
-    let run = run_journal(alloc, text)?;
-    Ok(replies_text(alloc, run.periods, run.entries.as_slice())?)
+    let journal = read_journal(alloc, text)?;
+    let empty = empty_book(alloc, journal.periods);
+    Ok(run_text(alloc, empty, journal.commands.as_slice())?)
 }

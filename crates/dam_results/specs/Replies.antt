@@ -23,9 +23,12 @@ abbrev pub reply_text : Reply → List ℕ
 reply_text Done = codes "done"
 reply_text (Refused reason) = codes "refused," ++ reason_word reason
 
--- the entry's number, and the reply
+-- an entry's number, and the reply
+abbrev pub reply_line : ℕ → Reply → List ℕ
+reply_line number reply = decimal number ++ (codes "," ++ (reply_text reply ++ codes "\n"))
+
 abbrev pub entry_line : Entry → List ℕ
-entry_line e = decimal e.number ++ (codes "," ++ (reply_text e.reply ++ codes "\n"))
+entry_line e = reply_line e.number e.reply
 
 abbrev pub day_line : ℕ → List ℕ
 day_line periods = codes "day," ++ (decimal periods ++ codes "\n")

@@ -21,6 +21,6 @@ pub use journal::{JournalFault, JournalRead, read_journal};
 pub use limits::{MOST_BYTES, MOST_RECORDS};
 pub use publish::results;
 pub use published::{PeriodResult, Results, RowResult};
-pub use replies::replies_text;
+pub use replies::{replies_text, run_text};
 pub use text::results_text;
 pub use writer::journal_text;
