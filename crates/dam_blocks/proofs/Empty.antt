@@ -32,12 +32,21 @@ empty_admissible blocks = record { each = λ i e. absurd (empty_accepted i e) }
 empty_net : (blocks : List Block) (t : ℕ) → net_volume blocks empty_selection t ≡ pos 0
 empty_net blocks t = over_accepted-replicate (net_volume_of t) blocks MOST_BLOCKS
 
+-- each net volume is within the offers of its period, from period t on
+abbrev pub AreWithin : List Block → List Bool → ℕ → List (List Step) → Type 0
+AreWithin blocks sel t [] = Unit {0}
+AreWithin blocks sel t (ss ∷ hours) = IsWithinOffers ss (net_volume blocks sel t) × AreWithin blocks sel (suc t) hours
+
+empty_within : (blocks : List Block) (t : ℕ) (hours : List (List Step)) → AreWithin blocks empty_selection t hours
+empty_within blocks t [] = tt
+empty_within blocks t (ss ∷ hours) = (within_offers ss (net_volume blocks empty_selection t) (empty_net blocks t), empty_within blocks (suc t) hours)
+
 -- a list of prices and a welfare
-record Cleared (blocks : List Block) (sel : List Bool) (t : ℕ) (hours : List (List Step)) : Type 0 where
-  prices : List ℤ
-  are_prices : ArePrices blocks sel t hours prices
-  welfare : ℤ
-  welfare_is : welfare_from blocks sel t hours ≡ Some welfare
+pub record Cleared (blocks : List Block) (sel : List Bool) (t : ℕ) (hours : List (List Step)) : Type 0 where
+  pub prices : List ℤ
+  pub are_prices : ArePrices blocks sel t hours prices
+  pub welfare : ℤ
+  pub welfare_is : welfare_from blocks sel t hours ≡ Some welfare
 
 both : (x y : Option ℤ) (u v : ℤ) → x ≡ Some u → y ≡ Some v → added x y ≡ Some (u +ℤ v)
 both x y u v e f = rw (e, f)
@@ -45,33 +54,33 @@ both x y u v e f = rw (e, f)
 raised : (x : Option ℤ) (k g : ℤ) → x ≡ Some g → option_map (λ w. w +ℤ k) x ≡ Some (g +ℤ k)
 raised x k g e = rw e
 
-empty_cleared : ExistenceLaws → (blocks : List Block) (t : ℕ) (hours : List (List Step)) → AreHours hours → Cleared blocks empty_selection t hours
-empty_cleared laws blocks t [] are = record { prices = []; are_prices = tt; welfare = pos 0; welfare_is = refl }
-empty_cleared laws blocks t (ss ∷ hours) are =
-    let net = net_volume blocks empty_selection t in
-    let within = within_offers ss net (empty_net blocks t) in
-    let ends = laws.ends ss net are.0 within in
-    let best = laws.best ss net are.0 within in
-    let rest = empty_cleared laws blocks (suc t) hours are.1 in
+pub cleared : ExistenceLaws → (blocks : List Block) (sel : List Bool) (t : ℕ) (hours : List (List Step)) → AreHours hours → AreWithin blocks sel t hours
+    → Cleared blocks sel t hours
+cleared laws blocks sel t [] are within = record { prices = []; are_prices = tt; welfare = pos 0; welfare_is = refl }
+cleared laws blocks sel t (ss ∷ hours) are within =
+    let net = net_volume blocks sel t in
+    let ends = laws.ends ss net are.0 within.0 in
+    let best = laws.best ss net are.0 within.0 in
+    let rest = cleared laws blocks sel (suc t) hours are.1 within.1 in
     record {
       prices = price_between ends.0 ends.1 ∷ rest.prices;
       are_prices = (record { low = ends.0; high = ends.1; ends = ends.2; between = refl }, rest.are_prices);
-      welfare = (welfare_of ss best.0 +ℤ block_value blocks empty_selection t) +ℤ rest.welfare;
-      welfare_is = both (period_welfare blocks empty_selection t ss) (welfare_from blocks empty_selection (suc t) hours)
-          (welfare_of ss best.0 +ℤ block_value blocks empty_selection t) rest.welfare
-          (raised (greatest_welfare ss net) (block_value blocks empty_selection t) (welfare_of ss best.0) (laws.welfare ss net best.0 best.1)) rest.welfare_is;
+      welfare = (welfare_of ss best.0 +ℤ block_value blocks sel t) +ℤ rest.welfare;
+      welfare_is = both (period_welfare blocks sel t ss) (welfare_from blocks sel (suc t) hours)
+          (welfare_of ss best.0 +ℤ block_value blocks sel t) rest.welfare
+          (raised (greatest_welfare ss net) (block_value blocks sel t) (welfare_of ss best.0) (laws.welfare ss net best.0 best.1)) rest.welfare_is;
     }
 
 pub empty_eligible : ExistenceLaws → (problem : ProblemState) → AreHours problem.hours → (w : ℤ) × IsEligible problem empty_selection w
 empty_eligible laws problem are =
-    let cleared = empty_cleared laws problem.blocks 1 problem.hours are in (
-      cleared.welfare,
+    let day = cleared laws problem.blocks empty_selection 1 problem.hours are (empty_within problem.blocks 1 problem.hours) in (
+      day.welfare,
       record {
         as_long = refl;
         admissible = empty_admissible problem.blocks;
-        prices = cleared.prices;
-        are_prices = cleared.are_prices;
+        prices = day.prices;
+        are_prices = day.are_prices;
         no_loss = record { surplus = λ i b e f. absurd (empty_accepted i e) };
-        welfare_is = cleared.welfare_is;
+        welfare_is = day.welfare_is;
       },
     )

@@ -11,3 +11,6 @@ pub mod Clearing
 pub mod Verdicts
 pub mod FromBook
 pub mod RowSteps
+pub mod Deciding
+pub mod Admitting
+pub mod Existing

@@ -50,6 +50,16 @@ pub fn ranking()
         → RanksAtOrBelow v xs w ys → RanksAtOrBelow w ys v xs → (xs ≡ ys) × (v ≡ w) }
 {}
 
+/// A problem has a result.
+pub fn existence()
+    ensures { (problem : ProblemState) → IsProblem problem → (sel : List Bool) × ((w : ℤ) × IsResult problem sel w) }
+{
+    empty_is_eligible();
+    dam_hour::laws::balance();
+    dam_hour::laws::existence();
+    dam_hour::laws::welfare();
+}
+
 /// A problem has one result at most.
 pub fn uniqueness()
     ensures { (problem : ProblemState) (xs ys : List Bool) (v w : ℤ) → IsResult problem xs v

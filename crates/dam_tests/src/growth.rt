@@ -5,7 +5,7 @@ use dam_book::{
     write_volumes,
 };
 use dam_hour::{Hour, Step};
-use dam_results::{replies_text, results, results_text};
+use dam_results::{replies_text, results, results_text, run_text};
 use limited_alloc::RefusesNth;
 use std::test::Fail;
 
@@ -85,6 +85,23 @@ fn each_refused_growth_of_replies(rt: HostRuntime) -> Result<(), Fail> {
             Ok(text) => {
                 assert_eq!(rt; text.len(), 78);
                 assert!(rt; nth > 2);
+                return Ok(());
+            }
+        }
+    }
+    Err(Fail::from("more growths than were tried"))
+}
+
+#[test]
+fn each_refused_growth_of_a_run_of_replies(rt: HostRuntime) -> Result<(), Fail> {
+    let steps = commands(rt.alloc(), STEPS)?;
+    for nth in 1..TRIES {
+        let heap = RefusesNth::new(rt.alloc(), nth);
+        match run_text(&heap, Book::begin(&heap, 24)?, &steps) {
+            Err(_) => assert!(rt; heap.has_refused()),
+            Ok(text) => {
+                assert!(rt; !heap.has_refused() && nth > 4);
+                assert_eq!(rt; text.len(), 78);
                 return Ok(());
             }
         }
