@@ -1,6 +1,7 @@
 -- A text and its front that is one byte longer than a journal may be: where one of them is short enough, they are equal.
 use Rattle.std.proofs.Common.{◌≡◌, ◌≤◌, ℕ, List, length, take, subst, sym, arith}
 use Rattle.std.proofs.lemmas.List.{take_all, length-take}
+use Rattle.dam_book.specs.Book.{BookState}
 use Rattle.dam_book.specs.declared.command.Command.{Command}
 use Rattle.dam_results.specs.declared.limits.TheConstants.{MOST_BYTES}
 use Rattle.dam_results.specs.declared.journal.JournalFault.{JournalFault}
@@ -11,8 +12,8 @@ use Rattle.dam_results.specs.Faults.{IsFaultOf}
 use Rattle.dam_cli.specs.declared.input.TheConstants.{MOST_READ}
 use Rattle.dam_cli.specs.declared.fault.RunFault.{RunFault}
 use Rattle.dam_cli.specs.declared.fault.RunFault.TheVariants.{Read, Input, StillOpen, Memory, Write}
-use Rattle.dam_cli.specs.Engine.{IsTextFault, IsFaultOn}
-use Rattle.dam_cli.specs.Clear.{IsClearFault}
+use Rattle.dam_cli.specs.Engine.{IsJournal, IsPrintedFor, IsTextFault, IsFaultOn}
+use Rattle.dam_cli.specs.Clear.{AreResultsTo, IsClosedJournal, IsBookFault, IsFaultOnBook, IsClearTextFault, IsClearFault}
 
 front-of_short : (given : List ℕ) → length given ≤ MOST_BYTES → take MOST_READ given ≡ given
 front-of_short given short = take_all MOST_READ given (omega (arith, short))
@@ -41,11 +42,27 @@ fault-on_given given Read is = tt
 fault-on_given given (Input fault) is = (fault-given given fault is.0, is.1)
 fault-on_given given StillOpen is = absurd is
 fault-on_given given Memory is = tt
-fault-on_given given Write is = tt
+fault-on_given given Write is = absurd is
 
-pub clear_fault-given : (given : List ℕ) (fault : RunFault) → IsClearFault (take MOST_READ given) fault → IsClearFault given fault
+pub clear_fault-given : (given : List ℕ) (fault : RunFault) → IsClearTextFault (take MOST_READ given) fault → IsClearFault given fault
 clear_fault-given given Read is = tt
 clear_fault-given given (Input fault) is = (fault-given given fault is.0, is.1)
 clear_fault-given given StillOpen is = (is.0, is.1, reads-given given is.0 is.1 is.2, is.3)
 clear_fault-given given Memory is = tt
-clear_fault-given given Write is = tt
+clear_fault-given given Write is = absurd is
+
+-- what a book is answered, a run answers that makes it
+pub book_fault-run : (book : BookState) (fault : RunFault) → IsBookFault book fault → IsFaultOnBook book fault
+book_fault-run book Read is = tt
+book_fault-run book (Input fault) is = is
+book_fault-run book StillOpen is = is
+book_fault-run book Memory is = tt
+book_fault-run book Write is = absurd is
+
+-- a text for whose front something is printed is a journal
+pub printed-journal : (Prints : ℕ → List Command → List ℕ → Type 0) (printed given : List ℕ) → IsPrintedFor Prints (take MOST_READ given) printed → IsJournal given
+printed-journal Prints printed given are = (are.0, are.1, reads-given given are.0 are.1 are.2)
+
+-- where it is a results text, the journal's book is closed
+pub results-closed : (printed given : List ℕ) → AreResultsTo (take MOST_READ given) printed → IsClosedJournal given
+results-closed printed given are = (are.0, are.1, reads-given given are.0 are.1 are.2, are.3.closed)

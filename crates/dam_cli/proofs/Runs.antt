@@ -24,11 +24,19 @@ pub known-fault : (P Q : List ℕ → RunFault → Type 0) (known : Option (List
     → ((given : List ℕ) (fault : RunFault) → P (take MOST_READ given) fault → Q given fault) → IsFrontOf known text → P text fault → IfSome known (λ given. Q given fault)
 known-fault P Q known text fault carries = known-front (λ bs. P bs fault) (λ bs. Q bs fault) known text (λ given. carries given fault)
 
-pub known-failed : (Fails : RunFault → Type 0) (known : Option (List ℕ)) (text : List ℕ) (fault : RunFault) (periods : ℕ) (commands : List Command)
-    → IsFrontOf known text → (ReadsAs text periods commands → Fails fault) → IfSome known (λ given. ReadsAs given periods commands → Fails fault)
-known-failed Fails known text fault periods commands =
-    known-front (λ bs. ReadsAs bs periods commands → Fails fault) (λ bs. ReadsAs bs periods commands → Fails fault) known text
-    (λ given failed reads. failed (reads-front given periods commands reads))
+pub known-failed : (Fails Told : RunFault → Type 0) (known : Option (List ℕ)) (text : List ℕ) (fault : RunFault) (periods : ℕ) (commands : List Command)
+    → ((fault : RunFault) → Fails fault → Told fault) → IsFrontOf known text → (ReadsAs text periods commands → Fails fault)
+    → IfSome known (λ given. ReadsAs given periods commands → Told fault)
+known-failed Fails Told known text fault periods commands weaker =
+    known-front (λ bs. ReadsAs bs periods commands → Fails fault) (λ bs. ReadsAs bs periods commands → Told fault) known text
+    (λ given failed reads. weaker fault (failed (reads-front given periods commands reads)))
+
+-- where the writer failed, what its text shows of the given bytes lets it be told
+pub known-write : (P : List ℕ → Type 0) (Q : List ℕ → RunFault → Type 0) (known : Option (List ℕ)) (text : List ℕ) (result : Result (Unit {0}) RunFault)
+    → ((given : List ℕ) → P (take MOST_READ given) → Q given Write) → IsFrontOf known text → IfErr result (λ fault. fault ≡ Write) → P text
+    → IfErr result (λ fault. IfSome known (λ given. Q given fault))
+known-write P Q known text result carries front failed holds =
+    IfErr-weaker result _ _ (λ fault is. known-front P (λ bs. Q bs fault) known text (λ given shown. subst (Q given) (sym is) (carries given shown)) front holds) failed
 
 -- what was sent is what was printed
 pub writes : (IsPrinted : List ℕ → Type 0) (old new : Option (List ℕ)) (sent printed : List ℕ) (result : Result (Unit {0}) RunFault)
@@ -36,21 +44,21 @@ pub writes : (IsPrinted : List ℕ → Type 0) (old new : Option (List ℕ)) (se
 writes IsPrinted old new sent printed result same wrote is = on_ok_weaker result (λ appended. (printed, is, subst (Appends old new) same appended)) wrote
 
 -- the text that was printed is one for the given text
-pub known-done : (Prints : ℕ → List Command → List ℕ → Type 0) (Told : ℕ → List Command → Type 0)
-    (known : Option (List ℕ)) (text printed : List ℕ) (result : Result (Unit {0}) RunFault)
-    → IsFrontOf known text → ((periods : ℕ) (commands : List Command) → Prints periods commands printed → OnOk result (Told periods commands))
-    → IsPrintedFor Prints text printed → OnOk result (IfSome known (λ given. (periods : ℕ) × (commands : List Command) × ReadsAs given periods commands × Told periods commands))
-known-done Prints Told known text printed result front told are =
-    on_ok_weaker result (λ wrote. known-front (λ bs. ReadsAs bs are.0 are.1) (λ bs. (periods : ℕ) × (commands : List Command) × ReadsAs bs periods commands × Told periods commands) known text
-    (λ given reads. (are.0, are.1, reads-given given are.0 are.1 reads, wrote)) front are.2) (told are.0 are.1 are.3)
+pub known-done : (Prints : ℕ → List Command → List ℕ → Type 0) (old new : Option (List ℕ))
+    (known : Option (List ℕ)) (text sent printed : List ℕ) (result : Result (Unit {0}) RunFault)
+    → IsFrontOf known text → sent ≡ printed → OnOk result (Appends old new sent)
+    → IsPrintedFor Prints text printed → OnOk result (IfSome known (λ given. Writes old new (IsPrintedFor Prints given)))
+known-done Prints old new known text sent printed result front same wrote are =
+    on_ok_weaker result (λ appended. known-front (λ bs. IsPrintedFor Prints bs printed) (λ bs. Writes old new (IsPrintedFor Prints bs)) known text
+    (λ given is. (printed, (is.0, is.1, reads-given given is.0 is.1 is.2, is.3), subst (Appends old new) same appended)) front are) wrote
 
 -- where the given text is a journal, its own text is printed
 pub known-exact : (IsItsOwn Told : Type 0) (Fails : RunFault → Type 0)
     (known : Option (List ℕ)) (text : List ℕ) (result : Result (Unit {0}) RunFault) (periods : ℕ) (commands : List Command)
-    → IsFrontOf known text → (IsItsOwn → OnOk result Told) → Fails Write → IfErr result (λ fault. fault ≡ Write)
+    → IsFrontOf known text → (IsItsOwn → OnOk result Told) → (IsItsOwn → Fails Write) → IfErr result (λ fault. fault ≡ Write)
     → (ReadsAs text periods commands → IsItsOwn)
     → IfSome known (λ given. ReadsAs given periods commands → MatchResult result (λ _. Told) Fails)
 known-exact IsItsOwn Told Fails known text result periods commands front told may failed are =
     known-front (λ bs. ReadsAs bs periods commands → IsItsOwn) (λ bs. ReadsAs bs periods commands → MatchResult result (λ _. Told) Fails) known text
-    (λ given own reads. MatchResult-from_both result _ _ (told (own (reads-front given periods commands reads)))
-    (IfErr-weaker result _ _ (λ fault is. subst Fails (sym is) may) failed)) front are
+    (λ given own reads. let is_own = own (reads-front given periods commands reads) in
+    MatchResult-from_both result _ _ (told is_own) (IfErr-weaker result _ _ (λ fault is. subst Fails (sym is) (may is_own)) failed)) front are

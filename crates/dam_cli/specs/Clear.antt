@@ -9,8 +9,8 @@ use Rattle.dam_results.specs.declared.published.RowResult.{RowResult}
 use Rattle.dam_results.specs.Journal.{ReadsAs}
 use Rattle.dam_results.specs.Published.{ArePublished, results_text}
 use Rattle.dam_cli.specs.declared.fault.RunFault.{RunFault}
-use Rattle.dam_cli.specs.declared.fault.RunFault.TheVariants.{StillOpen}
-use Rattle.dam_cli.specs.Engine.{IsPrintedFor, IsMachineFault, IsFaultOn}
+use Rattle.dam_cli.specs.declared.fault.RunFault.TheVariants.{Read, Input, StillOpen, Memory, Write}
+use Rattle.dam_cli.specs.Engine.{IsPrintedFor, IsTextFault}
 
 -- the book is closed, and this is the results text of the result of its problem
 pub record IsClearedAs (book : BookState) (text : List ℕ) : Type 0 where
@@ -23,24 +23,43 @@ pub record IsClearedAs (book : BookState) (text : List ℕ) : Type 0 where
   pub published : ArePublished (problem_of book) selection welfare periods rows
   pub text_is : text ≡ results_text welfare periods rows
 
--- this is printed for a journal of these periods and commands
-abbrev pub IsCleared : ℕ → List Command → List ℕ → Type 0
-IsCleared periods commands text = IsClearedAs (run periods commands) text
+-- a results text of the run of these commands
+abbrev pub AreResults : ℕ → List Command → List ℕ → Type 0
+AreResults periods commands text = IsClearedAs (run periods commands) text
 
 -- the text is a journal, and this is printed for it
 abbrev pub AreResultsTo : List ℕ → List ℕ → Type 0
-AreResultsTo text printed = IsPrintedFor IsCleared text printed
-
--- what a book can be answered: that it is still open, where it is, or that the machine failed
-abbrev pub IsBookFault : BookState → RunFault → Type 0
-IsBookFault book StillOpen = book.closed ≡ false
-IsBookFault book fault = IsMachineFault fault
+AreResultsTo text printed = IsPrintedFor AreResults text printed
 
 -- the text is a journal whose book is still open
 abbrev pub IsOpenJournal : List ℕ → Type 0
 IsOpenJournal text = (periods : ℕ) × (commands : List Command) × ReadsAs text periods commands × ((run periods commands).closed ≡ false)
 
--- what a run over a text can answer: that its book is still open, where it is, or what any engine can answer to it
+-- the text is a journal whose book is closed
+abbrev pub IsClosedJournal : List ℕ → Type 0
+IsClosedJournal text = (periods : ℕ) × (commands : List Command) × ReadsAs text periods commands × ((run periods commands).closed ≡ true)
+
+-- what a book can be answered: that it is open, if it is, or that memory ran out
+abbrev pub IsBookFault : BookState → RunFault → Type 0
+IsBookFault book Read = ⊥
+IsBookFault book (Input fault) = ⊥
+IsBookFault book StillOpen = book.closed ≡ false
+IsBookFault book Memory = Unit {0}
+IsBookFault book Write = ⊥
+
+-- what a run whose journal makes this book can answer: what the book can be answered, that the reader failed, or, where the book is closed, that the writer did
+abbrev pub IsFaultOnBook : BookState → RunFault → Type 0
+IsFaultOnBook book Read = Unit {0}
+IsFaultOnBook book Write = book.closed ≡ true
+IsFaultOnBook book fault = IsBookFault book fault
+
+-- what a text can be answered that was read: its first fault, that its book is open, if it is, or that memory ran out
+abbrev pub IsClearTextFault : List ℕ → RunFault → Type 0
+IsClearTextFault text StillOpen = IsOpenJournal text
+IsClearTextFault text fault = IsTextFault text fault
+
+-- what a run over a text can answer: what its text can be answered, that the reader failed, or, where the text is a journal whose book is closed, that the writer did
 abbrev pub IsClearFault : List ℕ → RunFault → Type 0
-IsClearFault text StillOpen = IsOpenJournal text
-IsClearFault text fault = IsFaultOn text fault
+IsClearFault text Read = Unit {0}
+IsClearFault text Write = IsClosedJournal text
+IsClearFault text fault = IsClearTextFault text fault

@@ -8,6 +8,10 @@ use Rattle.dam_results.specs.Faults.{IsFaultOf}
 use Rattle.dam_cli.specs.declared.fault.RunFault.{RunFault}
 use Rattle.dam_cli.specs.declared.fault.RunFault.TheVariants.{Read, Input, StillOpen, Memory, Write}
 
+-- the text is a journal
+abbrev pub IsJournal : List ℕ → Type 0
+IsJournal text = (periods : ℕ) × (commands : List Command) × ReadsAs text periods commands
+
 -- the text is a journal, and this is a text that an engine may print for its periods and commands
 abbrev pub IsPrintedFor : (ℕ → List Command → List ℕ → Type 0) → List ℕ → List ℕ → Type 0
 IsPrintedFor Prints text printed = (periods : ℕ) × (commands : List Command) × ReadsAs text periods commands × Prints periods commands printed
@@ -16,7 +20,7 @@ IsPrintedFor Prints text printed = (periods : ℕ) × (commands : List Command) 
 abbrev pub Writes : Option (List ℕ) → Option (List ℕ) → (List ℕ → Type 0) → Type 0
 Writes old new IsPrinted = (printed : List ℕ) × IsPrinted printed × Appends old new printed
 
--- memory ran out, or the reader or the writer failed, which may happen with any text
+-- memory ran out, or the reader or the writer failed
 abbrev pub IsMachineFault : RunFault → Type 0
 IsMachineFault Read = Unit {0}
 IsMachineFault (Input fault) = ⊥
@@ -32,10 +36,8 @@ IsTextFault text StillOpen = ⊥
 IsTextFault text Memory = Unit {0}
 IsTextFault text Write = ⊥
 
--- what a run over a text can answer besides: that the reader or the writer failed
+-- what a run over a text can answer: what its text can be answered, that the reader failed, or, where the text is a journal, that the writer did
 abbrev pub IsFaultOn : List ℕ → RunFault → Type 0
 IsFaultOn text Read = Unit {0}
-IsFaultOn text (Input fault) = IsTextFault text (Input fault)
-IsFaultOn text StillOpen = ⊥
-IsFaultOn text Memory = Unit {0}
-IsFaultOn text Write = Unit {0}
+IsFaultOn text Write = IsJournal text
+IsFaultOn text fault = IsTextFault text fault

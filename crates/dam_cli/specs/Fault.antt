@@ -36,6 +36,7 @@ input_status (FieldCount at) = 1
 input_status (BadField at field) = 1
 input_status NoMemory = 4
 
+-- the status that the program ends with at a fault
 abbrev pub fault_status : RunFault → ℕ
 fault_status Read = 4
 fault_status (Input fault) = input_status fault
@@ -54,6 +55,6 @@ run_fault_of (BadField at field) = Input (BadField at field)
 run_fault_of NoMemory = Memory
 
 -- the fault of a run whose book makes no problem
-abbrev pub open_fault_of : ProblemFault → RunFault
-open_fault_of OpenBook = StillOpen
-open_fault_of NoRoom = Memory
+abbrev pub problem_fault_of : ProblemFault → RunFault
+problem_fault_of OpenBook = StillOpen
+problem_fault_of NoRoom = Memory

@@ -9,6 +9,7 @@ use Rattle.dam_cli.specs.Engine.{IsPrintedFor}
 abbrev pub replies_to : ℕ → List Command → List ℕ
 replies_to periods commands = replies_text periods (entries_of periods commands)
 
+-- the replies text of the run of these commands
 abbrev pub AreReplies : ℕ → List Command → List ℕ → Type 0
 AreReplies periods commands text = text ≡ replies_to periods commands
 

@@ -3,7 +3,7 @@ ghost use Rattle.dam_book.specs.Book.{run};
 ghost use Rattle.dam_book.specs.declared.command.Command.{Command};
 ghost use Rattle.dam_results.specs.Journal.{ReadsAs};
 ghost use Rattle.dam_cli.specs.Engine.{Writes};
-ghost use Rattle.dam_cli.specs.Clear.{AreResultsTo, IsBookFault, IsClearedAs, IsClearFault};
+ghost use Rattle.dam_cli.specs.Clear.{AreResultsTo, IsBookFault, IsClearedAs, IsClearFault, IsClearTextFault, IsFaultOnBook};
 
 use crate::fault::RunFault;
 use crate::input::read_input;
@@ -20,17 +20,20 @@ use std::io::{Read, Write};
 ///
 /// The whole text is made before its first byte is written. Where the input is longer than a journal
 /// may be, not all of it is read. `StillOpen` comes where the book is open behind the last command.
-/// Of a reader that doesn't tell its bytes nothing is said, and no clause says that the reader or the
-/// writer failed where `Read` or `Write` is answered: tests show it.
+/// Every selection of the book's blocks is tried, so the time doubles with each block.
+///
+/// Of a reader that doesn't tell its bytes nothing is said, and of a writer that doesn't tell its bytes
+/// nothing is said of what it took. Standard input and output tell no bytes. No clause says that the
+/// reader or the writer failed where `Read` or `Write` is answered: tests show it.
 pub fn run_clear<R: Read, W: Write>(
     alloc: Global,
     reader: &mut R,
     writer: &mut W,
 ) -> Result<(), RunFault>
-    ensures done { OnOk result (IfSome (R.remaining reader.old) (λ given. (periods : ℕ) × (commands : List Command) × ReadsAs given periods commands × Writes (W.contents writer.old) (W.contents writer.new) (IsClearedAs (run periods commands)))) }
+    ensures done { OnOk result (IfSome (R.remaining reader.old) (λ given. Writes (W.contents writer.old) (W.contents writer.new) (AreResultsTo given))) }
     ensures fault { IfErr result (λ fault. IfSome (R.remaining reader.old) (λ given. IsClearFault given fault)) }
     ensures unwritten { IfErr result (λ fault. fault ≢ RunFault.Write → writer.new ≡ writer.old) }
-    ensures exact { (periods : ℕ) (commands : List Command) → IfSome (R.remaining reader.old) (λ given. ReadsAs given periods commands → MatchResult result (λ _. Writes (W.contents writer.old) (W.contents writer.new) (IsClearedAs (run periods commands))) (IsBookFault (run periods commands))) }
+    ensures exact { (periods : ℕ) (commands : List Command) → IfSome (R.remaining reader.old) (λ given. ReadsAs given periods commands → MatchResult result (λ _. Writes (W.contents writer.old) (W.contents writer.new) (IsClearedAs (run periods commands))) (IsFaultOnBook (run periods commands))) }
 {
     let text = read_input(alloc, reader)?;
     let results = clear_text(alloc, text.as_slice())?;
@@ -40,7 +43,7 @@ pub fn run_clear<R: Read, W: Write>(
 /// The results text of the book of a journal's text.
 fn clear_text(alloc: Global, text: &[u8]) -> Result<Vec<u8>, RunFault>
     ensures done { IfOk result (λ results. AreResultsTo text.now results.items) }
-    ensures fault { IfErr result (IsClearFault text.now) }
+    ensures fault { IfErr result (IsClearTextFault text.now) }
     ensures exact { (periods : ℕ) (commands : List Command) → ReadsAs text.now periods commands → MatchResult result (λ results. IsClearedAs (run periods commands) results.items) (IsBookFault (run periods commands)) }
 {
     let book = run_journal(alloc, text)?;

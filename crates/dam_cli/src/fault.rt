@@ -69,9 +69,9 @@ impl From<JournalFault> for RunFault {
 
 impl From<ProblemFault> for RunFault {
     ghost use Rattle.std.specs.Prelude.{◌≡◌};
-    ghost use Rattle.dam_cli.specs.Fault.{open_fault_of};
+    ghost use Rattle.dam_cli.specs.Fault.{problem_fault_of};
 
-    ghost from_gives = { λ fault e. e ≡ open_fault_of fault };
+    ghost from_gives = { λ fault e. e ≡ problem_fault_of fault };
 
     fn from(fault: ProblemFault) -> RunFault {
         match fault {

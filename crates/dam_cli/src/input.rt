@@ -19,7 +19,7 @@ const CHUNK: usize = 65_536;
 pub fn read_input<R: Read>(alloc: Global, reader: &mut R) -> Result<Vec<u8>, RunFault>
     ensures text { IfOk result (λ text. IfSome (R.remaining reader.old) (λ given. text.items ≡ take MOST_READ given)) }
     ensures fault { IfErr result IsMachineFault }
-    ensures unwritten { result ≢ Err RunFault.Write }
+    ensures no_write { result ≢ Err RunFault.Write }
 {
     let mut text = Vec::new(alloc);
     let mut chunk = [0; CHUNK];

@@ -2,7 +2,7 @@ ghost use Rattle.std.specs.Prelude.{◌≡◌, ℕ, List, true, IfOk, IfErr, Mat
 ghost use Rattle.dam_book.specs.Book.{empty_book, is_day, run};
 ghost use Rattle.dam_book.specs.declared.command.Command.{Command};
 ghost use Rattle.dam_results.specs.Journal.{ReadsAs};
-ghost use Rattle.dam_cli.specs.Engine.{IsMachineFault, IsTextFault};
+ghost use Rattle.dam_cli.specs.Engine.{IsTextFault};
 
 use crate::fault::RunFault;
 use dam_book::{Book, replay};
@@ -25,7 +25,7 @@ pub fn empty_book(alloc: Global, periods: u8) -> Book
 pub fn run_journal(alloc: Global, text: &[u8]) -> Result<Book, RunFault>
     ensures done { IfOk result (λ book. (periods : ℕ) × (commands : List Command) × ReadsAs text.now periods commands × (book ≡ run periods commands)) }
     ensures fault { IfErr result (IsTextFault text.now) }
-    ensures exact { (periods : ℕ) (commands : List Command) → ReadsAs text.now periods commands → MatchResult result (λ book. book ≡ run periods commands) IsMachineFault }
+    ensures exact { (periods : ℕ) (commands : List Command) → ReadsAs text.now periods commands → MatchResult result (λ book. book ≡ run periods commands) (λ fault. fault ≡ RunFault.Memory) }
 {
     let journal = read_journal(alloc, text)?;
     let empty = empty_book(alloc, journal.periods);

@@ -2,7 +2,7 @@ ghost use Rattle.std.specs.Prelude.{◌≡◌, ◌≢◌, ℕ, List, IfOk, IfErr
 ghost use Rattle.std.specs.Io.KnownBytes.{Appends};
 ghost use Rattle.dam_book.specs.declared.command.Command.{Command};
 ghost use Rattle.dam_results.specs.Journal.{ReadsAs};
-ghost use Rattle.dam_cli.specs.Engine.{IsFaultOn, IsMachineFault, IsTextFault};
+ghost use Rattle.dam_cli.specs.Engine.{IsFaultOn, IsMachineFault, IsTextFault, Writes};
 ghost use Rattle.dam_cli.specs.Replay.{AreRepliesTo, replies_to};
 
 use crate::fault::RunFault;
@@ -17,14 +17,17 @@ use std::io::{Read, Write};
 /// to each.
 ///
 /// The whole text is made before its first byte is written. Where the input is longer than a journal
-/// may be, not all of it is read. Of a reader that doesn't tell its bytes nothing is said, and no clause
-/// says that the reader or the writer failed where `Read` or `Write` is answered: tests show it.
+/// may be, not all of it is read.
+///
+/// Of a reader that doesn't tell its bytes nothing is said, and of a writer that doesn't tell its bytes
+/// nothing is said of what it took. Standard input and output tell no bytes. No clause says that the
+/// reader or the writer failed where `Read` or `Write` is answered: tests show it.
 pub fn run_replay<R: Read, W: Write>(
     alloc: Global,
     reader: &mut R,
     writer: &mut W,
 ) -> Result<(), RunFault>
-    ensures done { OnOk result (IfSome (R.remaining reader.old) (λ given. (periods : ℕ) × (commands : List Command) × ReadsAs given periods commands × Appends (W.contents writer.old) (W.contents writer.new) (replies_to periods commands))) }
+    ensures done { OnOk result (IfSome (R.remaining reader.old) (λ given. Writes (W.contents writer.old) (W.contents writer.new) (AreRepliesTo given))) }
     ensures fault { IfErr result (λ fault. IfSome (R.remaining reader.old) (λ given. IsFaultOn given fault)) }
     ensures unwritten { IfErr result (λ fault. fault ≢ RunFault.Write → writer.new ≡ writer.old) }
     ensures exact { (periods : ℕ) (commands : List Command) → IfSome (R.remaining reader.old) (λ given. ReadsAs given periods commands → MatchResult result (λ _. Appends (W.contents writer.old) (W.contents writer.new) (replies_to periods commands)) IsMachineFault) }
@@ -38,7 +41,7 @@ pub fn run_replay<R: Read, W: Write>(
 fn replay_text(alloc: Global, text: &[u8]) -> Result<Vec<u8>, RunFault>
     ensures done { IfOk result (λ replies. AreRepliesTo text.now replies.items) }
     ensures fault { IfErr result (IsTextFault text.now) }
-    ensures exact { (periods : ℕ) (commands : List Command) → ReadsAs text.now periods commands → MatchResult result (λ replies. replies.items ≡ replies_to periods commands) IsMachineFault }
+    ensures exact { (periods : ℕ) (commands : List Command) → ReadsAs text.now periods commands → MatchResult result (λ replies. replies.items ≡ replies_to periods commands) (λ fault. fault ≡ RunFault.Memory) }
 {
     let journal = read_journal(alloc, text)?;
     let empty = empty_book(alloc, journal.periods);

@@ -145,6 +145,7 @@ volume_found problem sel t i executions hour are stands least within =
       get_or found.0 i 0,
       ap (λ (o : Option (List ℕ)). option_and_then (λ (xs : List ℕ). slice_get xs i) o) found.1 ∙ volume,
       record {
+        from_one = least;
         hour = hour;
         stands = stands;
         executed = found.0;

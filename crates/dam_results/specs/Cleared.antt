@@ -10,13 +10,13 @@ use Rattle.dam_blocks.specs.Selection.{net_volume}
 use Rattle.dam_results.specs.declared.published.PeriodResult.{PeriodResult}
 use Rattle.dam_results.specs.Published.{IsPeriodResult, ArePeriodResults, prices_of}
 
--- period t is a period of the day, and some execution balances there
+-- period t, counted from 1, is a period of the day, and some execution balances there
 pub record IsBalancedIn (problem : ProblemState) (sel : List Bool) (t : ℕ) : Type 0 where
   pub hour : List Step
   pub stands : slice_get problem.hours (t - 1) ≡ Some hour
   pub balanced : IsBalanced hour (net_volume problem.blocks sel t)
 
--- what is published of period t, and its best execution
+-- what is published of period t, counted from 1, and its best execution
 pub record IsCleared (problem : ProblemState) (sel : List Bool) (t : ℕ) (published : PeriodResult) (executed : List ℕ) : Type 0 where
   pub hour : List Step
   pub stands : slice_get problem.hours (t - 1) ≡ Some hour

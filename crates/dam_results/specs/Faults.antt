@@ -31,13 +31,13 @@ pub record HasFault (rows : List Fields) (fault : JournalFault) : Type 0 where
   pub fine : (front ≡ []) ⊎ ((periods : ℕ) × (commands : List Command) × AreRecords front periods commands)
   pub faulty : IsRecordFault (length front + 1) row fault
 
--- these records make no journal, and this is their first fault; of want of memory it says only that it comes after the faults of the whole text
+-- these records make no journal, and this is their first fault; of want of memory it says nothing
 abbrev pub IsFaultOfRecords : List Fields → JournalFault → Type 0
 IsFaultOfRecords rows NotDay = (rows ≡ []) ⊎ HasFault rows NotDay
 IsFaultOfRecords rows Memory = Unit {0}
 IsFaultOfRecords rows fault = HasFault rows fault
 
--- the text is no journal, and this is its first fault
+-- the text is no journal, and this is its first fault; of want of memory it says only that the whole text has no fault of length or bytes
 abbrev pub IsFaultOf : List ℕ → JournalFault → Type 0
 IsFaultOf text TooLong = MOST_BYTES < length text
 IsFaultOf text (NotAscii offset) = (length text ≤ MOST_BYTES) × (first_high text ≡ Some offset)

@@ -1,5 +1,5 @@
 -- What is published of a selection: the price and the volume of each period, and what becomes of each order of the book.
-use Rattle.std.specs.Prelude.{◌≡◌, ℕ, suc, ◌-◌, ℤ, pos, ◌+ℤ◌, Bool, true, false, Some, List, [], ◌∷◌, ◌++◌, length, map, slice_get, decimal, codes}
+use Rattle.std.specs.Prelude.{◌≡◌, ◌≤◌, ℕ, suc, ◌-◌, ℤ, pos, ◌+ℤ◌, Bool, true, false, Some, List, [], ◌∷◌, ◌++◌, length, map, slice_get, decimal, codes}
 use Rattle.std.specs.List.{flat_map}
 use Rattle.std.specs.Fmt.{signed_decimal}
 use Rattle.dam_book.specs.Fields.{price_text}
@@ -36,8 +36,9 @@ ArePeriodResults blocks sel t (ss ∷ hours) [] = ⊥
 abbrev pub prices_of : List PeriodResult → List ℤ
 prices_of periods = map (λ (r : PeriodResult). r.price) periods
 
--- the best execution of period t gives the hourly order at place i this volume
+-- the best execution of period t, counted from 1, gives the hourly order at place i, counted from 0, this volume
 pub record IsExecuted (problem : ProblemState) (sel : List Bool) (t i volume : ℕ) : Type 0 where
+  pub from_one : 1 ≤ t
   pub hour : List Step
   pub stands : slice_get problem.hours (t - 1) ≡ Some hour
   pub executed : List ℕ

@@ -92,35 +92,35 @@ fn check_bytes(text: &[u8]) -> Result<(), JournalFault>
     }
 }
 
-fn kind(record: &ByteRecord) -> &[u8]
-    ensures { result.now ≡ kind_field (fields_of record.entry.now) }
+fn kind(fields: &ByteRecord) -> &[u8]
+    ensures { result.now ≡ kind_field (fields_of fields.entry.now) }
 {
-    match record.get(0) {
+    match fields.get(0) {
         Some(kind) => kind,
         None => &[],
     }
 }
 
-fn read_first(record: &ByteRecord) -> Result<u8, JournalFault>
-    ensures { MatchResult result (λ periods. (is_day periods ≡ true) × (fields_of record.now ≡ day_row periods)) (IsRecordFault 1 (fields_of record.now)) }
+fn read_first(fields: &ByteRecord) -> Result<u8, JournalFault>
+    ensures { MatchResult result (λ periods. (is_day periods ≡ true) × (fields_of fields.now ≡ day_row periods)) (IsRecordFault 1 (fields_of fields.now)) }
 {
-    if kind(record) != b"day".as_slice() {
+    if kind(fields) != b"day".as_slice() {
         return Err(JournalFault::NotDay);
     }
-    let Some(row) = Row::of(record) else {
+    let Some(row) = Row::of(fields) else {
         return Err(JournalFault::FieldCount(1));
     };
     read_day(&row).map_err(|field| JournalFault::BadField(1, field))
 }
 
-fn read_later(number: usize, record: &ByteRecord) -> Result<Command, JournalFault>
+fn read_later(number: usize, fields: &ByteRecord) -> Result<Command, JournalFault>
     requires { 1 < number }
-    ensures { MatchResult result (λ command. (number ≤ MOST_RECORDS) × IsCommand command × (fields_of record.now ≡ row_of command)) (IsRecordFault number (fields_of record.now)) }
+    ensures { MatchResult result (λ command. (number ≤ MOST_RECORDS) × IsCommand command × (fields_of fields.now ≡ row_of command)) (IsRecordFault number (fields_of fields.now)) }
 {
     if number > MOST_RECORDS {
         return Err(JournalFault::TooManyRecords);
     }
-    let Some(row) = Row::of(record) else {
+    let Some(row) = Row::of(fields) else {
         return Err(JournalFault::FieldCount(number));
     };
     read_command(&row).map_err(|field| JournalFault::BadField(number, field))

@@ -1,4 +1,4 @@
-//! The texts that the auction reads and prints.
+//! The texts that the auction reads and prints, and what is published of a selection.
 #![tactic(auto)]
 
 mod clearing;

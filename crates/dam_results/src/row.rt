@@ -22,22 +22,22 @@ pub(crate) struct Row<'a> {
 impl<'a> Row<'a> {
     /// `None` where the record doesn't have nine fields.
     #[tactic(auto, using(crate::proofs::Fields::missing))]
-    pub(crate) fn of(record: &'a ByteRecord) -> Option<Row<'a>>
-        ensures { MatchOption result (length (fields_of record.entry.now) ≢ 9) (λ row. fields_of record.entry.now ≡ fields_in row) }
+    pub(crate) fn of(fields: &'a ByteRecord) -> Option<Row<'a>>
+        ensures { MatchOption result (length (fields_of fields.entry.now) ≢ 9) (λ row. fields_of fields.entry.now ≡ fields_in row) }
     {
-        if record.len() != 9 {
+        if fields.len() != 9 {
             return None;
         }
         Some(Row {
-            kind: record.get(0)?,
-            who: record.get(1)?,
-            name: record.get(2)?,
-            form: record.get(3)?,
-            side: record.get(4)?,
-            price: record.get(5)?,
-            volumes: record.get(6)?,
-            parent: record.get(7)?,
-            group: record.get(8)?,
+            kind: fields.get(0)?,
+            who: fields.get(1)?,
+            name: fields.get(2)?,
+            form: fields.get(3)?,
+            side: fields.get(4)?,
+            price: fields.get(5)?,
+            volumes: fields.get(6)?,
+            parent: fields.get(7)?,
+            group: fields.get(8)?,
         })
     }
 }

@@ -1,11 +1,12 @@
 -- What is answered to the text that was read is answered to the given one.
-use Rattle.std.proofs.Common.{◌∙◌, subst}
+use Rattle.std.proofs.Common.{◌≡◌, ◌∙◌, subst, sym}
 use Rattle.std.proofs.lemmas.Result.{err_from_is_err_and, on_ok_weaker}
 use Rattle.std.specs.Io.KnownBytes.{Appends}
+use Rattle.dam_cli.specs.declared.fault.RunFault.TheVariants.{Memory}
 use Rattle.dam_cli.specs.Engine.{IsFaultOn, IsMachineFault, IsTextFault}
-use Rattle.dam_cli.specs.Replay.{AreReplies}
-use Rattle.dam_cli.proofs.Fronts.{fault-on_given}
-use Rattle.dam_cli.proofs.Runs.{known-fault, known-failed, known-done, known-exact}
+use Rattle.dam_cli.specs.Replay.{AreReplies, AreRepliesTo}
+use Rattle.dam_cli.proofs.Fronts.{fault-on_given, printed-journal}
+use Rattle.dam_cli.proofs.Runs.{known-fault, known-failed, known-done, known-exact, known-write}
 use Rattle.dam_cli.proofs.replay.run_replay.Goals as goal
 
 pub returns-in_err-replies-clause-fault : goal.returns-in_err-replies-clause-fault
@@ -18,16 +19,20 @@ pub returns-in_err-replies-clause-exact : goal.returns-in_err-replies-clause-exa
 returns-in_err-replies-clause-exact g c = λ periods commands.
     let p = err_from_is_err_and c.from_residual-in_err-replies.result c.from_residual-in_err-replies.ensures.1 in
     let failed = rw c.as_slice.ensures.value at c.in_err-replies.ensures.exact periods commands in
-    rw (p.1, p.2) (known-failed IsMachineFault _ _ _ periods commands c.in_ok-text.ensures.text failed)
+    rw (p.1, p.2) (known-failed (λ fault. fault ≡ Memory) IsMachineFault _ _ _ periods commands (λ fault is. subst IsMachineFault (sym is) tt) c.in_ok-text.ensures.text failed)
 
 pub returns-clause-done : goal.returns-clause-done
 returns-clause-done g c =
     let done = rw c.as_slice.ensures.value at c.in_ok-replies.ensures.done in
-    known-done AreReplies _ _ _ _ _ c.in_ok-text.ensures.text
-    (λ periods commands is. on_ok_weaker _ (subst (Appends _ _) (c.as_slice-2.ensures.value ∙ is)) c.write_text.ensures.done) done
+    known-done AreReplies _ _ _ _ _ _ _ c.in_ok-text.ensures.text c.as_slice-2.ensures.value c.write_text.ensures.done done
+
+pub returns-clause-fault : goal.returns-clause-fault
+returns-clause-fault g c =
+    let done = rw c.as_slice.ensures.value at c.in_ok-replies.ensures.done in
+    known-write (λ text. AreRepliesTo text c.in_ok-replies.replies.items) IsFaultOn _ _ _ (printed-journal AreReplies c.in_ok-replies.replies.items) c.in_ok-text.ensures.text c.write_text.ensures.fault done
 
 pub returns-clause-exact : goal.returns-clause-exact
 returns-clause-exact g c = λ periods commands.
     let exact = rw c.as_slice.ensures.value at c.in_ok-replies.ensures.exact periods commands in
     known-exact (AreReplies periods commands _) _ IsMachineFault _ _ _ periods commands c.in_ok-text.ensures.text
-    (λ is. on_ok_weaker _ (subst (Appends _ _) (c.as_slice-2.ensures.value ∙ is)) c.write_text.ensures.done) tt c.write_text.ensures.fault exact
+    (λ is. on_ok_weaker _ (subst (Appends _ _) (c.as_slice-2.ensures.value ∙ is)) c.write_text.ensures.done) (λ _. tt) c.write_text.ensures.fault exact

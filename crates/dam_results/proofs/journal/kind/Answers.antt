@@ -3,7 +3,7 @@ use Rattle.dam_results.proofs.Fields.{kind_field-Some, kind_field-None}
 use Rattle.dam_results.proofs.journal.kind.Goals as goal
 
 pub returns-in-Some : goal.returns-in-Some
-returns-in-Some c = kind_field-Some (fields_of c.args.record.now) _ c.in-Some.ensures.value
+returns-in-Some c = kind_field-Some (fields_of c.args.fields.now) _ c.in-Some.ensures.value
 
 pub returns-in-None : goal.returns-in-None
-returns-in-None c = kind_field-None (fields_of c.args.record.now) c.in-None.ensures.value
+returns-in-None c = kind_field-None (fields_of c.args.fields.now) c.in-None.ensures.value
