@@ -81,6 +81,6 @@ pub record IsAllowed (blocks : List Block) (sel : List Bool) (i : ℕ) : Type 0 
   pub stands : slice_get blocks i ≡ Some block
   pub others : (j : ℕ) (other : Block) → j ≢ i → slice_get blocks j ≡ Some other → Permits other (accepts sel j) block
 
--- only blocks are accepted, each with its parent, and at most one of each group
+-- only blocks are accepted, each with its parent, and at most one of each group; a problem's parents all stand among its blocks, so that none is missing
 pub record IsAdmissible (blocks : List Block) (sel : List Bool) : Type 0 where
   pub each : (i : ℕ) → accepts sel i ≡ true → IsAllowed blocks sel i
