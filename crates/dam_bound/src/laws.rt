@@ -21,6 +21,7 @@ pub fn bound()
 {
     dam_hour::laws::joining();
     dam_hour::laws::welfare();
+    dam_hour::laws::magnitude();
 }
 
 /// A prefix that extends another has no greater relaxed welfare; and where the shorter one has none,
@@ -33,6 +34,7 @@ pub fn extension()
 {
     dam_hour::laws::joining();
     dam_hour::laws::welfare();
+    dam_hour::laws::magnitude();
 }
 
 /// Where every block is decided, the relaxed welfare is the welfare of each completion.
@@ -54,10 +56,13 @@ pub fn completions()
         → IsCompletion decided sel → IsAdmissible problem.blocks sel → sel ≡ padded decided }
 {}
 
-/// How large a relaxed welfare can be: as large as the welfare of a selection.
+/// How large a relaxed welfare can be: as large as the welfare of a selection, 4,000 hourly orders, and
+/// 24 blocks in 25 periods, each count at most 400,000 cents per MWh times 99,999 tenths of a MW.
 pub fn magnitude()
     ensures { (problem : ProblemState) (decided : List Bool) (w : ℤ) → IsProblem problem
         → relaxed_welfare problem decided ≡ Some w → IsWithin greatest_selection_welfare w }
 {
+    dam_hour::laws::joining();
     dam_hour::laws::welfare();
+    dam_hour::laws::magnitude();
 }

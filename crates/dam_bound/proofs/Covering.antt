@@ -1,0 +1,177 @@
+-- The bound law: what a selection reaches in a period, the relaxed period reaches too.
+use Rattle.std.proofs.Common.{◌≡◌, ℕ, suc, ◌+◌, ◌↔◌, ◌⊎◌, inl, inr, ℤ, pos, ◌+ℤ◌, ◌≤ℤ◌, Bool, Option, Some, None, List, [], ◌∷◌, ◌++◌, length, drop, ap, ap₂, ◌∙◌, sym, refl, arith}
+use Rattle.std.specs.Option.{option_map}
+use Rattle.std.proofs.lemmas.Int.{ints}
+use Rattle.std.proofs.lemmas.List.{append-nil}
+use Rattle.dam_book.specs.declared.order.Side.{Side}
+use Rattle.dam_book.specs.declared.order.Side.TheVariants.{Buy, Sell}
+use Rattle.dam_hour.specs.declared.step.Step.{Step}
+use Rattle.dam_hour.specs.Execution.{AreInRange, IsExecution, executed_volume, Balances, IsUnbalanced}
+use Rattle.dam_hour.specs.Best.{welfare_of, AreSmall, greatest_welfare}
+use Rattle.dam_blocks.specs.declared.problem.Block.{Block}
+use Rattle.dam_book.specs.Terms.{BlockTerms}
+use Rattle.dam_blocks.specs.Selection.{over_accepted, net_volume_of, value_of, net_volume, block_value}
+use Rattle.dam_blocks.specs.Eligible.{added, period_welfare, welfare_from}
+use Rattle.dam_bound.specs.Relaxed.{as_steps, relaxed_hours}
+use Rattle.dam_bound.proofs.Sums.{over_accepted-split}
+use Rattle.dam_bound.proofs.Standing.{stand, idle}
+
+-- what the laws of one period say of its executions and of their welfare
+pub record HourLaws : Type 0 where
+  pub joined : (ss ts : List Step) (xs ys : List ℕ) → IsExecution ss xs → IsExecution ts ys → IsExecution (ss ++ ts) (xs ++ ys)
+  pub parted : (ss ts : List Step) (zs : List ℕ) → IsExecution (ss ++ ts) zs → (xs : List ℕ) × (ys : List ℕ) × (zs ≡ xs ++ ys) × IsExecution ss xs × IsExecution ts ys
+  pub volume : (side : Side) (ss ts : List Step) (xs ys : List ℕ) → IsExecution ss xs
+      → executed_volume side (ss ++ ts) (xs ++ ys) ≡ executed_volume side ss xs + executed_volume side ts ys
+  pub welfare : (ss ts : List Step) (xs ys : List ℕ) → IsExecution ss xs → welfare_of (ss ++ ts) (xs ++ ys) ≡ welfare_of ss xs +ℤ welfare_of ts ys
+  pub reached : (ss : List Step) (net w : ℤ) → greatest_welfare ss net ≡ Some w → (xs : List ℕ) × IsExecution ss xs × Balances ss net xs × (welfare_of ss xs ≡ w)
+  pub bound : (ss : List Step) (net w : ℤ) → greatest_welfare ss net ≡ Some w → (xs : List ℕ) → IsExecution ss xs → Balances ss net xs → welfare_of ss xs ≤ℤ w
+  pub none : (ss : List Step) (net : ℤ) → (greatest_welfare ss net ≡ None) ↔ IsUnbalanced ss net
+  pub small : (ss : List Step) (xs : List ℕ) → AreInRange ss → IsExecution ss xs → AreSmall (length ss) (executed_volume Buy ss xs) (executed_volume Sell ss xs) (welfare_of ss xs)
+
+-- ---- options
+pub added_some : (x y : Option ℤ) (w : ℤ) → added x y ≡ Some w → (u : ℤ) × (v : ℤ) × (x ≡ Some u) × (y ≡ Some v) × (u +ℤ v ≡ w)
+added_some (Some x) (Some y) w e = (x, y, refl, refl, cc)
+added_some None y w e = absurd (cc)
+added_some (Some x) None w e = absurd (cc)
+
+pub added_is : (x y : Option ℤ) (u v : ℤ) → x ≡ Some u → y ≡ Some v → added x y ≡ Some (u +ℤ v)
+added_is x y u v e f = ap₂ added e f
+
+pub raised_some : (x : Option ℤ) (k u : ℤ) → option_map (λ w. w +ℤ k) x ≡ Some u → (g : ℤ) × (x ≡ Some g) × (g +ℤ k ≡ u)
+raised_some (Some x) k u e = (x, refl, cc)
+raised_some None k u e = absurd (cc)
+
+pub raised_is : (x : Option ℤ) (k g : ℤ) → x ≡ Some g → option_map (λ w. w +ℤ k) x ≡ Some (g +ℤ k)
+raised_is x k g e = ap (option_map (λ w. w +ℤ k)) e
+
+some_or_none : (x : Option ℤ) → (x ≡ None) ⊎ ((v : ℤ) × (x ≡ Some v))
+some_or_none None = inl refl
+some_or_none (Some v) = inr (v, refl)
+
+pub none_of_none : (x y : Option ℤ) → ((w : ℤ) → y ≡ Some w → (r : ℤ) × (x ≡ Some r) × (w ≤ℤ r)) → x ≡ None → y ≡ None
+none_of_none x None h e = refl
+none_of_none x (Some w) h e = let found = h w refl in let is = found.1 in absurd (cc)
+
+-- ---- one period
+-- some execution that balances reaches a welfare, and so a greatest welfare exists and is no less
+great_at_least : HourLaws → (ss : List Step) (net : ℤ) (xs : List ℕ) → IsExecution ss xs → Balances ss net xs
+    → (g : ℤ) × (greatest_welfare ss net ≡ Some g) × (welfare_of ss xs ≤ℤ g)
+great_at_least laws ss net xs e b = elim (some_or_none (greatest_welfare ss net)) [
+  | inl none ↦ absurd ((laws.none ss net).0 none xs e b)
+  | inr some ↦ (some.0, some.1, laws.bound ss net some.0 some.1 xs e b)
+]
+
+-- an execution of the steps and one of the blocks that stay undecided, which balance where more is decided
+covered : HourLaws → (t : ℕ) (bs : List Block) (decided rest : List Bool) (ss : List Step) (xs us : List ℕ)
+    → IsExecution ss xs → IsExecution (as_steps t (drop (length rest) (drop (length decided) bs))) us
+    → (pos (executed_volume Sell ss xs) +ℤ pos (executed_volume Sell (as_steps t (drop (length rest) (drop (length decided) bs))) us)) +ℤ net_volume bs (decided ++ rest) t
+    ≡ pos (executed_volume Buy ss xs) +ℤ pos (executed_volume Buy (as_steps t (drop (length rest) (drop (length decided) bs))) us)
+    → (r : ℤ) × (period_welfare bs decided t (ss ++ as_steps t (drop (length decided) bs)) ≡ Some r)
+    × (((welfare_of ss xs +ℤ welfare_of (as_steps t (drop (length rest) (drop (length decided) bs))) us) +ℤ block_value bs (decided ++ rest) t) ≤ℤ r)
+covered laws t bs decided rest ss xs us e f b =
+    let undecided = drop (length decided) bs in
+    let s = stand t undecided rest us f in
+    let ts = as_steps t undecided in
+    let net = over_accepted-split (net_volume_of t) bs decided rest in
+    let value = over_accepted-split (value_of t) bs decided rest in
+    let sold = laws.volume Sell ss ts xs s.volumes e in
+    let bought = laws.volume Buy ss ts xs s.volumes e in
+    let worth = laws.welfare ss ts xs s.volumes e in
+    let own = s.balance in let gain = s.welfare in
+    let found = great_at_least laws (ss ++ ts) (net_volume bs decided t) (xs ++ s.volumes) (laws.joined ss ts xs s.volumes e s.execution)
+    (omega (arith, ints, b, net, sold, bought, own)) in
+    let most = found.2 in (
+      found.0 +ℤ block_value bs decided t,
+      raised_is (greatest_welfare (ss ++ ts) (net_volume bs decided t)) (block_value bs decided t) found.0 found.1,
+      omega (arith, ints, most, worth, gain, value),
+    )
+
+pub drop_more : (bs : List Block) (decided rest : List Bool) → drop (length (decided ++ rest)) bs ≡ drop (length rest) (drop (length decided) bs)
+drop_more bs [] rest = refl
+drop_more [] (d ∷ decided) [] = refl
+drop_more [] (d ∷ decided) (r ∷ rest) = refl
+drop_more (b ∷ bs) (d ∷ decided) rest = drop_more bs decided rest
+
+-- deciding more raises no period
+period_extended : HourLaws → (t : ℕ) (bs : List Block) (decided rest : List Bool) (ss : List Step) (w : ℤ)
+    → period_welfare bs (decided ++ rest) t (ss ++ as_steps t (drop (length rest) (drop (length decided) bs))) ≡ Some w
+    → (r : ℤ) × (period_welfare bs decided t (ss ++ as_steps t (drop (length decided) bs)) ≡ Some r) × (w ≤ℤ r)
+period_extended laws t bs decided rest ss w e =
+    let ts = as_steps t (drop (length rest) (drop (length decided) bs)) in
+    let parts = raised_some (greatest_welfare (ss ++ ts) (net_volume bs (decided ++ rest) t)) (block_value bs (decided ++ rest) t) w e in
+    let best = laws.reached (ss ++ ts) (net_volume bs (decided ++ rest) t) parts.0 parts.1 in
+    let apart = laws.parted ss ts best.0 best.1 in
+    let sold = ap (executed_volume Sell (ss ++ ts)) apart.2 ∙ laws.volume Sell ss ts apart.0 apart.1 apart.3 in
+    let bought = ap (executed_volume Buy (ss ++ ts)) apart.2 ∙ laws.volume Buy ss ts apart.0 apart.1 apart.3 in
+    let worth = ap (welfare_of (ss ++ ts)) apart.2 ∙ laws.welfare ss ts apart.0 apart.1 apart.3 in
+    let balance = best.2 in let is = best.3 in let sum = parts.2 in
+    let found = covered laws t bs decided rest ss apart.0 apart.1 apart.3 apart.4 (omega (arith, ints, balance, sold, bought)) in
+    let most = found.2 in
+    (found.0, found.1, omega (arith, ints, most, worth, is, sum))
+
+-- no completion reaches more in a period
+period_completed : HourLaws → (t : ℕ) (bs : List Block) (decided rest : List Bool) (ss : List Step) (w : ℤ) → period_welfare bs (decided ++ rest) t ss ≡ Some w
+    → (r : ℤ) × (period_welfare bs decided t (ss ++ as_steps t (drop (length decided) bs)) ≡ Some r) × (w ≤ℤ r)
+period_completed laws t bs decided rest ss w e =
+    let none = idle (as_steps t (drop (length rest) (drop (length decided) bs))) in
+    let parts = raised_some (greatest_welfare ss (net_volume bs (decided ++ rest) t)) (block_value bs (decided ++ rest) t) w e in
+    let best = laws.reached ss (net_volume bs (decided ++ rest) t) parts.0 parts.1 in
+    let balance = best.2 in let is = best.3 in let sum = parts.2 in
+    let sold = none.sold in let bought = none.bought in let worth = none.welfare in
+    let found = covered laws t bs decided rest ss best.0 none.volumes best.1 none.execution (omega (arith, ints, balance, sold, bought)) in
+    let most = found.2 in
+    (found.0, found.1, omega (arith, ints, most, worth, is, sum))
+
+-- ---- the day
+extended_from : HourLaws → (t : ℕ) (bs : List Block) (decided rest : List Bool) (hours : List (List Step)) (w : ℤ)
+    → welfare_from bs (decided ++ rest) t (relaxed_hours (drop (length rest) (drop (length decided) bs)) t hours) ≡ Some w
+    → (r : ℤ) × (welfare_from bs decided t (relaxed_hours (drop (length decided) bs) t hours) ≡ Some r) × (w ≤ℤ r)
+extended_from laws t bs decided rest [] w e = let zero : w ≡ pos 0 = cc in (pos 0, refl, omega (arith, ints, zero))
+extended_from laws t bs decided rest (ss ∷ hours) w e =
+    let left = drop (length rest) (drop (length decided) bs) in
+    let parts = added_some (period_welfare bs (decided ++ rest) t (ss ++ as_steps t left)) (welfare_from bs (decided ++ rest) (suc t) (relaxed_hours left (suc t) hours)) w e in
+    let here = period_extended laws t bs decided rest ss parts.0 parts.2 in
+    let more = extended_from laws (suc t) bs decided rest hours parts.1 parts.3 in
+    let h = here.2 in let m = more.2 in let sum = parts.4 in
+    (here.0 +ℤ more.0, ap₂ added here.1 more.1, omega (arith, ints, h, m, sum))
+
+pub welfare_extended : HourLaws → (bs : List Block) (decided rest : List Bool) (hours : List (List Step)) (w : ℤ)
+    → welfare_from bs (decided ++ rest) 1 (relaxed_hours (drop (length (decided ++ rest)) bs) 1 hours) ≡ Some w
+    → (r : ℤ) × (welfare_from bs decided 1 (relaxed_hours (drop (length decided) bs) 1 hours) ≡ Some r) × (w ≤ℤ r)
+welfare_extended laws bs decided rest hours w e =
+    extended_from laws 1 bs decided rest hours w (ap (λ (left : List Block). welfare_from bs (decided ++ rest) 1 (relaxed_hours left 1 hours)) (sym (drop_more bs decided rest)) ∙ e)
+
+pub completed_from : HourLaws → (t : ℕ) (bs : List Block) (decided rest : List Bool) (hours : List (List Step)) (w : ℤ) → welfare_from bs (decided ++ rest) t hours ≡ Some w
+    → (r : ℤ) × (welfare_from bs decided t (relaxed_hours (drop (length decided) bs) t hours) ≡ Some r) × (w ≤ℤ r)
+completed_from laws t bs decided rest [] w e = let zero : w ≡ pos 0 = cc in (pos 0, refl, omega (arith, ints, zero))
+completed_from laws t bs decided rest (ss ∷ hours) w e =
+    let parts = added_some (period_welfare bs (decided ++ rest) t ss) (welfare_from bs (decided ++ rest) (suc t) hours) w e in
+    let here = period_completed laws t bs decided rest ss parts.0 parts.2 in
+    let more = completed_from laws (suc t) bs decided rest hours parts.1 parts.3 in
+    let h = here.2 in let m = more.2 in let sum = parts.4 in
+    (here.0 +ℤ more.0, ap₂ added here.1 more.1, omega (arith, ints, h, m, sum))
+
+-- ---- every block decided
+relaxed_hours-nil : (t : ℕ) (hours : List (List Step)) → relaxed_hours [] t hours ≡ hours
+relaxed_hours-nil t [] = refl
+relaxed_hours-nil t (ss ∷ hours) = ap₂ (λ (x : List Step) (y : List (List Step)). x ∷ y) (append-nil ss) (relaxed_hours-nil (suc t) hours)
+
+-- the same sums over the accepted blocks give the same welfare
+pub same_welfare : (bs : List Block) (xs ys : List Bool) (t : ℕ) (hours : List (List Step)) → ((u : ℕ) → net_volume bs xs u ≡ net_volume bs ys u)
+    → ((u : ℕ) → block_value bs xs u ≡ block_value bs ys u) → welfare_from bs xs t hours ≡ welfare_from bs ys t hours
+same_welfare bs xs ys t [] n v = refl
+same_welfare bs xs ys t (ss ∷ hours) n v =
+    ap₂ added (ap₂ (λ (net value : ℤ). option_map (λ w. w +ℤ value) (greatest_welfare ss net)) (n t) (v t)) (same_welfare bs xs ys (suc t) hours n v)
+
+nothing_more : (f : BlockTerms → ℤ) (bs : List Block) (decided rest : List Bool) → drop (length decided) bs ≡ [] → over_accepted f bs decided ≡ over_accepted f bs (decided ++ rest)
+nothing_more f bs decided rest none =
+    let parts = over_accepted-split f bs decided rest in
+    let zero : over_accepted f (drop (length decided) bs) rest ≡ pos 0 = ap (λ (left : List Block). over_accepted f left rest) none in
+    omega (arith, ints, parts, zero)
+
+pub decided_welfare : (bs : List Block) (decided rest : List Bool) (hours : List (List Step)) → drop (length decided) bs ≡ []
+    → welfare_from bs decided 1 (relaxed_hours (drop (length decided) bs) 1 hours) ≡ welfare_from bs (decided ++ rest) 1 hours
+decided_welfare bs decided rest hours none =
+    ap (λ (left : List Block). welfare_from bs decided 1 (relaxed_hours left 1 hours)) none
+    ∙ ap (welfare_from bs decided 1) (relaxed_hours-nil 1 hours)
+    ∙ same_welfare bs decided (decided ++ rest) 1 hours (λ u. nothing_more (net_volume_of u) bs decided rest none) (λ u. nothing_more (value_of u) bs decided rest none)

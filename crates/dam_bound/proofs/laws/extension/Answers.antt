@@ -1,0 +1,20 @@
+-- A block that is decided stands as it may stand undecided.
+use Rattle.dam_bound.proofs.Covering.{none_of_none, welfare_extended}
+use Rattle.dam_bound.proofs.laws.extension.Goals as goal
+
+pub returns-clause-most : goal.returns-clause-most
+returns-clause-most c problem decided rest w e =
+    welfare_extended (record {
+      joined = c.joining.ensures.joined;
+      parted = c.joining.ensures.parted;
+      volume = c.joining.ensures.volume;
+      welfare = c.joining.ensures.welfare;
+      reached = c.welfare.ensures.reached;
+      bound = c.welfare.ensures.bound;
+      none = c.welfare.ensures.none;
+      small = c.magnitude.ensures;
+    })
+    problem.blocks decided rest problem.hours w e
+
+pub returns-clause-none : goal.returns-clause-none
+returns-clause-none c problem decided rest = none_of_none _ _ (λ w e. returns-clause-most c problem decided rest w e)
