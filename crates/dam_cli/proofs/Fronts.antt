@@ -3,32 +3,31 @@ use Rattle.std.proofs.Common.{◌≡◌, ◌≤◌, ℕ, List, length, take, sub
 use Rattle.std.proofs.lemmas.List.{take_all, length-take}
 use Rattle.dam_book.specs.Book.{BookState}
 use Rattle.dam_book.specs.declared.command.Command.{Command}
-use Rattle.dam_results.specs.declared.limits.TheConstants.{MOST_BYTES}
+use Rattle.dam_results.specs.Limits.{most_bytes}
 use Rattle.dam_results.specs.declared.journal.JournalFault.{JournalFault}
 use Rattle.dam_results.specs.declared.journal.JournalFault.TheVariants.{TooLong, NotAscii, TooManyRecords, NotDay, FieldCount, BadField}
 use Rattle.dam_results.specs.declared.journal.JournalFault.TheVariants.{Memory as NoMemory}
 use Rattle.dam_results.specs.Journal.{ReadsAs}
 use Rattle.dam_results.specs.Faults.{IsFaultOf}
-use Rattle.dam_cli.specs.declared.input.TheConstants.{MOST_READ}
 use Rattle.dam_cli.specs.declared.fault.RunFault.{RunFault}
 use Rattle.dam_cli.specs.declared.fault.RunFault.TheVariants.{Read, Input, StillOpen, Memory, Write}
-use Rattle.dam_cli.specs.Engine.{IsJournal, IsPrintedFor, IsTextFault, IsFaultOn}
+use Rattle.dam_cli.specs.Engine.{most_read, IsJournal, IsPrintedFor, IsTextFault, IsFaultOn}
 use Rattle.dam_cli.specs.Clear.{AreResultsTo, IsClosedJournal, IsBookFault, IsFaultOnBook, IsClearTextFault, IsClearFault}
 
-front-of_short : (given : List ℕ) → length given ≤ MOST_BYTES → take MOST_READ given ≡ given
-front-of_short given short = take_all MOST_READ given (omega (arith, short))
+front-of_short : (given : List ℕ) → length given ≤ most_bytes → take most_read given ≡ given
+front-of_short given short = take_all most_read given (omega (arith, short))
 
-front-short : (given : List ℕ) → length (take MOST_READ given) ≤ MOST_BYTES → take MOST_READ given ≡ given
-front-short given short = take_all MOST_READ given (omega (arith, short, length-take MOST_READ given))
+front-short : (given : List ℕ) → length (take most_read given) ≤ most_bytes → take most_read given ≡ given
+front-short given short = take_all most_read given (omega (arith, short, length-take most_read given))
 
-pub reads-given : (given : List ℕ) (periods : ℕ) (commands : List Command) → ReadsAs (take MOST_READ given) periods commands → ReadsAs given periods commands
+pub reads-given : (given : List ℕ) (periods : ℕ) (commands : List Command) → ReadsAs (take most_read given) periods commands → ReadsAs given periods commands
 reads-given given periods commands reads = subst (λ text. ReadsAs text periods commands) (front-short given reads.short) reads
 
-pub reads-front : (given : List ℕ) (periods : ℕ) (commands : List Command) → ReadsAs given periods commands → ReadsAs (take MOST_READ given) periods commands
+pub reads-front : (given : List ℕ) (periods : ℕ) (commands : List Command) → ReadsAs given periods commands → ReadsAs (take most_read given) periods commands
 reads-front given periods commands reads = subst (λ text. ReadsAs text periods commands) (sym (front-of_short given reads.short)) reads
 
-fault-given : (given : List ℕ) (fault : JournalFault) → IsFaultOf (take MOST_READ given) fault → IsFaultOf given fault
-fault-given given TooLong is = omega (arith, is, length-take MOST_READ given)
+fault-given : (given : List ℕ) (fault : JournalFault) → IsFaultOf (take most_read given) fault → IsFaultOf given fault
+fault-given given TooLong is = omega (arith, is, length-take most_read given)
 fault-given given (NotAscii offset) is = subst (λ text. IsFaultOf text (NotAscii offset)) (front-short given is.0) is
 fault-given given TooManyRecords is = subst (λ text. IsFaultOf text TooManyRecords) (front-short given is.0) is
 fault-given given NotDay is = subst (λ text. IsFaultOf text NotDay) (front-short given is.0) is
@@ -37,14 +36,14 @@ fault-given given (BadField at field) is = subst (λ text. IsFaultOf text (BadFi
 fault-given given NoMemory is = subst (λ text. IsFaultOf text NoMemory) (front-short given is.0) is
 
 -- a fault of the front is one on the text
-pub fault-on_given : (given : List ℕ) (fault : RunFault) → IsTextFault (take MOST_READ given) fault → IsFaultOn given fault
+pub fault-on_given : (given : List ℕ) (fault : RunFault) → IsTextFault (take most_read given) fault → IsFaultOn given fault
 fault-on_given given Read is = tt
 fault-on_given given (Input fault) is = (fault-given given fault is.0, is.1)
 fault-on_given given StillOpen is = absurd is
 fault-on_given given Memory is = tt
 fault-on_given given Write is = absurd is
 
-pub clear_fault-given : (given : List ℕ) (fault : RunFault) → IsClearTextFault (take MOST_READ given) fault → IsClearFault given fault
+pub clear_fault-given : (given : List ℕ) (fault : RunFault) → IsClearTextFault (take most_read given) fault → IsClearFault given fault
 clear_fault-given given Read is = tt
 clear_fault-given given (Input fault) is = (fault-given given fault is.0, is.1)
 clear_fault-given given StillOpen is = (is.0, is.1, reads-given given is.0 is.1 is.2, is.3)
@@ -60,9 +59,9 @@ book_fault-run book Memory is = tt
 book_fault-run book Write is = absurd is
 
 -- a text for whose front something is printed is a journal
-pub printed-journal : (Prints : ℕ → List Command → List ℕ → Type 0) (printed given : List ℕ) → IsPrintedFor Prints (take MOST_READ given) printed → IsJournal given
+pub printed-journal : (Prints : ℕ → List Command → List ℕ → Type 0) (printed given : List ℕ) → IsPrintedFor Prints (take most_read given) printed → IsJournal given
 printed-journal Prints printed given are = (are.0, are.1, reads-given given are.0 are.1 are.2)
 
 -- where it is a results text, the journal's book is closed
-pub results-closed : (printed given : List ℕ) → AreResultsTo (take MOST_READ given) printed → IsClosedJournal given
+pub results-closed : (printed given : List ℕ) → AreResultsTo (take most_read given) printed → IsClosedJournal given
 results-closed printed given are = (are.0, are.1, reads-given given are.0 are.1 are.2, are.3.closed)

@@ -4,24 +4,23 @@ use Rattle.std.proofs.lemmas.Result.{MatchResult-from_both, on_ok_weaker, IfErr-
 use Rattle.std.specs.Io.KnownBytes.{Appends}
 use Rattle.dam_book.specs.declared.command.Command.{Command}
 use Rattle.dam_results.specs.Journal.{ReadsAs}
-use Rattle.dam_cli.specs.declared.input.TheConstants.{MOST_READ}
 use Rattle.dam_cli.specs.declared.fault.RunFault.{RunFault}
 use Rattle.dam_cli.specs.declared.fault.RunFault.TheVariants.{Write}
-use Rattle.dam_cli.specs.Engine.{IsPrintedFor, Writes}
+use Rattle.dam_cli.specs.Engine.{most_read, IsPrintedFor, Writes}
 use Rattle.dam_cli.proofs.Fronts.{reads-given, reads-front}
 
 -- the text is the front that is read of the given bytes
 abbrev pub IsFrontOf : Option (List ℕ) → List ℕ → Type 0
-IsFrontOf known text = IfSome known (λ given. text ≡ take MOST_READ given)
+IsFrontOf known text = IfSome known (λ given. text ≡ take most_read given)
 
 -- what a front says of the given bytes is said of them
 known-front : (P Q : List ℕ → Type 0) (known : Option (List ℕ)) (text : List ℕ)
-    → ((given : List ℕ) → P (take MOST_READ given) → Q given) → IsFrontOf known text → P text → IfSome known Q
+    → ((given : List ℕ) → P (take most_read given) → Q given) → IsFrontOf known text → P text → IfSome known Q
 known-front P Q None text carries front holds = tt
 known-front P Q (Some given) text carries front holds = carries given (subst P front holds)
 
 pub known-fault : (P Q : List ℕ → RunFault → Type 0) (known : Option (List ℕ)) (text : List ℕ) (fault : RunFault)
-    → ((given : List ℕ) (fault : RunFault) → P (take MOST_READ given) fault → Q given fault) → IsFrontOf known text → P text fault → IfSome known (λ given. Q given fault)
+    → ((given : List ℕ) (fault : RunFault) → P (take most_read given) fault → Q given fault) → IsFrontOf known text → P text fault → IfSome known (λ given. Q given fault)
 known-fault P Q known text fault carries = known-front (λ bs. P bs fault) (λ bs. Q bs fault) known text (λ given. carries given fault)
 
 pub known-failed : (Fails Told : RunFault → Type 0) (known : Option (List ℕ)) (text : List ℕ) (fault : RunFault) (periods : ℕ) (commands : List Command)
@@ -33,7 +32,7 @@ known-failed Fails Told known text fault periods commands weaker =
 
 -- where the writer failed, what its text shows of the given bytes lets it be told
 pub known-write : (P : List ℕ → Type 0) (Q : List ℕ → RunFault → Type 0) (known : Option (List ℕ)) (text : List ℕ) (result : Result (Unit {0}) RunFault)
-    → ((given : List ℕ) → P (take MOST_READ given) → Q given Write) → IsFrontOf known text → IfErr result (λ fault. fault ≡ Write) → P text
+    → ((given : List ℕ) → P (take most_read given) → Q given Write) → IsFrontOf known text → IfErr result (λ fault. fault ≡ Write) → P text
     → IfErr result (λ fault. IfSome known (λ given. Q given fault))
 known-write P Q known text result carries front failed holds =
     IfErr-weaker result _ _ (λ fault is. known-front P (λ bs. Q bs fault) known text (λ given shown. subst (Q given) (sym is) (carries given shown)) front holds) failed

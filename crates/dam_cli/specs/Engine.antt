@@ -1,12 +1,17 @@
 -- What the engines have in common: what is printed for a journal, and the faults of texts and of the machine.
-use Rattle.std.specs.Prelude.{◌≢◌, ℕ, List, Option}
+use Rattle.std.specs.Prelude.{◌≢◌, ◌+◌, ℕ, List, Option}
 use Rattle.std.specs.Io.KnownBytes.{Appends}
 use Rattle.dam_book.specs.declared.command.Command.{Command}
 use Rattle.dam_results.specs.declared.journal.JournalFault.TheVariants.{Memory as NoMemory}
+use Rattle.dam_results.specs.Limits.{most_bytes}
 use Rattle.dam_results.specs.Journal.{ReadsAs}
 use Rattle.dam_results.specs.Faults.{IsFaultOf}
 use Rattle.dam_cli.specs.declared.fault.RunFault.{RunFault}
 use Rattle.dam_cli.specs.declared.fault.RunFault.TheVariants.{Read, Input, StillOpen, Memory, Write}
+
+-- how many bytes are read at most: one more than a journal may have, which shows that it has too many
+abbrev pub most_read : ℕ
+most_read = most_bytes + 1
 
 -- the text is a journal
 abbrev pub IsJournal : List ℕ → Type 0

@@ -1,4 +1,4 @@
-ghost use Rattle.std.specs.Prelude.{◌≡◌, ◌≢◌, ℕ, List, IfOk, IfErr, IfSome, OnOk, MatchResult};
+ghost use Rattle.std.specs.Prelude.{◌≡◌, ◌≢◌, ◌↔◌, ℕ, List, false, IfOk, IfErr, IfSome, IsErrOf, OnOk, MatchResult};
 ghost use Rattle.dam_book.specs.Book.{run};
 ghost use Rattle.dam_book.specs.declared.command.Command.{Command};
 ghost use Rattle.dam_results.specs.Journal.{ReadsAs};
@@ -30,10 +30,15 @@ pub fn run_clear<R: Read, W: Write>(
     reader: &mut R,
     writer: &mut W,
 ) -> Result<(), RunFault>
-    ensures done { OnOk result (IfSome (R.remaining reader.old) (λ given. Writes (W.contents writer.old) (W.contents writer.new) (AreResultsTo given))) }
-    ensures fault { IfErr result (λ fault. IfSome (R.remaining reader.old) (λ given. IsClearFault given fault)) }
+    ensures done { OnOk result (IfSome (R.remaining reader.old) (λ given.
+        Writes (W.contents writer.old) (W.contents writer.new) (AreResultsTo given))) }
+    ensures fault { IfErr result (λ fault.
+        IfSome (R.remaining reader.old) (λ given. IsClearFault given fault)) }
     ensures unwritten { IfErr result (λ fault. fault ≢ RunFault.Write → writer.new ≡ writer.old) }
-    ensures exact { (periods : ℕ) (commands : List Command) → IfSome (R.remaining reader.old) (λ given. ReadsAs given periods commands → MatchResult result (λ _. Writes (W.contents writer.old) (W.contents writer.new) (IsClearedAs (run periods commands))) (IsFaultOnBook (run periods commands))) }
+    ensures exact { (periods : ℕ) (commands : List Command) → IfSome (R.remaining reader.old)
+        (λ given. ReadsAs given periods commands → MatchResult result
+        (λ _. Writes (W.contents writer.old) (W.contents writer.new) (IsClearedAs (run periods commands)))
+        (IsFaultOnBook (run periods commands))) }
 {
     let text = read_input(alloc, reader)?;
     let results = clear_text(alloc, text.as_slice())?;
@@ -44,16 +49,21 @@ pub fn run_clear<R: Read, W: Write>(
 fn clear_text(alloc: Global, text: &[u8]) -> Result<Vec<u8>, RunFault>
     ensures done { IfOk result (λ results. AreResultsTo text.now results.items) }
     ensures fault { IfErr result (IsClearTextFault text.now) }
-    ensures exact { (periods : ℕ) (commands : List Command) → ReadsAs text.now periods commands → MatchResult result (λ results. IsClearedAs (run periods commands) results.items) (IsBookFault (run periods commands)) }
+    ensures exact { (periods : ℕ) (commands : List Command) → ReadsAs text.now periods commands
+        → MatchResult result
+        (λ results. IsClearedAs (run periods commands) results.items)
+        (IsBookFault (run periods commands)) }
 {
     let book = run_journal(alloc, text)?;
     clear_book(alloc, &book)
 }
 
-/// The results text of a closed book.
+/// The results text of a closed book. An open one is answered `StillOpen`, before any memory is asked
+/// for.
 fn clear_book(alloc: Global, book: &Book) -> Result<Vec<u8>, RunFault>
     ensures done { IfOk result (λ results. IsClearedAs book.now results.items) }
     ensures fault { IfErr result (IsBookFault book.now) }
+    ensures still_open { IsErrOf result RunFault.StillOpen ↔ (book.now.closed ≡ false) }
 {
     let problem = Problem::of_book(alloc, book)?;
     let best = best_of_all(&problem);

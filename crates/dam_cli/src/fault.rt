@@ -1,4 +1,4 @@
-ghost use Rattle.std.specs.Prelude.{◌≡◌, ◌++◌, codes, string_bytes, IfOk};
+ghost use Rattle.std.specs.Prelude.{◌≡◌, ◌++◌, codes, IfOk};
 ghost use Rattle.dam_cli.specs.Fault.{fault_status, fault_text, run_fault_of};
 
 use dam_blocks::ProblemFault;
@@ -104,8 +104,9 @@ pub fn status(fault: &RunFault) -> u8
 }
 
 /// The line that the program prints on standard error, with its line feed.
-pub fn fault_line(alloc: Global, fault: &RunFault) -> Result<String, AllocError>
-    ensures { IfOk result (λ line. string_bytes line ≡ fault_text fault.now ++ codes "\n") }
+pub fn fault_line(alloc: Global, fault: &RunFault) -> Result<Vec<u8>, AllocError>
+    ensures { IfOk result (λ line. line.items ≡ fault_text fault.now ++ codes "\n") }
 {
-    format!(in alloc; "{fault}\n")
+    let line = format!(in alloc; "{fault}\n")?;
+    Ok(line.into_bytes())
 }

@@ -1,5 +1,5 @@
 ghost use Rattle.std.specs.Prelude.{◌≡◌, ◌≢◌, take, IfOk, IfErr, IfSome};
-ghost use Rattle.dam_cli.specs.Engine.{IsMachineFault};
+ghost use Rattle.dam_cli.specs.Engine.{most_read, IsMachineFault};
 
 use crate::fault::RunFault;
 use dam_results::MOST_BYTES;
@@ -17,7 +17,8 @@ const CHUNK: usize = 65_536;
 /// Any error of the reader ends it, one that asks to try again too. Each answer but the last gives a
 /// byte or more, so the reader is asked at most once more than there are bytes read.
 pub fn read_input<R: Read>(alloc: Global, reader: &mut R) -> Result<Vec<u8>, RunFault>
-    ensures text { IfOk result (λ text. IfSome (R.remaining reader.old) (λ given. text.items ≡ take MOST_READ given)) }
+    ensures text { IfOk result (λ text.
+        IfSome (R.remaining reader.old) (λ given. text.items ≡ take most_read given)) }
     ensures fault { IfErr result IsMachineFault }
     ensures no_write { result ≢ Err RunFault.Write }
 {

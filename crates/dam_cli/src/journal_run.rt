@@ -23,9 +23,13 @@ pub fn empty_book(alloc: Global, periods: u8) -> Book
 /// Reads a text as a journal, and gives the book that its commands make of the empty one of its day.
 /// The text may have been cut behind the first byte too many.
 pub fn run_journal(alloc: Global, text: &[u8]) -> Result<Book, RunFault>
-    ensures done { IfOk result (λ book. (periods : ℕ) × (commands : List Command) × ReadsAs text.now periods commands × (book ≡ run periods commands)) }
+    ensures done { IfOk result (λ book. (periods : ℕ) × (commands : List Command)
+        × ReadsAs text.now periods commands × (book ≡ run periods commands)) }
     ensures fault { IfErr result (IsTextFault text.now) }
-    ensures exact { (periods : ℕ) (commands : List Command) → ReadsAs text.now periods commands → MatchResult result (λ book. book ≡ run periods commands) (λ fault. fault ≡ RunFault.Memory) }
+    ensures exact { (periods : ℕ) (commands : List Command) → ReadsAs text.now periods commands
+        → MatchResult result
+        (λ book. book ≡ run periods commands)
+        (λ fault. fault ≡ RunFault.Memory) }
 {
     let journal = read_journal(alloc, text)?;
     let empty = empty_book(alloc, journal.periods);

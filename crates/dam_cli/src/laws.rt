@@ -9,7 +9,8 @@ use dam_results::publishing_laws::selections_are_published_alike;
 
 /// A closed book has one results text at most.
 pub fn cleared_text_is_one()
-    ensures { (book : BookState) (text other : List ℕ) → IsClearedAs book text → IsClearedAs book other → text ≡ other }
+    ensures { (book : BookState) (text other : List ℕ)
+        → IsClearedAs book text → IsClearedAs book other → text ≡ other }
 {
     uniqueness();
     selections_are_published_alike();

@@ -17,7 +17,7 @@ use fault::{RunFault, fault_line, status};
 use replay::run_replay;
 use std::env;
 use std::env::Args;
-use std::io::ErrorKind;
+use std::io::{ErrorKind, Write};
 use std::process::ExitCode;
 
 /// The status of a command line that asks for nothing there is.
@@ -72,7 +72,7 @@ fn carry_out(rt: &HostRuntime, job: Job) -> Result<(), RunFault> {
 /// Prints the fault's line, if there is memory for it, and gives its status.
 fn report(rt: &HostRuntime, fault: &RunFault) -> ExitCode {
     if let Ok(line) = fault_line(rt.alloc(), fault) {
-        let _ = eprint!(rt; "{line}");
+        let _ = rt.stderr().write_all(&line);
     }
     ExitCode::from(status(fault))
 }

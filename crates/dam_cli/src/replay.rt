@@ -27,10 +27,15 @@ pub fn run_replay<R: Read, W: Write>(
     reader: &mut R,
     writer: &mut W,
 ) -> Result<(), RunFault>
-    ensures done { OnOk result (IfSome (R.remaining reader.old) (λ given. Writes (W.contents writer.old) (W.contents writer.new) (AreRepliesTo given))) }
-    ensures fault { IfErr result (λ fault. IfSome (R.remaining reader.old) (λ given. IsFaultOn given fault)) }
+    ensures done { OnOk result (IfSome (R.remaining reader.old) (λ given.
+        Writes (W.contents writer.old) (W.contents writer.new) (AreRepliesTo given))) }
+    ensures fault { IfErr result (λ fault.
+        IfSome (R.remaining reader.old) (λ given. IsFaultOn given fault)) }
     ensures unwritten { IfErr result (λ fault. fault ≢ RunFault.Write → writer.new ≡ writer.old) }
-    ensures exact { (periods : ℕ) (commands : List Command) → IfSome (R.remaining reader.old) (λ given. ReadsAs given periods commands → MatchResult result (λ _. Appends (W.contents writer.old) (W.contents writer.new) (replies_to periods commands)) IsMachineFault) }
+    ensures exact { (periods : ℕ) (commands : List Command) → IfSome (R.remaining reader.old)
+        (λ given. ReadsAs given periods commands → MatchResult result
+        (λ _. Appends (W.contents writer.old) (W.contents writer.new) (replies_to periods commands))
+        IsMachineFault) }
 {
     let text = read_input(alloc, reader)?;
     let replies = replay_text(alloc, text.as_slice())?;
@@ -41,7 +46,10 @@ pub fn run_replay<R: Read, W: Write>(
 fn replay_text(alloc: Global, text: &[u8]) -> Result<Vec<u8>, RunFault>
     ensures done { IfOk result (λ replies. AreRepliesTo text.now replies.items) }
     ensures fault { IfErr result (IsTextFault text.now) }
-    ensures exact { (periods : ℕ) (commands : List Command) → ReadsAs text.now periods commands → MatchResult result (λ replies. replies.items ≡ replies_to periods commands) (λ fault. fault ≡ RunFault.Memory) }
+    ensures exact { (periods : ℕ) (commands : List Command) → ReadsAs text.now periods commands
+        → MatchResult result
+        (λ replies. replies.items ≡ replies_to periods commands)
+        (λ fault. fault ≡ RunFault.Memory) }
 {
     let journal = read_journal(alloc, text)?;
     let empty = empty_book(alloc, journal.periods);

@@ -119,7 +119,7 @@ fn each_fault_has_its_line_and_status(rt: HostRuntime) -> Result<(), Fail> {
         (RunFault::Write, "device: write\n", 4),
     ];
     for (fault, line, number) in table {
-        assert_eq!(rt; fault_line(rt.alloc(), &fault)?.as_str(), line);
+        assert_eq!(rt; fault_line(rt.alloc(), &fault)?.as_slice(), line.as_bytes());
         assert_eq!(rt; status(&fault), number, "{line}");
     }
     Ok(())

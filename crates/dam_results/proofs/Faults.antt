@@ -1,13 +1,13 @@
 -- The first fault of records.
-use Rattle.std.proofs.Common.{◌≡◌, ℕ, ◌+◌, ◌<◌, ◌≤◌, ◌⊎◌, inl, inr, Bool, true, List, [], ◌∷◌, ◌++◌, length, map, Result, Ok, Err, refl, sym, ap, subst, ◌∙◌, arith, append_assoc, append-nil, MatchResult}
+use Rattle.std.proofs.Common.{◌≡◌, ℕ, ◌+◌, ◌≤◌, inl, inr, true, List, [], ◌∷◌, ◌++◌, length, map, Result, Ok, Err, refl, ap, subst, ◌∙◌, arith, append_assoc, append-nil, MatchResult}
 use Rattle.std.specs.List.{AllByRecursion}
 use Rattle.std.proofs.lemmas.List.{map-append, length-map, length-append}
 use Rattle.dam_book.specs.Book.{is_day}
 use Rattle.dam_book.specs.declared.command.Command.{Command}
-use Rattle.dam_results.specs.declared.limits.TheConstants.{MOST_RECORDS}
+use Rattle.dam_results.specs.Limits.{most_records}
 use Rattle.dam_results.specs.declared.journal.JournalFault.{JournalFault}
 use Rattle.dam_results.specs.declared.journal.JournalFault.TheVariants.{TooLong, NotAscii, TooManyRecords, NotDay, FieldCount, BadField, Memory}
-use Rattle.dam_results.specs.Records.{Fields, day_row, row_of, records_of}
+use Rattle.dam_results.specs.Records.{Fields, day_row, row_of}
 use Rattle.dam_results.specs.Journal.{AreRecords, IsCommand}
 use Rattle.dam_results.specs.Faults.{IsRecordFault, HasFault, IsFaultOfRecords}
 
@@ -35,14 +35,14 @@ first_record rows rest row (Err fault) opened e h = in_first rows rest row fault
 pub record Reads (rows : List Fields) (commands : List Command) (rest : List Fields) : Type 0 where
   pub parts : rows ≡ map row_of commands ++ rest
   pub valid : AllByRecursion IsCommand commands
-  pub few : length commands + 1 ≤ MOST_RECORDS
+  pub few : length commands + 1 ≤ most_records
 
 AllByRecursion-push : (cs : List Command) (c : Command) → AllByRecursion IsCommand cs → IsCommand c → AllByRecursion IsCommand (cs ++ c ∷ [])
 AllByRecursion-push [] c h k = (k, tt)
 AllByRecursion-push (d ∷ cs) c h k = (h.0, AllByRecursion-push cs c h.1 k)
 
 pub Reads-more : (rows : List Fields) (commands : List Command) (rest more : List Fields) (row : Fields) (command : Command) → Reads rows commands rest → rest ≡ row ∷ more
-    → (length commands + 2 ≤ MOST_RECORDS) × IsCommand command × (row ≡ row_of command) → Reads rows (commands ++ command ∷ []) more
+    → (length commands + 2 ≤ most_records) × IsCommand command × (row ≡ row_of command) → Reads rows (commands ++ command ∷ []) more
 Reads-more rows commands rest more row command h e k = record {
   parts = h.parts ∙ rw (e, k.2, map-append, append_assoc) refl;
   valid = AllByRecursion-push commands command h.valid k.1;

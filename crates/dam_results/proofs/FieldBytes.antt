@@ -1,9 +1,9 @@
 -- The fields of the records of days and of commands: which bytes they have, and how many.
-use Rattle.std.proofs.Common.{◌≡◌, ℕ, ℤ, pos, negsuc, zero, suc, ◌+◌, ◌*◌, ◌%◌, ◌/◌, ◌<◌, ◌≤◌, ◌^◌, nat_le, ◌&&◌, Bool, true, false, List, [], ◌∷◌, ◌++◌, length, Option, Some, None, refl, sym, ap, subst, ◌∙◌, arith, length-append, codes}
+use Rattle.std.proofs.Common.{◌≡◌, ℕ, ℤ, pos, negsuc, suc, ◌+◌, ◌*◌, ◌%◌, ◌<◌, ◌≤◌, ◌^◌, nat_le, ◌&&◌, Bool, true, List, [], ◌∷◌, ◌++◌, length, Option, Some, None, refl, arith, length-append, codes}
 use Rattle.std.specs.Prelude.{decimal, IfSome}
 use Rattle.std.specs.Fmt.{signed_decimal}
 use Rattle.std.specs.Int.Signed.{mag}
-use Rattle.std.specs.List.{list_all, join_with_byte}
+use Rattle.std.specs.List.{list_all}
 use Rattle.std.proofs.lemmas.Bool.{le-leb}
 use Rattle.std.proofs.lemmas.Bool.Decides.{nat_tests}
 use Rattle.std.proofs.lemmas.Int.{ints}
@@ -14,17 +14,14 @@ use Rattle.dam_book.specs.Price.{IsPrice}
 use Rattle.dam_book.specs.Period.{IsPeriod}
 use Rattle.dam_book.specs.Quantity.{IsQuantity}
 use Rattle.dam_book.specs.Volumes.{Pair, ArePairs, IsVolumes}
-use Rattle.dam_book.specs.Terms.{IsHourOrder, IsBlockOrder}
-use Rattle.dam_book.specs.Order.{IsOrder}
 use Rattle.dam_book.specs.Fields.{price_text, pair_text, volumes_text}
 use Rattle.dam_book.specs.Book.{is_day}
 use Rattle.dam_book.specs.declared.order.Side.{Side}
 use Rattle.dam_book.specs.declared.order.Side.TheVariants.{Buy, Sell}
-use Rattle.dam_book.specs.declared.order.Order.{Order}
 use Rattle.dam_book.specs.declared.order.Order.TheVariants.{Hour, Block}
 use Rattle.dam_book.specs.declared.command.Command.{Command}
 use Rattle.dam_book.specs.declared.command.Command.TheVariants.{Submit, Amend, Cancel, Close}
-use Rattle.dam_results.specs.Records.{Fields, day_row, row_of, order_fields, side_word, optional_text}
+use Rattle.dam_results.specs.Records.{Fields, day_row, row_of, side_word, optional_text}
 use Rattle.dam_results.specs.Journal.{IsCommand}
 
 -- from the dash to the letter z: digits, letters, the colon and the semicolon are there, and no mark of the format is

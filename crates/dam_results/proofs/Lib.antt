@@ -5,6 +5,7 @@ pub mod Rules
 pub mod Faults
 pub mod Written
 pub mod Sound
+pub mod FirstFault
 pub mod Spelled
 pub mod FieldBytes
 pub mod WrittenFacts

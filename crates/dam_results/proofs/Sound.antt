@@ -1,5 +1,5 @@
 -- Records that make a journal have no fault.
-use Rattle.std.proofs.Common.{◌≡◌, ◌≢◌, ℕ, zero, suc, ◌+◌, ◌<◌, ◌≤◌, ◌⊎◌, inl, inr, Bool, true, false, eqb, List, [], ◌∷◌, ◌++◌, length, Option, None, Some, IfSome, map, refl, sym, ap, subst, ◌∙◌, arith, codes, decimal}
+use Rattle.std.proofs.Common.{◌≡◌, ℕ, zero, suc, ◌+◌, ◌<◌, ◌≤◌, inl, inr, true, false, eqb, List, [], ◌∷◌, ◌++◌, length, Option, None, Some, IfSome, map, refl, sym, ap, ◌∙◌, arith, codes}
 use Rattle.std.specs.List.{AllByRecursion}
 use Rattle.std.proofs.lemmas.List.{length-append}
 use Rattle.std.proofs.lemmas.Bool.Decides.{nat_tests}
@@ -10,13 +10,13 @@ use Rattle.dam_book.specs.declared.order.Side.TheVariants.{Buy, Sell}
 use Rattle.dam_book.specs.declared.order.Order.TheVariants.{Hour, Block}
 use Rattle.dam_book.specs.declared.command.Command.{Command}
 use Rattle.dam_book.specs.declared.command.Command.TheVariants.{Submit, Amend, Cancel, Close}
-use Rattle.dam_results.specs.declared.limits.TheConstants.{MOST_RECORDS}
+use Rattle.dam_results.specs.Limits.{most_records}
 use Rattle.dam_results.specs.declared.journal.JournalFault.{JournalFault}
 use Rattle.dam_results.specs.declared.journal.JournalFault.TheVariants.{TooLong, NotAscii, TooManyRecords, NotDay, FieldCount, BadField, Memory}
 use Rattle.dam_results.specs.Records.{Fields, day_row, row_of, records_of, kind_field, optional_text, side_word}
 use Rattle.dam_results.specs.Rules.{FieldRule, OneOf, NameOrEmpty, Keeps, IsLeastBroken, rules_of, command_rules, day_rules}
 use Rattle.dam_results.specs.Journal.{AreRecords, IsCommand, ReadsAs}
-use Rattle.dam_results.specs.Faults.{IsRecordFault, HasFault, IsFaultOfRecords, IsFaultOf}
+use Rattle.dam_results.specs.Faults.{IsRecordFault, HasFault, IsFaultOf}
 
 abbrev KeepAll : List FieldRule → Fields → Type 0
 KeepAll [] fields = Unit {0}
@@ -59,7 +59,7 @@ nine_fields Close = refl
 
 -- a record that is in place and keeps all its rules
 record IsSound (number : ℕ) (row : Fields) : Type 0 where
-  few : number ≤ MOST_RECORDS
+  few : number ≤ most_records
   nine : length row ≡ 9
   first : number ≡ 1 → kind_field row ≡ codes "day"
   kept : KeepAll (rules_of number row) row
@@ -76,7 +76,7 @@ IsSound-none number row Memory s h = h
 IsSound-day : (row : Fields) (periods : ℕ) → is_day periods ≡ true → row ≡ day_row periods → IsSound 1 row
 IsSound-day row periods day e = rw e (record { few = omega arith; nine = refl; first = λ one. refl; kept = KeepAll-day periods day })
 
-IsSound-command : (number : ℕ) (row : Fields) (c : Command) → 1 < number → number ≤ MOST_RECORDS → IsCommand c → row ≡ row_of c → IsSound number row
+IsSound-command : (number : ℕ) (row : Fields) (c : Command) → 1 < number → number ≤ most_records → IsCommand c → row ≡ row_of c → IsSound number row
 IsSound-command number row c later few valid e =
     let test : eqb number 1 ≡ false = grind (arith, nat_tests) in
     rw e (record { few = few; nine = nine_fields c; first = λ one. absurd (omega arith); kept = rw test (KeepAll-command c valid) })
@@ -94,16 +94,16 @@ IsWritten-at (f ∷ front) row rest [] valid e = absurd cc
 IsWritten-at (f ∷ front) row rest (c ∷ cs) valid e = IsWritten-at front row rest cs valid.1 (cc)
 
 IsSound-at : (front : List Fields) (row : Fields) (rest : List Fields) (periods : ℕ) (cs : List Command) → is_day periods ≡ true → AllByRecursion IsCommand cs
-    → length front + 1 ≤ MOST_RECORDS → front ++ row ∷ rest ≡ day_row periods ∷ map row_of cs → IsSound (length front + 1) row
+    → length front + 1 ≤ most_records → front ++ row ∷ rest ≡ day_row periods ∷ map row_of cs → IsSound (length front + 1) row
 IsSound-at [] row rest periods cs day valid few e = IsSound-day row periods day (cc)
 IsSound-at (f ∷ front) row rest periods cs day valid few e =
     let w = IsWritten-at front row rest cs valid (cc) in
     IsSound-command (length (f ∷ front) + 1) row w.command (omega arith) few w.valid w.written
 
-HasFault-none : (rows : List Fields) (fault : JournalFault) (periods : ℕ) (cs : List Command) → AreRecords rows periods cs → HasFault rows fault → ⊥
+pub HasFault-none : (rows : List Fields) (fault : JournalFault) (periods : ℕ) (cs : List Command) → AreRecords rows periods cs → HasFault rows fault → ⊥
 HasFault-none rows fault periods cs r h =
     let len : length rows ≡ length h.front + length (h.row ∷ h.rest) = ap length h.parts ∙ length-append h.front (h.row ∷ h.rest) in
-    let few : length h.front + 1 ≤ MOST_RECORDS = let n = r.few in omega arith in
+    let few : length h.front + 1 ≤ most_records = let n = r.few in omega arith in
     IsSound-none (length h.front + 1) h.row fault (IsSound-at h.front h.row h.rest periods cs r.day r.valid few (sym h.parts ∙ r.written)) h.faulty
 
 some_rows : (rows : List Fields) (periods : ℕ) (cs : List Command) → AreRecords rows periods cs → rows ≡ [] → ⊥

@@ -1,13 +1,13 @@
 -- The records that the reader finds in a text that spells them.
-use Rattle.std.proofs.Common.{◌≡◌, ℕ, zero, suc, ◌+◌, ◌<◌, ◌≤◌, ◌==◌, ◌||◌, ◌⊎◌, inl, inr, Bool, true, false, List, [], ◌∷◌, ◌++◌, length, Option, Some, None, refl, sym, ap, subst, ◌∙◌, arith, append_assoc, append-nil, length-append}
+use Rattle.std.proofs.Common.{◌≡◌, ℕ, zero, suc, ◌+◌, ◌≤◌, ◌==◌, false, List, [], ◌∷◌, ◌++◌, length, Some, refl, sym, ap, ◌∙◌, arith, append_assoc, append-nil, length-append}
 use Rattle.std.specs.List.{list_any}
 use Rattle.std.proofs.lemmas.Bool.Decides.{nat_tests}
-use Rattle.csv.specs.Machine.{Read, next_record}
+use Rattle.csv.specs.Machine.{next_record}
 use Rattle.csv.specs.Reading.{default_config, records_from}
 use Rattle.csv.specs.Writing.{default_writer, escaped, needs_byte}
 use Rattle.csv.specs.declared.parser.State.{State}
 use Rattle.csv.specs.declared.parser.State.TheVariants as st
-use Rattle.csv.proofs.RoundTrip.{plain-run, quoted-run, start-same, record-same}
+use Rattle.csv.proofs.RoundTrip.{plain-run, quoted-run, start-same}
 use Rattle.dam_results.specs.Records.{Fields, records_of}
 use Rattle.dam_results.specs.Spelling.{IsLineEnd, LineFeed, CarriageReturn, Both, IsSpelledField, Bare, Quoted, IsSpelledRow, One, More, IsSpelled, Nothing, EmptyLine, Record, LastRecord}
 

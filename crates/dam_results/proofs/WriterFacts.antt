@@ -1,8 +1,8 @@
 -- The lines that the writer of comma-separated values writes for fields with no mark of the format.
-use Rattle.std.proofs.Common.{◌≡◌, ◌<◌, ◌≤◌, ◌+◌, ℕ, List, [], ◌∷◌, ◌++◌, length, take, get_or, Bool, true, false, refl, sym, ap, subst, ◌∙◌, append-nil, append_assoc}
+use Rattle.std.proofs.Common.{◌≡◌, ◌<◌, ◌≤◌, ◌+◌, ℕ, List, [], ◌∷◌, ◌++◌, length, take, get_or, true, false, refl, sym, ap, subst, ◌∙◌, append-nil}
 use Rattle.std.specs.Prelude.{Result, Ok, Err, OnOk, Option, Some}
 use Rattle.std.specs.Io.KnownBytes.{Keeps}
-use Rattle.std.specs.List.{AllByRecursion, flat_map, join_with_byte}
+use Rattle.std.specs.List.{AllByRecursion, join_with_byte}
 use Rattle.std.specs.declared.vec.Vec.{Vec}
 use Rattle.std.proofs.lemmas.List.{take_more, take_all, map-append, flat_map_more}
 use Rattle.csv.specs.Writing.{default_writer, field_text, fields_text, is_blank, row_text, fields_written, has_written, writer_setup, writer_under, writer_pending, text_written}
@@ -10,7 +10,7 @@ use Rattle.csv.specs.declared.writer.Writer.{Writer}
 use Rattle.dam_book.specs.declared.command.Command.{Command}
 use Rattle.dam_book.specs.declared.command.Entry.{Entry}
 use Rattle.dam_book.specs.Book.{is_day, commands_of}
-use Rattle.dam_results.specs.declared.limits.TheConstants.{MOST_RECORDS}
+use Rattle.dam_results.specs.Limits.{most_records}
 use Rattle.dam_results.specs.Records.{Fields, day_row, row_of}
 use Rattle.dam_results.specs.Journal.{IsCommand, ReadsAs}
 use Rattle.dam_results.specs.Written.{row_line, command_line, written, journal_text}
@@ -83,7 +83,7 @@ wrote_more before after periods entries i e within here h p =
     }
 
 -- what the writer gives at the end reads as the day and the commands
-pub wrote_all : {A : Type 0} (out : Writer (Vec ℕ A)) (text : Vec ℕ A) (periods : ℕ) (entries : List Entry) (i : ℕ) → length entries ≤ i → is_day periods ≡ true → length entries < MOST_RECORDS
+pub wrote_all : {A : Type 0} (out : Writer (Vec ℕ A)) (text : Vec ℕ A) (periods : ℕ) (entries : List Entry) (i : ℕ) → length entries ≤ i → is_day periods ≡ true → length entries < most_records
     → WroteEntries out periods (take i entries) → Keeps (text_written (λ (v : Vec ℕ A). Some v.items) out) (Some text.items) → ReadsAs text.items periods (commands_of entries)
 wrote_all out text periods entries i over day few h keeps =
     let all : WroteEntries out periods entries = rw (take_all i entries over) at h in

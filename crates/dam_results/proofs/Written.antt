@@ -1,5 +1,5 @@
 -- Written records: different commands have different records, and each keeps its rules.
-use Rattle.std.proofs.Common.{◌≡◌, ℕ, ℤ, zero, suc, ◌+◌, ◌^◌, ◌<◌, ◌≤◌, ◌⊎◌, inl, inr, Bool, true, false, List, [], ◌∷◌, ◌++◌, length, Option, None, Some, IfSome, map, refl, sym, ap, subst, ◌∙◌, arith, codes, decimal}
+use Rattle.std.proofs.Common.{◌≡◌, ℕ, ℤ, ◌^◌, ◌<◌, inl, inr, true, List, [], ◌∷◌, length, Option, None, Some, IfSome, map, refl, sym, ap, ◌∙◌, arith, codes, decimal}
 use Rattle.std.specs.List.{AllByRecursion}
 use Rattle.std.proofs.lemmas.Fmt.{decimal_injective}
 use Rattle.dam_book.specs.Price.{IsPrice}
@@ -16,7 +16,6 @@ use Rattle.dam_book.specs.declared.order.Order.TheVariants.{Hour, Block}
 use Rattle.dam_book.specs.declared.command.Command.{Command}
 use Rattle.dam_book.specs.declared.command.Command.TheVariants.{Submit, Amend, Cancel, Close}
 use Rattle.dam_results.specs.Records.{Fields, kind_field, day_row, row_of, order_fields, optional_text, side_word}
-use Rattle.dam_results.specs.Rules.{FieldRule, Keeps, IsLeastBroken, rules_of, command_rules, day_rules}
 use Rattle.dam_results.specs.Journal.{AreRecords, IsCommand}
 use Rattle.dam_results.proofs.Rules.{one_volume, cases_day}
 

@@ -1,7 +1,7 @@
 -- The fault of a text that is no journal: the first one, in the order in which faults are looked for.
 use Rattle.std.specs.Prelude.{◌≡◌, ◌≢◌, ◌<◌, ◌≤◌, ◌⊎◌, ℕ, ◌+◌, List, [], ◌∷◌, ◌++◌, length, codes, Some, None}
 use Rattle.dam_book.specs.declared.command.Command.{Command}
-use Rattle.dam_results.specs.declared.limits.TheConstants.{MOST_BYTES, MOST_RECORDS}
+use Rattle.dam_results.specs.Limits.{most_bytes, most_records}
 use Rattle.dam_results.specs.declared.journal.JournalFault.{JournalFault}
 use Rattle.dam_results.specs.declared.journal.JournalFault.TheVariants.{TooLong, NotAscii, TooManyRecords, NotDay, FieldCount, BadField, Memory}
 use Rattle.dam_results.specs.Records.{Fields, records_of, kind_field}
@@ -10,11 +10,11 @@ use Rattle.dam_results.specs.Journal.{AreRecords, first_high}
 
 -- the record of that number is within the limit, and a day where it is the first
 abbrev pub IsInPlace : ℕ → Fields → Type 0
-IsInPlace number row = (number ≤ MOST_RECORDS) × (number ≡ 1 → kind_field row ≡ codes "day")
+IsInPlace number row = (number ≤ most_records) × (number ≡ 1 → kind_field row ≡ codes "day")
 
 -- the record of that number has that fault
 abbrev pub IsRecordFault : ℕ → Fields → JournalFault → Type 0
-IsRecordFault number row TooManyRecords = MOST_RECORDS < number
+IsRecordFault number row TooManyRecords = most_records < number
 IsRecordFault number row NotDay = (number ≡ 1) × (kind_field row ≢ codes "day")
 IsRecordFault number row (FieldCount at) = IsInPlace number row × (at ≡ number) × (length row ≢ 9)
 IsRecordFault number row (BadField at field) = IsInPlace number row × (at ≡ number) × (length row ≡ 9) × IsLeastBroken (rules_of number row) row field
@@ -39,7 +39,7 @@ IsFaultOfRecords rows fault = HasFault rows fault
 
 -- the text is no journal, and this is its first fault; of want of memory it says only that the whole text has no fault of length or bytes
 abbrev pub IsFaultOf : List ℕ → JournalFault → Type 0
-IsFaultOf text TooLong = MOST_BYTES < length text
-IsFaultOf text (NotAscii offset) = (length text ≤ MOST_BYTES) × (first_high text ≡ Some offset)
-IsFaultOf text Memory = (length text ≤ MOST_BYTES) × (first_high text ≡ None)
-IsFaultOf text fault = (length text ≤ MOST_BYTES) × (first_high text ≡ None) × IsFaultOfRecords (records_of text) fault
+IsFaultOf text TooLong = most_bytes < length text
+IsFaultOf text (NotAscii offset) = (length text ≤ most_bytes) × (first_high text ≡ Some offset)
+IsFaultOf text Memory = (length text ≤ most_bytes) × (first_high text ≡ None)
+IsFaultOf text fault = (length text ≤ most_bytes) × (first_high text ≡ None) × IsFaultOfRecords (records_of text) fault

@@ -8,7 +8,7 @@ use Rattle.dam_book.specs.Order.{IsOrder}
 use Rattle.dam_book.specs.Book.{is_day}
 use Rattle.dam_book.specs.declared.command.Command.{Command}
 use Rattle.dam_book.specs.declared.command.Command.TheVariants.{Submit, Amend, Cancel, Close}
-use Rattle.dam_results.specs.declared.limits.TheConstants.{MOST_BYTES, MOST_RECORDS}
+use Rattle.dam_results.specs.Limits.{most_bytes, most_records}
 use Rattle.dam_results.specs.Records.{Fields, records_of, day_row, row_of}
 
 -- each part of a command is within its limits
@@ -24,13 +24,13 @@ first_high text = position (nat_lt 127) text
 
 -- these records are a day and commands, as many as a text may hold
 pub record AreRecords (rows : List Fields) (periods : ℕ) (commands : List Command) : Type 0 where
-  pub few : length rows ≤ MOST_RECORDS
+  pub few : length rows ≤ most_records
   pub day : is_day periods ≡ true
   pub valid : AllByRecursion IsCommand commands
   pub written : rows ≡ day_row periods ∷ map row_of commands
 
 -- the text is a journal of these periods and commands
 pub record ReadsAs (text : List ℕ) (periods : ℕ) (commands : List Command) : Type 0 where
-  pub short : length text ≤ MOST_BYTES
+  pub short : length text ≤ most_bytes
   pub ascii : first_high text ≡ None
   pub records : AreRecords (records_of text) periods commands

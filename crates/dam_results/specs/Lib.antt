@@ -1,3 +1,4 @@
+pub mod Limits
 pub mod Records
 pub mod Row
 pub mod Rules

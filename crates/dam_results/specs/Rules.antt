@@ -1,5 +1,5 @@
 -- The rules of the nine fields of a record, and which field is the first to break its rule.
-use Rattle.std.specs.Prelude.{◌≡◌, ℕ, ℤ, zero, suc, Bool, true, ◌==◌, ◌⊎◌, List, [], ◌∷◌, decimal, codes, if◌then◌else◌}
+use Rattle.std.specs.Prelude.{◌≡◌, ℕ, ℤ, zero, suc, true, ◌==◌, ◌⊎◌, List, [], ◌∷◌, decimal, codes, if◌then◌else◌}
 use Rattle.std.specs.List.{list_any}
 use Rattle.std.specs.Str.{bytes_eq}
 use Rattle.dam_book.specs.Price.{IsPrice}

@@ -1,7 +1,9 @@
 ghost use Rattle.std.specs.Prelude.{◌≡◌, ◌<◌, ◌≤◌, ◌+◌, ℕ, List, ◌∷◌, true, length, None, IfOk, IfErr, MatchResult};
+ghost use Rattle.csv.specs.Reading.{is_flexible, owned_rows_reader};
 ghost use Rattle.csv.specs.Records.{fields_of};
 ghost use Rattle.dam_book.specs.Book.{is_day};
 ghost use Rattle.dam_book.specs.declared.command.Command.{Command};
+ghost use Rattle.dam_results.specs.Limits.{most_bytes, most_records};
 ghost use Rattle.dam_results.specs.Records.{records_of, kind_field, day_row, row_of};
 ghost use Rattle.dam_results.specs.Journal.{AreRecords, IsCommand, ReadsAs};
 ghost use Rattle.dam_results.specs.Journal;
@@ -81,7 +83,9 @@ fn first_high(text: &[u8]) -> Option<usize>
 }
 
 fn check_bytes(text: &[u8]) -> Result<(), JournalFault>
-    ensures { MatchResult result (λ _. (length text.now ≤ MOST_BYTES) × (Journal.first_high text.now ≡ None)) (IsFaultOf text.now) }
+    ensures { MatchResult result
+        (λ _. (length text.now ≤ most_bytes) × (Journal.first_high text.now ≡ None))
+        (IsFaultOf text.now) }
 {
     if text.len() > MOST_BYTES {
         return Err(JournalFault::TooLong);
@@ -102,7 +106,9 @@ fn kind(fields: &ByteRecord) -> &[u8]
 }
 
 fn read_first(fields: &ByteRecord) -> Result<u8, JournalFault>
-    ensures { MatchResult result (λ periods. (is_day periods ≡ true) × (fields_of fields.now ≡ day_row periods)) (IsRecordFault 1 (fields_of fields.now)) }
+    ensures { MatchResult result
+        (λ periods. (is_day periods ≡ true) × (fields_of fields.now ≡ day_row periods))
+        (IsRecordFault 1 (fields_of fields.now)) }
 {
     if kind(fields) != b"day".as_slice() {
         return Err(JournalFault::NotDay);
@@ -115,7 +121,9 @@ fn read_first(fields: &ByteRecord) -> Result<u8, JournalFault>
 
 fn read_later(number: usize, fields: &ByteRecord) -> Result<Command, JournalFault>
     requires { 1 < number }
-    ensures { MatchResult result (λ command. (number ≤ MOST_RECORDS) × IsCommand command × (fields_of fields.now ≡ row_of command)) (IsRecordFault number (fields_of fields.now)) }
+    ensures { MatchResult result
+        (λ command. (number ≤ most_records) × IsCommand command × (fields_of fields.now ≡ row_of command))
+        (IsRecordFault number (fields_of fields.now)) }
 {
     if number > MOST_RECORDS {
         return Err(JournalFault::TooManyRecords);
@@ -132,6 +140,9 @@ fn records<'a>(alloc: Global, text: &'a [u8]) -> Records<'a>
     requires { Journal.first_high text.now ≡ None }
     ensures usable { IsOpen result }
     ensures rows { rows_left result ≡ records_of text.entry.now }
+
+    // A record of another length than the first is read too.
+    ensures flexible { is_flexible (owned_rows_reader result) ≡ true }
 {
     ReaderBuilder::new()
         .has_headers(false)
@@ -142,7 +153,10 @@ fn records<'a>(alloc: Global, text: &'a [u8]) -> Records<'a>
 
 fn next_day(records: &mut Records) -> Result<u8, JournalFault>
     requires { IsOpen records.old }
-    ensures { MatchResult result (λ periods. (is_day periods ≡ true) × IsOpen records.new × (rows_left records.old ≡ day_row periods ∷ rows_left records.new)) (IsFaultOfRecords (rows_left records.old)) }
+    ensures { MatchResult result
+        (λ periods. (is_day periods ≡ true) × IsOpen records.new
+        × (rows_left records.old ≡ day_row periods ∷ rows_left records.new))
+        (IsFaultOfRecords (rows_left records.old)) }
 {
     let Some(record) = records.next() else {
         return Err(JournalFault::NotDay);
@@ -156,7 +170,9 @@ fn next_day(records: &mut Records) -> Result<u8, JournalFault>
 fn read_commands(alloc: Global, periods: u8, records: Records) -> Result<JournalRead, JournalFault>
     requires usable { IsOpen records }
     requires day { is_day periods ≡ true }
-    ensures { MatchResult result (λ journal. AreRecords (day_row periods ∷ rows_left records.entry) journal.periods journal.commands.items) (IsFaultOfRecords (day_row periods ∷ rows_left records.entry)) }
+    ensures { MatchResult result
+        (λ journal. AreRecords (day_row periods ∷ rows_left records.entry) journal.periods journal.commands.items)
+        (IsFaultOfRecords (day_row periods ∷ rows_left records.entry)) }
 {
     let mut commands = Vec::new(alloc);
     for record in records {
@@ -188,7 +204,9 @@ pub fn read_journal(alloc: Global, text: &[u8]) -> Result<JournalRead, JournalFa
 
     // A journal is read, unless memory runs out.
     ensures exact { (periods : ℕ) (commands : List Command) → ReadsAs text.now periods commands
-        → MatchResult result (λ journal. (journal.periods ≡ periods) × (journal.commands.items ≡ commands)) (λ fault. fault ≡ JournalFault.Memory) }
+        → MatchResult result
+        (λ journal. (journal.periods ≡ periods) × (journal.commands.items ≡ commands))
+        (λ fault. fault ≡ JournalFault.Memory) }
 {
     laws::text_is_one_journal();
     laws::fault_is_no_journal();

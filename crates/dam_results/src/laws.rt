@@ -1,17 +1,27 @@
 //! Laws of the journal format, each the contract of a function that does nothing but cite the laws
 //! that it rests on.
-ghost use Rattle.std.specs.Prelude.{◌≡◌, ℕ, List};
+ghost use Rattle.std.specs.Prelude.{◌≡◌, ◌⊎◌, ℕ, List};
 ghost use Rattle.dam_book.specs.declared.command.Command.{Command};
 ghost use Rattle.dam_results.specs.declared.journal.JournalFault.{JournalFault};
 ghost use Rattle.dam_results.specs.declared.journal.JournalFault.TheVariants.{Memory};
+ghost use Rattle.dam_results.specs.Limits.{most_bytes, most_records};
 ghost use Rattle.dam_results.specs.Journal.{ReadsAs};
 ghost use Rattle.dam_results.specs.Faults.{IsFaultOf};
 
+use crate::limits::{MOST_BYTES, MOST_RECORDS};
 use dam_book::laws::{price_texts_differ, volumes_texts_differ};
+
+/// The constants are the limits of the journal format.
+pub fn limits()
+    ensures bytes { MOST_BYTES ≡ most_bytes }
+    ensures records { MOST_RECORDS ≡ most_records }
+{}
 
 /// A text is at most one journal.
 pub fn text_is_one_journal()
-    ensures { (text : List ℕ) (periods others : ℕ) (commands more : List Command) → ReadsAs text periods commands → ReadsAs text others more → (periods ≡ others) × (commands ≡ more) }
+    ensures { (text : List ℕ) (periods others : ℕ) (commands more : List Command)
+        → ReadsAs text periods commands → ReadsAs text others more
+        → (periods ≡ others) × (commands ≡ more) }
 {
     price_texts_differ();
     volumes_texts_differ();
@@ -19,5 +29,12 @@ pub fn text_is_one_journal()
 
 /// A text that has a fault, other than want of memory, is no journal.
 pub fn fault_is_no_journal()
-    ensures { (text : List ℕ) (fault : JournalFault) (periods : ℕ) (commands : List Command) → IsFaultOf text fault → ReadsAs text periods commands → fault ≡ Memory }
+    ensures { (text : List ℕ) (fault : JournalFault) (periods : ℕ) (commands : List Command)
+        → IsFaultOf text fault → ReadsAs text periods commands → fault ≡ Memory }
+{}
+
+/// A text has one first fault: of two that differ, one is want of memory.
+pub fn text_has_one_fault()
+    ensures { (text : List ℕ) (fault other : JournalFault) → IsFaultOf text fault → IsFaultOf text other
+        → (fault ≡ other) ⊎ ((fault ≡ Memory) ⊎ (other ≡ Memory)) }
 {}

@@ -5,30 +5,37 @@ ghost use Rattle.std.specs.List.{AllByRecursion};
 ghost use Rattle.dam_book.specs.Book.{is_day, commands_of};
 ghost use Rattle.dam_book.specs.declared.command.Command.{Command};
 ghost use Rattle.dam_book.specs.declared.command.Entry.{Entry};
+ghost use Rattle.dam_results.specs.Limits.{most_bytes, most_records};
 ghost use Rattle.dam_results.specs.Records.{day_row, row_of};
 ghost use Rattle.dam_results.specs.Journal.{IsCommand, ReadsAs};
 ghost use Rattle.dam_results.specs.Spelling.{IsSpelled};
 ghost use Rattle.dam_results.specs.Written.{journal_text};
-
-use crate::limits::{MOST_BYTES, MOST_RECORDS};
 
 /// A text within the limits that spells the records of a day and of commands reads as that day and
 /// those commands, whichever fields stand in quotes, whichever line ends it uses and wherever it has
 /// empty lines.
 #[tactic(auto, using(crate::proofs::WrittenFacts::reads_spelled))]
 pub fn spellings_read_alike()
-    ensures { (periods : ℕ) (commands : List Command) (text : List ℕ) → is_day periods ≡ true → AllByRecursion IsCommand commands → length commands < MOST_RECORDS → length text ≤ MOST_BYTES → IsSpelled (day_row periods ∷ map row_of commands) text → ReadsAs text periods commands }
+    ensures { (periods : ℕ) (commands : List Command) (text : List ℕ)
+        → is_day periods ≡ true → AllByRecursion IsCommand commands → length commands < most_records
+        → length text ≤ most_bytes → IsSpelled (day_row periods ∷ map row_of commands) text
+        → ReadsAs text periods commands }
 {}
 
 /// The written journal is one of the spellings of its records.
 #[tactic(auto, using(crate::proofs::WrittenFacts::spelled_written))]
 pub fn written_journals_are_spelled()
-    ensures { (periods : ℕ) (entries : List Entry) → is_day periods ≡ true → AllByRecursion IsCommand (commands_of entries) → IsSpelled (day_row periods ∷ map row_of (commands_of entries)) (journal_text periods entries) }
+    ensures { (periods : ℕ) (entries : List Entry)
+        → is_day periods ≡ true → AllByRecursion IsCommand (commands_of entries)
+        → IsSpelled (day_row periods ∷ map row_of (commands_of entries)) (journal_text periods entries) }
 {}
 
 /// The written journal of as many entries as a journal may hold is within the limit on bytes, and
 /// reads as its day and the commands of its entries.
 #[tactic(auto, using(crate::proofs::WrittenFacts::reads_journal_text))]
 pub fn written_journals_read()
-    ensures { (periods : ℕ) (entries : List Entry) → is_day periods ≡ true → AllByRecursion IsCommand (commands_of entries) → length entries < MOST_RECORDS → ReadsAs (journal_text periods entries) periods (commands_of entries) }
+    ensures { (periods : ℕ) (entries : List Entry)
+        → is_day periods ≡ true → AllByRecursion IsCommand (commands_of entries)
+        → length entries < most_records
+        → ReadsAs (journal_text periods entries) periods (commands_of entries) }
 {}

@@ -6,13 +6,13 @@ ghost use Rattle.dam_book.specs.Volumes.{IsVolumes};
 ghost use Rattle.dam_book.specs.Terms.{IsHourOrder};
 ghost use Rattle.dam_book.specs.Fields.{price_text, volumes_text};
 ghost use Rattle.dam_book.specs.Book.{is_day, commands_of};
+ghost use Rattle.dam_results.specs.Limits.{most_records};
 ghost use Rattle.dam_results.specs.Records.{optional_text, side_word, day_row};
 ghost use Rattle.dam_results.specs.Journal.{ReadsAs};
 ghost use Rattle.dam_results.specs.Written.{row_line};
 ghost use Rattle.dam_results.specs.Written;
 ghost use Rattle.dam_results.specs.Writer.{Wrote, PutsCommand};
 
-use crate::limits::MOST_RECORDS;
 use csv::{Writer, WriterBuilder};
 use dam_book::{
     BlockOrder, Command, Entry, HourOrder, Name, Order, Participant, Price, Side, Volumes,
@@ -186,7 +186,7 @@ fn put_command(
 /// It fails only where memory runs out.
 pub fn journal_text(alloc: Global, periods: u8, entries: &[Entry]) -> Result<Vec<u8>, AllocError>
     requires day { is_day periods ≡ true }
-    requires few { length entries.now < MOST_RECORDS }
+    requires few { length entries.now < most_records }
     ensures text { IfOk result (λ text. text.items ≡ Written.journal_text periods entries.now) }
     ensures reads { IfOk result (λ text. ReadsAs text.items periods (commands_of entries.now)) }
 {

@@ -1,4 +1,4 @@
-use Rattle.std.proofs.Common.{◌≡◌, inl}
+use Rattle.std.proofs.Common.{inl}
 use Rattle.csv.specs.Records.{fields_of}
 use Rattle.dam_results.specs.Reader.{rows_left}
 use Rattle.dam_results.proofs.Left.{rows_left-none, rows_left-takes}

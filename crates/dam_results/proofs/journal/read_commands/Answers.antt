@@ -1,10 +1,9 @@
 use Rattle.std.proofs.Common.{◌≡◌, ◌++◌, ◌∷◌, [], inl, length, arith}
 use Rattle.std.proofs.lemmas.Result.{err_from_is_err_and}
 use Rattle.csv.specs.Records.{fields_of}
-use Rattle.dam_book.specs.declared.command.Command.{Command}
 use Rattle.dam_results.specs.Reader.{rows_left}
 use Rattle.dam_results.proofs.Left.{rows_left-none, rows_left-takes}
-use Rattle.dam_results.proofs.Faults.{Reads, Reads-more, in_later, AreRecords-all}
+use Rattle.dam_results.proofs.Faults.{Reads-more, in_later, AreRecords-all}
 use Rattle.dam_results.proofs.journal.read_commands.Goals as goal
 
 pub returns-in_err-read_later : goal.returns-in_err-read_later

@@ -1,7 +1,5 @@
-use Rattle.std.proofs.Common.{◌≡◌, Option, Some, true, false, List, ℕ, refl, sym, ◌∙◌, inl, inr, ap}
-use Rattle.csv.specs.Reading.{strip_bom, default_config, reader_trim, reader_config, reader_state, owned_rows_reader, names_headers, reader_headers}
-use Rattle.csv.specs.declared.parser.State.TheVariants as st
-use Rattle.csv.specs.declared.reader.Trim.TheVariants as trim
+use Rattle.std.proofs.Common.{◌≡◌, Some, refl, ◌∙◌, inr}
+use Rattle.csv.specs.Reading.{strip_bom}
 use Rattle.dam_results.specs.Reader.{unread}
 use Rattle.dam_results.proofs.Left.{rows_left-start}
 use Rattle.dam_results.proofs.journal.records.Goals as goal
@@ -16,6 +14,7 @@ returns c =
     let untrimmed = rw (setup, headless) at fresh.trim ∙ c.new.ensures.trim in
     let config = rw (setup, headless) at fresh.config ∙ c.new.ensures.config in
     let names = rw (setup, headless) at fresh.has_headers in
+    let flexible = rw setup at fresh.flexible in
     let source : unread reader ≡ Some (strip_bom c.args.text.now) = rw it fresh.source in
     record {
       usable = record {
@@ -27,4 +26,5 @@ returns c =
         known = rw source refl;
       };
       rows = rows_left-start reader c.args.text.now c.requires (rw it fresh.state) source;
+      flexible = rw it flexible;
     }

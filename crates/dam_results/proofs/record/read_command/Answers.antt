@@ -1,4 +1,4 @@
-use Rattle.std.proofs.Common.{◌≡◌, false, List, [], ◌∷◌, codes, rules}
+use Rattle.std.proofs.Common.{◌≡◌, false, [], ◌∷◌, codes, rules}
 use Rattle.std.specs.Str.{bytes_eq}
 use Rattle.dam_results.proofs.Rules.{unknown_kind}
 use Rattle.dam_results.proofs.record.read_command.Goals as goal

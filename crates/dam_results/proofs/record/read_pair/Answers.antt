@@ -1,5 +1,4 @@
 use Rattle.std.proofs.Common.{◌≡◌, ◌∷◌, [], length, arith, ap, sym, ◌∙◌}
-use Rattle.dam_book.specs.Volumes.{Pair}
 use Rattle.dam_results.proofs.Rules.{one_volume}
 use Rattle.dam_results.proofs.record.read_pair.Goals as goal
 

@@ -1,4 +1,4 @@
-use Rattle.std.proofs.Common.{ℕ, [], ◌∙◌, ap, sym}
+use Rattle.std.proofs.Common.{[], ◌∙◌, ap, sym}
 use Rattle.dam_results.proofs.WriterFacts.{wrote_none, wrote_day, wrote_more, wrote_all}
 use Rattle.dam_results.proofs.writer.journal_text.Goals as goal
 

@@ -1,9 +1,6 @@
-use Rattle.std.proofs.Common.{◌≡◌, ◌∷◌, [], codes, sym, subst}
-use Rattle.std.specs.Prelude.{OnOk}
-use Rattle.dam_book.specs.declared.command.Command.{Command}
+use Rattle.std.proofs.Common.{◌≡◌, ◌∷◌, [], codes}
 use Rattle.dam_book.specs.declared.command.Command.TheVariants.{Amend, Cancel, Close}
 use Rattle.dam_results.specs.Records.{Fields, row_of}
-use Rattle.dam_results.specs.Writer.{PutsCommand}
 use Rattle.dam_results.proofs.WriterFacts.{puts_command}
 use Rattle.dam_results.proofs.writer.put_command.Goals as goal
 
