@@ -1,5 +1,6 @@
 pub mod Keys
 pub mod Histories
+pub mod Equality
 pub mod RowFacts
 pub mod ChangeFacts
 pub mod LinkFacts

@@ -1,9 +1,9 @@
 -- The sequential book: its states, its step, its runs and its histories.
-use Rattle.std.specs.Prelude.{◌≡◌, ℕ, ℤ, suc, ◌≤◌, Bool, true, false, ◌==◌, ◌&&◌, ◌||◌, nat_le, not, List, [], ◌∷◌, ◌++◌, length, map, find, count_by, Option, Some, None, is_some, if◌then◌else◌}
+use Rattle.std.specs.Prelude.{◌≡◌, ℕ, suc, ◌+◌, ◌≤◌, Bool, true, false, ◌==◌, ◌&&◌, ◌||◌, nat_le, not, List, [], ◌∷◌, ◌++◌, length, map, find, count_by, Option, Some, None, is_some, if◌then◌else◌}
 use Rattle.std.specs.Map.{lookup, remove_entry}
 use Rattle.std.specs.List.{list_any}
 use Rattle.dam_book.specs.Name.{IsName, IsParticipant, same_text}
-use Rattle.dam_book.specs.Volumes.{Pair, have_beyond}
+use Rattle.dam_book.specs.Volumes.{have_beyond}
 use Rattle.dam_book.specs.Order.{IsOrder, is_hour, is_block, is_beyond, is_parent, parent_of, amended}
 use Rattle.dam_book.specs.declared.order.Order.{Order}
 use Rattle.dam_book.specs.declared.command.Command.{Command}
@@ -197,6 +197,11 @@ IsLegalFrom n b (e ∷ es) = (e.number ≡ n) × (e.reply ≡ reply_to b e.comma
 
 abbrev pub IsLegalHistory : ℕ → List Entry → Type 0
 IsLegalHistory periods es = IsLegalFrom 1 (empty_book periods) es
+
+-- an entry with the next number, and the reply of the step on the book that the commands before it made
+pub record Follows (periods : ℕ) (es : List Entry) (e : Entry) : Type 0 where
+  pub number : e.number ≡ length es + 1
+  pub reply : e.reply ≡ reply_to (run periods (commands_of es)) e.command
 
 -- What every book keeps.
 

@@ -1,3 +1,4 @@
+pub mod Limits
 pub mod Price
 pub mod Quantity
 pub mod Period

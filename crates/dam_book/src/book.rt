@@ -149,6 +149,16 @@ impl<A: Allocator + Copy> Book<A> {
         Ok(Reply::Done)
     }
 
+    /// What `apply` answers to the command, with no memory and no change.
+    pub fn reply(&self, command: &Command) -> Reply
+        ensures { result ≡ reply_to self.now command.now }
+    {
+        match self.refusal(command) {
+            None => Reply::Done,
+            Some(reason) => Reply::Refused(reason),
+        }
+    }
+
     fn refusal(&self, command: &Command) -> Option<Reason>
         ensures { result ≡ refusal self.now command.now }
     {

@@ -95,3 +95,41 @@ fn days(rt: HostRuntime) -> Result<(), Fail> {
     }
     Ok(())
 }
+
+#[test]
+fn replies_before_a_step(rt: HostRuntime) -> Result<(), Fail> {
+    let who = Participant::new(b"A").ok_or("a participant")?;
+    let name = Name::new(b"B1").ok_or("a name")?;
+    let price = Price::new(5_000).ok_or("a price")?;
+    let period = Period::new(1).ok_or("a period")?;
+    let qty = Qty::new(10).ok_or("a volume")?;
+    let submit = Command::Submit {
+        who,
+        name,
+        order: Order::Hour(HourOrder::new(Side::Buy, price, period, qty)),
+    };
+    let mut book = Book::begin(rt.alloc(), 24)?;
+    assert_eq!(rt; book.reply(&submit), Reply::Done);
+    assert!(rt; book.is_empty());
+    assert_eq!(rt; book.apply(&submit)?, Reply::Done);
+    assert_eq!(rt; book.reply(&submit), Reply::Refused(Reason::NameTaken));
+    assert_eq!(rt; book.reply(&Command::Close), Reply::Done);
+    assert!(rt; !book.is_closed());
+    Ok(())
+}
+
+#[test]
+fn entries_are_compared(rt: HostRuntime) {
+    let entry = Entry {
+        number: 1,
+        command: Command::Close,
+        reply: Reply::Done,
+    };
+    let refused = Entry {
+        number: 1,
+        command: Command::Close,
+        reply: Reply::Refused(Reason::Closed),
+    };
+    assert!(rt; entry == entry.copy());
+    assert!(rt; entry != refused);
+}
