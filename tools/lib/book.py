@@ -1,0 +1,96 @@
+"""The order book: what each command does to it, or why it is refused."""
+
+from . import rules
+from .journal import Amend, Cancel, Close, Submit
+
+
+class Book:
+    """The rows of a day in book order: a dictionary from participant and name to the order. It keeps the order of the
+    submits; an amended order keeps its place, a cancelled one loses it."""
+
+    def __init__(self, periods):
+        self.periods = periods
+        self.closed = False
+        self.rows = {}
+        self.held = {"hour": 0, "block": 0}
+
+    def apply(self, command):
+        """Does what the command says and answers None, or changes nothing and answers the reason."""
+        reason = self.refusal(command)
+        if reason is None:
+            self.change(command)
+        return reason
+
+    def refusal(self, command):
+        """The first reason that applies."""
+        if self.closed:
+            return "Closed"
+        match command:
+            case Submit(who, name, order):
+                return self.refused_submit(who, name, order)
+            case Amend(who, name, _, volumes):
+                return self.refused_amend(self.rows.get((who, name)), volumes)
+            case Cancel(who, name):
+                return self.refused_cancel(who, name)
+        return None
+
+    def out_of_day(self, volumes):
+        return any(period > self.periods for period, _ in volumes)
+
+    def refused_submit(self, who, name, order):
+        if self.out_of_day(order.volumes):
+            return "PeriodOutOfDay"
+        if (who, name) in self.rows:
+            return "NameTaken"
+        if order.parent:
+            parent = self.rows.get((who, order.parent))
+            if parent is None:
+                return "UnknownParent"
+            if parent.kind != "block":
+                return "ParentNotBlock"
+        if order.kind == "hour":
+            return "HourlyFull" if self.held["hour"] >= rules.MOST_HOURLY else None
+        return "BlocksFull" if self.held["block"] >= rules.MOST_BLOCKS else None
+
+    def refused_amend(self, order, volumes):
+        if self.out_of_day(volumes):
+            return "PeriodOutOfDay"
+        if order is None:
+            return "UnknownOrder"
+        if order.kind == "hour" and len(volumes) != 1:
+            return "WrongShape"
+        return None
+
+    def refused_cancel(self, who, name):
+        if (who, name) not in self.rows:
+            return "UnknownOrder"
+        if any(owner == who and order.parent == name for (owner, _), order in self.rows.items()):
+            return "HasChildren"
+        return None
+
+    def change(self, command):
+        match command:
+            case Submit(who, name, order):
+                self.rows[who, name] = order
+                self.held[order.kind] += 1
+            case Amend(who, name, price, volumes):
+                self.rows[who, name] = self.rows[who, name]._replace(price=price, volumes=volumes)
+            case Cancel(who, name):
+                self.held[self.rows.pop((who, name)).kind] -= 1
+            case Close():
+                self.closed = True
+
+
+def run(journal):
+    """The book after the commands of a journal, and the reason of each refusal (None where a command was done)."""
+    book = Book(journal.periods)
+    return book, [book.apply(command) for command in journal.commands]
+
+
+def replies_text(journal):
+    """What is printed of a run: the day, and the reply to each command."""
+    _, reasons = run(journal)
+    lines = [f"day,{journal.periods}"]
+    for number, reason in enumerate(reasons, 1):
+        lines.append(f"{number},done" if reason is None else f"{number},refused,{reason}")
+    return "".join(f"{line}\n" for line in lines)

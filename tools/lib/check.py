@@ -1,0 +1,64 @@
+"""What a results text says otherwise than the rules do."""
+
+from . import results, selection
+
+
+def better_word(row, price):
+    """How an hourly order stands to the price."""
+    if row.order.price == price:
+        return "its limit is the price"
+    better = row.order.price > price if row.order.side == "buy" else row.order.price < price
+    return f"its limit {row.order.price} is {'better' if better else 'worse'} than the price {price}"
+
+
+def differences(problem, data):
+    """The results that a text is (None where it is none), and each thing in which they differ from what follows from their own
+    selection of blocks, as a line with its place."""
+    said, wrong = results.read_results(problem, data)
+    if said is None:
+        return None, wrong
+    follows = selection.outcome(problem, said.accepted)
+    wrong += selection.link_faults(problem, said.accepted)
+    wrong += period_differences(problem, said, follows)
+    wrong += hourly_differences(problem, said, follows)
+    wrong += block_differences(problem, said, follows)
+    if follows.welfare is not None and said.welfare != follows.welfare:
+        line = said.lines["the welfare"]
+        wrong.append(f"results line {line}: the welfare is {said.welfare}, and that of these executions {follows.welfare}")
+    return said, wrong
+
+
+def period_differences(problem, said, follows):
+    for number, found in follows.cleared.items():
+        at = f"results line {said.lines[f'period {number}']}: period {number}"
+        price, volume = said.prices[number - 1], said.volumes[number - 1]
+        if found is None:
+            yield f"{at}: no execution balances the accepted blocks"
+            continue
+        if price != found.price:
+            ends = f"the supporting prices go from {found.low} to {found.high}"
+            yield f"{at}: the price is {price}; {ends}, and the rule takes {found.price}, {found.case}"
+        if volume != follows.bought[number]:
+            yield f"{at}: the volume is {volume}, and the executed buys make {follows.bought[number]}"
+
+
+def hourly_differences(problem, said, follows):
+    right = results.executed_by_row(problem, follows.cleared)
+    hourly = [row for row in problem.rows if row.order.kind == "hour"]
+    for row, executed in zip(hourly, said.executed):
+        wanted = right[row.who, row.name]
+        if wanted is not None and executed != wanted:
+            price = follows.cleared[row.order.volumes[0][0]].price
+            line = said.lines[f"hour {row}"]
+            yield f"results line {line}: hour {row}: {executed} is executed, and the rule gives {wanted} ({better_word(row, price)})"
+
+
+def block_differences(problem, said, follows):
+    for place, (block, surplus) in enumerate(zip(problem.blocks, follows.surpluses)):
+        if surplus is not None and said.surpluses[place] != surplus:
+            line = said.lines[f"block {block}"]
+            yield f"results line {line}: block {block}: the surplus is {said.surpluses[place]}, and at the prices {surplus}"
+    for place in selection.losing(problem, said.accepted, follows.surpluses):
+        block = problem.blocks[place]
+        line = said.lines[f"block {block}"]
+        yield f"results line {line}: block {block}: it is accepted and loses {-follows.surpluses[place]}"

@@ -1,0 +1,115 @@
+"""What the tools' command lines share: reading files, telling faults, and finding packages that aren't in the standard
+library."""
+
+import importlib.util
+import os
+import subprocess
+import sys
+from pathlib import Path
+
+from . import book, journal, results, selection
+
+DEBIAN_PYTHON = "/usr/bin/python3"
+PACKAGES = {"matplotlib": "python3-matplotlib", "scipy": "python3-scipy"}  # of Debian
+
+# The statuses of all tools.
+DONE, DIFFERS, COMMAND_LINE, NO_INPUT, UNDECIDED, NO_PACKAGE = range(6)
+
+
+class Stop(Exception):
+    """Ends a tool with a line and a status."""
+
+    def __init__(self, line, status=NO_INPUT):
+        super().__init__(line)
+        self.status = status
+
+
+def run(name, main):
+    """Runs a tool's `main`, and ends with its status. A fault is one line on standard error."""
+    try:
+        sys.exit(main())
+    except Stop as stop:
+        print(f"{name}: {stop}", file=sys.stderr)
+        sys.exit(stop.status)
+    except BrokenPipeError:
+        os.dup2(os.open(os.devnull, os.O_WRONLY), sys.stdout.fileno())
+        sys.exit(NO_INPUT)
+
+
+def read_bytes(path):
+    """The bytes of a file; `-` is standard input."""
+    try:
+        return sys.stdin.buffer.read() if path == "-" else Path(path).read_bytes()
+    except OSError as fault:
+        raise Stop(f"{path} can't be read: {fault.strerror}") from None
+
+
+def write_bytes(path, data):
+    """Writes a file, or standard output where the path is `-`."""
+    try:
+        if path == "-":
+            sys.stdout.buffer.write(data)
+            sys.stdout.buffer.flush()
+        else:
+            Path(path).write_bytes(data)
+    except BrokenPipeError:
+        raise
+    except OSError as fault:
+        raise Stop(f"{path} can't be written: {fault.strerror}") from None
+
+
+def read_texts(path, results_path):
+    """The bytes of a journal and of results: of two files, or of one with the text of a day."""
+    data = read_bytes(path)
+    if results_path is not None:
+        return data, read_bytes(results_path)
+    texts = results.split_day(data)
+    if texts is None:
+        raise Stop(f"{path} has no line 'results', so it is no text of a day: name the results' file behind the journal's")
+    return texts
+
+
+def parse_journal(path, data):
+    try:
+        return journal.read_journal(data)
+    except journal.Fault as fault:
+        raise Stop(f"{path} is no journal: {fault}") from None
+
+
+class Day:
+    """A journal with its results, whose form is right. `wrong` has what of the results isn't as the rules say."""
+
+    def __init__(self, path, results_path):
+        from . import check
+
+        journal_data, results_data = read_texts(path, results_path)
+        self.journal = parse_journal(path, journal_data)
+        self.book, self.reasons = book.run(self.journal)
+        self.problem = selection.Problem(self.book)
+        self.said, self.wrong = check.differences(self.problem, results_data)
+        if self.said is None:
+            raise Stop(f"{results_path or path} has no results of this journal: {self.wrong[0]}")
+        self.outcome = selection.outcome(self.problem, self.said.accepted)
+
+
+def has(module):
+    return importlib.util.find_spec(module) is not None
+
+
+def python_with(module):
+    """Starts the tool anew by Debian's Python, where this one lacks a module that that one has."""
+    if has(module) or os.path.realpath(sys.executable) == os.path.realpath(DEBIAN_PYTHON):
+        return
+    try:
+        found = subprocess.run([DEBIAN_PYTHON, "-c", f"import {module}"], stderr=subprocess.DEVNULL)
+    except OSError:
+        return
+    if found.returncode == 0:
+        os.execv(DEBIAN_PYTHON, [DEBIAN_PYTHON, *sys.argv])
+
+
+def need(module):
+    """Ends the tool where a module is missing."""
+    python_with(module)
+    if not has(module):
+        raise Stop(f"it needs {module}, which Debian has in the package {PACKAGES[module]}", NO_PACKAGE)

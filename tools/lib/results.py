@@ -1,0 +1,126 @@
+"""The results text of a clearing: reading one against its problem, and writing the one that follows from a selection."""
+
+from typing import NamedTuple
+
+from . import text
+
+# No welfare, surplus or volume of a result is as large.
+LARGE = 10**16
+
+
+class Results(NamedTuple):
+    welfare: int
+    prices: list  # of the periods from 1
+    volumes: list
+    executed: list  # of the hourly orders in book order
+    accepted: set  # places of blocks
+    surpluses: list  # of the blocks
+    lines: dict  # from what a line is about, as "period 3" or "block WHO,NAME", to its number
+
+
+def split_day(data):
+    """The journal and the results of the text of a day, which the line `results` parts; None where it isn't there."""
+    if data.startswith(b"results\n"):
+        return b"", data[len(b"results\n") :]
+    journal, line, results = data.partition(b"\nresults\n")
+    return (journal + b"\n", results) if line else None
+
+
+def number(field):
+    return text.number(field, -LARGE, LARGE)
+
+
+def expected_lines(problem):
+    """For each line of the results: what it is about, its fields that are known beforehand, and how many numbers or words
+    come behind them."""
+    yield "the day", ["day", str(problem.periods)], ""
+    yield "the welfare", ["welfare"], "n"
+    for period in range(1, problem.periods + 1):
+        yield f"period {period}", ["period", str(period)], "nn"
+    for row in problem.rows:
+        kind = row.order.kind
+        yield f"{kind} {row}", [kind, row.who, row.name], "n" if kind == "hour" else "an"
+
+
+def line_values(line, known, behind):
+    """The values of a line behind its known fields: numbers, and for an `a` whether the word is `accepted`. None where it
+    isn't such a line."""
+    fields = line.split(b",")
+    if fields[: len(known)] != [field.encode() for field in known] or len(fields) != len(known) + len(behind):
+        return None
+    values = []
+    for field, kind in zip(fields[len(known) :], behind):
+        if kind == "a":
+            value = {b"accepted": True, b"rejected": False}.get(field)
+        else:
+            value = number(field)
+        if value is None:
+            return None
+        values.append(value)
+    return values
+
+
+def read_results(problem, data):
+    """The results that a text is for this problem, and what is wrong with its form; results are None where something is."""
+    wrong, lines, values = [], {}, []
+    if not data.endswith(b"\n"):
+        wrong.append("the last line of the results isn't ended")
+    found = data.removesuffix(b"\n").split(b"\n")
+    expected = list(expected_lines(problem))
+    for at, (about, known, behind) in enumerate(expected):
+        lines[about] = at + 1
+        if at >= len(found):
+            wrong.append(f"results line {at + 1}: there is no line of {about}")
+            break
+        read = line_values(found[at], known, behind)
+        if read is None:
+            form = ",".join(known + [{"n": "<number>", "a": "accepted|rejected"}[kind] for kind in behind])
+            shown = found[at][:60].decode(errors="replace")
+            wrong.append(f"results line {at + 1}: {about} should be '{form}' and is '{shown}'")
+        values.append(read)
+    if len(found) > len(expected):
+        wrong.append(f"results line {len(expected) + 1}: there is nothing left to publish")
+    return (None if wrong else gather(problem, values, lines)), wrong
+
+
+def gather(problem, values, lines):
+    (_, (welfare,), *rest) = values
+    periods, rows = rest[: problem.periods], rest[problem.periods :]
+    kinds = list(zip(problem.rows, rows))
+    blocks = [read for row, read in kinds if row.order.kind == "block"]
+    return Results(
+        welfare,
+        [price for price, _ in periods],
+        [volume for _, volume in periods],
+        [read[0] for row, read in kinds if row.order.kind == "hour"],
+        {place for place, (accepted, _) in enumerate(blocks) if accepted},
+        [surplus for _, surplus in blocks],
+        lines,
+    )
+
+
+def executed_by_row(problem, cleared):
+    """The executed volume of each hourly order, by participant and name; None in a period that doesn't balance."""
+    volumes = {}
+    for number, rows in problem.hourly.items():
+        found = cleared[number]
+        for at, row in enumerate(rows):
+            volumes[row.who, row.name] = None if found is None else found.executed[at]
+    return volumes
+
+
+def results_text(problem, accepted, outcome):
+    """The results that are published of an eligible selection."""
+    lines = [f"day,{problem.periods}", f"welfare,{outcome.welfare}"]
+    for number, found in outcome.cleared.items():
+        lines.append(f"period,{number},{found.price},{outcome.bought[number]}")
+    executed = executed_by_row(problem, outcome.cleared)
+    place = 0
+    for row in problem.rows:
+        if row.order.kind == "hour":
+            lines.append(f"hour,{row},{executed[row.who, row.name]}")
+        else:
+            word = "accepted" if place in accepted else "rejected"
+            lines.append(f"block,{row},{word},{outcome.surpluses[place]}")
+            place += 1
+    return "".join(f"{line}\n" for line in lines)

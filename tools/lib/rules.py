@@ -1,0 +1,29 @@
+"""The numbers of the market and of its formats. A later rule changes them here, and what an accepted block answers for in
+`rescuers` below; no other module knows them."""
+
+from fractions import Fraction
+
+# The periods that a delivery day may have, and the length of one in hours.
+DAYS = {23: Fraction(1), 24: Fraction(1), 25: Fraction(1)}
+GREATEST_PERIOD = max(DAYS)
+
+LEAST_PRICE, GREATEST_PRICE = -50_000, 400_000  # cents per MWh
+GREATEST_VOLUME = 99_999  # tenths of a MW, of one order in one period
+
+MOST_HOURLY, MOST_BLOCKS = 4_000, 24  # orders in a book
+MOST_BYTES, MOST_RECORDS = 4_194_304, 10_001  # of a journal
+
+
+def rescuers(place, blocks):
+    """The places of the blocks that, where they are accepted, make good what the block at this place loses. There are none:
+    each accepted block is looked at by itself."""
+    return []
+
+
+def price_between(low, high):
+    """The price of a period whose supporting prices go from `low` to `high`, and which case of the rule it is."""
+    if low == LEAST_PRICE and high < GREATEST_PRICE:
+        return high, "the greatest, since the least is the limit"
+    if low > LEAST_PRICE and high == GREATEST_PRICE:
+        return low, "the least, since the greatest is the limit"
+    return (low + high) // 2, "half of the sum, rounded down"

@@ -1,0 +1,76 @@
+"""Records of comma-separated values, and the texts of numbers and names."""
+
+import re
+
+from . import rules
+
+# A field begins with a quote, and then goes to the closing quote (two quotes in a row stand for one) with whatever follows
+# it, or to the end of the text where no quote closes it. Else it goes to the next comma or line end.
+FIELD = re.compile(rb'"([^"]*(?:""[^"]*)*)(?:"([^,\r\n]*))?|([^,\r\n]*)')
+LINE_ENDS = re.compile(rb"[\r\n]*")
+
+# No number of a journal or of results has more digits than 18.
+NUMBER = re.compile(rb"-?[1-9][0-9]{0,17}|0")
+PARTICIPANT = re.compile(rb"[A-Z]{1,8}")
+NAME = re.compile(rb"[A-Z0-9-]{1,12}")
+
+
+def records(text):
+    """The records of a text, each a list of fields. Empty lines are no records."""
+    at = LINE_ENDS.match(text).end()
+    while at < len(text):
+        fields = []
+        while True:
+            field = FIELD.match(text, at)
+            quoted, behind, plain = field.groups()
+            fields.append(plain if quoted is None else quoted.replace(b'""', b'"') + (behind or b""))
+            at = field.end()
+            if text[at : at + 1] != b",":
+                break
+            at += 1
+        yield fields
+        at = LINE_ENDS.match(text, at).end()
+
+
+def number(text, least, greatest):
+    """The number that a text is: decimal, without leading zeros, a `-` in front of one under zero. None of any other."""
+    if not NUMBER.fullmatch(text):
+        return None
+    value = int(text)
+    return value if least <= value <= greatest else None
+
+
+def price(text):
+    return number(text, rules.LEAST_PRICE, rules.GREATEST_PRICE)
+
+
+def volume(text):
+    return number(text, 1, rules.GREATEST_VOLUME)
+
+
+def volumes(text):
+    """Pairs `period:volume`, parted by `;`, by increasing period. None of any other text."""
+    pairs = []
+    for pair in text.split(b";"):
+        period, colon, quantity = pair.partition(b":")
+        period = number(period, 1, rules.GREATEST_PERIOD)
+        quantity = volume(quantity)
+        if not colon or period is None or quantity is None or pairs and period <= pairs[-1][0]:
+            return None
+        pairs.append((period, quantity))
+    return tuple(pairs)
+
+
+def participant(text):
+    return text.decode() if PARTICIPANT.fullmatch(text) else None
+
+
+def name(text):
+    return text.decode() if NAME.fullmatch(text) else None
+
+
+def euros(cents_tenths):
+    """An amount in cents per MWh times tenths of a MW (held for an hour), as EUR."""
+    sign = "-" if cents_tenths < 0 else ""
+    whole, rest = divmod(abs(cents_tenths), 1_000)
+    return f"{sign}{whole:,}.{rest:03d}"

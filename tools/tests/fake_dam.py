@@ -1,0 +1,52 @@
+#!/usr/bin/env python3
+"""A stand-in for the program, to try the fuzzer on: it answers by tools/lib, but for the defect named in DAM_DEFECT."""
+
+import os
+import random
+import sys
+
+sys.dont_write_bytecode = True
+
+import support  # noqa: F401 (it makes lib and the fuzzer's modules found)
+
+import compare
+from lib import journal
+
+
+def shuffled(commands):
+    """The participants' commands in some order that keeps each one's own."""
+    lists, rng = list(compare.by_participant(commands).values()), random.Random(1)
+    while any(lists):
+        yield rng.choice([own for own in lists if own]).pop(0)
+
+
+def day(data):
+    try:
+        given = journal.read_journal(data)
+        fault = compare.day_faults(given)
+    except journal.Fault as found:
+        fault = found
+    if fault:
+        return compare.refused(fault)
+    run = journal.Journal(given.periods, [*shuffled(given.commands), journal.Close()])
+    text = journal.journal_text(run).encode() + b"results\n"
+    return compare.Printed(0, text + compare.wanted_results(run).stdout, b"")
+
+
+def main():
+    command, data = sys.argv[1], sys.stdin.buffer.read()
+    answer = day(data) if command == "day" else compare.wanted(command, data)
+    defect = os.environ.get("DAM_DEFECT")
+    if defect == "price" and b"period,1,175000" in answer.stdout:
+        answer = answer._replace(stdout=answer.stdout.replace(b"period,1,175000", b"period,1,175001"))
+    if defect == "status" and answer.status:
+        answer = answer._replace(status=answer.status + 1)
+    if defect == "order" and b"results\n" in answer.stdout:
+        first, *rest = answer.stdout.split(b"\n", 3)
+        answer = answer._replace(stdout=b"\n".join([first, *rest[1::-1], *rest[2:]]))
+    sys.stdout.buffer.write(answer.stdout)
+    sys.stderr.buffer.write(answer.stderr)
+    sys.exit(answer.status)
+
+
+main()

@@ -1,0 +1,48 @@
+"""What the tests share: the repository's worked cases, random days, and runs of the tools."""
+
+import subprocess
+import sys
+from pathlib import Path
+
+TOP = Path(__file__).resolve().parents[2]
+TOOLS = TOP / "tools"
+sys.path[:0] = [str(TOOLS), str(TOP / "tests" / "fuzz")]
+
+from lib import book, journal, selection
+
+AUCTION = TOP / "tests" / "cases" / "clear" / "auction-day"
+
+
+def status(case):
+    path = Path(f"{case}.status")
+    return int(path.read_text()) if path.exists() else 0
+
+
+def cases(folder):
+    """The inputs of the worked cases of a folder."""
+    return sorted(path.with_suffix("") for path in (TOP / "tests" / "cases" / folder).glob("*.args"))
+
+
+def cleared_cases():
+    """The journal and the results of each worked clearing."""
+    return [(case.name, case.read_bytes(), printed(case)) for case in cases("clear") if status(case) == 0]
+
+
+def printed(case, of="stdout"):
+    path = Path(f"{case}.{of}")
+    return path.read_bytes() if path.exists() else b""
+
+
+def problem(data):
+    return selection.Problem(book.run(journal.read_journal(data))[0])
+
+
+def journal_of(*lines):
+    """A closed journal of a day of 24 periods with these commands."""
+    return "".join(f"{line}\n" for line in ["day,24,,,,,,,", *lines, "close,,,,,,,,"]).encode()
+
+
+def tool(name, *words, data=b"", python=sys.executable):
+    """A run of a tool: its status, output and errors."""
+    ran = subprocess.run([python, TOOLS / name, *map(str, words)], input=data, capture_output=True)
+    return ran.returncode, ran.stdout, ran.stderr.decode()

@@ -1,0 +1,330 @@
+"""The audit: that it accepts what is right and refuses what isn't, by other readings of the rules than its own."""
+
+import itertools
+import random
+import re
+import tempfile
+import unittest
+from pathlib import Path
+
+import support
+from support import AUCTION, cleared_cases, journal_of, printed, problem, tool
+
+import days
+from lib import best, book, check, command, journal, period, results, rules, selection
+
+NUMBER = re.compile(rb"(?<=,)-?\d+(?=[,\n])")
+
+
+def differences(data, text):
+    return check.differences(problem(data), text)[1]
+
+
+def changed_numbers(text):
+    """The text with one of its numbers one greater or one less, for each number; and the line of that number."""
+    for found in NUMBER.finditer(text):
+        for step in (-1, 1):
+            number = str(int(found[0]) + step).encode()
+            yield text[: found.start()] + number + text[found.end() :], text[: found.start()].count(b"\n") + 1
+
+
+class Results(unittest.TestCase):
+    def test_worked_results_are_accepted(self):
+        for name, data, text in cleared_cases():
+            with self.subTest(name):
+                self.assertEqual(differences(data, text), [])
+
+    def test_each_changed_number_is_refused_at_its_line(self):
+        refused = 0
+        for name, data, text in cleared_cases():
+            for other, line in changed_numbers(text):
+                with self.subTest(name, line=line):
+                    self.assertIn(f"results line {line}:", "\n".join(differences(data, other)))
+                refused += 1
+        self.assertGreater(refused, 1_000)
+
+    def test_each_turned_block_is_refused(self):
+        data, text = AUCTION.read_bytes(), printed(AUCTION)
+        turned = 0
+        for word, other in ((b"accepted", b"rejected"), (b"rejected", b"accepted")):
+            for found in re.finditer(word, text):
+                changed = text[: found.start()] + other + text[found.end() :]
+                self.assertNotEqual(differences(data, changed), [])
+                turned += 1
+        self.assertEqual(turned, 9)
+
+    def test_form(self):
+        data, text = AUCTION.read_bytes(), printed(AUCTION)
+        lines = text.splitlines(keepends=True)
+        broken = {
+            "no line end at the end": text[:-1],
+            "another line end": text.replace(b"\n", b"\r\n"),
+            "a line less": b"".join(lines[:-1]),
+            "a line more": text + lines[-1],
+            "an empty line more": text + b"\n",
+            "a line doubled": b"".join(lines[:4] + lines[3:]),
+            "lines in another order": b"".join(lines[:30] + [lines[31], lines[30]] + lines[32:]),
+            "another day": text.replace(b"day,24", b"day,23"),
+            "a zero in front": text.replace(b"period,1,9200", b"period,1,09200"),
+            "a plus in front": text.replace(b"period,1,9200", b"period,1,+9200"),
+            "a minus zero": text.replace(b"FLEX-2,0", b"FLEX-2,-0"),
+            "a space": text.replace(b"welfare,", b"welfare, "),
+            "quotes": text.replace(b"day,24", b'"day",24'),
+            "another name": text.replace(b"LOAD-7,", b"LOAD-77,"),
+            "another participant": text.replace(b"COAL,BASE", b"OIL,BASE"),
+            "another word": text.replace(b"DAWN,accepted", b"DAWN,taken"),
+            "nothing": b"",
+        }
+        for name, other in broken.items():
+            with self.subTest(name):
+                self.assertNotEqual(other, text)
+                self.assertNotEqual(differences(data, other), [])
+
+    def test_links_groups_and_losses_are_named(self):
+        wrong = "\n".join(differences(AUCTION.read_bytes(), printed(AUCTION).replace(b"STAY,accepted", b"STAY,rejected")))
+        self.assertIn("block GAS,EVENING is accepted and its parent GAS,STAY isn't", wrong)
+        wrong = "\n".join(differences(AUCTION.read_bytes(), printed(AUCTION).replace(b"NOON,rejected", b"NOON,accepted")))
+        self.assertIn("group FILL of PUMP has 2 accepted blocks: PUMP,DAWN PUMP,NOON", wrong)
+        wrong = "\n".join(differences(AUCTION.read_bytes(), printed(AUCTION).replace(b"UNIT-7,rejected", b"UNIT-7,accepted")))
+        self.assertIn("block OLD,UNIT-7: it is accepted and loses 270000", wrong)
+
+    def test_a_selection_that_balances_nowhere_is_refused(self):
+        case = support.TOP / "tests/cases/clear/too-large-block"
+        wrong = differences(case.read_bytes(), printed(case).replace(b"rejected", b"accepted"))
+        self.assertIn("period 1: no execution balances", "\n".join(wrong))
+
+
+class Text(unittest.TestCase):
+    def test_replies_and_faults_of_the_worked_cases(self):
+        for case in support.cases("replay"):
+            with self.subTest(case.name):
+                self.assertEqual(self.replies(case.read_bytes()), (printed(case), printed(case, "stderr")))
+
+    def replies(self, data):
+        try:
+            return book.replies_text(journal.read_journal(data)).encode(), b""
+        except journal.Fault as fault:
+            return b"", f"{fault}\n".encode()
+
+    def test_records(self):
+        from lib.text import records
+
+        for given, wanted in {
+            b"": [],
+            b"\n\r\n\r": [],
+            b"a": [[b"a"]],
+            b"a,": [[b"a", b""]],
+            b",\n": [[b"", b""]],
+            b"\n\na,b\r\rc": [[b"a", b"b"], [b"c"]],
+            b'""': [[b""]],
+            b'"a,\n""b"",c': [[b'a,\n"b",c']],
+            b'"a"b"c,d\n': [[b'ab"c', b"d"]],
+            b'a"b"\n': [[b'a"b"']],
+            b'"a"""\n': [[b'a"']],
+            b" a , b ": [[b" a ", b" b "]],
+        }.items():
+            with self.subTest(given):
+                self.assertEqual(list(records(given)), wanted)
+
+    def test_the_written_journal_reads_back(self):
+        for number in range(300):
+            text = days.text(random.Random(number), 8)
+            read = journal.read_journal(text)
+            self.assertEqual(journal.journal_text(read).encode(), text)
+            self.assertEqual(journal.read_journal(text.replace(b"\n", b"\r\n\r\n")), read)
+
+
+def executions(orders):
+    """Each list of executed volumes."""
+    return itertools.product(*(range(quantity + 1) for _, _, quantity in orders))
+
+
+def balance(orders, net, executed):
+    return net + sum(-quantity if side == "buy" else quantity for (side, _, _), quantity in zip(orders, executed)) == 0
+
+
+def obeys(orders, executed, price):
+    """Whether better orders are executed in full, and worse ones not at all."""
+    for (side, limit, quantity), done in zip(orders, executed):
+        gain = limit - price if side == "buy" else price - limit
+        if gain > 0 and done != quantity or gain < 0 and done != 0:
+            return False
+    return True
+
+
+def bought(orders, executed):
+    return sum(quantity for (side, _, _), quantity in zip(orders, executed) if side == "buy")
+
+
+class Period(unittest.TestCase):
+    """The clearing of a period, against all executions of tiny ones."""
+
+    def drawn(self):
+        for number in range(400):
+            rng = random.Random(number)
+            middle = rng.choice([rules.LEAST_PRICE + 2, 0, 5_000, rules.GREATEST_PRICE - 2])
+            orders = tuple(
+                (rng.choice(["buy", "sell"]), middle + rng.randint(-2, 2), rng.randint(1, 3))
+                for _ in range(rng.randint(0, 5))
+            )
+            yield orders, rng.randint(-4, 4)
+
+    def test_supporting_prices(self):
+        for orders, net in self.drawn():
+            balanced = [executed for executed in executions(orders) if balance(orders, net, executed)]
+            limits = {limit + step for _, limit, _ in orders for step in (-1, 0, 1)}
+            near = sorted(price for price in limits if rules.LEAST_PRICE <= price <= rules.GREATEST_PRICE)
+            prices = sorted({rules.LEAST_PRICE, *near, rules.GREATEST_PRICE})
+            right = [price for price in prices if any(obeys(orders, executed, price) for executed in balanced)]
+            found = period.clear(orders, net)
+            self.assertEqual(found is not None, bool(balanced))
+            if found:
+                self.assertEqual(right, [price for price in prices if found.low <= price <= found.high])
+                self.assertEqual((found.low, found.high), (right[0], right[-1]))
+
+    def test_execution(self):
+        for orders, net in self.drawn():
+            balanced = [executed for executed in executions(orders) if balance(orders, net, executed)]
+            found = period.clear(orders, net)
+            if found:
+                def rank(executed):
+                    return period.welfare(orders, executed), bought(orders, executed), executed
+
+                self.assertEqual(found.executed, max(balanced, key=rank))
+                self.assertEqual(found.welfare, period.welfare(orders, found.executed))
+
+    def test_price_rule(self):
+        self.assertEqual(rules.price_between(-50_000, 5_000)[0], 5_000)
+        self.assertEqual(rules.price_between(6_000, 400_000)[0], 6_000)
+        self.assertEqual(rules.price_between(-50_000, 400_000)[0], 175_000)
+        self.assertEqual(rules.price_between(-3, 0)[0], -2)
+        self.assertEqual(rules.price_between(200, 9_200)[0], 4_700)
+
+    def test_the_curve_says_the_same(self):
+        for orders, _ in self.drawn():
+            curve = best.Curve(orders)
+            for net in range(-16, 17):
+                found = period.clear(orders, net)
+                self.assertEqual(curve.welfare(net), found and found.welfare)
+                if found:
+                    self.assertEqual(curve.supporting(net), (found.low, found.high))
+
+
+def small_problems(count):
+    """Random days of at most six blocks, each with its eligible selections from the best one down."""
+    for number in itertools.count():
+        day = problem(days.text(random.Random(f"small {number}"), 6).replace(b"close,,,,,,,,\n", b"") + b"close,,,,,,,,\n")
+        if 0 < len(day.blocks) <= 6 and count > 0:
+            count -= 1
+            yield day, ranked(day)
+        if count == 0:
+            return
+
+
+def ranked(day):
+    """The eligible selections of a problem, with their welfare, the best one first."""
+    subsets = itertools.product([True, False], repeat=len(day.blocks))
+    chosen = [frozenset(itertools.compress(range(len(day.blocks)), flags)) for flags in subsets]
+    found = [(selection.eligible(day, accepted), accepted) for accepted in chosen]
+    # The selections come from the one that accepts most in front, and the sort keeps that order among equals.
+    return sorted(((welfare, accepted) for welfare, accepted in found if welfare is not None), key=lambda pair: -pair[0])
+
+
+class Best(unittest.TestCase):
+    def test_enumeration(self):
+        for day, selections in small_problems(200):
+            found, _ = best.enumerate_all(day)
+            self.assertEqual((found.welfare, found.accepted), selections[0])
+
+    def test_highs(self):
+        if not command.has("scipy"):
+            self.skipTest("scipy is missing (Debian's python3-scipy)")
+        from lib import solver
+
+        tried = 0
+        for day, selections in small_problems(60):
+            for rank, (welfare, accepted) in enumerate(selections[:4]):
+                found, _ = solver.better(day, accepted, welfare, 60)
+                self.assertEqual(found is None, rank == 0)
+                if found:
+                    self.assertIn((found.welfare, found.accepted), selections[:rank])
+                tried += 1
+        self.assertGreater(tried, 100)
+
+    def methods(self):
+        return ["enumeration", "highs"] if command.has("scipy") else ["enumeration"]
+
+    def test_worse_selections_are_refused_on_request_alone(self):
+        data = AUCTION.read_bytes()
+        day = problem(data)
+        without = text_of(day, frozenset({0, 1}))
+        # The unit that is paradoxically rejected would make the welfare greater, and lose.
+        for method in self.methods():
+            with self.subTest(method):
+                self.assertEqual(audit(data, without)[0], 0)
+                status, out, _ = audit(data, without, "--best", "--by", method)
+                self.assertEqual(status, 1)
+                self.assertIn(b"a better selection accepts", out)
+                self.assertEqual(audit(data, printed(AUCTION), "--best", "--by", method)[0], 0)
+
+    def test_of_equal_selections_the_earlier_block_is_accepted(self):
+        case = support.TOP / "tests/cases/clear/two-equal-blocks"
+        data = case.read_bytes()
+        for method in self.methods():
+            with self.subTest(method):
+                status, out, _ = audit(data, text_of(problem(data), frozenset({1})), "--best", "--by", method)
+                self.assertEqual((status, b"ranks above" in out), (1, True))
+
+
+def text_of(day, accepted):
+    return results.results_text(day, accepted, selection.outcome(day, accepted)).encode()
+
+
+def audit(data, text, *words):
+    """A run of the tool on a journal and results."""
+    with tempfile.TemporaryDirectory() as folder:
+        paths = Path(folder, "journal"), Path(folder, "results")
+        for path, content in zip(paths, (data, text)):
+            path.write_bytes(content)
+        return tool("audit", *words, *paths)
+
+
+class CommandLine(unittest.TestCase):
+    def test_statuses(self):
+        self.assertEqual(audit(AUCTION.read_bytes(), printed(AUCTION))[0], command.DONE)
+        self.assertEqual(audit(AUCTION.read_bytes(), b"day,24\n")[0], command.DIFFERS)
+        self.assertEqual(tool("audit")[0], command.COMMAND_LINE)
+        status, _, err = audit(b"day,24\n", b"")
+        self.assertEqual((status, "input: FieldCount in record 1" in err), (command.NO_INPUT, True))
+        status, _, err = tool("audit", "/nowhere/journal", "/nowhere/results")
+        self.assertEqual((status, err), (command.NO_INPUT, "audit: /nowhere/journal can't be read: No such file or directory\n"))
+        self.assertEqual(audit(b"day,24,,,,,,,\n", b"day,24\n")[0], command.DIFFERS)
+
+    def test_replies(self):
+        data, text = journal_of("cancel,A,B,,,,,,"), b"day,24\n1,refused,UnknownOrder\n2,done\n"
+        self.assertEqual(audit(data, text, "--replies")[0], command.DONE)
+        for other in (text[:-1], text + b"3,done\n", text.replace(b"refused,UnknownOrder", b"done"), b""):
+            self.assertEqual(audit(data, other, "--replies")[0], command.DIFFERS)
+
+    def test_the_text_of_a_day(self):
+        day = AUCTION.read_bytes() + b"results\n" + printed(AUCTION)
+        self.assertEqual(tool("audit", "-", data=day)[0], command.DONE)
+        self.assertEqual(tool("audit", "-", data=day.replace(b"welfare,3", b"welfare,4"))[0], command.DIFFERS)
+        self.assertEqual(tool("audit", "-", data=day.replace(b"day,24,", b'"day",24,'))[0], command.DIFFERS)
+        self.assertEqual(tool("audit", "-", data=AUCTION.read_bytes())[0], command.NO_INPUT)
+
+    def test_too_many_blocks_for_no_solver(self):
+        blocks = [f"submit,A,K{number},block,sell,1,1:1,," for number in range(24)]
+        data = journal_of(*blocks)
+        text = text_of(problem(data), frozenset())
+        wanted = command.DONE if command.has("scipy") else command.UNDECIDED
+        self.assertEqual(audit(data, text, "--best")[0], wanted)
+
+    def test_quiet_and_help(self):
+        self.assertEqual(audit(AUCTION.read_bytes(), printed(AUCTION), "--quiet"), (0, b"", ""))
+        status, out, _ = tool("audit", "--help")
+        self.assertEqual((status, b"JOURNAL" in out), (0, True))
+
+
+if __name__ == "__main__":
+    unittest.main()

@@ -1,0 +1,48 @@
+"""The fuzzer, on a program that is right and on some that aren't."""
+
+import os
+import re
+import subprocess
+import sys
+import tempfile
+import unittest
+from pathlib import Path
+
+import support
+
+
+class Fuzz(unittest.TestCase):
+    def fuzz(self, *words, defect=""):
+        """A run of the fuzzer: its status and output, and the cases that it kept, as their inputs."""
+        with tempfile.TemporaryDirectory() as folder:
+            program = Path(folder, "dam")
+            fake = support.TOOLS / "tests" / "fake_dam.py"
+            program.write_text(f'#!/bin/sh\nPYTHONPATH="{fake.parent}" exec "{sys.executable}" "{fake}" "$@"\n')
+            program.chmod(0o755)
+            found = Path(folder, "found")
+            run = [sys.executable, support.TOP / "tests" / "fuzz" / "run", program, "--keep", found, "--tries", "60", *words]
+            ran = subprocess.run(run, capture_output=True, text=True, env={**os.environ, "DAM_DEFECT": defect})
+            kept = [path.with_suffix("").read_bytes() for path in sorted(found.glob("*.args"))] if found.is_dir() else []
+            return ran.returncode, ran.stdout + ran.stderr, kept
+
+    def test_a_program_that_is_right(self):
+        self.assertEqual(self.fuzz("--count", "12"), (0, "12 passed, 0 failed\n", []))
+        self.assertEqual(self.fuzz("--count", "12", "--commands", "day"), (0, "12 passed, 0 failed\n", []))
+
+    def test_a_wrong_price_is_found_and_made_small(self):
+        status, out, kept = self.fuzz("--count", "2", "--seed", "a", "--commands", "clear", defect="price")
+        self.assertEqual((status, "stdout differs" in out), (1, True))
+        self.assertTrue(all(re.fullmatch(rb"day,2[345],,,,,,,\nclose,,,,,,,,\n?", case) for case in kept), kept)
+        self.assertGreater(len(kept), 0)
+
+    def test_a_wrong_status_is_found(self):
+        status, out, kept = self.fuzz("--count", "4", "--seed", "b", "--commands", "replay", defect="status")
+        self.assertEqual((status, "status differs" in out, b"" in kept), (1, True, True), out)
+
+    def test_a_day_in_another_order_is_found(self):
+        status, out, _ = self.fuzz("--count", "3", "--seed", "c", "--commands", "day", defect="order")
+        self.assertEqual((status, "in their order" in out), (1, True))
+
+
+if __name__ == "__main__":
+    unittest.main()
