@@ -1,0 +1,170 @@
+"""Random journals: days with hourly orders, blocks, links and groups, drawn so that prices and volumes meet, tie or reach
+their limits, with commands that the book refuses among them. All by docs/FORMATS.md, as lines of text."""
+
+from lib import rules
+
+PARTICIPANTS = ["A", "B", "NORD", "STADTWKE"]
+LIMITS = [rules.LEAST_PRICE, rules.LEAST_PRICE + 1, -1, 0, 1, rules.GREATEST_PRICE - 1, rules.GREATEST_PRICE]
+
+
+def price_source(rng):
+    """What draws limit prices."""
+    kind = rng.randrange(6)
+    if kind == 0:
+        return lambda: rng.randint(rules.LEAST_PRICE, rules.GREATEST_PRICE)
+    if kind == 1:
+        return lambda: rng.choice(LIMITS)
+    if kind == 2:
+        return lambda: rng.randint(-4, 4)
+    if kind == 3:
+        few = [rng.randint(rules.LEAST_PRICE, rules.GREATEST_PRICE) for _ in range(rng.randint(1, 3))]
+        return lambda: rng.choice(few)
+    middle = rng.randint(-1_000, 12_000)
+    step = rng.choice([1, 50, 400])
+    return lambda: middle + step * rng.randint(-5, 5)
+
+
+def volume_source(rng):
+    """What draws volumes."""
+    kind = rng.randrange(5)
+    if kind == 0:
+        return lambda: rng.choice([1, rules.GREATEST_VOLUME - 1, rules.GREATEST_VOLUME])
+    if kind == 1:
+        return lambda: 10
+    if kind == 2:
+        return lambda: rng.randint(1, rules.GREATEST_VOLUME)
+    most = rng.choice([2, 5, 200])
+    return lambda: rng.randint(1, most)
+
+
+class Draft:
+    """The lines of a day in the making, and what the next ones are drawn from."""
+
+    def __init__(self, rng):
+        self.rng = rng
+        self.periods = rng.choice(list(rules.DAYS))
+        self.price, self.volume = price_source(rng), volume_source(rng)
+        self.block_volume = self.volume
+        few = rng.sample(range(1, self.periods + 1), rng.choice([1, 1, 2, 3]))
+        self.active = few if rng.random() < 0.85 else list(range(1, self.periods + 1))
+        self.hourly = rng.choice([0, 1, 2, 3, 4, 6, 9, 15, 40])
+        if rng.random() < 0.4:
+            self.meet()
+        self.participants = PARTICIPANTS[: rng.choice([1, 2, 4])]
+        self.named = []  # pairs of a participant and a name that were submitted
+        self.blocks = []  # of these, the blocks
+        self.links, self.groups = rng.choice([0, 0.3, 0.8]), rng.choice([0, 0.3, 0.8])
+        self.lines = [f"day,{self.periods},,,,,,,"]
+
+    def meet(self):
+        """Many small orders at near prices in few periods, and smaller blocks: there are many ways to accept them, and some
+        would lose where the welfare is greatest."""
+        rng = self.rng
+        middle, most = rng.randint(2_000, 9_000), rng.choice([10, 60])
+        self.price = lambda: middle + 50 * rng.randint(-6, 6)
+        self.volume, self.block_volume = (lambda: rng.randint(1, most)), (lambda: rng.randint(1, 1 + most // 3))
+        self.active = self.active[:2]
+        self.hourly = rng.randint(5, 16)
+
+    def name(self, prefix):
+        """A new name, or now and then one that may be taken."""
+        if self.named and self.rng.random() < 0.04:
+            return self.rng.choice(self.named)
+        return self.rng.choice(self.participants), f"{prefix}{len(self.lines)}"
+
+    def late(self):
+        """A period that the day may not have."""
+        return self.rng.randint(min(rules.DAYS), rules.GREATEST_PERIOD)
+
+    def period(self):
+        if self.rng.random() < 0.01:
+            return self.late()
+        return self.rng.choice(self.active)
+
+    def profile(self):
+        """The volumes of a block."""
+        most = len(self.active)
+        periods = set(self.rng.sample(self.active, self.rng.randint(1, most)))
+        if self.rng.random() < 0.02:
+            periods.add(self.late())
+        same = self.block_volume() if self.rng.random() < 0.5 else None
+        return ";".join(f"{period}:{same or self.block_volume()}" for period in sorted(periods))
+
+    def submit_hour(self):
+        who, name = self.name("H")
+        side = self.rng.choice(["buy", "sell"])
+        self.lines.append(f"submit,{who},{name},hour,{side},{self.price()},{self.period()}:{self.volume()},,")
+        self.named.append((who, name))
+
+    def submit_block(self):
+        who, name = self.name("K")
+        parent = group = ""
+        own = [other for owner, other in self.blocks if owner == who]
+        if own and self.rng.random() < self.links:
+            parent = self.rng.choice(own)
+        elif self.named and self.rng.random() < 0.03:
+            parent = self.rng.choice(self.named)[1]
+        if self.rng.random() < self.groups:
+            group = self.rng.choice("XY")
+        side = self.rng.choice(["buy", "sell", "sell"])
+        self.lines.append(f"submit,{who},{name},block,{side},{self.price()},{self.profile()},{parent},{group}")
+        self.named.append((who, name))
+        self.blocks.append((who, name))
+
+    def some_name(self):
+        if self.named and self.rng.random() < 0.9:
+            return self.rng.choice(self.named)
+        return self.rng.choice(self.participants), "NEVER"
+
+    def amend(self):
+        who, name = self.some_name()
+        volumes = self.profile() if self.rng.random() < 0.5 else f"{self.period()}:{self.volume()}"
+        self.lines.append(f"amend,{who},{name},,,{self.price()},{volumes},,")
+
+    def cancel(self):
+        who, name = self.some_name()
+        self.lines.append(f"cancel,{who},{name},,,,,,")
+
+
+def mixed(draft, hourly, blocks):
+    """Submits in any order, with amends and cancels among them."""
+    rng = draft.rng
+    submits = [draft.submit_hour] * hourly + [draft.submit_block] * blocks
+    rng.shuffle(submits)
+    changes = rng.choice([0, 0, 0.1, 0.4])
+    for submit in submits:
+        submit()
+        if rng.random() < changes:
+            rng.choice([draft.amend, draft.cancel])()
+
+
+def full(draft):
+    """A book at its limits, or a journal at its limit of records: for replays alone."""
+    rng = draft.rng
+    kind = rng.randrange(3)
+    if kind == 0:
+        mixed(draft, rng.randint(3_990, 4_100), rng.randint(0, 30))
+    elif kind == 1:
+        mixed(draft, rng.randint(0, 5), rng.randint(22, 40))
+    else:
+        draft.lines += ["close,,,,,,,,"] * rng.randint(9_995, 10_005)
+
+
+def lines(rng, most_blocks, closing=True):
+    """The lines of a random day."""
+    draft = Draft(rng)
+    if rng.random() < 0.001:
+        full(draft)
+    else:
+        mixed(draft, draft.hourly, rng.choice([0, 1, 1, 2, 2, 3, 4, 5, most_blocks]))
+    if not closing:
+        return draft.lines
+    if rng.random() < 0.97:
+        draft.lines.append("close,,,,,,,,")
+    if rng.random() < 0.05:
+        draft.lines.insert(rng.randint(1, len(draft.lines)), "close,,,,,,,,")
+    return draft.lines
+
+
+def text(rng, most_blocks, closing=True):
+    return "".join(f"{line}\n" for line in lines(rng, most_blocks, closing)).encode()

@@ -1,0 +1,115 @@
+"""Broken texts: journals that were cut, doubled, quoted, shuffled or changed in single bytes and fields, and plain noise."""
+
+SPECIAL = [b",", b'"', b"\r", b"\n", b"\r\n", b";", b":", b"-", b"+", b"0", b" ", b"\t", b"\x00", b"\x7f", b"\x80", b"\xff"]
+FIELDS = [
+    b"", b"-0", b"+1", b"007", b"00", b"0", b"-", b"1", b"26", b"400000", b"400001", b"-50000", b"-50001", b"99999999999999999999",
+    b"9" * 5_000, b"1:1;1:1", b"2:1;1:1", b"1:1;", b";1:1", b"1:", b":1", b"1:0", b"0:1", b"26:1", b"25:99999", b"1:100000", b"1:1:1",
+    b"1:01", b"day", b"submit", b"amend", b"cancel", b"close", b"Close", b"hour", b"block", b"buy", b"sell", b"SELL", b"ABCDEFGH",
+    b"ABCDEFGHI", b"ABCDEFGHIJKL", b"ABCDEFGHIJKLM", b"A1", b"a", b"A B", b"A-1", b'"', b'""', b'"x"y', b'a"b', b'"a,b"', b'"a\nb"',
+    b"\xef\xbb\xbf", b"\xc3\xa9",
+]  # fmt: skip
+
+
+def cut(rng, text):
+    return text[: rng.randint(0, len(text))]
+
+
+def cut_front(rng, text):
+    return text[rng.randint(0, len(text)) :]
+
+
+def insert(rng, text):
+    at = rng.randint(0, len(text))
+    return text[:at] + rng.choice(SPECIAL) * rng.choice([1, 1, 1, 2, 9]) + text[at:]
+
+
+def drop(rng, text):
+    at = rng.randint(0, len(text))
+    return text[:at] + text[at + rng.choice([1, 1, 2, 7]) :]
+
+
+def change(rng, text):
+    at = rng.randint(0, len(text))
+    byte = bytes([rng.randrange(128)]) if rng.random() < 0.7 else rng.choice(SPECIAL)
+    return text[:at] + byte + text[at + 1 :]
+
+
+def double(rng, text):
+    begin = rng.randint(0, len(text))
+    end = min(len(text), begin + rng.choice([1, 5, 40, 400]))
+    return text[:end] + text[begin:end] + text[end:]
+
+
+def on_lines(change_line):
+    """Changes one line of a text."""
+
+    def changed(rng, text):
+        lines = text.splitlines(keepends=True)
+        if not lines:
+            return text
+        at = rng.randrange(len(lines))
+        lines[at] = change_line(rng, lines[at])
+        return b"".join(lines)
+
+    return changed
+
+
+def on_fields(change_field):
+    """Changes one field of a line."""
+
+    def changed(rng, line):
+        body = line.rstrip(b"\r\n")
+        fields = body.split(b",")
+        at = rng.randrange(len(fields))
+        fields[at] = change_field(rng, fields[at])
+        return b",".join(fields) + line[len(body) :]
+
+    return on_lines(changed)
+
+
+def quoted(rng, field):
+    return b'"' + field.replace(b'"', b'""') + b'"'
+
+
+def oddly_quoted(rng, field):
+    at = rng.randint(0, len(field))
+    return rng.choice([b'"' + field, field + b'"', b'"' + field[:at] + b'"' + field[at:], b'"' + field + b'""', b'""' + field])
+
+
+def quote_all(rng, text):
+    """Quotes whole fields here and there: the text means the same."""
+    lines = []
+    for line in text.splitlines():
+        fields = line.split(b",")
+        lines.append(b",".join(quoted(rng, field) if rng.random() < 0.3 else field for field in fields))
+    return b"".join(line + rng.choice([b"\n", b"\r", b"\r\n", b"\n\n", b"\r\n\r\n"]) for line in lines)
+
+
+def shuffle(rng, text):
+    lines = text.splitlines(keepends=True)
+    first, rest = lines[:1], lines[1:]
+    rng.shuffle(rest)
+    return b"".join(first + rest) if rng.random() < 0.8 else b"".join(rest + first)
+
+
+def line_end(rng, line):
+    return line.rstrip(b"\r\n") + rng.choice([b"", b"\r", b"\n", b"\r\n", b"\n\r", b"\n\n\n", b",\n", b" \n"])
+
+
+CHANGES = [
+    cut, cut_front, insert, insert, drop, change, change, double, quote_all, shuffle, on_lines(line_end),
+    on_fields(lambda rng, field: rng.choice(FIELDS)), on_fields(lambda rng, field: rng.choice(FIELDS)),
+    on_fields(quoted), on_fields(oddly_quoted), on_fields(insert), on_fields(drop),
+]  # fmt: skip
+
+
+def noise(rng):
+    alphabet = rng.choice([b'day,24"\r\n', b"0123456789:;-,\n", bytes(range(256)), b'",\n'])
+    return bytes(rng.choice(alphabet) for _ in range(rng.randint(0, 200)))
+
+
+def broken(rng, text):
+    """The text after some changes."""
+    for _ in range(rng.choice([1, 1, 1, 2, 3, 6])):
+        text = rng.choice(CHANGES)(rng, text)
+    return text

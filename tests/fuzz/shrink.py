@@ -1,0 +1,25 @@
+"""Smaller inputs that show the same difference."""
+
+
+def without(parts, fails, tries):
+    """Leaves out runs of parts, long ones first, as long as what is left still fails; and how many tries are left."""
+    size = len(parts) // 2
+    while size >= 1:
+        at = 0
+        while at < len(parts) and tries > 0:
+            fewer = parts[:at] + parts[at + size :]
+            tries -= 1
+            if fails(b"".join(fewer)):
+                parts = fewer
+            else:
+                at += size
+        size //= 2
+    return parts, tries
+
+
+def shrink(data, fails, tries):
+    """A part of the input that still fails: with fewer lines, then with fewer bytes. So many smaller inputs are tried."""
+    lines, tries = without(data.splitlines(keepends=True), fails, tries)
+    data = b"".join(lines)
+    parts, _ = without([data[at : at + 1] for at in range(len(data))], fails, tries)
+    return b"".join(parts)
