@@ -8,8 +8,8 @@ use Rattle.std.proofs.lemmas.Nat.{pow_pos, pow_below}
 use Rattle.dam_book.specs.declared.limits.TheConstants.{MOST_BLOCKS}
 use Rattle.std.proofs.lemmas.Bool.{cases_lt}
 use Rattle.std.proofs.lemmas.Option.{slice_get_within}
-use Rattle.dam_blocks.specs.Problem.{ProblemState}
-use Rattle.dam_blocks.specs.Selection.{accepts, padded, choice}
+use Rattle.dam_blocks.specs.Problem.{ProblemState, IsProblem}
+use Rattle.dam_blocks.specs.Selection.{accepts, padded, choice, IsAdmissible}
 use Rattle.dam_blocks.specs.Eligible.{IsEligible}
 use Rattle.dam_blocks.specs.Result.{RanksAtOrBelow, IsResult}
 use Rattle.dam_blocks.proofs.Ranks.{ranks_trans}
@@ -98,6 +98,12 @@ padded_choice n sel few long only =
       subst (λ (m : ℕ). found.0 < 2 ^ m) front found.1,
       ap₂ (λ (x y : List Bool). x ++ y) is (ap (λ (m : ℕ). replicate m false) (sym left) ∙ sym back) ∙ take-append-drop n sel,
     )
+
+pub admissible_choice : (problem : ProblemState) (sel : List Bool) → IsProblem problem → length sel ≡ MOST_BLOCKS → IsAdmissible problem.blocks sel
+    → (k : ℕ) × (k < 2 ^ length problem.blocks) × (padded (choice (length problem.blocks) k) ≡ sel)
+admissible_choice problem sel is long admissible =
+    padded_choice (length problem.blocks) sel is.few_blocks long
+    (λ i e. (let allowed = admissible.each i e in slice_get_within problem.blocks i allowed.block allowed.stands))
 
 -- ---- a choice made place by place
 -- the places so far, and what is left of the number, make the choice

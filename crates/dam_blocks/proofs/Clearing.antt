@@ -19,7 +19,7 @@ use Rattle.dam_blocks.specs.Score.{IsFirstUnbalanced}
 use Rattle.dam_blocks.proofs.Magnitudes.{welfare_within}
 
 -- ---- one period
-hour_at : (hours : List (List Step)) (i most : ℕ) (ss : List Step) → AreHours hours → hourly_orders hours ≤ most → slice_get hours i ≡ Some ss
+pub hour_at : (hours : List (List Step)) (i most : ℕ) (ss : List Step) → AreHours hours → hourly_orders hours ≤ most → slice_get hours i ≡ Some ss
     → AreInRange ss × (length ss ≤ most)
 hour_at [] i most ss are few e = absurd (cc)
 hour_at (hour ∷ hours) zero most ss are few e =

@@ -16,6 +16,7 @@ use Rattle.dam_blocks.proofs.Deciding.{decided_both, decided_if, decided_true, d
 use Rattle.dam_blocks.proofs.Admitting.{accepted_within, decided_admissible}
 use Rattle.dam_blocks.proofs.Empty.{ExistenceLaws, AreWithin, Cleared, cleared}
 use Rattle.dam_blocks.proofs.Prices.{prices_unique}
+use Rattle.dam_blocks.proofs.Verdicts.{one_welfare}
 use Rattle.dam_blocks.proofs.Ranks.{ranks_self, ranks_either, above_below}
 use Rattle.dam_blocks.proofs.Choices.{length-choice, IsBestSoFar, none_tried, one_tried, all_tried}
 
@@ -92,9 +93,6 @@ decided_eligible laws law problem sel are long = elim (decided_admissible proble
 ]
 
 -- ---- the best
-one_welfare : (problem : ProblemState) (sel : List Bool) (v w : ℤ) → IsEligible problem sel v → IsEligible problem sel w → v ≡ w
-one_welfare problem sel v w e f = let a = e.welfare_is in let b = f.welfare_is in cc
-
 tried_itself : (problem : ProblemState) (sel : List Bool) (v w : ℤ) → IsEligible problem sel v → IsEligible problem sel w → RanksAtOrBelow v sel w sel
 tried_itself problem sel v w e f =
     subst (λ (u : ℤ). RanksAtOrBelow u sel w sel) (one_welfare problem sel w v f e) (ranks_self w sel)

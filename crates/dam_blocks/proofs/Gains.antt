@@ -7,7 +7,7 @@ use Rattle.dam_hour.specs.Execution.{IsExecution, Balances}
 use Rattle.dam_hour.specs.Price.{Supports, IsSupporting, AreEnds, price_between}
 use Rattle.dam_hour.specs.Best.{welfare_of, surplus_at, greatest_welfare}
 use Rattle.dam_blocks.specs.declared.problem.Block.{Block}
-use Rattle.dam_blocks.specs.Problem.{ProblemState}
+use Rattle.dam_blocks.specs.Problem.{ProblemState, IsProblem}
 use Rattle.dam_blocks.specs.Selection.{over_accepted, net_volume, block_value}
 use Rattle.dam_blocks.specs.Eligible.{IsClearingPrice, ArePrices, surplus_in, surplus_from, surplus_of, HasNoLoss, added, period_welfare, welfare_from, IsEligible}
 use Rattle.dam_blocks.proofs.Sums.{over_accepted-plus, over_accepted-zero, over_accepted-at_least, accepted_surplus}
@@ -63,8 +63,8 @@ gains_from laws blocks sel t (ss ∷ hours) (p ∷ prices) w are e =
 no_loss_in_all : (blocks : List Block) (sel : List Bool) (prices : List ℤ) → HasNoLoss blocks sel prices → pos 0 ≤ℤ over_accepted (surplus_of prices) blocks sel
 no_loss_in_all blocks sel prices h = over_accepted-at_least (surplus_of prices) blocks sel h.surplus
 
-pub welfare_at_least_zero : PriceLaws → (problem : ProblemState) (sel : List Bool) (w : ℤ) → IsEligible problem sel w → pos 0 ≤ℤ w
-welfare_at_least_zero laws problem sel w e =
+pub welfare_at_least_zero : PriceLaws → (problem : ProblemState) (sel : List Bool) (w : ℤ) → IsProblem problem → IsEligible problem sel w → pos 0 ≤ℤ w
+welfare_at_least_zero laws problem sel w is e =
     let blocks = no_loss_in_all problem.blocks sel e.prices e.no_loss in
     let all = gains_from laws problem.blocks sel 1 problem.hours e.prices w e.are_prices e.welfare_is in
     omega (arith, ints, blocks, all)

@@ -8,9 +8,11 @@ pub mod Empty
 pub mod Steps
 pub mod Permitting
 pub mod Clearing
+pub mod Readers
 pub mod Verdicts
 pub mod FromBook
 pub mod RowSteps
 pub mod Deciding
 pub mod Admitting
+pub mod Fronts
 pub mod Existing

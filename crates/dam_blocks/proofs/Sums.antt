@@ -1,14 +1,15 @@
 -- Sums over the accepted blocks.
-use Rattle.std.proofs.Common.{◌≡◌, ℕ, zero, suc, ◌+◌, ◌*◌, ℤ, pos, neg_ℤ, ◌+ℤ◌, ◌-ℤ◌, ◌*ℤ◌, ◌≤ℤ◌, Bool, true, false, Some, List, [], ◌∷◌, replicate, ap, ap₂, ◌∙◌, sym, refl, arith}
+use Rattle.std.proofs.Common.{◌≡◌, ℕ, zero, suc, ◌+◌, ◌-◌, ◌*◌, ℤ, pos, neg_ℤ, ◌+ℤ◌, ◌-ℤ◌, ◌*ℤ◌, ◌≤ℤ◌, Bool, true, false, Some, List, [], ◌∷◌, ◌++◌, length, drop, replicate, ap, ap₂, ◌∙◌, sym, refl, arith}
 use Rattle.std.specs.List.{slice_get}
 use Rattle.std.proofs.lemmas.Int.{ints}
 use borrow.Author.Differences.{up, down}
 use Rattle.dam_book.specs.Terms.{BlockTerms}
+use Rattle.dam_book.specs.declared.limits.TheConstants.{MOST_BLOCKS}
 use Rattle.dam_book.specs.declared.order.Side.{Side}
 use Rattle.dam_book.specs.declared.order.Side.TheVariants.{Buy, Sell}
 use Rattle.dam_hour.specs.Best.{signed}
 use Rattle.dam_blocks.specs.declared.problem.Block.{Block}
-use Rattle.dam_blocks.specs.Selection.{accepts, over_accepted, volume_in, net_volume_of, value_of, net_volume, block_value}
+use Rattle.dam_blocks.specs.Selection.{accepts, padded, over_accepted, volume_in, net_volume_of, value_of, net_volume, block_value}
 use Rattle.dam_blocks.specs.Eligible.{surplus_in}
 
 pub over_accepted-plus : (f g : BlockTerms → ℤ) (bs : List Block) (sel : List Bool)
@@ -48,6 +49,23 @@ pub over_accepted-replicate : (f : BlockTerms → ℤ) (bs : List Block) (n : �
 over_accepted-replicate f [] n = refl
 over_accepted-replicate f (b ∷ bs) zero = refl
 over_accepted-replicate f (b ∷ bs) (suc n) = over_accepted-replicate f bs n
+
+over_accepted-nil : (f : BlockTerms → ℤ) (bs : List Block) → over_accepted f bs [] ≡ pos 0
+over_accepted-nil f [] = refl
+over_accepted-nil f (b ∷ bs) = refl
+
+pub over_accepted-append : (f : BlockTerms → ℤ) (bs : List Block) (xs ys : List Bool)
+    → over_accepted f bs (xs ++ ys) ≡ over_accepted f bs xs +ℤ over_accepted f (drop (length xs) bs) ys
+over_accepted-append f bs [] ys = let none = over_accepted-nil f bs in omega (arith, ints, none)
+over_accepted-append f [] (x ∷ xs) ys = omega (arith, ints)
+over_accepted-append f (b ∷ bs) (true ∷ xs) ys = let rest = over_accepted-append f bs xs ys in omega (arith, ints, rest)
+over_accepted-append f (b ∷ bs) (false ∷ xs) ys = over_accepted-append f bs xs ys
+
+pub over_accepted-padded : (f : BlockTerms → ℤ) (bs : List Block) (xs : List Bool) → over_accepted f bs (padded xs) ≡ over_accepted f bs xs
+over_accepted-padded f bs xs =
+    let parts = over_accepted-append f bs xs (replicate (MOST_BLOCKS - length xs) false) in
+    let none = over_accepted-replicate f (drop (length xs) bs) (MOST_BLOCKS - length xs) in
+    omega (arith, ints, parts, none)
 
 pub over_accepted-zero : (bs : List Block) (sel : List Bool) → over_accepted (λ o. pos 0) bs sel ≡ pos 0
 over_accepted-zero [] sel = refl

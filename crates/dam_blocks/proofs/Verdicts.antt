@@ -1,5 +1,5 @@
 -- What the verdict on a selection rests on, and what it rules out.
-use Rattle.std.proofs.Common.{◌≡◌, ℕ, zero, suc, ◌+◌, ◌-◌, ◌<◌, ℤ, pos, negsuc, nat_abs, ◌≤ℤ◌, Bool, Some, List, [], ◌∷◌, length, take, ◌∙◌, sym, subst, refl, arith}
+use Rattle.std.proofs.Common.{◌≡◌, ◌≢◌, ℕ, zero, suc, ◌+◌, ◌-◌, ◌<◌, ℤ, pos, negsuc, nat_abs, ◌≤ℤ◌, Bool, Some, List, [], ◌∷◌, length, take, ◌∙◌, sym, subst, refl, arith}
 use Rattle.std.specs.List.{slice_get}
 use Rattle.std.proofs.lemmas.Int.{ints}
 use Rattle.dam_book.specs.declared.limits.TheConstants.{MOST_BLOCKS}
@@ -29,6 +29,9 @@ eligible_from problem sel prices hours w same long admissible are no_loss welfar
 pub natural : (z : ℤ) → pos 0 ≤ℤ z → pos (nat_abs z) ≡ z
 natural (pos n) h = refl
 natural (negsuc n) h = absurd (let no : 0 < 0 = omega (arith, ints, h) in omega (arith, no))
+
+pub one_welfare : (problem : ProblemState) (sel : List Bool) (v w : ℤ) → IsEligible problem sel v → IsEligible problem sel w → v ≡ w
+one_welfare problem sel v w e f = let a = e.welfare_is in let b = f.welfare_is in cc
 
 -- the verdict of an eligible selection is its welfare
 same_number : (v w : ℤ) → Some v ≡ Some w → v ≡ w
@@ -70,3 +73,12 @@ verdict_eligible problem sel NotAdmissible v is e = absurd (is e.admissible)
 verdict_eligible problem sel (Unbalanced t) v is e = absurd (balanced problem sel t v is.1 e)
 verdict_eligible problem sel (Losing i) v is e = absurd (none_loses problem sel i v is.1.0 is.1.1 is.1.2 e)
 verdict_eligible problem sel (Eligible w) v is e = (w, refl, same_number v (pos w) (sym e.welfare_is ∙ is.welfare_is))
+
+-- the same as a law, with the parts in the order of its clauses
+pub eligible_verdict : (problem : ProblemState) (sel : List Bool) (verdict : Verdict) (v : ℤ) → IsVerdict problem sel verdict → IsEligible problem sel v
+    → (n : ℕ) × (v ≡ pos n) × (verdict ≡ Eligible n)
+eligible_verdict problem sel verdict v is e = let found = verdict_eligible problem sel verdict v is e in (found.0, found.2, found.1)
+
+pub other_verdict : (problem : ProblemState) (sel : List Bool) (verdict : Verdict) (v : ℤ) → IsVerdict problem sel verdict → ((n : ℕ) → verdict ≢ Eligible n)
+    → IsEligible problem sel v → ⊥
+other_verdict problem sel verdict v is other e = let found = verdict_eligible problem sel verdict v is e in other found.0 found.1

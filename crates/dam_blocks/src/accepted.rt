@@ -1,16 +1,18 @@
-ghost use Rattle.std.specs.Prelude.{◌≡◌, ◌≤◌, ◌≤ℤ◌, ◌*ℤ◌, pos, neg_ℤ, negsuc};
+//! What blocks add to a period: one block alone, and the accepted ones of a list together.
+
+ghost use Rattle.std.specs.Prelude.{◌≡◌, ◌≤◌, ◌≤ℤ◌, ◌*ℤ◌, pos, neg_ℤ, negsuc, length};
+ghost use Rattle.dam_book.specs.declared.limits.TheConstants.{MOST_BLOCKS};
 ghost use Rattle.dam_hour.specs.Best.{signed, greatest_value};
 ghost use Rattle.dam_hour.specs.Execution.{IsNetVolume};
 ghost use Rattle.dam_blocks.specs.Selection.{volume_in, net_volume_of, bought_volume_of, value_of, net_volume, bought_volume, block_value};
 ghost use Rattle.dam_blocks.specs.Magnitude.{IsWithin, greatest_block_value};
 
-use crate::problem::Problem;
+use crate::problem::Block;
 use crate::selection::Selection;
 use dam_book::{BlockOrder, Period, Side, Volumes};
-use std::alloc::Allocator;
 
 /// The volume in a period, in tenths of a MW; 0 where there is none.
-pub(crate) fn volume_in(volumes: &Volumes, period: Period) -> u32
+pub fn volume_in(volumes: &Volumes, period: Period) -> u32
     ensures value { result ≡ volume_in volumes.now period }
     ensures small { result ≤ 99999 }
 {
@@ -47,7 +49,9 @@ pub(crate) fn times(cents: i32, volume: u32) -> i64
     i64::from(cents) * i64::from(volume)
 }
 
-fn net_volume_of(order: &BlockOrder, period: Period) -> i64
+/// What a block adds to the net volume of a period where it is accepted, in tenths of a MW: its volume
+/// there where it sells, and minus its volume where it buys.
+pub fn net_volume_of(order: &BlockOrder, period: Period) -> i64
     ensures value { result ≡ net_volume_of period order.now }
     ensures low { negsuc 99998 ≤ℤ result }
     ensures high { result ≤ℤ pos 99999 }
@@ -56,7 +60,8 @@ fn net_volume_of(order: &BlockOrder, period: Period) -> i64
     -signed(order.side(), volume)
 }
 
-fn bought_volume_of(order: &BlockOrder, period: Period) -> u32
+/// A block's volume in a period where it buys, in tenths of a MW; 0 where it sells.
+pub fn bought_volume_of(order: &BlockOrder, period: Period) -> u32
     ensures value { pos result ≡ bought_volume_of period order.now }
     ensures small { result ≤ 99999 }
 {
@@ -67,7 +72,9 @@ fn bought_volume_of(order: &BlockOrder, period: Period) -> u32
     }
 }
 
-fn value_of(order: &BlockOrder, period: Period) -> i64
+/// A block's limit times its volume in a period, in cents per MWh times tenths of a MW, with the other
+/// sign where it sells.
+pub fn value_of(order: &BlockOrder, period: Period) -> i64
     ensures value { result ≡ value_of period order.now }
     ensures size { IsWithin greatest_value result }
 {
@@ -76,11 +83,13 @@ fn value_of(order: &BlockOrder, period: Period) -> i64
 }
 
 /// The accepted sell blocks' volume in a period less the accepted buy blocks', in tenths of a MW.
-pub fn net_volume<A: Allocator>(problem: &Problem<A>, selection: Selection, period: Period) -> i64
-    ensures value { result ≡ net_volume problem.now.blocks selection period }
+///
+/// The selection's places are those of the list.
+pub fn net_volume(blocks: &[Block], selection: Selection, period: Period) -> i64
+    requires { length blocks.now ≤ MOST_BLOCKS }
+    ensures value { result ≡ net_volume blocks.now selection period }
     ensures valid { IsNetVolume result }
 {
-    let blocks = problem.blocks();
     let mut total = 0;
     for (place, block) in blocks.iter().enumerate() {
         if selection.has(place) {
@@ -91,15 +100,11 @@ pub fn net_volume<A: Allocator>(problem: &Problem<A>, selection: Selection, peri
 }
 
 /// The accepted buy blocks' volume in a period, in tenths of a MW.
-pub fn bought_volume<A: Allocator>(
-    problem: &Problem<A>,
-    selection: Selection,
-    period: Period,
-) -> u64
-    ensures value { pos result ≡ bought_volume problem.now.blocks selection period }
+pub fn bought_volume(blocks: &[Block], selection: Selection, period: Period) -> u64
+    requires { length blocks.now ≤ MOST_BLOCKS }
+    ensures value { pos result ≡ bought_volume blocks.now selection period }
     ensures small { result ≤ 2399976 }
 {
-    let blocks = problem.blocks();
     let mut total = 0;
     for (place, block) in blocks.iter().enumerate() {
         if selection.has(place) {
@@ -111,11 +116,11 @@ pub fn bought_volume<A: Allocator>(
 
 /// The accepted buy blocks' limit times volume in a period less the accepted sell blocks', in cents
 /// per MWh times tenths of a MW.
-pub fn block_value<A: Allocator>(problem: &Problem<A>, selection: Selection, period: Period) -> i64
-    ensures value { result ≡ block_value problem.now.blocks selection period }
+pub fn block_value(blocks: &[Block], selection: Selection, period: Period) -> i64
+    requires { length blocks.now ≤ MOST_BLOCKS }
+    ensures value { result ≡ block_value blocks.now selection period }
     ensures size { IsWithin greatest_block_value result }
 {
-    let blocks = problem.blocks();
     let mut total = 0;
     for (place, block) in blocks.iter().enumerate() {
         if selection.has(place) {

@@ -2,12 +2,17 @@
 //!
 //! A caller that needs one of them in a proof calls the function, at no cost.
 
-ghost use Rattle.std.specs.Prelude.{◌≡◌, ◌<◌, ◌^◌, ◌≤ℤ◌, ◌⊎◌, ℕ, ℤ, pos, Some, List, Bool, length};
+ghost use Rattle.std.specs.Prelude.{◌≡◌, ◌≢◌, ◌<◌, ◌^◌, ◌+ℤ◌, ◌≤ℤ◌, ◌⊎◌, ℕ, ℤ, pos, Some, List, ◌++◌, Bool, length, drop};
+ghost use Rattle.dam_book.specs.Terms.{BlockTerms};
 ghost use Rattle.dam_book.specs.declared.limits.TheConstants.{MOST_BLOCKS};
+ghost use Rattle.dam_blocks.specs.declared.problem.Block.{Block};
+ghost use Rattle.dam_blocks.specs.declared.scoring.Verdict.{Verdict};
+ghost use Rattle.dam_blocks.specs.declared.scoring.Verdict.TheVariants.{Eligible};
 ghost use Rattle.dam_blocks.specs.Problem.{ProblemState, IsProblem};
-ghost use Rattle.dam_blocks.specs.Selection.{empty_selection, choice};
+ghost use Rattle.dam_blocks.specs.Selection.{padded, empty_selection, choice, over_accepted, IsAdmissible};
 ghost use Rattle.dam_blocks.specs.Eligible.{selection_welfare, IsEligible};
 ghost use Rattle.dam_blocks.specs.Magnitude.{IsWithin, greatest_selection_welfare};
+ghost use Rattle.dam_blocks.specs.Score.{IsVerdict};
 ghost use Rattle.dam_blocks.specs.Result.{RanksAbove, RanksAtOrBelow, IsResult};
 
 /// The empty selection is eligible.
@@ -21,13 +26,25 @@ pub fn empty_is_eligible()
 /// An eligible selection has a welfare of at least 0: at the prices no hourly order loses, and the
 /// accepted blocks together don't either.
 pub fn eligible_welfare()
-    ensures { (problem : ProblemState) (sel : List Bool) (w : ℤ) → IsEligible problem sel w → pos 0 ≤ℤ w }
+    ensures { (problem : ProblemState) (sel : List Bool) (w : ℤ) → IsProblem problem → IsEligible problem sel w
+        → pos 0 ≤ℤ w }
 {
     dam_hour::laws::price();
     dam_hour::laws::exchange();
     dam_hour::laws::welfare();
     dam_hour::laws::surplus();
 }
+
+/// The verdict on an eligible selection is that it is, with its welfare, of which there is one; and a
+/// selection with another verdict isn't eligible.
+pub fn verdict()
+    ensures eligible { (problem : ProblemState) (sel : List Bool) (verdict : Verdict) (w : ℤ)
+        → IsVerdict problem sel verdict → IsEligible problem sel w → (n : ℕ) × (w ≡ pos n) × (verdict ≡ Eligible n) }
+    ensures other { (problem : ProblemState) (sel : List Bool) (verdict : Verdict) (w : ℤ)
+        → IsVerdict problem sel verdict → ((n : ℕ) → verdict ≢ Eligible n) → ¬ (IsEligible problem sel w) }
+    ensures one { (problem : ProblemState) (sel : List Bool) (v w : ℤ) → IsEligible problem sel v
+        → IsEligible problem sel w → v ≡ w }
+{}
 
 /// How large the welfare of a selection can be: 4,000 hourly orders, and 24 blocks in 25 periods, each
 /// count at most 400,000 cents per MWh times 99,999 tenths of a MW.
@@ -66,8 +83,29 @@ pub fn uniqueness()
         → IsResult problem ys w → (xs ≡ ys) × (v ≡ w) }
 {}
 
-/// Every list of acceptances is just one of the numbered choices over so many places.
+/// A sum over the accepted blocks is that over a front of the list and that over the rest; the places
+/// that a list of acceptances leaves out add nothing.
+pub fn sums()
+    ensures parted { (f : BlockTerms → ℤ) (blocks : List Block) (front rest : List Bool)
+        → over_accepted f blocks (front ++ rest)
+        ≡ over_accepted f blocks front +ℤ over_accepted f (drop (length front) blocks) rest }
+    ensures padded { (f : BlockTerms → ℤ) (blocks : List Block) (front : List Bool)
+        → over_accepted f blocks (padded front) ≡ over_accepted f blocks front }
+{}
+
+/// Where a selection is admissible, so is each front of it with no other block: a block's parent stands
+/// before it.
+pub fn fronts()
+    ensures { (problem : ProblemState) (front rest : List Bool) → IsProblem problem
+        → IsAdmissible problem.blocks (front ++ rest) → IsAdmissible problem.blocks (padded front) }
+{}
+
+/// Every list of acceptances is just one of the numbered choices over so many places, and an
+/// admissible selection is one of the choices over the problem's blocks.
 pub fn choices()
     ensures each { (xs : List Bool) → (k : ℕ) × (k < 2 ^ length xs) × (choice (length xs) k ≡ xs) }
+    ensures admissible { (problem : ProblemState) (sel : List Bool) → IsProblem problem → length sel ≡ MOST_BLOCKS
+        → IsAdmissible problem.blocks sel
+        → (k : ℕ) × (k < 2 ^ length problem.blocks) × (padded (choice (length problem.blocks) k) ≡ sel) }
     ensures once { (n j k : ℕ) → j < 2 ^ n → k < 2 ^ n → choice n j ≡ choice n k → j ≡ k }
 {}

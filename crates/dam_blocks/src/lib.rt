@@ -17,10 +17,12 @@ mod selection;
 #[cfg(test)]
 mod tests;
 
-pub use accepted::{block_value, bought_volume, net_volume};
+pub use accepted::{
+    block_value, bought_volume, bought_volume_of, net_volume, net_volume_of, value_of, volume_in,
+};
 pub use gain::surplus;
 pub use links::admissible;
-pub use problem::{Block, MOST_PERIODS, Place, Problem, ProblemFault, ProblemRow};
+pub use problem::{Block, MOST_PERIODS, Place, Problem, ProblemFault, ProblemRow, period_at};
 pub use result::{best_of_all, ranks_above};
 pub use scoring::{Verdict, score};
 pub use selection::{Best, Selection};

@@ -1,5 +1,8 @@
-ghost use Rattle.std.specs.Prelude.{◌≡◌, ◌+◌, ◌-◌, ◌<◌, ◌↔◌, true, false, length, slice_get, option_map, IfOk, IsErrOf};
+ghost use Rattle.std.specs.Prelude.{◌≡◌, ◌+◌, ◌-◌, ◌<◌, ◌↔◌, true, false, length, slice_get, option_map, IfOk, IfSome, IsErrOf};
 ghost use Rattle.std.specs.Option.{option_copied};
+ghost use Rattle.dam_book.specs.Terms.{IsBlockOrder};
+ghost use Rattle.dam_book.specs.Volumes.{have_beyond};
+ghost use Rattle.dam_hour.specs.Execution.{IsHour};
 ghost use Rattle.dam_blocks.specs.Problem.{IsProblem, problem_of};
 
 use crate::rows::{blocks_of, hours_of, rows_of};
@@ -13,7 +16,7 @@ use thiserror::Error;
 pub const MOST_PERIODS: usize = 25;
 
 /// The period at a place of the day, counted from 0.
-pub(crate) fn period_at(place: usize) -> Period
+pub fn period_at(place: usize) -> Period
     requires { place < MOST_PERIODS }
     ensures { result ≡ place + 1 }
 {
@@ -26,6 +29,26 @@ pub struct Block {
     pub who: Participant,
     pub name: Name,
     pub order: BlockOrder,
+}
+
+impl Block {
+    /// An equal block; it can't fail.
+    pub fn copy(&self) -> Block
+        ensures { result ≡ self.now }
+    {
+        let order = &self.order;
+        Block {
+            who: self.who.copy(),
+            name: self.name.copy(),
+            order: BlockOrder::new(
+                order.side(),
+                order.price(),
+                order.volumes().copy(),
+                order.parent().map(|parent| parent.copy()),
+                order.group().map(|group| group.copy()),
+            ),
+        }
+    }
 }
 
 /// Where an order of the book stands in the problem; places count from 0 in book order.
@@ -127,23 +150,32 @@ impl<A: Allocator> Problem<A> {
 
     /// The hourly orders of a period, ready to be cleared; `None` past the last period.
     pub fn hour(&self, period: Period) -> Option<&Hour<A>>
-        ensures { option_copied result ≡ slice_get self.now.hours (period - 1) }
+        ensures value { option_copied result ≡ slice_get self.now.hours (period - 1) }
+        ensures valid { IsProblem self.now }
+        ensures steps { IfSome result (λ hour. IsHour hour.now) }
     {
-        self.hours.get(usize::from(period.get()) - 1)
+        let hour = self.hours().get(usize::from(period.get()) - 1)?;
+        Some(hour)
     }
 
     /// The hourly orders of a period in book order; `None` past the last period.
     pub fn steps(&self, period: Period) -> Option<&[Step]>
-        ensures { option_copied result ≡ slice_get self.now.hours (period - 1) }
+        ensures value { option_copied result ≡ slice_get self.now.hours (period - 1) }
+        ensures valid { IsProblem self.now }
+        ensures steps { IfSome result (λ steps. IsHour steps.now) }
     {
         self.hour(period).map(|hour| hour.steps())
     }
 
     /// The block at a place in book order; `None` past the last.
     pub fn block(&self, place: usize) -> Option<&BlockOrder>
-        ensures { option_copied result ≡ option_map (λ b. b.order) (slice_get self.now.blocks place) }
+        ensures value { option_copied result ≡ option_map (λ b. b.order) (slice_get self.now.blocks place) }
+        ensures valid { IsProblem self.now }
+        ensures limits { IfSome result (λ order. IsBlockOrder order.now
+            × (have_beyond (length self.now.hours) order.now.volumes ≡ false)) }
     {
-        self.blocks.get(place).map(|block| &block.order)
+        let block = self.blocks().get(place)?;
+        Some(&block.order)
     }
 
     /// The hourly orders of every period, from the first on.

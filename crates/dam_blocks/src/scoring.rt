@@ -42,15 +42,16 @@ fn clear_day<A: Allocator>(problem: &Problem<A>, selection: Selection) -> Result
         (λ t. IsFirstUnbalanced problem.now selection t) }
 {
     let hours = problem.hours();
+    let blocks = problem.blocks();
     let mut prices = [Price::new(0).unwrap(); MOST_PERIODS];
     let mut welfare = 0;
     for (place, hour) in hours.iter().enumerate() {
         let period = period_at(place);
-        let Some(cleared) = hour.clear(net_volume(problem, selection, period)) else {
+        let Some(cleared) = hour.clear(net_volume(blocks, selection, period)) else {
             return Err(period);
         };
         prices[place] = cleared.price;
-        welfare += cleared.welfare + block_value(problem, selection, period);
+        welfare += cleared.welfare + block_value(blocks, selection, period);
     }
     Ok(Clearing { prices, welfare })
 }

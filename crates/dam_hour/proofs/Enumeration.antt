@@ -7,7 +7,7 @@ use Rattle.std.proofs.lemmas.Bool.{cases_lt}
 use Rattle.std.proofs.lemmas.Bool.Decides.{Decides-int_eq}
 use Rattle.dam_book.specs.declared.order.Side.TheVariants.{Buy, Sell}
 use Rattle.dam_hour.specs.declared.step.Step.{Step}
-use Rattle.dam_hour.specs.Execution.{IsExecution, executed_volume, Balances, IsUnbalanced}
+use Rattle.dam_hour.specs.Execution.{IsExecution, executed_volume, Balances, IsBalanced, IsUnbalanced}
 use Rattle.dam_hour.specs.Best.{IsBest, welfare_of, up_to, executions, does_balance, greatest_of, greatest_welfare}
 
 -- x is an element of the list
@@ -168,6 +168,13 @@ greatest_welfare_bound ss net w e xs x b = greatest_bound (welfares ss net) w (w
 pub greatest_welfare_none : (ss : List Step) (net : ℤ) → greatest_welfare ss net ≡ None → IsUnbalanced ss net
 unfolding greatest_welfare welfares
 greatest_welfare_none ss net e xs x b = greatest_none (welfares ss net) (welfare_of ss xs) e (welfare_listed ss net xs x b)
+
+pub greatest_welfare_some : (ss : List Step) (net : ℤ) → IsBalanced ss net → (w : ℤ) × (greatest_welfare ss net ≡ Some w)
+greatest_welfare_some ss net b =
+    elim (greatest_welfare ss net) as (λ o. greatest_welfare ss net ≡ o → (w : ℤ) × (o ≡ Some w)) [
+      | None ↦ λ e. absurd (greatest_welfare_none ss net e b.0 b.1 b.2)
+      | Some w ↦ λ e. (w, refl)
+    ] refl
 
 pub unbalanced_welfare : (ss : List Step) (net : ℤ) → IsUnbalanced ss net → greatest_welfare ss net ≡ None
 unbalanced_welfare ss net u =

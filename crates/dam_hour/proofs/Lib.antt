@@ -10,4 +10,5 @@ pub mod Enumeration
 pub mod Midpoint
 pub mod Magnitude
 pub mod Joining
+pub mod Extension
 pub mod Answering

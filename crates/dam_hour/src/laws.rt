@@ -2,7 +2,7 @@
 //!
 //! A caller that needs one of them in a proof calls the function, at no cost.
 
-ghost use Rattle.std.specs.Prelude.{◌≡◌, ◌↔◌, ℕ, ◌+◌, ◌≤◌, ℤ, pos, ◌+ℤ◌, ◌*ℤ◌, ◌≤ℤ◌, ◌<ℤ◌, List, ◌++◌, length, slice_get, Some, None};
+ghost use Rattle.std.specs.Prelude.{◌≡◌, ◌↔◌, ℕ, ◌+◌, ◌≤◌, ℤ, pos, ◌+ℤ◌, ◌-ℤ◌, ◌*ℤ◌, ◌≤ℤ◌, ◌<ℤ◌, List, ◌++◌, length, slice_get, Some, None};
 ghost use Rattle.std.specs.Int.{int_div_euclid};
 ghost use Rattle.dam_book.specs.declared.order.Side.{Side};
 ghost use Rattle.dam_book.specs.declared.order.Side.TheVariants.{Buy, Sell};
@@ -67,6 +67,8 @@ pub fn welfare()
         → (xs : List ℕ) × IsExecution steps xs × Balances steps net xs × (welfare_of steps xs ≡ w) }
     ensures bound { (steps : List Step) (net w : ℤ) → greatest_welfare steps net ≡ Some w
         → (xs : List ℕ) → IsExecution steps xs → Balances steps net xs → welfare_of steps xs ≤ℤ w }
+    ensures some { (steps : List Step) (net : ℤ) → IsBalanced steps net
+        → (w : ℤ) × (greatest_welfare steps net ≡ Some w) }
     ensures none { (steps : List Step) (net : ℤ) → (greatest_welfare steps net ≡ None) ↔ IsUnbalanced steps net }
 {}
 
@@ -106,6 +108,14 @@ pub fn joining()
         → executed_volume side (ss ++ ts) (xs ++ ys) ≡ executed_volume side ss xs + executed_volume side ts ys }
     ensures welfare { (ss ts : List Step) (xs ys : List ℕ) → IsExecution ss xs
         → welfare_of (ss ++ ts) (xs ++ ys) ≡ welfare_of ss xs +ℤ welfare_of ts ys }
+{}
+
+/// With steps behind them, the greatest welfare is at least that of the first steps at one net volume
+/// with that of any execution of the others that makes up the difference to the whole's.
+pub fn extension()
+    ensures { (ss ts : List Step) (net first u : ℤ) (ys : List ℕ) → greatest_welfare ss first ≡ Some u
+        → IsExecution ts ys → Balances ts (net -ℤ first) ys
+        → (w : ℤ) × (greatest_welfare (ss ++ ts) net ≡ Some w) × ((u +ℤ welfare_of ts ys) ≤ℤ w) }
 {}
 
 /// The price of the period supports the best execution: no hourly order loses at it, and none that is

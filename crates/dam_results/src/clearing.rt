@@ -48,7 +48,8 @@ fn clear_period<A: Allocator, B: Allocator>(
 {
     let hour = problem.hour(period).unwrap();
     let _few = hour.len();
-    let net = net_volume(problem, selection, period);
+    let blocks = problem.blocks();
+    let net = net_volume(blocks, selection, period);
     let Some(cleared) = hour.clear(net) else {
         unreachable!();
     };
@@ -57,7 +58,7 @@ fn clear_period<A: Allocator, B: Allocator>(
     };
     let result = PeriodResult {
         price: cleared.price,
-        volume: cleared.bought + bought_volume(problem, selection, period),
+        volume: cleared.bought + bought_volume(blocks, selection, period),
     };
     Ok((result, executed))
 }

@@ -40,7 +40,7 @@ fn plain_verdict(verdict: Verdict) -> PlainVerdict {
 
 /// The executed volumes of the first places, 0 where there is none.
 fn executed_of(hour: &Hour, problem: &Problem, selection: Selection, period: Period) -> Executed {
-    let net = dam_blocks::net_volume(problem, selection, period);
+    let net = dam_blocks::net_volume(problem.blocks(), selection, period);
     let mut executed = [0; MOST_ORDERS];
     for (place, volume) in executed.iter_mut().enumerate() {
         *volume = hour.executed(net, place).unwrap_or(0);
@@ -194,7 +194,7 @@ fn compare_period(
     let orders = market.periods.get(place)?;
     let hour = problem.hour(period)?;
     let selection = selection_of(accepted);
-    let net = dam_blocks::net_volume(problem, selection, period);
+    let net = dam_blocks::net_volume(problem.blocks(), selection, period);
     let want = clear_period(orders.as_slice(), net_volume(market, accepted, place));
     let executed = executed_of(hour, problem, selection, period);
     let found = hour

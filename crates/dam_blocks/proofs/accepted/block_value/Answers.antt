@@ -1,5 +1,5 @@
 -- A block more.
-use Rattle.std.proofs.Common.{length, ap, ◌∙◌, sym, arith, rules}
+use Rattle.std.proofs.Common.{◌∙◌, sym, arith, rules}
 use Rattle.std.proofs.lemmas.Int.{ints}
 use Rattle.std.proofs.lemmas.Option.{slice_get_read}
 use Rattle.dam_blocks.specs.Selection.{value_of}
@@ -8,13 +8,12 @@ use Rattle.dam_blocks.proofs.accepted.block_value.Goals as goal
 use Rattle.dam_blocks.proofs.accepted.block_value.Goals.{then-has, else-has}
 
 pub loop-place-preserved : goal.loop-place-preserved
-loop-place-preserved g c =
-    let same = ap length c.blocks-blocks.ensures.value in
-    let few = c.blocks-blocks.ensures.valid.few_blocks in
+loop-place-preserved c =
+    let few = c.requires in
     elim c.if-has.branch [
       | then-has w ↦
           sum_more (value_of c.args.period) 39999600000 _ _ _ _ w.value_of-total.result _ c.index-blocks-place.result
           (slice_get_read _ _ _ _ (search rules) c.loop-place-test.true c.index-blocks-place.is) (sym c.has.ensures.value ∙ w.if-has.true)
-          w.value_of-total.ensures.value w.value_of-total.ensures.size.at_least w.value_of-total.ensures.size.at_most (omega (arith, ints, same, few, w.total-is)) c.loop-place.invariant
+          w.value_of-total.ensures.value w.value_of-total.ensures.size.at_least w.value_of-total.ensures.size.at_most (omega (arith, ints, few, w.total-is)) c.loop-place.invariant
       | else-has w ↦ sum_same (value_of c.args.period) 39999600000 _ _ _ _ _ (sym c.has.ensures.value ∙ w.if-has.false) (omega (arith, ints)) c.loop-place.invariant
     ]

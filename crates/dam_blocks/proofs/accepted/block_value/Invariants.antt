@@ -4,4 +4,4 @@ use Rattle.dam_blocks.proofs.Steps.{IsSumSoFar}
 use Rattle.dam_blocks.proofs.accepted.block_value.Given as goal
 
 abbrev pub invariant-loop-place : goal.invariant-loop-place
-invariant-loop-place g l = IsSumSoFar (value_of l.period) 39999600000 l.blocks l.selection l.place l.total
+invariant-loop-place l = IsSumSoFar (value_of l.period) 39999600000 l.blocks l.selection l.place l.total

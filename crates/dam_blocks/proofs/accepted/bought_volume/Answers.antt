@@ -1,5 +1,5 @@
 -- A block more.
-use Rattle.std.proofs.Common.{pos, length, ap, ◌∙◌, sym, arith, rules}
+use Rattle.std.proofs.Common.{pos, ap, ◌∙◌, sym, arith, rules}
 use Rattle.std.proofs.lemmas.Int.{ints}
 use Rattle.std.proofs.lemmas.Option.{slice_get_read}
 use Rattle.dam_blocks.specs.Selection.{bought_volume_of}
@@ -8,13 +8,12 @@ use Rattle.dam_blocks.proofs.accepted.bought_volume.Goals as goal
 use Rattle.dam_blocks.proofs.accepted.bought_volume.Goals.{then-has, else-has}
 
 pub loop-place-preserved : goal.loop-place-preserved
-loop-place-preserved g c =
-    let same = ap length c.blocks-blocks.ensures.value in
-    let few = c.blocks-blocks.ensures.valid.few_blocks in
+loop-place-preserved c =
+    let few = c.requires in
     elim c.if-has.branch [
       | then-has w ↦
           sum_more (bought_volume_of c.args.period) 99999 _ _ _ _ _ _ c.index-blocks-place.result
           (slice_get_read _ _ _ _ (search rules) c.loop-place-test.true c.index-blocks-place.is) (sym c.has.ensures.value ∙ w.if-has.true)
-          (ap pos w.from-total.ensures ∙ w.bought_volume_of.ensures.value) (omega (arith, ints)) (omega (arith, ints)) (omega (arith, ints, same, few, w.total-is)) c.loop-place.invariant
+          (ap pos w.from-total.ensures ∙ w.bought_volume_of.ensures.value) (omega (arith, ints)) (omega (arith, ints)) (omega (arith, ints, few, w.total-is)) c.loop-place.invariant
       | else-has w ↦ sum_same (bought_volume_of c.args.period) 99999 _ _ _ _ _ (sym c.has.ensures.value ∙ w.if-has.false) (omega (arith, ints)) c.loop-place.invariant
     ]

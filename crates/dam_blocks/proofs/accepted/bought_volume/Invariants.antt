@@ -5,4 +5,4 @@ use Rattle.dam_blocks.proofs.Steps.{IsSumSoFar}
 use Rattle.dam_blocks.proofs.accepted.bought_volume.Given as goal
 
 abbrev pub invariant-loop-place : goal.invariant-loop-place
-invariant-loop-place g l = IsSumSoFar (bought_volume_of l.period) 99999 l.blocks l.selection l.place (pos l.total)
+invariant-loop-place l = IsSumSoFar (bought_volume_of l.period) 99999 l.blocks l.selection l.place (pos l.total)

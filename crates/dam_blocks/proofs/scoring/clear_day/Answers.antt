@@ -4,6 +4,8 @@ use Rattle.std.specs.List.{slice_get}
 use Rattle.std.proofs.lemmas.Int.{ints}
 use Rattle.std.proofs.lemmas.Option.{slice_get_read}
 use Rattle.dam_hour.specs.declared.step.Step.{Step}
+use Rattle.dam_blocks.specs.declared.problem.Block.{Block}
+use Rattle.dam_blocks.specs.Selection.{net_volume, block_value}
 use Rattle.dam_blocks.specs.Eligible.{ArePrices, welfare_from}
 use Rattle.dam_blocks.proofs.Clearing.{period_within, cleared_more, all_prices, all_welfare, first_unbalanced}
 use Rattle.dam_blocks.proofs.Magnitudes.{day_small}
@@ -12,8 +14,9 @@ use Rattle.dam_blocks.proofs.scoring.clear_day.Goals as goal
 pub returns-in_default : goal.returns-in_default
 returns-in_default g c =
     let at = slice_get_read _ _ _ _ (search rules) c.loop-place-test.true c.index-hours-place.is in
+    let net = c.net_volume.ensures.value ∙ ap (λ (bs : List Block). net_volume bs c.args.selection c.period_at-period.result) c.blocks-blocks.ensures.value in
     first_unbalanced c.args.problem.now c.args.selection _ _ _ _ _ _ _ c.hours-hours.ensures.value at c.period_at-period.ensures
-    (omega (arith, ints, c.net_volume.ensures.value, c.net_volume.ensures.valid.at_least, c.net_volume.ensures.valid.at_most)) c.in_default.ensures.none c.loop-place.invariant
+    (omega (arith, ints, net, c.net_volume.ensures.valid.at_least, c.net_volume.ensures.valid.at_most)) c.in_default.ensures.none c.loop-place.invariant
 
 pub overflow_add-welfare : goal.overflow_add-welfare
 overflow_add-welfare g c =
@@ -38,12 +41,13 @@ loop-place-preserved g c =
     let w = period_within c.args.problem.now.hours c.loop-place.place c.index-hours-place.result _ _ _ _ c.hours-hours.ensures.valid.hours c.hours-hours.ensures.valid.few_hourly there c.in-Some.ensures.totals in
     let few = day_small (length c.args.problem.now.hours) c.hours-hours.ensures.valid.day in
     let same = ap length c.hours-hours.ensures.value in
-    let net = c.net_volume.ensures.value in
+    let net = c.net_volume.ensures.value ∙ ap (λ (bs : List Block). net_volume bs c.args.selection c.period_at-period.result) c.blocks-blocks.ensures.value in
+    let value = c.block_value.ensures.value ∙ ap (λ (bs : List Block). block_value bs c.args.selection c.period_at-period.result) c.blocks-blocks.ensures.value in
     cleared_more _ _ _ _ _ _ _ _ _ c.in-Some.cleared.low c.in-Some.cleared.high c.in-Some.cleared.price c.in-Some.cleared.welfare c.block_value.result _
     at (omega (arith, few, same)) c.period_at-period.ensures
     (omega (arith, ints, net, c.net_volume.ensures.valid.at_least, c.net_volume.ensures.valid.at_most))
     c.in-Some.ensures.ends (record { low = c.in-Some.cleared.low; high = c.in-Some.cleared.high; ends = c.in-Some.ensures.ends; between = c.in-Some.ensures.price })
-    c.in-Some.ensures.welfare c.block_value.ensures.value w.0 w.1 c.block_value.ensures.size.at_least c.block_value.ensures.size.at_most
+    c.in-Some.ensures.welfare value w.0 w.1 c.block_value.ensures.size.at_least c.block_value.ensures.size.at_most
     (omega (arith, ints, w.0, w.1, c.block_value.ensures.size.at_least, c.block_value.ensures.size.at_most, few, same)) c.loop-place.invariant
 
 pub returns : goal.returns
