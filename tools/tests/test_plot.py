@@ -1,0 +1,120 @@
+"""The pictures: that each is drawn, says what it should, and can be told apart without colours."""
+
+import tempfile
+import unittest
+from pathlib import Path
+
+import support
+from support import AUCTION, journal_of, tool
+
+from lib import command, decisions, results, selection
+
+PICTURES = ["day", "prices", "blocks"]
+
+
+def day_of(data, text):
+    """A day as the tools have it, of bytes."""
+    with tempfile.TemporaryDirectory() as folder:
+        paths = Path(folder, "journal"), Path(folder, "results")
+        for path, content in zip(paths, (data, text)):
+            path.write_bytes(content)
+        return command.Day(*map(str, paths))
+
+
+def results_of(data, accepted):
+    problem = support.problem(data)
+    return results.results_text(problem, accepted, selection.outcome(problem, accepted)).encode()
+
+
+class Decisions(unittest.TestCase):
+    def decided(self, data, accepted):
+        day = day_of(data, results_of(data, accepted))
+        self.assertEqual(day.wrong, [])
+        return decisions.decisions(day.problem, day.said.accepted, day.outcome)
+
+    def test_the_auction_day(self):
+        day = day_of(AUCTION.read_bytes(), support.printed(AUCTION))
+        found = decisions.decisions(day.problem, day.said.accepted, day.outcome)
+        kinds = [decision.kind for decision in found]
+        self.assertEqual(kinds[:5], [decisions.ACCEPTED] * 5)
+        self.assertEqual(kinds[5:], [decisions.REJECTED, decisions.ACCEPTED, decisions.REJECTED, decisions.PARADOX])
+        self.assertIn("would lose 8,050.000 EUR at the prices", found[5].why)
+        self.assertIn("in its place the welfare would be 5,120.000 EUR less", found[7].why)
+        self.assertIn("with it OLD,UNIT-7 would lose 270.000 EUR", found[8].why)
+
+    def test_parents_and_periods_that_would_not_balance(self):
+        data = journal_of(
+            "submit,A,B1,hour,buy,6000,1:10,,",
+            "submit,A,K1,block,sell,7000,1:5,,",
+            "submit,A,K2,block,sell,100,1:5,K1,",
+            "submit,A,K3,block,sell,100,1:30,,",
+        )
+        found = self.decided(data, frozenset())
+        self.assertEqual([decision.kind for decision in found], [decisions.REJECTED, decisions.REJECTED, decisions.PARADOX])
+        self.assertEqual(found[1].why, "its parent K1 is rejected")
+        self.assertIn("with it period 1 wouldn't balance", found[2].why)
+
+
+@unittest.skipUnless(command.has("matplotlib"), "matplotlib is missing (Debian's python3-matplotlib)")
+class Pictures(unittest.TestCase):
+    def test_days_with_little_in_them(self):
+        from lib import pictures
+
+        few = ["empty", "buy-block", "too-large-block", "floor-of-negative"]
+        for name, data, text in (case for case in support.cleared_cases() if case[0] in few):
+            day = day_of(data, text)
+            for figure in (pictures.day_picture(day), pictures.period_picture(day, 1)):
+                with self.subTest(name):
+                    drawn = pictures.picture(figure, "svg", words_as_text=True).decode()
+                    for words in ("EUR/MWh", "MW"):
+                        self.assertIn(words, drawn)
+
+    def test_what_the_pictures_of_the_auction_day_say(self):
+        from lib import pictures
+
+        day = day_of(AUCTION.read_bytes(), support.printed(AUCTION))
+        drawn = pictures.picture(pictures.day_picture(day), "svg", words_as_text=True).decode()
+        for words in ("GAS EVENING", "sell 90 MW at 93.00 EUR/MWh", "paradoxically rejected", "supporting prices", ">24<"):
+            self.assertIn(words, drawn)
+        drawn = pictures.picture(pictures.period_picture(day, 19), "svg", words_as_text=True).decode()
+        for words in ("165.00", "accepted blocks sell 350.0 MW net", "730.0 MW of hourly buys are executed", "volume, MW"):
+            self.assertIn(words, drawn)
+
+    def test_the_same_day_gives_the_same_bytes(self):
+        from lib import pictures
+
+        day = day_of(AUCTION.read_bytes(), support.printed(AUCTION))
+        one, other = (pictures.picture(pictures.day_picture(day), "svg") for _ in range(2))
+        self.assertEqual(one, other)
+
+    def test_what_matters_differs_in_lightness(self):
+        from lib.pictures import COLOURS
+
+        def lightness(name):
+            red, green, blue = (int(COLOURS[name][at : at + 2], 16) for at in (1, 3, 5))
+            return (0.2126 * red + 0.7152 * green + 0.0722 * blue) / 255
+
+        for names in (["ink", "paper"], ["buy", "sell"], ["sell", "paper"], ["accepted", "paradox"], ["accepted", "rejected"]):
+            one, other = map(lightness, names)
+            self.assertGreater(abs(one - other), 0.25, names)
+        self.assertEqual(len(set(COLOURS.values())), len(COLOURS))
+
+    def test_command_line(self):
+        with tempfile.TemporaryDirectory() as folder:
+            texts = [AUCTION, f"{AUCTION}.stdout"]
+            begins = {"svg": b"<?xml", "png": b"\x89PNG"}
+            for name in PICTURES:
+                words = [f"--picture={name}"]
+                self.assertEqual(tool("plot", *texts, *words, "-o", f"{folder}/a.svg"), (0, b"", ""))
+                self.assertTrue(Path(folder, "a.svg").read_bytes().startswith(begins["svg"]))
+            self.assertEqual(tool("plot", *texts, "--period", 19, "-o", f"{folder}/a.png"), (0, b"", ""))
+            self.assertTrue(Path(folder, "a.png").read_bytes().startswith(begins["png"]))
+            for words in (["-o", f"{folder}/a.gif"], ["--period", 25, "-o", f"{folder}/a.svg"], ["--picture=x"]):
+                self.assertEqual(tool("plot", *texts, *words)[0], command.COMMAND_LINE)
+            self.assertEqual(tool("plot", *texts, "-o", f"{folder}/none/a.svg")[0], command.NO_INPUT)
+            status, _, err = tool("plot", AUCTION, AUCTION, "-o", f"{folder}/a.svg")
+            self.assertEqual((status, "has no results of this journal" in err), (command.NO_INPUT, True))
+
+
+if __name__ == "__main__":
+    unittest.main()
