@@ -2,7 +2,7 @@
 
 from typing import NamedTuple
 
-from . import selection, text
+from . import selection
 
 ACCEPTED, REJECTED, PARADOX = "accepted", "rejected", "paradoxically rejected"
 
@@ -25,7 +25,7 @@ def decide(problem, accepted, outcome, place):
     parent = problem.parents[place]
     rivals = rivals_of(problem, accepted, place)
     if surplus is not None and surplus <= 0:
-        reasons.append("would gain nothing" if surplus == 0 else f"would lose {text.euros(-surplus)} EUR at the prices")
+        reasons.append("would gain nothing" if surplus == 0 else f"would lose {problem.euros(-surplus)} EUR at the prices")
     if parent is not None and parent not in accepted:
         reasons.append(f"its parent {problem.blocks[parent].name} is rejected")
     if rivals:
@@ -34,14 +34,14 @@ def decide(problem, accepted, outcome, place):
         reasons.append(f"{names} of its group {group} is accepted" + instead(problem, accepted, outcome, place, rivals))
     if not reasons:
         kind = PARADOX
-        reasons.append(f"would gain {text.euros(surplus)} EUR at the prices" + with_it(problem, accepted, outcome, place))
+        reasons.append(f"would gain {problem.euros(surplus)} EUR at the prices" + with_it(problem, accepted, outcome, place))
     return Decision(kind, "; ".join(reasons))
 
 
 def accepted_why(problem, place, surplus):
     parent = problem.parents[place]
-    gain = "gains nothing" if surplus == 0 else f"gains {text.euros(surplus)} EUR" if surplus else ""
-    return gain + (f", with its parent {problem.blocks[parent].name}" if parent is not None else "")
+    gain = "gains nothing" if surplus == 0 else "gains at the prices" if surplus and surplus > 0 else "loses at the prices"
+    return gain + (f", and its parent {problem.blocks[parent].name} is accepted" if parent is not None else "")
 
 
 def rivals_of(problem, accepted, place):
@@ -71,6 +71,6 @@ def consequence(problem, other, outcome):
     losers = selection.losing(problem, other, then.surpluses)
     if losers:
         loser = losers[0]
-        return f"{problem.blocks[loser]} would lose {text.euros(-then.surpluses[loser])} EUR"
+        return f"{problem.blocks[loser]} would lose {problem.euros(-then.surpluses[loser])} EUR"
     less = outcome.welfare - then.welfare
-    return f"the welfare would be {text.euros(less)} EUR less" if less else "the welfare would be the same"
+    return f"the welfare would be {problem.euros(less)} EUR less" if less else "the welfare would be the same"

@@ -2,7 +2,7 @@
 
 from typing import NamedTuple
 
-from . import period, rules
+from . import period, rules, text
 
 
 class Row(NamedTuple):
@@ -36,6 +36,10 @@ class Problem:
         """Where among the blocks the block of this name stands; None where there is none."""
         named = [at for at, block in enumerate(self.blocks) if (block.who, block.name) == (who, name)]
         return named[0] if named else None
+
+    def euros(self, amount):
+        """An amount in cents per MWh times tenths of a MW, over periods of this day, in EUR."""
+        return text.euros(amount, rules.DAYS[self.periods])
 
     def groups(self):
         """The places of the blocks of each exclusive group."""

@@ -69,8 +69,8 @@ def name(text):
     return text.decode() if NAME.fullmatch(text) else None
 
 
-def euros(cents_tenths):
-    """An amount in cents per MWh times tenths of a MW (held for an hour), as EUR."""
-    sign = "-" if cents_tenths < 0 else ""
-    whole, rest = divmod(abs(cents_tenths), 1_000)
-    return f"{sign}{whole:,}.{rest:03d}"
+def euros(amount, hours=1):
+    """An amount in cents per MWh times tenths of a MW, held for some hours, as EUR: with as many digits as it may have."""
+    digits = 3 if hours == int(hours) else 5
+    whole, rest = divmod(int(abs(amount) * hours * 10 ** (digits - 3)), 10**digits)
+    return f"{'-' if amount < 0 else ''}{whole:,}.{rest:0{digits}d}"

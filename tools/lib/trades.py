@@ -1,0 +1,63 @@
+"""What the results of a day trade, order by order and participant by participant."""
+
+from typing import NamedTuple
+
+from . import rules
+
+
+class Trade(NamedTuple):
+    """An executed volume of an order in a period."""
+
+    who: str
+    name: str
+    side: str
+    period: int
+    volume: int  # tenths of a MW
+    price: int  # cents per MWh
+
+    def amount(self):
+        """Volume times price, in cents per MWh times tenths of a MW."""
+        return self.volume * self.price
+
+
+class Total(NamedTuple):
+    """What a participant trades over the day: sums of tenths of a MW, and of volume times price."""
+
+    bought: int
+    sold: int
+    paid: int
+    received: int
+
+
+def row_trades(day):
+    """Each row of the book with its trades."""
+    executed, place = iter(day.said.executed), 0
+    for row in day.problem.rows:
+        if row.order.kind == "hour":
+            volumes = [(row.order.volumes[0][0], next(executed))]
+        else:
+            volumes = row.order.volumes if place in day.said.accepted else ()
+            place += 1
+        prices = day.said.prices
+        yield row, [
+            Trade(row.who, row.name, row.order.side, number, volume, prices[number - 1])
+            for number, volume in volumes
+            if volume
+        ]
+
+
+def totals(day):
+    """The total of each participant of the book, by name."""
+    found = {}
+    for row, made in row_trades(day):
+        sums = found.setdefault(row.who, [0, 0, 0, 0])
+        for trade in made:
+            buys = trade.side == "buy"
+            sums[0 if buys else 1] += trade.volume
+            sums[2 if buys else 3] += trade.amount()
+    return {who: Total(*sums) for who, sums in sorted(found.items())}
+
+
+def energy(day, volumes):
+    """A sum of tenths of a MW over periods of this day, in MWh."""
+    return volumes * rules.DAYS[day.problem.periods] / 10

@@ -1,0 +1,126 @@
+"""The page of a day: that it is whole, stands alone, and says what the day's results are."""
+
+import html.parser
+import re
+import tempfile
+import unittest
+from pathlib import Path
+
+import support
+from support import AUCTION, journal_of, printed, tool
+
+from test_plot import day_of, results_of
+
+from lib import command, trades
+
+# Elements that have no end.
+VOID = {"meta", "br", "use", "path", "rect", "stop", "line", "circle"}
+
+
+class Reader(html.parser.HTMLParser):
+    """A page's elements, which must be ended in the order in which they are begun; its texts, and its identifiers."""
+
+    def __init__(self, text):
+        super().__init__()
+        self.open, self.wrong, self.texts, self.names, self.cited, self.elements = [], [], [], [], set(), []
+        self.feed(text)
+        self.close()
+        self.wrong += self.open
+
+    def handle_starttag(self, tag, attributes):
+        self.handle_startendtag(tag, attributes)
+        if tag not in VOID:
+            self.open.append(tag)
+
+    def handle_startendtag(self, tag, attributes):
+        self.elements.append(tag)
+        for name, value in attributes:
+            if name == "id":
+                self.names.append(value)
+            self.cited |= set(re.findall(r"url\(#([^)]*)\)", value or ""))
+            if name.endswith("href"):
+                self.cited.add(value.removeprefix("#"))
+
+    def handle_endtag(self, tag):
+        if tag not in VOID and (not self.open or self.open.pop() != tag):
+            self.wrong.append(f"/{tag}")
+
+    def handle_data(self, data):
+        self.texts.append(data.strip())
+
+
+class Trades(unittest.TestCase):
+    def test_what_is_bought_is_sold_and_paid(self):
+        for name, data, text in support.cleared_cases():
+            with self.subTest(name):
+                day = day_of(data, text)
+                totals = trades.totals(day).values()
+                self.assertEqual(sum(total.bought for total in totals), sum(day.said.volumes))
+                self.assertEqual(sum(total.bought for total in totals), sum(total.sold for total in totals))
+                self.assertEqual(sum(total.paid for total in totals), sum(total.received for total in totals))
+
+    def test_the_gain_of_all_participants_is_the_welfare(self):
+        for name, data, text in support.cleared_cases():
+            with self.subTest(name):
+                day = day_of(data, text)
+                value = 0
+                for row, made in trades.row_trades(day):
+                    sign = 1 if row.order.side == "buy" else -1
+                    value += sum(sign * row.order.price * trade.volume for trade in made)
+                self.assertEqual(value, day.said.welfare)
+
+
+@unittest.skipUnless(command.has("matplotlib"), "matplotlib is missing (Debian's python3-matplotlib)")
+class Page(unittest.TestCase):
+    def page(self, data, text, curves=()):
+        from lib import page
+
+        return page.page(day_of(data, text), "A <day> & its results", list(curves))
+
+    def test_the_page_is_whole_and_stands_alone(self):
+        for name in ("auction-day", "empty", "too-large-block"):
+            case = AUCTION.with_name(name)
+            text = self.page(case.read_bytes(), printed(case), [1, 2])
+            read = Reader(text)
+            with self.subTest(name):
+                self.assertEqual(read.wrong, [])
+                self.assertEqual(len(read.names), len(set(read.names)))
+                self.assertEqual(read.cited - set(read.names), set())
+                self.assertFalse({"script", "link", "img", "iframe"} & set(read.elements))
+                self.assertIn("A <day> & its results", read.texts)
+                self.assertEqual(re.findall(r'(?:fill|stroke)[:=] ?"?(#[0-9a-f]{6})', text), [])
+
+    def test_what_it_says_of_the_auction_day(self):
+        read = Reader(self.page(AUCTION.read_bytes(), printed(AUCTION)))
+        day = day_of(AUCTION.read_bytes(), printed(AUCTION))
+        for row in day.problem.rows:
+            name = f"{row.who} {row.name}" if row.order.kind == "block" else row.name
+            self.assertIn(name, read.texts)
+        for words in ("165.00", "3,031,440.000", "8 to 20", "group FILL", "paradoxically rejected", "HasChildren", "521,550.000 EUR"):
+            self.assertTrue(any(words in text for text in read.texts), words)
+
+    def test_wrong_results_are_said_to_be_wrong(self):
+        wrong = printed(AUCTION).replace(b"period,1,9200", b"period,1,9300")
+        text = self.page(AUCTION.read_bytes(), wrong)
+        self.assertIn("The results are not as the rules say", text)
+        self.assertIn("period 1: the price is 9300", text)
+        self.assertNotIn("The results are not as the rules say", self.page(AUCTION.read_bytes(), printed(AUCTION)))
+
+    def test_a_participant_without_trades(self):
+        data = journal_of("submit,A,B1,hour,buy,6000,1:10,,")
+        self.assertIn("trades nothing", self.page(data, results_of(data, frozenset())))
+
+    def test_command_line(self):
+        texts = [AUCTION, f"{AUCTION}.stdout"]
+        status, out, err = tool("report", *texts, "-o", "-", "--curves", "none", "--title", "Today")
+        self.assertEqual((status, err, b"<title>Today</title>" in out), (0, "", True))
+        self.assertNotIn(b"Supply and demand in period", out)
+        self.assertIn(b"Supply and demand in period 3", tool("report", *texts, "-o", "-", "--curves", "3,4")[1])
+        for words in ("25", "x", "1,,2", "0"):
+            self.assertEqual(tool("report", *texts, "-o", "-", "--curves", words)[0], command.COMMAND_LINE)
+        with tempfile.TemporaryDirectory() as folder:
+            self.assertEqual(tool("report", *texts, "-o", Path(folder, "none", "a.html"))[0], command.NO_INPUT)
+
+
+if __name__ == "__main__":
+    unittest.main()
