@@ -1,23 +1,28 @@
 -- The bound law: what a selection reaches in a period, the relaxed period reaches too.
-use Rattle.std.proofs.Common.{◌≡◌, ℕ, suc, ◌+◌, ◌↔◌, ◌⊎◌, inl, inr, ℤ, pos, ◌+ℤ◌, ◌≤ℤ◌, Bool, Option, Some, None, List, [], ◌∷◌, ◌++◌, length, drop, ap, ap₂, ◌∙◌, sym, refl, arith}
+use Rattle.std.proofs.Common.{◌≡◌, ℕ, suc, ◌+◌, ℤ, pos, ◌+ℤ◌, ◌≤ℤ◌, Bool, Option, Some, None, List, [], ◌∷◌, ◌++◌, length, drop, ap, ap₂, ◌∙◌, sym, refl, arith}
 use Rattle.std.specs.Option.{option_map}
 use Rattle.std.proofs.lemmas.Int.{ints}
 use Rattle.std.proofs.lemmas.List.{append-nil}
 use Rattle.dam_book.specs.declared.order.Side.{Side}
 use Rattle.dam_book.specs.declared.order.Side.TheVariants.{Buy, Sell}
 use Rattle.dam_hour.specs.declared.step.Step.{Step}
-use Rattle.dam_hour.specs.Execution.{AreInRange, IsExecution, executed_volume, Balances, IsUnbalanced}
+use Rattle.dam_hour.specs.Execution.{AreInRange, IsExecution, executed_volume, Balances, IsBalanced}
 use Rattle.dam_hour.specs.Best.{welfare_of, AreSmall, greatest_welfare}
 use Rattle.dam_blocks.specs.declared.problem.Block.{Block}
 use Rattle.dam_book.specs.Terms.{BlockTerms}
-use Rattle.dam_blocks.specs.Selection.{over_accepted, net_volume_of, value_of, net_volume, block_value}
+use Rattle.dam_blocks.specs.Selection.{padded, over_accepted, net_volume_of, value_of, net_volume, block_value}
 use Rattle.dam_blocks.specs.Eligible.{added, period_welfare, welfare_from}
 use Rattle.dam_bound.specs.Relaxed.{as_steps, relaxed_hours}
-use Rattle.dam_bound.proofs.Sums.{over_accepted-split}
 use Rattle.dam_bound.proofs.Standing.{stand, idle}
 
--- what the laws of one period say of its executions and of their welfare
-pub record HourLaws : Type 0 where
+-- what the laws of sums over blocks say
+pub record SumLaws : Type 0 where
+  pub parted : (f : BlockTerms → ℤ) (bs : List Block) (front rest : List Bool)
+      → over_accepted f bs (front ++ rest) ≡ over_accepted f bs front +ℤ over_accepted f (drop (length front) bs) rest
+  pub padded : (f : BlockTerms → ℤ) (bs : List Block) (front : List Bool) → over_accepted f bs (padded front) ≡ over_accepted f bs front
+
+-- what the laws of one period and of sums over blocks say
+pub record Laws : Type 0 where
   pub joined : (ss ts : List Step) (xs ys : List ℕ) → IsExecution ss xs → IsExecution ts ys → IsExecution (ss ++ ts) (xs ++ ys)
   pub parted : (ss ts : List Step) (zs : List ℕ) → IsExecution (ss ++ ts) zs → (xs : List ℕ) × (ys : List ℕ) × (zs ≡ xs ++ ys) × IsExecution ss xs × IsExecution ts ys
   pub volume : (side : Side) (ss ts : List Step) (xs ys : List ℕ) → IsExecution ss xs
@@ -25,8 +30,9 @@ pub record HourLaws : Type 0 where
   pub welfare : (ss ts : List Step) (xs ys : List ℕ) → IsExecution ss xs → welfare_of (ss ++ ts) (xs ++ ys) ≡ welfare_of ss xs +ℤ welfare_of ts ys
   pub reached : (ss : List Step) (net w : ℤ) → greatest_welfare ss net ≡ Some w → (xs : List ℕ) × IsExecution ss xs × Balances ss net xs × (welfare_of ss xs ≡ w)
   pub bound : (ss : List Step) (net w : ℤ) → greatest_welfare ss net ≡ Some w → (xs : List ℕ) → IsExecution ss xs → Balances ss net xs → welfare_of ss xs ≤ℤ w
-  pub none : (ss : List Step) (net : ℤ) → (greatest_welfare ss net ≡ None) ↔ IsUnbalanced ss net
+  pub some : (ss : List Step) (net : ℤ) → IsBalanced ss net → (w : ℤ) × (greatest_welfare ss net ≡ Some w)
   pub small : (ss : List Step) (xs : List ℕ) → AreInRange ss → IsExecution ss xs → AreSmall (length ss) (executed_volume Buy ss xs) (executed_volume Sell ss xs) (welfare_of ss xs)
+  pub sums : SumLaws
 
 -- ---- options
 pub added_some : (x y : Option ℤ) (w : ℤ) → added x y ≡ Some w → (u : ℤ) × (v : ℤ) × (x ≡ Some u) × (y ≡ Some v) × (u +ℤ v ≡ w)
@@ -44,25 +50,18 @@ raised_some None k u e = absurd (cc)
 pub raised_is : (x : Option ℤ) (k g : ℤ) → x ≡ Some g → option_map (λ w. w +ℤ k) x ≡ Some (g +ℤ k)
 raised_is x k g e = ap (option_map (λ w. w +ℤ k)) e
 
-some_or_none : (x : Option ℤ) → (x ≡ None) ⊎ ((v : ℤ) × (x ≡ Some v))
-some_or_none None = inl refl
-some_or_none (Some v) = inr (v, refl)
-
 pub none_of_none : (x y : Option ℤ) → ((w : ℤ) → y ≡ Some w → (r : ℤ) × (x ≡ Some r) × (w ≤ℤ r)) → x ≡ None → y ≡ None
 none_of_none x None h e = refl
 none_of_none x (Some w) h e = let found = h w refl in let is = found.1 in absurd (cc)
 
 -- ---- one period
 -- some execution that balances reaches a welfare, and so a greatest welfare exists and is no less
-great_at_least : HourLaws → (ss : List Step) (net : ℤ) (xs : List ℕ) → IsExecution ss xs → Balances ss net xs
+great_at_least : Laws → (ss : List Step) (net : ℤ) (xs : List ℕ) → IsExecution ss xs → Balances ss net xs
     → (g : ℤ) × (greatest_welfare ss net ≡ Some g) × (welfare_of ss xs ≤ℤ g)
-great_at_least laws ss net xs e b = elim (some_or_none (greatest_welfare ss net)) [
-  | inl none ↦ absurd ((laws.none ss net).0 none xs e b)
-  | inr some ↦ (some.0, some.1, laws.bound ss net some.0 some.1 xs e b)
-]
+great_at_least laws ss net xs e b = let some = laws.some ss net (xs, e, b) in (some.0, some.1, laws.bound ss net some.0 some.1 xs e b)
 
 -- an execution of the steps and one of the blocks that stay undecided, which balance where more is decided
-covered : HourLaws → (t : ℕ) (bs : List Block) (decided rest : List Bool) (ss : List Step) (xs us : List ℕ)
+covered : Laws → (t : ℕ) (bs : List Block) (decided rest : List Bool) (ss : List Step) (xs us : List ℕ)
     → IsExecution ss xs → IsExecution (as_steps t (drop (length rest) (drop (length decided) bs))) us
     → (pos (executed_volume Sell ss xs) +ℤ pos (executed_volume Sell (as_steps t (drop (length rest) (drop (length decided) bs))) us)) +ℤ net_volume bs (decided ++ rest) t
     ≡ pos (executed_volume Buy ss xs) +ℤ pos (executed_volume Buy (as_steps t (drop (length rest) (drop (length decided) bs))) us)
@@ -72,8 +71,8 @@ covered laws t bs decided rest ss xs us e f b =
     let undecided = drop (length decided) bs in
     let s = stand t undecided rest us f in
     let ts = as_steps t undecided in
-    let net = over_accepted-split (net_volume_of t) bs decided rest in
-    let value = over_accepted-split (value_of t) bs decided rest in
+    let net = laws.sums.parted (net_volume_of t) bs decided rest in
+    let value = laws.sums.parted (value_of t) bs decided rest in
     let sold = laws.volume Sell ss ts xs s.volumes e in
     let bought = laws.volume Buy ss ts xs s.volumes e in
     let worth = laws.welfare ss ts xs s.volumes e in
@@ -93,7 +92,7 @@ drop_more [] (d ∷ decided) (r ∷ rest) = refl
 drop_more (b ∷ bs) (d ∷ decided) rest = drop_more bs decided rest
 
 -- deciding more raises no period
-period_extended : HourLaws → (t : ℕ) (bs : List Block) (decided rest : List Bool) (ss : List Step) (w : ℤ)
+period_extended : Laws → (t : ℕ) (bs : List Block) (decided rest : List Bool) (ss : List Step) (w : ℤ)
     → period_welfare bs (decided ++ rest) t (ss ++ as_steps t (drop (length rest) (drop (length decided) bs))) ≡ Some w
     → (r : ℤ) × (period_welfare bs decided t (ss ++ as_steps t (drop (length decided) bs)) ≡ Some r) × (w ≤ℤ r)
 period_extended laws t bs decided rest ss w e =
@@ -110,7 +109,7 @@ period_extended laws t bs decided rest ss w e =
     (found.0, found.1, omega (arith, ints, most, worth, is, sum))
 
 -- no completion reaches more in a period
-period_completed : HourLaws → (t : ℕ) (bs : List Block) (decided rest : List Bool) (ss : List Step) (w : ℤ) → period_welfare bs (decided ++ rest) t ss ≡ Some w
+period_completed : Laws → (t : ℕ) (bs : List Block) (decided rest : List Bool) (ss : List Step) (w : ℤ) → period_welfare bs (decided ++ rest) t ss ≡ Some w
     → (r : ℤ) × (period_welfare bs decided t (ss ++ as_steps t (drop (length decided) bs)) ≡ Some r) × (w ≤ℤ r)
 period_completed laws t bs decided rest ss w e =
     let none = idle (as_steps t (drop (length rest) (drop (length decided) bs))) in
@@ -123,7 +122,7 @@ period_completed laws t bs decided rest ss w e =
     (found.0, found.1, omega (arith, ints, most, worth, is, sum))
 
 -- ---- the day
-extended_from : HourLaws → (t : ℕ) (bs : List Block) (decided rest : List Bool) (hours : List (List Step)) (w : ℤ)
+extended_from : Laws → (t : ℕ) (bs : List Block) (decided rest : List Bool) (hours : List (List Step)) (w : ℤ)
     → welfare_from bs (decided ++ rest) t (relaxed_hours (drop (length rest) (drop (length decided) bs)) t hours) ≡ Some w
     → (r : ℤ) × (welfare_from bs decided t (relaxed_hours (drop (length decided) bs) t hours) ≡ Some r) × (w ≤ℤ r)
 extended_from laws t bs decided rest [] w e = let zero : w ≡ pos 0 = cc in (pos 0, refl, omega (arith, ints, zero))
@@ -135,13 +134,13 @@ extended_from laws t bs decided rest (ss ∷ hours) w e =
     let h = here.2 in let m = more.2 in let sum = parts.4 in
     (here.0 +ℤ more.0, ap₂ added here.1 more.1, omega (arith, ints, h, m, sum))
 
-pub welfare_extended : HourLaws → (bs : List Block) (decided rest : List Bool) (hours : List (List Step)) (w : ℤ)
+pub welfare_extended : Laws → (bs : List Block) (decided rest : List Bool) (hours : List (List Step)) (w : ℤ)
     → welfare_from bs (decided ++ rest) 1 (relaxed_hours (drop (length (decided ++ rest)) bs) 1 hours) ≡ Some w
     → (r : ℤ) × (welfare_from bs decided 1 (relaxed_hours (drop (length decided) bs) 1 hours) ≡ Some r) × (w ≤ℤ r)
 welfare_extended laws bs decided rest hours w e =
     extended_from laws 1 bs decided rest hours w (ap (λ (left : List Block). welfare_from bs (decided ++ rest) 1 (relaxed_hours left 1 hours)) (sym (drop_more bs decided rest)) ∙ e)
 
-pub completed_from : HourLaws → (t : ℕ) (bs : List Block) (decided rest : List Bool) (hours : List (List Step)) (w : ℤ) → welfare_from bs (decided ++ rest) t hours ≡ Some w
+pub completed_from : Laws → (t : ℕ) (bs : List Block) (decided rest : List Bool) (hours : List (List Step)) (w : ℤ) → welfare_from bs (decided ++ rest) t hours ≡ Some w
     → (r : ℤ) × (welfare_from bs decided t (relaxed_hours (drop (length decided) bs) t hours) ≡ Some r) × (w ≤ℤ r)
 completed_from laws t bs decided rest [] w e = let zero : w ≡ pos 0 = cc in (pos 0, refl, omega (arith, ints, zero))
 completed_from laws t bs decided rest (ss ∷ hours) w e =
@@ -163,15 +162,22 @@ same_welfare bs xs ys t [] n v = refl
 same_welfare bs xs ys t (ss ∷ hours) n v =
     ap₂ added (ap₂ (λ (net value : ℤ). option_map (λ w. w +ℤ value) (greatest_welfare ss net)) (n t) (v t)) (same_welfare bs xs ys (suc t) hours n v)
 
-nothing_more : (f : BlockTerms → ℤ) (bs : List Block) (decided rest : List Bool) → drop (length decided) bs ≡ [] → over_accepted f bs decided ≡ over_accepted f bs (decided ++ rest)
-nothing_more f bs decided rest none =
-    let parts = over_accepted-split f bs decided rest in
+nothing_more : SumLaws → (f : BlockTerms → ℤ) (bs : List Block) (decided rest : List Bool) → drop (length decided) bs ≡ [] → over_accepted f bs decided ≡ over_accepted f bs (decided ++ rest)
+nothing_more sums f bs decided rest none =
+    let parts = sums.parted f bs decided rest in
     let zero : over_accepted f (drop (length decided) bs) rest ≡ pos 0 = ap (λ (left : List Block). over_accepted f left rest) none in
     omega (arith, ints, parts, zero)
 
-pub decided_welfare : (bs : List Block) (decided rest : List Bool) (hours : List (List Step)) → drop (length decided) bs ≡ []
+pub decided_welfare : SumLaws → (bs : List Block) (decided rest : List Bool) (hours : List (List Step)) → drop (length decided) bs ≡ []
     → welfare_from bs decided 1 (relaxed_hours (drop (length decided) bs) 1 hours) ≡ welfare_from bs (decided ++ rest) 1 hours
-decided_welfare bs decided rest hours none =
+decided_welfare sums bs decided rest hours none =
     ap (λ (left : List Block). welfare_from bs decided 1 (relaxed_hours left 1 hours)) none
     ∙ ap (welfare_from bs decided 1) (relaxed_hours-nil 1 hours)
-    ∙ same_welfare bs decided (decided ++ rest) 1 hours (λ u. nothing_more (net_volume_of u) bs decided rest none) (λ u. nothing_more (value_of u) bs decided rest none)
+    ∙ same_welfare bs decided (decided ++ rest) 1 hours (λ u. nothing_more sums (net_volume_of u) bs decided rest none) (λ u. nothing_more sums (value_of u) bs decided rest none)
+
+-- the decisions and the selection that accepts nothing else
+pub padded_welfare : SumLaws → (bs : List Block) (decided taken : List Bool) (depth : ℕ) (hours : List (List Step)) → length decided ≡ depth → taken ≡ padded decided
+    → welfare_from bs taken 1 (relaxed_hours (drop depth bs) 1 hours) ≡ welfare_from bs decided 1 (relaxed_hours (drop (length decided) bs) 1 hours)
+padded_welfare sums bs decided taken depth hours long is =
+    ap₂ (λ (xs : List Bool) (n : ℕ). welfare_from bs xs 1 (relaxed_hours (drop n bs) 1 hours)) is (sym long)
+    ∙ same_welfare bs (padded decided) decided 1 (relaxed_hours (drop (length decided) bs) 1 hours) (λ u. sums.padded (net_volume_of u) bs decided) (λ u. sums.padded (value_of u) bs decided)

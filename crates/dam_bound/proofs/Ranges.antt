@@ -14,7 +14,7 @@ use Rattle.dam_blocks.specs.Eligible.{period_welfare, welfare_from}
 use Rattle.dam_blocks.specs.Magnitude.{IsWithin, greatest_selection_welfare}
 use Rattle.dam_bound.specs.Relaxed.{step_of, as_steps, relaxed_hours, relaxed_welfare}
 use Rattle.dam_bound.proofs.Standing.{stand}
-use Rattle.dam_bound.proofs.Covering.{HourLaws, added_some, raised_some}
+use Rattle.dam_bound.proofs.Covering.{Laws, added_some, raised_some}
 
 -- ---- the steps
 volume_small : (ps : List Pair) (t : ℕ) → ArePairs ps → volume_in ps t ≤ 99999
@@ -48,7 +48,7 @@ both_in_range (x ∷ ss) ts r s = (r.0, r.1, both_in_range ss ts r.2 s)
 
 -- ---- the welfare
 -- the decided blocks stand as steps too, so that there is one step for each hourly order and each block
-period_size : HourLaws → (periods t : ℕ) (bs : List Block) (decided : List Bool) (ss : List Step) (u : ℤ) → AreBlocks periods bs → AreInRange ss
+period_size : Laws → (periods t : ℕ) (bs : List Block) (decided : List Bool) (ss : List Step) (u : ℤ) → AreBlocks periods bs → AreInRange ss
     → period_welfare bs decided t (ss ++ as_steps t (drop (length decided) bs)) ≡ Some u → IsWithin ((length ss + length bs) * greatest_value) u
 period_size laws periods t bs decided ss u are range e =
     let left = as_steps t (drop (length decided) bs) in
@@ -65,7 +65,7 @@ period_size laws periods t bs decided ss u are range e =
     let own = s.welfare in let is = best.3 in let sum = parts.2 in
     record { at_least = omega (arith, ints, l, all, worth, own, is, sum, long, few); at_most = omega (arith, ints, h, all, worth, own, is, sum, long, few) }
 
-periods_size : HourLaws → (periods t : ℕ) (bs : List Block) (decided : List Bool) (hours : List (List Step)) (w : ℤ) → AreBlocks periods bs → length bs ≤ 24 → AreHours hours
+periods_size : Laws → (periods t : ℕ) (bs : List Block) (decided : List Bool) (hours : List (List Step)) (w : ℤ) → AreBlocks periods bs → length bs ≤ 24 → AreHours hours
     → welfare_from bs decided t (relaxed_hours (drop (length decided) bs) t hours) ≡ Some w → IsWithin (hourly_orders hours * greatest_value + length hours * (24 * greatest_value)) w
 periods_size laws periods t bs decided [] w are few ranges e =
     let zero : pos 0 ≡ w = cc in record { at_least = omega (arith, ints, zero); at_most = omega (arith, ints, zero) }
@@ -88,7 +88,7 @@ day_small n e = elim (day_is (n == 23) (n == 24) (n == 25) e) [
   | inr r ↦ elim r [ inl b ↦ (let is : n ≡ 24 = grind (arith, nat_tests) in omega (arith, is)) | inr d ↦ (let is : n ≡ 25 = grind (arith, nat_tests) in omega (arith, is)) ]
 ]
 
-pub relaxed_size : HourLaws → (problem : ProblemState) (decided : List Bool) (w : ℤ) → IsProblem problem → relaxed_welfare problem decided ≡ Some w → IsWithin greatest_selection_welfare w
+pub relaxed_size : Laws → (problem : ProblemState) (decided : List Bool) (w : ℤ) → IsProblem problem → relaxed_welfare problem decided ≡ Some w → IsWithin greatest_selection_welfare w
 relaxed_size laws problem decided w is e =
     let size = periods_size laws (length problem.hours) 1 problem.blocks decided problem.hours w is.blocks is.few_blocks is.hours e in
     let l = size.at_least in let h = size.at_most in let hourly = is.few_hourly in let day = day_small (length problem.hours) is.day in

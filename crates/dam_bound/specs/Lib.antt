@@ -1,2 +1,3 @@
 pub mod Prefix
 pub mod Relaxed
+pub mod Levels

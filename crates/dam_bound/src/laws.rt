@@ -22,6 +22,7 @@ pub fn bound()
     dam_hour::laws::joining();
     dam_hour::laws::welfare();
     dam_hour::laws::magnitude();
+    dam_blocks::laws::sums();
 }
 
 /// A prefix that extends another has no greater relaxed welfare; and where the shorter one has none,
@@ -35,13 +36,16 @@ pub fn extension()
     dam_hour::laws::joining();
     dam_hour::laws::welfare();
     dam_hour::laws::magnitude();
+    dam_blocks::laws::sums();
 }
 
 /// Where every block is decided, the relaxed welfare is the welfare of each completion.
 pub fn decided()
     ensures { (problem : ProblemState) (decided sel : List Bool) → length problem.blocks ≤ length decided
         → IsCompletion decided sel → relaxed_welfare problem decided ≡ selection_welfare problem sel }
-{}
+{
+    dam_blocks::laws::sums();
+}
 
 /// The completions of a prefix are those of its two extensions by the next block. The decisions with no
 /// other block accepted are one of them; and where every block is decided, they are the only one that
@@ -65,4 +69,5 @@ pub fn magnitude()
     dam_hour::laws::joining();
     dam_hour::laws::welfare();
     dam_hour::laws::magnitude();
+    dam_blocks::laws::sums();
 }

@@ -6,3 +6,7 @@
 #![tactic(auto)]
 
 pub mod laws;
+mod levels;
+mod relaxed;
+
+pub use relaxed::Relaxed;

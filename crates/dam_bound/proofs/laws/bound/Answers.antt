@@ -13,8 +13,9 @@ returns-clause-most c problem decided sel w is e =
       welfare = c.joining.ensures.welfare;
       reached = c.welfare.ensures.reached;
       bound = c.welfare.ensures.bound;
-      none = c.welfare.ensures.none;
+      some = c.welfare.ensures.some;
       small = c.magnitude.ensures;
+      sums = record { parted = c.sums.ensures.parted; padded = c.sums.ensures.padded };
     })
     1 problem.blocks decided is.rest problem.hours w (ap (λ xs. welfare_from problem.blocks xs 1 problem.hours) (sym is.agrees) ∙ e)
 

@@ -7,5 +7,5 @@ use Rattle.dam_bound.proofs.laws.decided.Goals as goal
 
 pub returns : goal.returns
 returns c problem decided sel whole is =
-    decided_welfare problem.blocks decided is.rest problem.hours (drop_all (length decided) problem.blocks whole)
+    decided_welfare (record { parted = c.sums.ensures.parted; padded = c.sums.ensures.padded }) problem.blocks decided is.rest problem.hours (drop_all (length decided) problem.blocks whole)
     ∙ ap (λ xs. welfare_from problem.blocks xs 1 problem.hours) (sym is.agrees)

@@ -11,8 +11,9 @@ returns-clause-most c problem decided rest w e =
       welfare = c.joining.ensures.welfare;
       reached = c.welfare.ensures.reached;
       bound = c.welfare.ensures.bound;
-      none = c.welfare.ensures.none;
+      some = c.welfare.ensures.some;
       small = c.magnitude.ensures;
+      sums = record { parted = c.sums.ensures.parted; padded = c.sums.ensures.padded };
     })
     problem.blocks decided rest problem.hours w e
 

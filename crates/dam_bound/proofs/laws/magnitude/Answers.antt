@@ -10,6 +10,7 @@ returns c = relaxed_size (record {
   welfare = c.joining.ensures.welfare;
   reached = c.welfare.ensures.reached;
   bound = c.welfare.ensures.bound;
-  none = c.welfare.ensures.none;
+  some = c.welfare.ensures.some;
   small = c.magnitude.ensures;
+  sums = record { parted = c.sums.ensures.parted; padded = c.sums.ensures.padded };
 })

@@ -1,0 +1,49 @@
+-- A period more, all of them, and one that doesn't balance.
+use Rattle.std.proofs.Common.{◌≡◌, List, ◌++◌, drop, map, length, ap, ◌∙◌, sym, rules, arith}
+use Rattle.std.specs.List.{slice_get}
+use Rattle.std.proofs.lemmas.Int.{ints}
+use Rattle.std.proofs.lemmas.List.{length-map}
+use Rattle.std.proofs.lemmas.Option.{slice_get_read}
+use Rattle.dam_hour.specs.declared.step.Step.{Step}
+use Rattle.dam_blocks.specs.declared.problem.Block.{Block}
+use Rattle.dam_blocks.specs.Problem.{ProblemState}
+use Rattle.dam_blocks.specs.Eligible.{period_welfare}
+use Rattle.dam_bound.specs.Relaxed.{as_steps}
+use Rattle.dam_bound.specs.Levels.{last_steps}
+use Rattle.dam_bound.proofs.Bounding.{one_bound, none_bound, all_bound}
+use Rattle.dam_bound.proofs.Covering.{padded_welfare}
+use Rattle.dam_bound.proofs.Periods.{hour_of}
+use Rattle.dam_bound.proofs.relaxed.Relaxed.bound.Goals as goal
+
+pub loop-place-preserved : goal.loop-place-preserved
+loop-place-preserved g c =
+    let at = slice_get_read _ _ c.loop-place.place _ (search rules) c.loop-place-test.true c.levels-item.is in
+    let periods = ap (λ (ls : _). slice_get ls c.loop-place.place) (sym c.deref-levels-items.ensures.value) ∙ at in
+    let hours : c.args.self.now.hours ≡ map last_steps c.self.inside.periods.items = ap (λ (p : ProblemState). p.hours) (sym c.self.view_is) in
+    let blocks : c.deref.result.now ≡ c.args.self.now.blocks = c.deref.ensures.value ∙ ap (λ (p : ProblemState). p.blocks) c.self.view_is in
+    let there = ap (λ (hs : List (List Step)). slice_get hs c.loop-place.place) hours ∙ hour_of c.self.inside.periods.items c.loop-place.place c.levels-item.result periods in
+    let welfare = c.in_ok-total.ensures.value ∙ ap (λ (bs : List Block). period_welfare bs c.args.taken c.period_at.result (last_steps c.levels-item.result ++ as_steps c.period_at.result (drop c.args.depth bs))) blocks in
+    let few = c.self.invariant.few_periods in let long = ap length c.deref-levels-items.ensures.value in let inside = c.loop-place-test.true in
+    let low = c.loop-place.invariant.low in let high = c.loop-place.invariant.high in
+    one_bound c.args.self.now.blocks c.args.taken (drop c.args.depth c.args.self.now.blocks) c.args.self.now.hours c.loop-place.place c.period_at.result (last_steps c.levels-item.result)
+    c.in_ok-total.field-0 _ _ there c.period_at.ensures welfare c.in_ok-total.ensures.size
+    (omega (arith, ints, few, long, inside, low, high, c.in_ok-total.ensures.size.at_least, c.in_ok-total.ensures.size.at_most)) c.loop-place.invariant
+
+pub returns-in_err-total : goal.returns-in_err-total
+returns-in_err-total g c decided depth is =
+    let at = slice_get_read _ _ c.loop-place.place _ (search rules) c.loop-place-test.true c.levels-item.is in
+    let periods = ap (λ (ls : _). slice_get ls c.loop-place.place) (sym c.deref-levels-items.ensures.value) ∙ at in
+    let hours : c.args.self.now.hours ≡ map last_steps c.self.inside.periods.items = ap (λ (p : ProblemState). p.hours) (sym c.self.view_is) in
+    let blocks : c.deref.result.now ≡ c.args.self.now.blocks = c.deref.ensures.value ∙ ap (λ (p : ProblemState). p.blocks) c.self.view_is in
+    let there = ap (λ (hs : List (List Step)). slice_get hs c.loop-place.place) hours ∙ hour_of c.self.inside.periods.items c.loop-place.place c.levels-item.result periods in
+    let none = c.in_err-total.ensures.value ∙ ap (λ (bs : List Block). period_welfare bs c.args.taken c.period_at.result (last_steps c.levels-item.result ++ as_steps c.period_at.result (drop c.args.depth bs))) blocks in
+    c.from_residual.ensures
+    ∙ none_bound c.args.self.now.blocks c.args.taken (drop c.args.depth c.args.self.now.blocks) c.args.self.now.hours c.loop-place.place c.period_at.result (last_steps c.levels-item.result) _
+    there c.period_at.ensures none c.loop-place.invariant
+    ∙ padded_welfare (record { parted = c.sums.ensures.parted; padded = c.sums.ensures.padded }) c.args.self.now.blocks decided c.args.taken c.args.depth c.args.self.now.hours depth is
+
+pub returns : goal.returns
+returns g c decided depth is =
+    let hours = ap (λ (p : ProblemState). length p.hours) (sym c.self.view_is) ∙ length-map c.self.inside.periods.items last_steps ∙ sym (ap length c.deref-levels-items.ensures.value) in
+    all_bound c.args.self.now.blocks c.args.taken (drop c.args.depth c.args.self.now.blocks) c.args.self.now.hours c.loop-place.place _ (omega (arith, hours, c.loop-place-test.false)) c.loop-place.invariant
+    ∙ padded_welfare (record { parted = c.sums.ensures.parted; padded = c.sums.ensures.padded }) c.args.self.now.blocks decided c.args.taken c.args.depth c.args.self.now.hours depth is

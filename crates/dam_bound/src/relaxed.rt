@@ -1,0 +1,118 @@
+ghost use Rattle.std.specs.Prelude.{◌≡◌, ◌+◌, ◌≤◌, ◌++◌, List, Bool, length, drop, map, IfOk, IfSome};
+ghost use Rattle.dam_book.specs.declared.limits.TheConstants.{MOST_BLOCKS};
+ghost use Rattle.dam_blocks.specs.Selection.{padded};
+ghost use Rattle.dam_blocks.specs.Eligible.{period_welfare};
+ghost use Rattle.dam_blocks.specs.Magnitude.{IsWithin};
+ghost use Rattle.dam_bound.specs.Relaxed.{as_steps, relaxed_welfare, without_rows};
+ghost use Rattle.dam_bound.specs.Levels.{AreLevels, last_steps, AreDayLevels};
+
+use crate::levels::Levels;
+use dam_blocks::{Block, Problem, Selection, block_value, laws, net_volume, period_at};
+use dam_book::Period;
+use std::alloc::{AllocError, Allocator, Global};
+use std::marker::Model;
+
+/// What the bounds of a problem's prefixes are read off: at each depth each period's hourly orders,
+/// and with them every undecided block as an order of its own in each of its periods.
+///
+/// A contract sees the problem that it was built of, without its rows.
+#[derive(Drop)]
+pub struct Relaxed<A: Allocator = Global> {
+    periods: Vec<Levels<A>, A>,
+    blocks: Vec<Block, A>,
+}
+
+impl<A: Allocator> Model for Relaxed<A> {
+    ghost use Rattle.dam_blocks.specs.Problem.{ProblemState};
+    ghost use Rattle.dam_bound.specs.Levels.{AreDayLevels, problem_kept};
+
+    ghost Value = { ProblemState };
+
+    ghost view = { λ r. problem_kept r.periods.items r.blocks.items };
+
+    ghost invariant = { λ r. AreDayLevels r.blocks.items r.periods.items };
+}
+
+fn copies_of<A: Allocator>(alloc: A, blocks: &[Block]) -> Result<Vec<Block, A>, AllocError>
+    ensures { IfOk result (λ copies. copies.items ≡ blocks.now) }
+{
+    let mut copies = Vec::with_capacity(alloc, blocks.len())?;
+    for block in blocks {
+        copies.push(block.copy())?;
+    }
+    Ok(copies)
+}
+
+/// The levels of each period of the day.
+fn periods_of<A: Allocator + Copy, B: Allocator>(
+    alloc: A,
+    problem: &Problem<B>,
+) -> Result<Vec<Levels<A>, A>, AllocError>
+    ensures levels { IfOk result (λ periods. AreDayLevels problem.now.blocks periods.items) }
+    ensures hours { IfOk result (λ periods. map last_steps periods.items ≡ problem.now.hours) }
+{
+    let blocks = problem.blocks();
+    let count = usize::from(problem.periods());
+    let mut periods = Vec::with_capacity(alloc, count)?;
+    for place in 0..count {
+        let period = period_at(place);
+        let steps = problem.steps(period).unwrap();
+        periods.push(Levels::of(alloc, steps, blocks, period)?)?;
+    }
+    Ok(periods)
+}
+
+impl<A: Allocator + Copy> Relaxed<A> {
+    /// The levels of a problem. The error is want of memory.
+    pub fn build<B: Allocator>(alloc: A, problem: &Problem<B>) -> Result<Relaxed<A>, AllocError>
+        ensures { IfOk result (λ relaxed. relaxed ≡ without_rows problem.now) }
+    {
+        Ok(Relaxed {
+            periods: periods_of(alloc, problem)?,
+            blocks: copies_of(alloc, problem.blocks())?,
+        })
+    }
+}
+
+/// The greatest welfare of a period at a depth, with what the accepted blocks are worth there; `None`
+/// where no execution balances.
+fn period_bound<A: Allocator>(
+    levels: &Levels<A>,
+    blocks: &[Block],
+    taken: Selection,
+    depth: usize,
+    period: Period,
+) -> Option<i64>
+    requires levels { AreLevels period (last_steps levels.now) blocks.now levels.now }
+    requires depth { depth ≤ length blocks.now }
+    requires blocks { length blocks.now ≤ MOST_BLOCKS }
+    ensures value { result ≡ period_welfare blocks.now taken period (last_steps levels.now ++ as_steps period (drop depth blocks.now)) }
+    ensures size { IfSome result (IsWithin 161918380800000) }
+{
+    let hour = levels.hour(depth);
+    let cleared = hour.clear(net_volume(blocks, taken, period))?;
+    Some(cleared.welfare + block_value(blocks, taken, period))
+}
+
+impl<A: Allocator> Relaxed<A> {
+    /// How great the welfare of a selection can be that agrees with the decisions on the first `depth`
+    /// blocks, of which those in `taken` are accepted; in cents per MWh times tenths of a MW.
+    ///
+    /// It is the welfare of the decisions where each undecided block may be executed in part, in each of
+    /// its periods apart from the others: the sum over the periods of the greatest welfare with the
+    /// undecided blocks as orders, and the accepted buy blocks' limit times volume less the accepted
+    /// sell blocks'. `None` exactly where some period so relaxed has no execution that balances.
+    /// Takes no memory.
+    pub fn bound(&self, taken: Selection, depth: usize) -> Option<i64>
+        requires { depth ≤ length self.now.blocks }
+        ensures { (decided : List Bool) → length decided ≡ depth → taken ≡ padded decided
+            → result ≡ relaxed_welfare self.now decided }
+    {
+        laws::sums();
+        let mut total = 0;
+        for (place, levels) in self.periods.iter().enumerate() {
+            total += period_bound(levels, &self.blocks, taken, depth, period_at(place))?;
+        }
+        Some(total)
+    }
+}
