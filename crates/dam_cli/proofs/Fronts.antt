@@ -7,11 +7,11 @@ use Rattle.dam_results.specs.Limits.{most_bytes}
 use Rattle.dam_results.specs.declared.journal.JournalFault.{JournalFault}
 use Rattle.dam_results.specs.declared.journal.JournalFault.TheVariants.{TooLong, NotAscii, TooManyRecords, NotDay, FieldCount, BadField}
 use Rattle.dam_results.specs.declared.journal.JournalFault.TheVariants.{Memory as NoMemory}
-use Rattle.dam_results.specs.Journal.{ReadsAs}
+use Rattle.dam_results.specs.Journal.{IsMadeFrom, ReadsAs}
 use Rattle.dam_results.specs.Faults.{IsFaultOf}
 use Rattle.dam_cli.specs.declared.fault.RunFault.{RunFault}
 use Rattle.dam_cli.specs.declared.fault.RunFault.TheVariants.{Read, Input, StillOpen, Memory, Write}
-use Rattle.dam_cli.specs.Engine.{most_read, IsJournal, IsPrintedFor, IsTextFault, IsFaultOn}
+use Rattle.dam_cli.specs.Engine.{most_read, IsJournal, IsTextFault, IsFaultOn}
 use Rattle.dam_cli.specs.Clear.{AreResultsTo, IsClosedJournal, IsBookFault, IsFaultOnBook, IsClearTextFault, IsClearFault}
 
 front-of_short : (given : List ℕ) → length given ≤ most_bytes → take most_read given ≡ given
@@ -59,7 +59,7 @@ book_fault-run book Memory is = tt
 book_fault-run book Write is = absurd is
 
 -- a text for whose front something is printed is a journal
-pub printed-journal : (Prints : ℕ → List Command → List ℕ → Type 0) (printed given : List ℕ) → IsPrintedFor Prints (take most_read given) printed → IsJournal given
+pub printed-journal : (Prints : ℕ → List Command → List ℕ → Type 0) (printed given : List ℕ) → IsMadeFrom Prints (take most_read given) printed → IsJournal given
 printed-journal Prints printed given are = (are.0, are.1, reads-given given are.0 are.1 are.2)
 
 -- where it is a results text, the journal's book is closed

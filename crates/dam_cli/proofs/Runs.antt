@@ -3,10 +3,10 @@ use Rattle.std.proofs.Common.{◌≡◌, ℕ, List, take, Option, Some, None, If
 use Rattle.std.proofs.lemmas.Result.{MatchResult-from_both, on_ok_weaker, IfErr-weaker}
 use Rattle.std.specs.Io.KnownBytes.{Appends}
 use Rattle.dam_book.specs.declared.command.Command.{Command}
-use Rattle.dam_results.specs.Journal.{ReadsAs}
+use Rattle.dam_results.specs.Journal.{IsMadeFrom, ReadsAs}
 use Rattle.dam_cli.specs.declared.fault.RunFault.{RunFault}
 use Rattle.dam_cli.specs.declared.fault.RunFault.TheVariants.{Write}
-use Rattle.dam_cli.specs.Engine.{most_read, IsPrintedFor, Writes}
+use Rattle.dam_cli.specs.Engine.{most_read, Writes}
 use Rattle.dam_cli.proofs.Fronts.{reads-given, reads-front}
 
 -- the text is the front that is read of the given bytes
@@ -46,9 +46,9 @@ writes IsPrinted old new sent printed result same wrote is = on_ok_weaker result
 pub known-done : (Prints : ℕ → List Command → List ℕ → Type 0) (old new : Option (List ℕ))
     (known : Option (List ℕ)) (text sent printed : List ℕ) (result : Result (Unit {0}) RunFault)
     → IsFrontOf known text → sent ≡ printed → OnOk result (Appends old new sent)
-    → IsPrintedFor Prints text printed → OnOk result (IfSome known (λ given. Writes old new (IsPrintedFor Prints given)))
+    → IsMadeFrom Prints text printed → OnOk result (IfSome known (λ given. Writes old new (IsMadeFrom Prints given)))
 known-done Prints old new known text sent printed result front same wrote are =
-    on_ok_weaker result (λ appended. known-front (λ bs. IsPrintedFor Prints bs printed) (λ bs. Writes old new (IsPrintedFor Prints bs)) known text
+    on_ok_weaker result (λ appended. known-front (λ bs. IsMadeFrom Prints bs printed) (λ bs. Writes old new (IsMadeFrom Prints bs)) known text
     (λ given is. (printed, (is.0, is.1, reads-given given is.0 is.1 is.2, is.3), subst (Appends old new) same appended)) front are) wrote
 
 -- where the given text is a journal, its own text is printed

@@ -6,11 +6,11 @@ use Rattle.dam_blocks.specs.Problem.{problem_of}
 use Rattle.dam_blocks.specs.Result.{IsResult}
 use Rattle.dam_results.specs.declared.published.PeriodResult.{PeriodResult}
 use Rattle.dam_results.specs.declared.published.RowResult.{RowResult}
-use Rattle.dam_results.specs.Journal.{ReadsAs}
+use Rattle.dam_results.specs.Journal.{IsMadeFrom, ReadsAs}
 use Rattle.dam_results.specs.Published.{ArePublished, results_text}
 use Rattle.dam_cli.specs.declared.fault.RunFault.{RunFault}
 use Rattle.dam_cli.specs.declared.fault.RunFault.TheVariants.{Read, Input, StillOpen, Memory, Write}
-use Rattle.dam_cli.specs.Engine.{IsPrintedFor, IsTextFault}
+use Rattle.dam_cli.specs.Engine.{IsTextFault}
 
 -- the book is closed, and this is the results text of the result of its problem
 pub record IsClearedAs (book : BookState) (text : List ℕ) : Type 0 where
@@ -29,7 +29,7 @@ AreResults periods commands text = IsClearedAs (run periods commands) text
 
 -- the text is a journal, and this is printed for it
 abbrev pub AreResultsTo : List ℕ → List ℕ → Type 0
-AreResultsTo text printed = IsPrintedFor AreResults text printed
+AreResultsTo text printed = IsMadeFrom AreResults text printed
 
 -- the text is a journal whose book is still open
 abbrev pub IsOpenJournal : List ℕ → Type 0

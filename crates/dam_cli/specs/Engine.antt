@@ -17,10 +17,6 @@ most_read = most_bytes + 1
 abbrev pub IsJournal : List ℕ → Type 0
 IsJournal text = (periods : ℕ) × (commands : List Command) × ReadsAs text periods commands
 
--- the text is a journal, and this is a text that an engine may print for its periods and commands
-abbrev pub IsPrintedFor : (ℕ → List Command → List ℕ → Type 0) → List ℕ → List ℕ → Type 0
-IsPrintedFor Prints text printed = (periods : ℕ) × (commands : List Command) × ReadsAs text periods commands × Prints periods commands printed
-
 -- the writer took just one text, and it is such a one
 abbrev pub Writes : Option (List ℕ) → Option (List ℕ) → (List ℕ → Type 0) → Type 0
 Writes old new IsPrinted = (printed : List ℕ) × IsPrinted printed × Appends old new printed

@@ -2,16 +2,15 @@ ghost use Rattle.std.specs.Prelude.{◌≡◌, ◌≢◌, ◌↔◌, ℕ, List, 
 ghost use Rattle.dam_book.specs.Book.{run};
 ghost use Rattle.dam_book.specs.declared.command.Command.{Command};
 ghost use Rattle.dam_results.specs.Journal.{ReadsAs};
-ghost use Rattle.dam_cli.specs.Engine.{Writes};
+ghost use Rattle.dam_cli.specs.Engine.{IsTextFault, Writes};
 ghost use Rattle.dam_cli.specs.Clear.{AreResultsTo, IsBookFault, IsClearedAs, IsClearFault, IsClearTextFault, IsFaultOnBook};
 
 use crate::fault::RunFault;
 use crate::input::read_input;
-use crate::journal_run::run_journal;
 use crate::output::write_text;
 use dam_blocks::{Problem, best_of_all};
 use dam_book::Book;
-use dam_results::{results, results_text};
+use dam_results::{book_of_text, results, results_text};
 use std::alloc::Global;
 use std::io::{Read, Write};
 
@@ -56,6 +55,19 @@ fn clear_text(alloc: Global, text: &[u8]) -> Result<Vec<u8>, RunFault>
 {
     let book = run_journal(alloc, text)?;
     clear_book(alloc, &book)
+}
+
+/// The book that a journal's text makes. The text may have been cut behind the first byte too many.
+fn run_journal(alloc: Global, text: &[u8]) -> Result<Book, RunFault>
+    ensures done { IfOk result (λ book. (periods : ℕ) × (commands : List Command)
+        × ReadsAs text.now periods commands × (book ≡ run periods commands)) }
+    ensures fault { IfErr result (IsTextFault text.now) }
+    ensures exact { (periods : ℕ) (commands : List Command) → ReadsAs text.now periods commands
+        → MatchResult result
+        (λ book. book ≡ run periods commands)
+        (λ fault. fault ≡ RunFault.Memory) }
+{
+    Ok(book_of_text(alloc, text)?)
 }
 
 /// The results text of a closed book. An open one is answered `StillOpen`, before any memory is asked

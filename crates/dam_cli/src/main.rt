@@ -5,7 +5,6 @@
 mod clear;
 mod fault;
 mod input;
-mod journal_run;
 mod laws;
 mod output;
 mod replay;

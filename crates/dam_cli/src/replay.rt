@@ -3,13 +3,13 @@ ghost use Rattle.std.specs.Io.KnownBytes.{Appends};
 ghost use Rattle.dam_book.specs.declared.command.Command.{Command};
 ghost use Rattle.dam_results.specs.Journal.{ReadsAs};
 ghost use Rattle.dam_cli.specs.Engine.{IsFaultOn, IsMachineFault, IsTextFault, Writes};
-ghost use Rattle.dam_cli.specs.Replay.{AreRepliesTo, replies_to};
+ghost use Rattle.dam_results.specs.Replies.{replies_to};
+ghost use Rattle.dam_cli.specs.Replay.{AreRepliesTo};
 
 use crate::fault::RunFault;
 use crate::input::read_input;
-use crate::journal_run::empty_book;
 use crate::output::write_text;
-use dam_results::{read_journal, run_text};
+use dam_results::replay_text;
 use std::alloc::Global;
 use std::io::{Read, Write};
 
@@ -38,12 +38,12 @@ pub fn run_replay<R: Read, W: Write>(
         IsMachineFault) }
 {
     let text = read_input(alloc, reader)?;
-    let replies = replay_text(alloc, text.as_slice())?;
+    let replies = replies_of(alloc, text.as_slice())?;
     write_text(writer, replies.as_slice())
 }
 
-/// The replies to a text.
-fn replay_text(alloc: Global, text: &[u8]) -> Result<Vec<u8>, RunFault>
+/// The replies to a text, which may have been cut behind the first byte too many.
+fn replies_of(alloc: Global, text: &[u8]) -> Result<Vec<u8>, RunFault>
     ensures done { IfOk result (λ replies. AreRepliesTo text.now replies.items) }
     ensures fault { IfErr result (IsTextFault text.now) }
     ensures exact { (periods : ℕ) (commands : List Command) → ReadsAs text.now periods commands
@@ -51,7 +51,5 @@ fn replay_text(alloc: Global, text: &[u8]) -> Result<Vec<u8>, RunFault>
         (λ replies. replies.items ≡ replies_to periods commands)
         (λ fault. fault ≡ RunFault.Memory) }
 {
-    let journal = read_journal(alloc, text)?;
-    let empty = empty_book(alloc, journal.periods);
-    Ok(run_text(alloc, empty, journal.commands.as_slice())?)
+    Ok(replay_text(alloc, text)?)
 }

@@ -76,3 +76,44 @@ AreRecords-all rows periods commands rest day h e =
       valid = h.valid;
       written = ap (λ (rs : List Fields). day_row periods ∷ rs) all;
     }
+
+-- the commands read so far, of which there are so many, made this
+pub record ReadsInto {T : Type 0} (MadeOf : ℕ → List Command → T → Type 0) (periods : ℕ) (rows rest : List Fields) (count : ℕ) (made : T) : Type 0 where
+  pub commands : List Command
+  pub reads : Reads rows commands rest
+  pub counted : count ≡ length commands
+  pub made_of : MadeOf periods commands made
+
+pub ReadsInto-none : {T : Type 0} (MadeOf : ℕ → List Command → T → Type 0) (periods : ℕ) (rows : List Fields) (made : T) → MadeOf periods [] made → ReadsInto MadeOf periods rows rows 0 made
+ReadsInto-none MadeOf periods rows made begun = record { commands = []; reads = record { parts = refl; valid = tt; few = omega arith }; counted = refl; made_of = begun }
+
+-- one command more
+pub ReadsInto-more : {T : Type 0} (MadeOf : ℕ → List Command → T → Type 0) (periods : ℕ) (rows rest more : List Fields) (row : Fields) (count next : ℕ) (command : Command) (before after : T)
+    → (h : ReadsInto MadeOf periods rows rest count before) → rest ≡ row ∷ more → next ≡ count + 1
+    → (next + 1 ≤ most_records) × IsCommand command × (row ≡ row_of command)
+    → ((commands : List Command) → length commands + 1 ≡ next → MadeOf periods commands before → MadeOf periods (commands ++ command ∷ []) after)
+    → ReadsInto MadeOf periods rows more next after
+ReadsInto-more MadeOf periods rows rest more row count next command before after h first following said takes =
+    let n = said.0 in
+    let counted = h.counted in
+    let commands = h.commands in
+    record {
+      commands = commands ++ command ∷ [];
+      reads = Reads-more rows commands rest more row command h.reads first (omega (arith, n, following, counted), said.1, said.2);
+      counted = omega (arith, following, counted, length-append commands (command ∷ []));
+      made_of = takes commands (omega (arith, following, counted)) h.made_of;
+    }
+
+-- where the next record has a fault, the records have it
+pub ReadsInto-fault : {T : Type 0} (MadeOf : ℕ → List Command → T → Type 0) (periods : ℕ) (rows rest more : List Fields) (row : Fields) (count number : ℕ) (made : T) (fault : JournalFault)
+    → is_day periods ≡ true → ReadsInto MadeOf periods rows rest count made → rest ≡ row ∷ more → number ≡ count + 2 → IsRecordFault number row fault
+    → IsFaultOfRecords (day_row periods ∷ rows) fault
+ReadsInto-fault MadeOf periods rows rest more row count number made fault day h first at faulty =
+    let counted = h.counted in
+    let place : number ≡ length h.commands + 2 = omega (arith, at, counted) in
+    in_later rows periods h.commands rest more row fault day h.reads first (subst (λ (n : ℕ). IsRecordFault n row fault) place faulty)
+
+-- at the end of the records, what was made is what the whole journal makes
+pub ReadsInto-all : {T : Type 0} (MadeOf : ℕ → List Command → T → Type 0) (periods : ℕ) (rows rest : List Fields) (count : ℕ) (made : T) → is_day periods ≡ true → ReadsInto MadeOf periods rows rest count made
+    → rest ≡ [] → (commands : List Command) × AreRecords (day_row periods ∷ rows) periods commands × MadeOf periods commands made
+ReadsInto-all MadeOf periods rows rest count made day h none = (h.commands, AreRecords-all rows periods h.commands rest day h.reads none, h.made_of)

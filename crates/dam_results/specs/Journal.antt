@@ -34,3 +34,7 @@ pub record ReadsAs (text : List ℕ) (periods : ℕ) (commands : List Command) :
   pub short : length text ≤ most_bytes
   pub ascii : first_high text ≡ None
   pub records : AreRecords (records_of text) periods commands
+
+-- the text is a journal, and this is made of its periods and commands
+abbrev pub IsMadeFrom : {T : Type 0} → (ℕ → List Command → T → Type 0) → List ℕ → T → Type 0
+IsMadeFrom MadeOf text made = (periods : ℕ) × (commands : List Command) × ReadsAs text periods commands × MadeOf periods commands made

@@ -6,6 +6,7 @@ pub mod Journal
 pub mod Faults
 pub mod Reader
 pub mod Replies
+pub mod Run
 pub mod Spelling
 pub mod Written
 pub mod Writer

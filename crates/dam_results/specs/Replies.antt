@@ -1,11 +1,13 @@
 -- The replies text: the day, and then a line for each entry.
-use Rattle.std.specs.Prelude.{ℕ, List, ◌++◌, decimal, codes}
+use Rattle.std.specs.Prelude.{◌≡◌, ℕ, List, ◌++◌, decimal, codes}
 use Rattle.std.specs.List.{flat_map}
 use Rattle.dam_book.specs.declared.command.Reply.{Reply}
 use Rattle.dam_book.specs.declared.command.Reply.TheVariants.{Done, Refused}
 use Rattle.dam_book.specs.declared.command.Reason.{Reason}
 use Rattle.dam_book.specs.declared.command.Reason.TheVariants.{Closed, PeriodOutOfDay, NameTaken, UnknownOrder, WrongShape, UnknownParent, ParentNotBlock, HourlyFull, BlocksFull, HasChildren}
+use Rattle.dam_book.specs.declared.command.Command.{Command}
 use Rattle.dam_book.specs.declared.command.Entry.{Entry}
+use Rattle.dam_book.specs.Book.{entries_of}
 
 abbrev pub reason_word : Reason → List ℕ
 reason_word Closed = codes "Closed"
@@ -35,3 +37,11 @@ day_line periods = codes "day," ++ (decimal periods ++ codes "\n")
 
 abbrev pub replies_text : ℕ → List Entry → List ℕ
 replies_text periods entries = day_line periods ++ flat_map entry_line entries
+
+-- the reply of their run to each command
+abbrev pub replies_to : ℕ → List Command → List ℕ
+replies_to periods commands = replies_text periods (entries_of periods commands)
+
+-- this is the replies text of the run of these commands
+abbrev pub AreReplies : ℕ → List Command → List ℕ → Type 0
+AreReplies periods commands text = text ≡ replies_to periods commands

@@ -5,11 +5,12 @@ ghost use Rattle.dam_book.specs.Book.{is_day};
 ghost use Rattle.dam_book.specs.declared.command.Command.{Command};
 ghost use Rattle.dam_results.specs.Limits.{most_bytes, most_records};
 ghost use Rattle.dam_results.specs.Records.{records_of, kind_field, day_row, row_of};
-ghost use Rattle.dam_results.specs.Journal.{AreRecords, IsCommand, ReadsAs};
+ghost use Rattle.dam_results.specs.Journal.{AreRecords, IsCommand, IsMadeFrom, ReadsAs};
 ghost use Rattle.dam_results.specs.Journal;
 ghost use Rattle.dam_results.specs.Faults.{IsFaultOf, IsFaultOfRecords, IsRecordFault};
 ghost use Rattle.dam_results.specs.Reader.{IsOpen, rows_left};
 
+use crate::from_journal::FromJournal;
 use crate::laws;
 use crate::limits::{MOST_BYTES, MOST_RECORDS};
 use crate::record::{read_command, read_day};
@@ -25,6 +26,24 @@ pub struct JournalRead {
     /// How many periods the delivery day has.
     pub periods: u8,
     pub commands: Vec<Command>,
+}
+
+impl FromJournal for JournalRead {
+    ghost use Rattle.std.specs.Prelude.{◌≡◌};
+
+    ghost made_of = { λ periods commands journal. (journal.periods ≡ periods) × (journal.commands.items ≡ commands) };
+
+    fn begin(alloc: Global, periods: u8) -> Result<JournalRead, AllocError> {
+        Ok(JournalRead {
+            periods,
+            commands: Vec::new(alloc),
+        })
+    }
+
+    fn take(&mut self, _number: u32, command: Command) -> Result<(), AllocError> {
+        self.commands.push(command)?;
+        Ok(())
+    }
 }
 
 /// Why a text is no journal, in the order in which it is looked for: first over the whole text, then
@@ -167,31 +186,55 @@ fn next_day(records: &mut Records) -> Result<u8, JournalFault>
     read_first(&record)
 }
 
-fn read_commands(alloc: Global, periods: u8, records: Records) -> Result<JournalRead, JournalFault>
+fn read_commands<T: FromJournal>(
+    alloc: Global,
+    periods: u8,
+    records: Records,
+) -> Result<T, JournalFault>
     requires usable { IsOpen records }
     requires day { is_day periods ≡ true }
     ensures { MatchResult result
-        (λ journal. AreRecords (day_row periods ∷ rows_left records.entry) journal.periods journal.commands.items)
+        (λ made. (commands : List Command)
+        × AreRecords (day_row periods ∷ rows_left records.entry) periods commands
+        × T.made_of periods commands made)
         (IsFaultOfRecords (day_row periods ∷ rows_left records.entry)) }
 {
-    let mut commands = Vec::new(alloc);
+    let mut made = T::begin(alloc, periods)?;
+    let mut number = 0;
     for record in records {
         let Ok(record) = record else {
             return Err(JournalFault::Memory);
         };
-        commands.push(read_later(commands.len() + 2, &record)?)?;
+        number += 1;
+        let command = read_later(number as usize + 1, &record)?;
+        made.take(number, command)?;
     }
-    Ok(JournalRead { periods, commands })
+    Ok(made)
 }
 
-fn read_text(alloc: Global, text: &[u8]) -> Result<JournalRead, JournalFault>
-    ensures ok { IfOk result (λ journal. ReadsAs text.now journal.periods journal.commands.items) }
+fn read_text<T: FromJournal>(alloc: Global, text: &[u8]) -> Result<T, JournalFault>
+    ensures ok { IfOk result (IsMadeFrom T.made_of text.now) }
     ensures fault { IfErr result (IsFaultOf text.now) }
 {
     check_bytes(text)?;
     let mut records = records(alloc, text);
     let periods = next_day(&mut records)?;
     read_commands(alloc, periods, records)
+}
+
+/// What the journal that a text says makes, or the first fault of the text. Nothing is kept of the
+/// records past the first faulty one.
+pub(crate) fn read_into<T: FromJournal>(alloc: Global, text: &[u8]) -> Result<T, JournalFault>
+    ensures ok { IfOk result (IsMadeFrom T.made_of text.now) }
+    ensures fault { IfErr result (IsFaultOf text.now) }
+
+    // A journal is read, unless memory runs out.
+    ensures exact { (periods : ℕ) (commands : List Command) → ReadsAs text.now periods commands
+        → MatchResult result (T.made_of periods commands) (λ fault. fault ≡ JournalFault.Memory) }
+{
+    laws::text_is_one_journal();
+    laws::fault_is_no_journal();
+    read_text(alloc, text)
 }
 
 /// The journal that a text says, or the first fault of the text.
@@ -208,9 +251,7 @@ pub fn read_journal(alloc: Global, text: &[u8]) -> Result<JournalRead, JournalFa
         (λ journal. (journal.periods ≡ periods) × (journal.commands.items ≡ commands))
         (λ fault. fault ≡ JournalFault.Memory) }
 {
-    laws::text_is_one_journal();
-    laws::fault_is_no_journal();
-    read_text(alloc, text)
+    read_into(alloc, text)
 }
 
 #[cfg(test)]

@@ -1,4 +1,5 @@
 use super::*;
+use dam_book::Command;
 use std::test::Fail;
 
 fn entry(number: u32, reply: Reply) -> Entry {
@@ -23,16 +24,5 @@ fn replies_are_written(rt: HostRuntime) -> Result<(), Fail> {
     let wanted =
         b"day,23\n1,done\n2,refused,Closed\n3,refused,PeriodOutOfDay\n4,refused,NameTaken\n5,refused,UnknownOrder\n10000,refused,HourlyFull\n";
     assert_eq!(rt; text.as_slice(), wanted.as_slice());
-    Ok(())
-}
-
-#[test]
-fn replies_of_a_run_are_written(rt: HostRuntime) -> Result<(), Fail> {
-    let book = Book::begin(rt.alloc(), 24)?;
-    let text = run_text(rt.alloc(), book, &[Command::Close, Command::Close])?;
-    assert_eq!(rt;
-        text.as_slice(),
-        b"day,24\n1,done\n2,refused,Closed\n".as_slice()
-    );
     Ok(())
 }

@@ -4,7 +4,8 @@ use Rattle.std.proofs.lemmas.Result.{err_from_is_err_and, on_ok_weaker}
 use Rattle.std.specs.Io.KnownBytes.{Appends}
 use Rattle.dam_cli.specs.declared.fault.RunFault.TheVariants.{Memory}
 use Rattle.dam_cli.specs.Engine.{IsFaultOn, IsMachineFault, IsTextFault}
-use Rattle.dam_cli.specs.Replay.{AreReplies, AreRepliesTo}
+use Rattle.dam_results.specs.Replies.{AreReplies}
+use Rattle.dam_cli.specs.Replay.{AreRepliesTo}
 use Rattle.dam_cli.proofs.Fronts.{fault-on_given, printed-journal}
 use Rattle.dam_cli.proofs.Runs.{known-fault, known-failed, known-done, known-exact, known-write}
 use Rattle.dam_cli.proofs.replay.run_replay.Goals as goal

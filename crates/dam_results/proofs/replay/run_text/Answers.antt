@@ -5,7 +5,7 @@ use Rattle.std.specs.List.{flat_map}
 use Rattle.dam_book.specs.declared.command.Command.{Command}
 use Rattle.dam_book.specs.Book.{BookState, book_after, reply_to, entries_from}
 use Rattle.dam_results.specs.Replies.{reply_line, entry_line}
-use Rattle.dam_results.proofs.replies.run_text.Goals as goal
+use Rattle.dam_results.proofs.replay.run_text.Goals as goal
 
 -- the lines of the entries of a run
 abbrev lines_from : ℕ → BookState → List Command → List ℕ
@@ -27,6 +27,6 @@ loop-command-preserved g c =
     record {
       numbered = omega (arith, c.loop-command.invariant.numbered);
       text =
-          rw (c.in_ok-write_line.ensures, c.in_ok-reply.ensures.ok, c.in_ok-reply.ensures.reply)
-          (text_more (c.loop-command.number + 1) (c.loop-command.number + 1 + 1) c.loop-command.book c.loop-command.text.items _ _ _ c.command-item.result (omega arith) next c.loop-command.invariant.text);
+          rw (c.in_ok-apply.ensures.text, c.in_ok-apply.ensures.book)
+          (text_more (c.loop-command.number + 1) (c.loop-command.number + 1 + 1) c.loop-command.replay.book c.loop-command.replay.text.items _ _ _ c.command-item.result (omega arith) next c.loop-command.invariant.text);
     }

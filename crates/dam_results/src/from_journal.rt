@@ -1,0 +1,25 @@
+//! What a journal can be read into, command by command.
+
+ghost use Rattle.std.specs.Prelude.{◌≡◌, ◌+◌, ◌++◌, ◌∷◌, [], ℕ, List, true, length, IfOk, OnOk};
+ghost use Rattle.dam_book.specs.Book.{is_day};
+ghost use Rattle.dam_book.specs.declared.command.Command.{Command};
+
+use dam_book::Command;
+use std::alloc::{AllocError, Global};
+
+/// What is made of the commands of a journal, one after another.
+pub(crate) trait FromJournal: Drop {
+    /// It is what these commands make of a day of so many periods.
+    ghost made_of: { ℕ → List Command → Self → Type 0 };
+
+    /// What no command makes.
+    fn begin(alloc: Global, periods: u8) -> Result<Self, AllocError>
+        requires { is_day periods ≡ true }
+        ensures { IfOk result (made_of periods []) };
+
+    /// Takes the command of the entry of this number, counted from 1.
+    fn take(&mut self, number: u32, command: Command) -> Result<(), AllocError>
+        ensures { OnOk result ((periods : ℕ) (commands : List Command)
+            → length commands + 1 ≡ number → made_of periods commands self.old
+            → made_of periods (commands ++ command ∷ []) self.new) };
+}

@@ -1,0 +1,149 @@
+//! The runs of a journal's commands: their books, and their replies as text.
+
+ghost use Rattle.std.specs.Prelude.{◌≡◌, ◌++◌, ◌<◌, ◌^◌, ℕ, List, true, length, IfOk, IfErr, OnOk, MatchResult};
+ghost use Rattle.dam_book.specs.Book.{book_after, empty_book, entries_from, is_day, reply_to, run};
+ghost use Rattle.dam_book.specs.declared.command.Command.{Command};
+ghost use Rattle.dam_results.specs.Journal.{IsMadeFrom, ReadsAs};
+ghost use Rattle.dam_results.specs.Faults.{IsFaultOf};
+ghost use Rattle.dam_results.specs.Replies.{AreReplies, day_line, replies_to, reply_line};
+ghost use Rattle.dam_results.specs.Replies;
+ghost use Rattle.dam_results.specs.Run.{IsRun};
+
+use crate::from_journal::FromJournal;
+use crate::journal::{JournalFault, read_into};
+use crate::lines::write_day;
+use crate::replies::write_line;
+use dam_book::laws::runs_grow;
+use dam_book::{Book, Command};
+use std::alloc::{AllocError, Allocator, Global};
+
+/// The empty book of a day that a journal may have.
+fn empty_book(alloc: Global, periods: u8) -> Book
+    requires { is_day periods ≡ true }
+    ensures { result ≡ empty_book periods }
+{
+    let Ok(book) = Book::begin(alloc, periods) else {
+        unreachable!();
+    };
+    book
+}
+
+impl FromJournal for Book {
+    ghost use Rattle.std.specs.Prelude.{◌≡◌};
+    ghost use Rattle.dam_results.specs.Run.{IsRun};
+
+    ghost made_of = { λ periods commands book. IsRun periods commands book };
+
+    fn begin(alloc: Global, periods: u8) -> Result<Book, AllocError> {
+        Ok(empty_book(alloc, periods))
+    }
+
+    fn take(&mut self, _number: u32, command: Command) -> Result<(), AllocError> {
+        runs_grow();
+        let _reply = self.apply(&command)?;
+        Ok(())
+    }
+}
+
+/// A run so far: its book, and the text of its replies.
+#[derive(Drop)]
+struct Replay<A: Allocator = Global, B: Allocator = Global> {
+    book: Book<A>,
+    text: Vec<u8, B>,
+}
+
+impl<A: Allocator + Copy, B: Allocator> Replay<A, B> {
+    /// The run of no command on a book: the line of its day.
+    fn on(alloc: B, book: Book<A>) -> Result<Replay<A, B>, AllocError>
+        ensures book { IfOk result (λ replay. replay.book ≡ book) }
+        ensures text { IfOk result (λ replay. replay.text.items ≡ day_line book.periods) }
+    {
+        let mut text = Vec::new(alloc);
+        write_day(&mut text, u64::from(book.periods()))?;
+        Ok(Replay { book, text })
+    }
+
+    /// Applies the command of the entry of that number, and writes its reply.
+    fn apply(&mut self, number: u32, command: &Command) -> Result<(), AllocError>
+        ensures book { OnOk result (self.new.book ≡ book_after self.old.book command.now) }
+        ensures text { OnOk result (self.new.text.items
+            ≡ self.old.text.items ++ reply_line number (reply_to self.old.book command.now)) }
+    {
+        let reply = self.book.apply(command)?;
+        write_line(&mut self.text, number, reply)
+    }
+}
+
+impl FromJournal for Replay {
+    ghost use Rattle.std.specs.Prelude.{◌≡◌};
+    ghost use Rattle.dam_results.specs.Replies.{AreReplies};
+    ghost use Rattle.dam_results.specs.Run.{IsRun};
+
+    ghost made_of = { λ periods commands replay. IsRun periods commands replay.book × AreReplies periods commands replay.text.items };
+
+    fn begin(alloc: Global, periods: u8) -> Result<Replay, AllocError> {
+        Replay::on(alloc, empty_book(alloc, periods))
+    }
+
+    fn take(&mut self, number: u32, command: Command) -> Result<(), AllocError> {
+        runs_grow();
+        self.apply(number, &command)
+    }
+}
+
+/// The replies text of the run of the commands on a book, as `replies_text` writes it, without a list
+/// of its entries: each reply is written as it is given.
+///
+/// An `Err` comes only where a growth was refused; the book is then gone.
+pub fn run_text<A: Allocator + Copy, B: Allocator>(
+    alloc: B,
+    book: Book<A>,
+    commands: &[Command],
+) -> Result<Vec<u8, B>, AllocError>
+    requires { length commands.now < 2 ^ 32 }
+    ensures { IfOk result (λ text.
+        text.items ≡ Replies.replies_text book.periods (entries_from 1 book commands.now)) }
+{
+    let mut replay = Replay::on(alloc, book)?;
+    let mut number = 0;
+    for command in commands {
+        number += 1;
+        replay.apply(number, command)?;
+    }
+    Ok(replay.text)
+}
+
+/// The replies text of the run of a journal, from its text, or the first fault of the text.
+///
+/// Each command is applied as it is read, and no list of them is kept.
+pub fn replay_text(alloc: Global, text: &[u8]) -> Result<Vec<u8>, JournalFault>
+    ensures ok { IfOk result (λ replies. IsMadeFrom AreReplies text.now replies.items) }
+    ensures fault { IfErr result (IsFaultOf text.now) }
+
+    // A journal is run, unless memory runs out.
+    ensures exact { (periods : ℕ) (commands : List Command) → ReadsAs text.now periods commands
+        → MatchResult result
+        (λ replies. AreReplies periods commands replies.items)
+        (λ fault. fault ≡ JournalFault.Memory) }
+{
+    let replay: Replay = read_into(alloc, text)?;
+    Ok(replay.text)
+}
+
+/// The book that the commands of a journal make of the empty one of its day, from the journal's text, or
+/// the first fault of the text.
+///
+/// Each command is applied as it is read, and no list of them is kept.
+pub fn book_of_text(alloc: Global, text: &[u8]) -> Result<Book, JournalFault>
+    ensures ok { IfOk result (IsMadeFrom IsRun text.now) }
+    ensures fault { IfErr result (IsFaultOf text.now) }
+
+    // A journal is run, unless memory runs out.
+    ensures exact { (periods : ℕ) (commands : List Command) → ReadsAs text.now periods commands
+        → MatchResult result (IsRun periods commands) (λ fault. fault ≡ JournalFault.Memory) }
+{
+    read_into(alloc, text)
+}
+
+#[cfg(test)]
+mod tests;
