@@ -1,0 +1,145 @@
+#!/usr/bin/env python3
+"""make_family.py FAMILY HOURLY [BLOCKS]: prints the journal of a closed day of 24 periods, with so many hourly orders and 24 blocks
+or so many. The families are hard in different ways for a search over selections of blocks; every run with the same words prints
+the same bytes.
+
+market    hourly orders round a daily curve of prices, and blocks round it
+paradox   blocks that gain alone and lose together, since each moves the price
+spread    many small blocks over a wide spread of limits
+nearties  blocks of nearly one worth
+links     deep families of linked blocks
+groups    exclusive groups of blocks
+ties      blocks that change no welfare, so that every selection is as good as another"""
+
+import math
+import random
+import sys
+from dataclasses import dataclass, field
+
+PERIODS = 24
+BLOCKS = 24
+PARTICIPANTS = ["ALPHA", "BRAVO", "CHARLIE", "DELTA", "ECHO", "FOXTROT", "GOLF", "HOTEL"]
+SEED = 20_251_001
+
+
+@dataclass
+class Block:
+    side: str
+    price: int
+    volumes: dict[int, int]
+    who: str = "ALPHA"
+    parent: str = ""
+    group: str = ""
+    name: str = field(default="")
+
+    def record(self):
+        volumes = ";".join(f"{period}:{volume}" for period, volume in sorted(self.volumes.items()))
+        return f"submit,{self.who},{self.name},block,{self.side},{self.price},{volumes},{self.parent},{self.group}"
+
+
+def curve(period):
+    """The price that the hourly orders of a period lie round, in cents per MWh."""
+    return round(6_000 + 2_500 * math.sin((period - 7) * math.pi / 12))
+
+
+def hourly(number, rng):
+    period = 1 + number % PERIODS
+    side = "buy" if (number // PERIODS) % 2 == 0 else "sell"
+    price = curve(period) + round(rng.gauss(0, 1_500)) + (700 if side == "buy" else -700)
+    return f"submit,{rng.choice(PARTICIPANTS)},HOUR-{number},hour,{side},{price},{period}:{rng.randint(50, 500)},,"
+
+
+def span(rng, least, most):
+    length = rng.randint(least, most)
+    first = rng.randint(1, PERIODS - length + 1)
+    return range(first, first + length)
+
+
+def mean_price(periods):
+    return sum(map(curve, periods)) / len(periods)
+
+
+def market(count, rng, volume):
+    for _ in range(count):
+        periods = span(rng, 4, 12)
+        size = rng.randint(volume // 2, volume)
+        price = round(mean_price(periods) + rng.gauss(0, 450))
+        yield Block(rng.choice(["buy", "sell"]), price, {period: size for period in periods})
+
+
+def paradox(count, rng, volume):
+    for _ in range(count):
+        periods = span(rng, 3, 12)
+        size = rng.randint(volume // 2, volume)
+        price = round(mean_price(periods) - rng.uniform(0, 200))
+        yield Block("sell", price, {period: size for period in periods})
+
+
+def spread(count, rng, volume):
+    for _ in range(count):
+        periods = span(rng, 2, 24)
+        size = rng.randint(max(volume // 20, 1), max(volume // 4, 2))
+        price = round(mean_price(periods) + rng.uniform(-1_200, 1_200))
+        yield Block(rng.choice(["buy", "sell"]), price, {period: size for period in periods})
+
+
+def nearties(count, rng, volume):
+    periods = range(8, 21)
+    for number in range(count):
+        price = round(mean_price(periods)) - 300 + 20 * number
+        yield Block("sell", price, {period: volume // 4 for period in periods})
+
+
+def links(count, rng, volume):
+    blocks = list(market(count, rng, volume))
+    for number, block in enumerate(blocks):
+        block.side = "sell"
+        if number % 6:
+            block.parent = f"BLOCK-{number - 1}"
+    return blocks
+
+
+def groups(count, rng, volume):
+    blocks = list(market(count, rng, 2 * volume))
+    for number, block in enumerate(blocks):
+        block.group = f"GROUP-{number // 3}"
+    return blocks
+
+
+def ties(count, rng, volume):
+    for _ in range(count):
+        yield Block("sell", 6_000, {period: 1 for period in span(rng, 1, 6)})
+
+
+def flat(number, _rng):
+    """Of each period, one buy and one sell that leave much of both at 6,000 cents, and small ones that never matter."""
+    period, rank = 1 + number % PERIODS, number // PERIODS
+    side = "buy" if rank % 2 == 0 else "sell"
+    if rank < 2:
+        return f"submit,ALPHA,HOUR-{number},hour,{side},6000,{period}:{50_000},,"
+    return f"submit,ALPHA,HOUR-{number},hour,{side},{1_000 if side == 'buy' else 11_000},{period}:1,,"
+
+
+FAMILIES = {"market": market, "paradox": paradox, "spread": spread, "nearties": nearties, "links": links, "groups": groups, "ties": ties}
+
+
+def main():
+    words = sys.argv[1:]
+    if len(words) not in (2, 3) or words[0] not in FAMILIES:
+        sys.exit(__doc__)
+    family, orders = words[0], int(words[1])
+    count = int(words[2]) if len(words) == 3 else BLOCKS
+    rng = random.Random(f"{SEED} {family} {orders}")
+    order = flat if family == "ties" else hourly
+    # a tenth of what stands on one side of a period
+    volume = max(orders * 275 // PERIODS // 20, 10)
+    print(f"day,{PERIODS},,,,,,,")
+    for number in range(orders):
+        print(order(number, rng))
+    for number, block in enumerate(FAMILIES[family](count, rng, volume)):
+        block.name = f"BLOCK-{number}"
+        print(block.record())
+    print("close,,,,,,,,")
+
+
+main()

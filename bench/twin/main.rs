@@ -1,0 +1,416 @@
+//! The search for the best selection of blocks, in plain Rust over std, to compare with: the same rules for what is visited,
+//! without any proof. `twin WORKERS CUT < JOURNAL` prints the welfare, the selection, the nodes visited, and the
+//! nanoseconds a node. It takes journals that `make_family.py` prints: submits alone, each of them accepted.
+//!
+//! A period's hourly orders and undecided blocks stand in one stack of supply: the sells, and each buy as supply of
+//! what of it isn't served, by rising price. With x units taken from the bottom, all buys less the net volume, the
+//! welfare is the value of all buys less the cost of these units. A node carries for each period the units taken, the row
+//! of the last one, and what the period is worth.
+
+use std::collections::HashMap;
+use std::io::Read;
+use std::time::Instant;
+
+const LOWEST: i64 = -50_000;
+const HIGHEST: i64 = 400_000;
+
+#[derive(Clone, Copy, PartialEq)]
+enum Side {
+    Buy,
+    Sell,
+}
+
+struct Step {
+    side: Side,
+    price: i64,
+    volume: i64,
+}
+
+struct Block {
+    side: Side,
+    price: i64,
+    volumes: Vec<(usize, i64)>,
+    parent: Option<usize>,
+    group: Option<String>,
+}
+
+struct Problem {
+    hours: Vec<Vec<Step>>,
+    blocks: Vec<Block>,
+}
+
+/// A row of a stack: the units and their cost before it, and its price.
+#[derive(Clone, Copy)]
+struct Row {
+    before: i64,
+    price: i64,
+    cost: i64,
+}
+
+/// One period with the blocks that are undecided: rows by rising price, and a last one with all units.
+struct Stack {
+    rows: Vec<Row>,
+    all_buys: i64,
+    value: i64,
+}
+
+impl Stack {
+    fn of<'a>(steps: impl Iterator<Item = (Side, i64, i64)> + 'a) -> Stack {
+        let mut supply = Vec::new();
+        let (mut all_buys, mut value) = (0, 0);
+        for (side, price, volume) in steps {
+            if side == Side::Buy {
+                all_buys += volume;
+                value += price * volume;
+            }
+            supply.push((price, volume));
+        }
+        supply.sort();
+        let mut rows = Vec::with_capacity(supply.len() + 1);
+        let (mut before, mut cost) = (0, 0);
+        for (price, volume) in supply {
+            rows.push(Row { before, price, cost });
+            before += volume;
+            cost += price * volume;
+        }
+        rows.push(Row { before, price: HIGHEST, cost });
+        Stack { rows, all_buys, value }
+    }
+
+    fn units(&self) -> i64 {
+        self.rows[self.rows.len() - 1].before
+    }
+
+    /// The row that unit x, from 1, lies in, looked for from a row near by.
+    fn place(&self, x: i64, near: usize) -> usize {
+        let mut at = near.min(self.rows.len() - 2);
+        while self.rows[at].before >= x {
+            at -= 1;
+        }
+        while self.rows[at + 1].before < x {
+            at += 1;
+        }
+        at
+    }
+
+    fn cost(&self, x: i64, at: usize) -> i64 {
+        self.rows[at].cost + self.rows[at].price * (x - self.rows[at].before)
+    }
+
+    /// The least and the greatest supporting price.
+    fn ends(&self, x: i64) -> (i64, i64) {
+        let low = if x == 0 { LOWEST } else { self.rows[self.place(x, 0)].price };
+        let high = if x == self.units() { HIGHEST } else { self.rows[self.place(x + 1, 0)].price };
+        (low, high)
+    }
+}
+
+#[derive(Clone, Copy, Default)]
+struct DayPeriod {
+    taken: i64,
+    row: u32,
+    worth: i64,
+}
+
+#[derive(Clone)]
+struct Day {
+    periods: [DayPeriod; 25],
+    total: i64,
+}
+
+#[derive(Clone, Copy)]
+struct Best {
+    accepted: u32,
+    welfare: i64,
+}
+
+struct Search<'a> {
+    problem: &'a Problem,
+    /// For each period its stacks, by how many of its blocks are decided.
+    stacks: Vec<Vec<Stack>>,
+    /// For each block and each of its periods, how many blocks of that period are decided before it.
+    levels: Vec<Vec<usize>>,
+    greatest: i64,
+    best: Option<Best>,
+    visited: u64,
+}
+
+fn price_between(low: i64, high: i64) -> i64 {
+    if low == LOWEST && high < HIGHEST {
+        high
+    } else if low > LOWEST && high == HIGHEST {
+        low
+    } else {
+        (low + high).div_euclid(2)
+    }
+}
+
+impl Search<'_> {
+    fn of(problem: &Problem) -> Search<'_> {
+        let count = problem.blocks.len();
+        let mut levels = vec![Vec::new(); count];
+        let mut stacks = Vec::new();
+        for (period, steps) in problem.hours.iter().enumerate() {
+            let there: Vec<(usize, i64)> = problem.blocks.iter().enumerate()
+                .filter_map(|(place, block)| Some((place, block.volumes.iter().find(|pair| pair.0 == period)?.1)))
+                .collect();
+            stacks.push(
+                (0..=there.len())
+                    .map(|level| {
+                        let hourly = steps.iter().map(|step| (step.side, step.price, step.volume));
+                        let undecided = there[level..].iter().map(|(place, volume)| {
+                            (problem.blocks[*place].side, problem.blocks[*place].price, *volume)
+                        });
+                        Stack::of(hourly.chain(undecided))
+                    })
+                    .collect::<Vec<_>>(),
+            );
+            for (level, (place, _)) in there.iter().enumerate() {
+                levels[*place].push(level);
+            }
+        }
+        Search { problem, stacks, levels, greatest: 0, best: None, visited: 0 }
+    }
+
+    /// The day on which nothing is decided; None where some period doesn't balance.
+    fn root(&self) -> Option<Day> {
+        let mut day = Day { periods: [DayPeriod::default(); 25], total: 0 };
+        for (period, stacks) in self.stacks.iter().enumerate() {
+            let worth = evaluate(&stacks[0], stacks[0].all_buys, 0, 0)?;
+            day.total += worth.worth;
+            day.periods[period] = worth;
+        }
+        Some(day)
+    }
+
+    /// The day with one more block decided; None where a period doesn't balance or the total is under `least`.
+    fn child(&self, day: &Day, place: usize, accept: bool, least: i64) -> Option<Day> {
+        let block = &self.problem.blocks[place];
+        let mut child = day.clone();
+        for (index, (period, volume)) in block.volumes.iter().enumerate() {
+            let level = self.levels[place][index];
+            let (stack, above) = (&self.stacks[*period][level + 1], &self.stacks[*period][level]);
+            let held = day.periods[*period];
+            let falls = accept == (block.side == Side::Sell);
+            let taken = if falls { held.taken - volume } else { held.taken };
+            // what the accepted blocks are worth there
+            let mut blocks = held.worth - above.value + if held.taken == 0 { 0 } else { above.cost(held.taken, held.row as usize) };
+            if accept {
+                blocks += if block.side == Side::Buy { block.price * volume } else { -block.price * volume };
+            }
+            let now = evaluate(stack, taken, held.row as usize, blocks)?;
+            child.total += now.worth - held.worth;
+            child.periods[*period] = now;
+            if child.total < least {
+                return None;
+            }
+        }
+        Some(child)
+    }
+
+    fn admits(&self, accepted: u32, place: usize) -> bool {
+        let block = &self.problem.blocks[place];
+        if let Some(parent) = block.parent {
+            if accepted & (1 << parent) == 0 {
+                return false;
+            }
+        }
+        block.group.is_none()
+            || (0..place).all(|other| accepted & (1 << other) == 0 || self.problem.blocks[other].group != block.group)
+    }
+
+    fn explore(&mut self, day: &Day, accepted: u32, depth: usize) {
+        if depth == self.problem.blocks.len() {
+            self.leaf(day, accepted);
+            return;
+        }
+        for accept in [false, true] {
+            if accept && !self.admits(accepted, depth) {
+                continue;
+            }
+            let next = if accept { accepted | 1 << depth } else { accepted };
+            self.visited += 1;
+            let full = depth + 1 == self.problem.blocks.len();
+            // at full depth nothing is read: the score is asked for
+            let least = if full { i64::MIN } else { self.greatest };
+            if let Some(child) = self.child(day, depth, accept, least) {
+                self.explore(&child, next, depth + 1);
+            }
+        }
+    }
+
+    fn leaf(&mut self, day: &Day, accepted: u32) {
+        if let Some(best) = self.best {
+            let earlier = (accepted ^ best.accepted).trailing_zeros();
+            if day.total < best.welfare || (day.total == best.welfare && (earlier == 32 || accepted >> earlier & 1 == 0)) {
+                return;
+            }
+        }
+        if !self.loses(day, accepted) {
+            self.best = Some(Best { accepted, welfare: day.total });
+            self.greatest = self.greatest.max(day.total);
+        }
+    }
+
+    fn loses(&self, day: &Day, accepted: u32) -> bool {
+        let price = |period: usize| {
+            let stack = &self.stacks[period][self.stacks[period].len() - 1];
+            let (low, high) = stack.ends(day.periods[period].taken);
+            price_between(low, high)
+        };
+        self.problem.blocks.iter().enumerate().any(|(place, block)| {
+            accepted & (1 << place) != 0
+                && block.volumes.iter()
+                    .map(|(period, volume)| volume * if block.side == Side::Buy { block.price - price(*period) } else { price(*period) - block.price })
+                    .sum::<i64>() < 0
+        })
+    }
+
+    /// The welfare of a selection, where it is eligible.
+    fn score(&self, accepted: u32) -> Option<i64> {
+        let mut day = self.root()?;
+        for place in 0..self.problem.blocks.len() {
+            let accept = accepted & (1 << place) != 0;
+            if accept && !self.admits(accepted & ((1 << place) - 1), place) {
+                return None;
+            }
+            day = self.child(&day, place, accept, i64::MIN)?;
+        }
+        if self.loses(&day, accepted) { None } else { Some(day.total) }
+    }
+
+    /// From the empty selection the one flip that gains most, and where none gains the best pair of flips.
+    fn first_selection(&self) -> (i64, u64) {
+        let count = self.problem.blocks.len();
+        let mut best = Best { accepted: 0, welfare: self.score(0).unwrap_or(0) };
+        let mut scores = 1;
+        loop {
+            let from = best;
+            for first in 0..count {
+                scores += 1;
+                if let Some(welfare) = self.score(from.accepted ^ 1 << first) && welfare > best.welfare {
+                    best = Best { accepted: from.accepted ^ 1 << first, welfare };
+                }
+            }
+            if best.accepted == from.accepted {
+                for first in 0..count {
+                    for second in first + 1..count {
+                        scores += 1;
+                        let flipped = from.accepted ^ 1 << first ^ 1 << second;
+                        if let Some(welfare) = self.score(flipped) && welfare > best.welfare {
+                            best = Best { accepted: flipped, welfare };
+                        }
+                    }
+                }
+            }
+            if best.accepted == from.accepted {
+                return (best.welfare, scores);
+            }
+        }
+    }
+
+    /// The best of a piece: the first blocks are decided by the digits of its number, the first by the greatest digit.
+    fn piece(&mut self, number: u32, depth: usize) {
+        self.best = None;
+        let Some(mut day) = self.root() else { return };
+        let mut accepted = 0;
+        for place in 0..depth {
+            let accept = number >> (depth - 1 - place) & 1 == 0;
+            if accept && !self.admits(accepted, place) {
+                return;
+            }
+            accepted |= u32::from(accept) << place;
+            match self.child(&day, place, accept, i64::MIN) {
+                Some(child) => day = child,
+                None => {
+                    self.visited += 1;
+                    return;
+                }
+            }
+        }
+        self.visited += 1;
+        if depth == self.problem.blocks.len() || day.total >= self.greatest {
+            self.explore(&day, accepted, depth);
+        }
+    }
+}
+
+fn evaluate(stack: &Stack, taken: i64, near: usize, blocks: i64) -> Option<DayPeriod> {
+    if taken < 0 || taken > stack.units() {
+        return None;
+    }
+    if taken == 0 {
+        return Some(DayPeriod { taken, row: 0, worth: stack.value + blocks });
+    }
+    let row = stack.place(taken, near);
+    Some(DayPeriod { taken, row: row as u32, worth: stack.value - stack.cost(taken, row) + blocks })
+}
+
+fn read(text: &str) -> Problem {
+    let mut lines = text.lines().map(|line| line.split(',').collect::<Vec<_>>());
+    let periods = lines.next().expect("a day")[1].parse().expect("periods");
+    let mut problem = Problem { hours: (0..periods).map(|_| Vec::new()).collect(), blocks: Vec::new() };
+    let mut places = HashMap::new();
+    for fields in lines.filter(|fields| fields[0] == "submit") {
+        let side = if fields[4] == "buy" { Side::Buy } else { Side::Sell };
+        let price = fields[5].parse().expect("a price");
+        let volumes: Vec<(usize, i64)> = fields[6].split(';')
+            .map(|pair| {
+                let (period, volume) = pair.split_once(':').expect("a pair");
+                (period.parse::<usize>().expect("a period") - 1, volume.parse().expect("a volume"))
+            })
+            .collect();
+        if fields[3] == "hour" {
+            problem.hours[volumes[0].0].push(Step { side, price, volume: volumes[0].1 });
+        } else {
+            places.insert((fields[1].to_owned(), fields[2].to_owned()), problem.blocks.len());
+            let parent = places.get(&(fields[1].to_owned(), fields[7].to_owned())).copied();
+            let group = (!fields[8].is_empty()).then(|| format!("{} {}", fields[1], fields[8]));
+            problem.blocks.push(Block { side, price, volumes, parent, group });
+        }
+    }
+    problem
+}
+
+fn main() {
+    let words: Vec<usize> = std::env::args().skip(1).map(|word| word.parse().expect("a number")).collect();
+    let (workers, cut) = (words[0], words[1]);
+    let mut text = String::new();
+    std::io::stdin().read_to_string(&mut text).expect("a journal");
+    let problem = read(&text);
+    let begun = Instant::now();
+    let depth = cut.min(problem.blocks.len());
+    let (first, scores) = Search::of(&problem).first_selection();
+    let prepared = begun.elapsed();
+    let (mut nodes, mut best): (u64, Option<Best>) = (0, None);
+    let mut longest = std::time::Duration::ZERO;
+    for worker in 0..workers {
+        let mut search = Search::of(&problem);
+        search.greatest = first;
+        let started = Instant::now();
+        for number in (worker..1 << depth).step_by(workers) {
+            search.piece(number as u32, depth);
+            let found = search.best;
+            let above = |other: Best| {
+                best.is_none_or(|best| {
+                    let earlier = (other.accepted ^ best.accepted).trailing_zeros();
+                    other.welfare > best.welfare || other.welfare == best.welfare && other.accepted >> earlier & 1 == 1
+                })
+            };
+            if found.is_some_and(above) {
+                best = found;
+            }
+        }
+        longest = longest.max(started.elapsed());
+        nodes += search.visited;
+    }
+    let best = best.expect("some selection is eligible");
+    let bits: String = (0..problem.blocks.len()).map(|place| if best.accepted >> place & 1 == 1 { '1' } else { '0' }).collect();
+    println!("welfare {} selection {bits} first {first} scores {scores} nodes {nodes}", best.welfare);
+    eprintln!(
+        "prepared {:.3} ms, longest worker {:.3} ms, {:.0} ns a node with one worker",
+        prepared.as_secs_f64() * 1e3,
+        longest.as_secs_f64() * 1e3,
+        longest.as_secs_f64() * 1e9 / nodes as f64
+    );
+}
