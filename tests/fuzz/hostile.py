@@ -1,6 +1,6 @@
 """Broken texts: journals that were cut, doubled, quoted, shuffled or changed in single bytes and fields, and plain noise."""
 
-SPECIAL = [b",", b'"', b"\r", b"\n", b"\r\n", b";", b":", b"-", b"+", b"0", b" ", b"\t", b"\x00", b"\x7f", b"\x80", b"\xff"]
+SPECIAL = [b",", b'"', b"\r", b"\n", b"\r\n", b";", b":", b"-", b"+", b"0", b" ", b"\t", b"\x00", b"\x7f", b"\x80", b"\xff"]  # fmt: skip
 FIELDS = [
     b"", b"-0", b"+1", b"007", b"00", b"0", b"-", b"1", b"26", b"400000", b"400001", b"-50000", b"-50001", b"99999999999999999999",
     b"9" * 5_000, b"1:1;1:1", b"2:1;1:1", b"1:1;", b";1:1", b"1:", b":1", b"1:0", b"0:1", b"26:1", b"25:99999", b"1:100000", b"1:1:1",
@@ -73,7 +73,8 @@ def quoted(rng, field):
 
 def oddly_quoted(rng, field):
     at = rng.randint(0, len(field))
-    return rng.choice([b'"' + field, field + b'"', b'"' + field[:at] + b'"' + field[at:], b'"' + field + b'""', b'""' + field])
+    inside = b'"' + field[:at] + b'"' + field[at:]
+    return rng.choice([b'"' + field, field + b'"', inside, b'"' + field + b'""', b'""' + field])
 
 
 def quote_all(rng, text):

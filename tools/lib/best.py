@@ -105,9 +105,7 @@ class Search:
         welfare = sum(worth.values()) + value
         if self.best is not None and welfare <= self.best.welfare:
             return
-        prices = {
-            number: rules.price_between(*curve.supporting(net[number]))[0] for number, curve in self.curves.items()
-        }
+        prices = {number: rules.price_between(*curve.supporting(net[number]))[0] for number, curve in self.curves.items()}
         surpluses = [selection.surplus(block.order, prices) for block in self.problem.blocks]
         if not selection.losing(self.problem, accepted, surpluses):
             self.best = Found(accepted, welfare)

@@ -24,7 +24,8 @@ def differences(problem, data):
     wrong += block_differences(problem, said, follows)
     if follows.welfare is not None and said.welfare != follows.welfare:
         line = said.lines["the welfare"]
-        wrong.append(f"results line {line}: the welfare is {said.welfare}, and that of these executions {follows.welfare}")
+        right = f"that of these executions {follows.welfare}"
+        wrong.append(f"results line {line}: the welfare is {said.welfare}, and {right}")
     return said, wrong
 
 
@@ -50,7 +51,8 @@ def hourly_differences(problem, said, follows):
         if wanted is not None and executed != wanted:
             price = follows.cleared[row.order.volumes[0][0]].price
             line = said.lines[f"hour {row}"]
-            yield f"results line {line}: hour {row}: {executed} is executed, and the rule gives {wanted} ({better_word(row, price)})"
+            right = f"the rule gives {wanted} ({better_word(row, price)})"
+            yield f"results line {line}: hour {row}: {executed} is executed, and {right}"
 
 
 def block_differences(problem, said, follows):

@@ -36,12 +36,17 @@ def run(name, main):
         sys.exit(NO_INPUT)
 
 
+def shown(path):
+    """The name of a file in a message."""
+    return "standard input" if path == "-" else path
+
+
 def read_bytes(path):
     """The bytes of a file; `-` is standard input."""
     try:
         return sys.stdin.buffer.read() if path == "-" else Path(path).read_bytes()
     except OSError as fault:
-        raise Stop(f"{path} can't be read: {fault.strerror}") from None
+        raise Stop(f"{shown(path)} can't be read: {fault.strerror}") from None
 
 
 def write_bytes(path, data):
@@ -55,7 +60,7 @@ def write_bytes(path, data):
     except BrokenPipeError:
         raise
     except OSError as fault:
-        raise Stop(f"{path} can't be written: {fault.strerror}") from None
+        raise Stop(f"{'standard output' if path == '-' else path} can't be written: {fault.strerror}") from None
 
 
 def read_texts(path, results_path):
@@ -65,7 +70,7 @@ def read_texts(path, results_path):
         return data, read_bytes(results_path)
     texts = results.split_day(data)
     if texts is None:
-        raise Stop(f"{path} has no line 'results', so it is no text of a day: name the results' file behind the journal's")
+        raise Stop(f"{shown(path)} has no line 'results': name the results' file behind the journal's")
     return texts
 
 
@@ -73,7 +78,7 @@ def parse_journal(path, data):
     try:
         return journal.read_journal(data)
     except journal.Fault as fault:
-        raise Stop(f"{path} is no journal: {fault}") from None
+        raise Stop(f"{shown(path)} is no journal: {fault}") from None
 
 
 class Day:
@@ -85,10 +90,12 @@ class Day:
         journal_data, results_data = read_texts(path, results_path)
         self.journal = parse_journal(path, journal_data)
         self.book, self.reasons = book.run(self.journal)
+        if not self.book.closed:
+            raise Stop(f"no command of {shown(path)} closes the book, so that it has no results")
         self.problem = selection.Problem(self.book)
         self.said, self.wrong = check.differences(self.problem, results_data)
         if self.said is None:
-            raise Stop(f"{results_path or path} has no results of this journal: {self.wrong[0]}")
+            raise Stop(f"{shown(results_path or path)} has no results of this journal: {self.wrong[0]}")
         self.outcome = selection.outcome(self.problem, self.said.accepted)
 
 

@@ -24,8 +24,11 @@ def decide(problem, accepted, outcome, place):
     reasons, kind = [], REJECTED
     parent = problem.parents[place]
     rivals = rivals_of(problem, accepted, place)
-    if surplus is not None and surplus <= 0:
-        reasons.append("would gain nothing" if surplus == 0 else f"would lose {problem.euros(-surplus)} EUR at the prices")
+    if surplus is None:
+        reasons.append("a period of it doesn't balance, and has no price")
+    elif surplus <= 0:
+        loss = f"would lose {problem.euros(-surplus)} EUR at the prices"
+        reasons.append(loss if surplus else "would gain nothing")
     if parent is not None and parent not in accepted:
         reasons.append(f"its parent {problem.blocks[parent].name} is rejected")
     if rivals:
@@ -34,13 +37,14 @@ def decide(problem, accepted, outcome, place):
         reasons.append(f"{names} of its group {group} is accepted" + instead(problem, accepted, outcome, place, rivals))
     if not reasons:
         kind = PARADOX
-        reasons.append(f"would gain {problem.euros(surplus)} EUR at the prices" + with_it(problem, accepted, outcome, place))
+        gain = f"would gain {problem.euros(surplus)} EUR at the prices"
+        reasons.append(gain + with_it(problem, accepted, outcome, place))
     return Decision(kind, "; ".join(reasons))
 
 
 def accepted_why(problem, place, surplus):
     parent = problem.parents[place]
-    gain = "gains nothing" if surplus == 0 else "gains at the prices" if surplus and surplus > 0 else "loses at the prices"
+    gain = "gains nothing" if not surplus else f"{'gains' if surplus > 0 else 'loses'} at the prices"
     return gain + (f", and its parent {problem.blocks[parent].name} is accepted" if parent is not None else "")
 
 
@@ -72,5 +76,7 @@ def consequence(problem, other, outcome):
     if losers:
         loser = losers[0]
         return f"{problem.blocks[loser]} would lose {problem.euros(-then.surpluses[loser])} EUR"
+    if outcome.welfare is None or then.welfare > outcome.welfare:
+        return "the welfare would be greater"
     less = outcome.welfare - then.welfare
     return f"the welfare would be {problem.euros(less)} EUR less" if less else "the welfare would be the same"

@@ -122,9 +122,7 @@ def read_command(fields):
         )
         return Submit(who, name, Order(*order))
     if kind == b"amend":
-        who, name, _, _, price, volumes = take(
-            fields, text.participant, text.name, empty, empty, text.price, text.volumes
-        )
+        who, name, _, _, price, volumes = take(fields, text.participant, text.name, empty, empty, text.price, text.volumes)
         return Amend(who, name, price, volumes)
     if kind == b"cancel":
         return Cancel(*take(fields, text.participant, text.name))

@@ -3,7 +3,7 @@
 import html
 import re
 
-from . import decisions, pictures, trades
+from . import decisions, pictures, text, trades
 
 # The pictures' colours and the page's own, by light and dark.
 COLOURS = {
@@ -100,7 +100,9 @@ def cell(value, kind=""):
 def table(heads, rows):
     """A table: heads are pairs of words and a class, rows are lists of values, or of ready cells."""
     lines = ["<thead><tr>"]
-    lines += [f'<th class="{kind}">{html.escape(words)}</th>' if kind else f"<th>{html.escape(words)}</th>" for words, kind in heads]
+    lines += [
+        f'<th class="{kind}">{html.escape(words)}</th>' if kind else f"<th>{html.escape(words)}</th>" for words, kind in heads
+    ]
     lines.append("</tr></thead>\n<tbody>\n")
     for row in rows:
         cells = [value if str(value).startswith("<td") else cell(value, kind) for value, (_, kind) in zip(row, heads)]
@@ -117,7 +119,7 @@ def volume(tenths):
 
 
 def energy(day, tenths):
-    return f"{float(trades.energy(day, tenths)):,.1f}"
+    return text.energy(tenths, day.problem.hours)
 
 
 def figure_list(day, found):
@@ -215,9 +217,9 @@ def participants(day, found):
             words.append(f"buys {energy(day, total.bought)} MWh for {day.problem.euros(total.paid)} EUR")
         if total.sold:
             words.append(f"sells {energy(day, total.sold)} MWh for {day.problem.euros(total.received)} EUR")
-        count = len(rows[who])
-        summary = f"<summary><b>{who}</b> {' and '.join(words) or 'trades nothing'} <span class=soft>({count} order{'s' * (count > 1)})</span></summary>"
-        parts.append(f"<details>{summary}\n{table(heads, rows[who])}</details>\n")
+        count = f"({len(rows[who])} order{'s' * (len(rows[who]) > 1)})"
+        summary = f"<b>{who}</b> {' and '.join(words) or 'trades nothing'} <span class=soft>{count}</span>"
+        parts.append(f"<details><summary>{summary}</summary>\n{table(heads, rows[who])}</details>\n")
     return "".join(parts)
 
 
@@ -238,7 +240,8 @@ def checked(day):
     """What the audit has to say, above all numbers."""
     if not day.wrong:
         words = "Checked against the journal by the rules of the market: every number is as they say."
-        return f"<p>{words} <span class=soft>Whether another selection of blocks would be better is not looked at here.</span></p>\n"
+        rest = "Whether another selection of blocks would be better is not looked at here."
+        return f"<p>{words} <span class=soft>{rest}</span></p>\n"
     lines = "".join(f"<li>{html.escape(line)}</li>\n" for line in day.wrong)
     return f'<div class="warn"><p>The results are not as the rules say:</p>\n<ul>{lines}</ul></div>\n'
 
@@ -246,13 +249,13 @@ def checked(day):
 def page(day, title, curves):
     """The page of a day, with the curves of some periods."""
     found = decisions.decisions(day.problem, day.said.accepted, day.outcome)
-    title = html.escape(title)
+    title, hourly = html.escape(title), len(day.problem.rows) - len(found)
     parts = [
         "<!doctype html>\n<html lang=en>\n<head>\n<meta charset=utf-8>\n",
         '<meta name=viewport content="width=device-width, initial-scale=1">\n',
         f"<title>{title}</title>\n<style>{style()}</style>\n</head>\n<body>\n<main>\n<h1>{title}</h1>\n",
-        f'<p class="soft">A delivery day of {day.problem.periods} periods, with {len(day.problem.rows) - len(found)} hourly orders',
-        f" and {len(found)} blocks.</p>\n{checked(day)}{figure_list(day, found)}",
+        f'<p class="soft">A delivery day of {day.problem.periods} periods, with {hourly} hourly orders and',
+        f" {len(found)} blocks.</p>\n{checked(day)}{figure_list(day, found)}",
         "<h2>Prices and volumes</h2>\n",
         inline(pictures.prices_picture(day), "prices", "Price and volume of each period"),
     ]

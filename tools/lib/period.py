@@ -23,12 +23,14 @@ def volume(orders, side, holds):
 
 def sells_too_little(orders, net, price):
     """At the price even all sells that it admits, with the net volume, are less than the buys that it demands."""
-    return volume(orders, "sell", lambda limit: limit <= price) + net < volume(orders, "buy", lambda limit: limit > price)
+    admitted = volume(orders, "sell", lambda limit: limit <= price)
+    return admitted + net < volume(orders, "buy", lambda limit: limit > price)
 
 
 def sells_too_much(orders, net, price):
     """At the price the sells that it demands, with the net volume, are more than all buys that it admits."""
-    return volume(orders, "sell", lambda limit: limit < price) + net > volume(orders, "buy", lambda limit: limit >= price)
+    demanded = volume(orders, "sell", lambda limit: limit < price)
+    return demanded + net > volume(orders, "buy", lambda limit: limit >= price)
 
 
 def first(least, greatest, holds):
@@ -90,8 +92,7 @@ def execution(orders, net, price):
 def welfare(orders, executed):
     """Limit times volume over buys, less the same over sells."""
     return sum(
-        limit * quantity if side == "buy" else -limit * quantity
-        for (side, limit, _), quantity in zip(orders, executed)
+        limit * quantity if side == "buy" else -limit * quantity for (side, limit, _), quantity in zip(orders, executed)
     )
 
 

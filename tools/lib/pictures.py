@@ -290,7 +290,9 @@ def draw_curves(axes, day, number):
     most = mw(max(demand[2], supply[2], 10))
     if net:
         draw_net(axes, mw(net), bottom, top)
-    draw_curve(axes, demand, mw(max(-net, 0)), top, bottom, color=COLOURS["ink"], linestyle="--", label="demand of hourly orders")
+    draw_curve(
+        axes, demand, mw(max(-net, 0)), top, bottom, color=COLOURS["ink"], linestyle="--", label="demand of hourly orders"
+    )
     draw_curve(axes, supply, mw(max(net, 0)), bottom, top, color=COLOURS["sell"], label="supply of hourly orders")
     axes.axhline(eur(price), color=COLOURS["soft"], linewidth=1, linestyle=":")
     axes.text(1.006, eur(price), f"{prices_text(price)}\nEUR/MWh", transform=axes.get_yaxis_transform(), va="center")

@@ -19,6 +19,7 @@ class Problem:
 
     def __init__(self, book):
         self.periods = book.periods
+        self.hours = rules.DAYS[book.periods]  # of a period
         self.rows = [Row(who, name, order) for (who, name), order in book.rows.items()]
         self.blocks = [row for row in self.rows if row.order.kind == "block"]
         # The rows of the hourly orders of each period, and the same as `period` takes them.
@@ -39,7 +40,7 @@ class Problem:
 
     def euros(self, amount):
         """An amount in cents per MWh times tenths of a MW, over periods of this day, in EUR."""
-        return text.euros(amount, rules.DAYS[self.periods])
+        return text.euros(amount, self.hours)
 
     def groups(self):
         """The places of the blocks of each exclusive group."""

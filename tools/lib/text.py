@@ -1,6 +1,7 @@
 """Records of comma-separated values, and the texts of numbers and names."""
 
 import re
+from fractions import Fraction
 
 from . import rules
 
@@ -69,8 +70,22 @@ def name(text):
     return text.decode() if NAME.fullmatch(text) else None
 
 
-def euros(amount, hours=1):
-    """An amount in cents per MWh times tenths of a MW, held for some hours, as EUR: with as many digits as it may have."""
-    digits = 3 if hours == int(hours) else 5
-    whole, rest = divmod(int(abs(amount) * hours * 10 ** (digits - 3)), 10**digits)
-    return f"{'-' if amount < 0 else ''}{whole:,}.{rest:0{digits}d}"
+def fixed(value, digits, thousands=""):
+    """A number with so many digits behind the point, which it must not exceed."""
+    whole, rest = divmod(abs(value) * 10**digits, 10**digits)
+    if rest != int(rest):
+        raise ValueError(f"{value} has more than {digits} digits")
+    sign = "-" if value < 0 else ""
+    point = f".{int(rest):0{digits}d}" if digits else ""
+    return f"{sign}{whole:,}".replace(",", thousands) + point
+
+
+def euros(amount, hours, thousands=","):
+    """An amount in cents per MWh times tenths of a MW, over periods of so many hours, in EUR: with as many digits as it may
+    have."""
+    return fixed(Fraction(amount) * hours / 1_000, 3 if hours == 1 else 5, thousands)
+
+
+def energy(tenths, hours, thousands=","):
+    """A sum of tenths of a MW, over periods of so many hours, in MWh: with as many digits as it may have."""
+    return fixed(Fraction(tenths) * hours / 10, 1 if hours == 1 else 3, thousands)

@@ -2,8 +2,6 @@
 
 from typing import NamedTuple
 
-from . import rules
-
 
 class Trade(NamedTuple):
     """An executed volume of an order in a period."""
@@ -56,8 +54,3 @@ def totals(day):
             sums[0 if buys else 1] += trade.volume
             sums[2 if buys else 3] += trade.amount()
     return {who: Total(*sums) for who, sums in sorted(found.items())}
-
-
-def energy(day, volumes):
-    """A sum of tenths of a MW over periods of this day, in MWh."""
-    return volumes * rules.DAYS[day.problem.periods] / 10

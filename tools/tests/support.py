@@ -2,13 +2,14 @@
 
 import subprocess
 import sys
+import tempfile
 from pathlib import Path
 
 TOP = Path(__file__).resolve().parents[2]
 TOOLS = TOP / "tools"
 sys.path[:0] = [str(TOOLS), str(TOP / "tests" / "fuzz")]
 
-from lib import book, journal, selection
+from lib import book, command, journal, results, selection
 
 AUCTION = TOP / "tests" / "cases" / "clear" / "auction-day"
 
@@ -35,6 +36,21 @@ def printed(case, of="stdout"):
 
 def problem(data):
     return selection.Problem(book.run(journal.read_journal(data))[0])
+
+
+def day_of(data, text):
+    """A day as the tools have it, of bytes."""
+    with tempfile.TemporaryDirectory() as folder:
+        paths = Path(folder, "journal"), Path(folder, "results")
+        for path, content in zip(paths, (data, text)):
+            path.write_bytes(content)
+        return command.Day(*map(str, paths))
+
+
+def results_of(data, accepted):
+    """The results of a journal where these places are accepted."""
+    day = problem(data)
+    return results.results_text(day, accepted, selection.outcome(day, accepted)).encode()
 
 
 def journal_of(*lines):

@@ -8,10 +8,10 @@ import unittest
 from pathlib import Path
 
 import support
-from support import AUCTION, cleared_cases, journal_of, printed, problem, tool
+from support import AUCTION, cleared_cases, journal_of, printed, problem, results_of, tool
 
 import days
-from lib import best, book, check, command, journal, period, results, rules, selection
+from lib import best, book, check, command, journal, period, rules, selection
 
 NUMBER = re.compile(rb"(?<=,)-?\d+(?=[,\n])")
 
@@ -187,6 +187,7 @@ class Period(unittest.TestCase):
             balanced = [executed for executed in executions(orders) if balance(orders, net, executed)]
             found = period.clear(orders, net)
             if found:
+
                 def rank(executed):
                     return period.welfare(orders, executed), bought(orders, executed), executed
 
@@ -256,8 +257,7 @@ class Best(unittest.TestCase):
 
     def test_worse_selections_are_refused_on_request_alone(self):
         data = AUCTION.read_bytes()
-        day = problem(data)
-        without = text_of(day, frozenset({0, 1}))
+        without = results_of(data, frozenset({0, 1}))
         # The unit that is paradoxically rejected would make the welfare greater, and lose.
         for method in self.methods():
             with self.subTest(method):
@@ -272,12 +272,8 @@ class Best(unittest.TestCase):
         data = case.read_bytes()
         for method in self.methods():
             with self.subTest(method):
-                status, out, _ = audit(data, text_of(problem(data), frozenset({1})), "--best", "--by", method)
+                status, out, _ = audit(data, results_of(data, frozenset({1})), "--best", "--by", method)
                 self.assertEqual((status, b"ranks above" in out), (1, True))
-
-
-def text_of(day, accepted):
-    return results.results_text(day, accepted, selection.outcome(day, accepted)).encode()
 
 
 def audit(data, text, *words):
@@ -297,7 +293,9 @@ class CommandLine(unittest.TestCase):
         status, _, err = audit(b"day,24\n", b"")
         self.assertEqual((status, "input: FieldCount in record 1" in err), (command.NO_INPUT, True))
         status, _, err = tool("audit", "/nowhere/journal", "/nowhere/results")
-        self.assertEqual((status, err), (command.NO_INPUT, "audit: /nowhere/journal can't be read: No such file or directory\n"))
+        self.assertEqual(
+            (status, err), (command.NO_INPUT, "audit: /nowhere/journal can't be read: No such file or directory\n")
+        )
         self.assertEqual(audit(b"day,24,,,,,,,\n", b"day,24\n")[0], command.DIFFERS)
 
     def test_replies(self):
@@ -316,7 +314,7 @@ class CommandLine(unittest.TestCase):
     def test_too_many_blocks_for_no_solver(self):
         blocks = [f"submit,A,K{number},block,sell,1,1:1,," for number in range(24)]
         data = journal_of(*blocks)
-        text = text_of(problem(data), frozenset())
+        text = results_of(data, frozenset())
         wanted = command.DONE if command.has("scipy") else command.UNDECIDED
         self.assertEqual(audit(data, text, "--best")[0], wanted)
 

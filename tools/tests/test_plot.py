@@ -5,25 +5,11 @@ import unittest
 from pathlib import Path
 
 import support
-from support import AUCTION, journal_of, tool
+from support import AUCTION, day_of, journal_of, results_of, tool
 
-from lib import command, decisions, results, selection
+from lib import command, decisions
 
 PICTURES = ["day", "prices", "blocks"]
-
-
-def day_of(data, text):
-    """A day as the tools have it, of bytes."""
-    with tempfile.TemporaryDirectory() as folder:
-        paths = Path(folder, "journal"), Path(folder, "results")
-        for path, content in zip(paths, (data, text)):
-            path.write_bytes(content)
-        return command.Day(*map(str, paths))
-
-
-def results_of(data, accepted):
-    problem = support.problem(data)
-    return results.results_text(problem, accepted, selection.outcome(problem, accepted)).encode()
 
 
 class Decisions(unittest.TestCase):
@@ -94,7 +80,13 @@ class Pictures(unittest.TestCase):
             red, green, blue = (int(COLOURS[name][at : at + 2], 16) for at in (1, 3, 5))
             return (0.2126 * red + 0.7152 * green + 0.0722 * blue) / 255
 
-        for names in (["ink", "paper"], ["buy", "sell"], ["sell", "paper"], ["accepted", "paradox"], ["accepted", "rejected"]):
+        for names in (
+            ["ink", "paper"],
+            ["buy", "sell"],
+            ["sell", "paper"],
+            ["accepted", "paradox"],
+            ["accepted", "rejected"],
+        ):
             one, other = map(lightness, names)
             self.assertGreater(abs(one - other), 0.25, names)
         self.assertEqual(len(set(COLOURS.values())), len(COLOURS))

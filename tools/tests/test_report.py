@@ -7,9 +7,7 @@ import unittest
 from pathlib import Path
 
 import support
-from support import AUCTION, journal_of, printed, tool
-
-from test_plot import day_of, results_of
+from support import AUCTION, day_of, journal_of, printed, results_of, tool
 
 from lib import command, trades
 
@@ -96,7 +94,15 @@ class Page(unittest.TestCase):
         for row in day.problem.rows:
             name = f"{row.who} {row.name}" if row.order.kind == "block" else row.name
             self.assertIn(name, read.texts)
-        for words in ("165.00", "3,031,440.000", "8 to 20", "group FILL", "paradoxically rejected", "HasChildren", "521,550.000 EUR"):
+        for words in (
+            "165.00",
+            "3,031,440.000",
+            "8 to 20",
+            "group FILL",
+            "paradoxically rejected",
+            "HasChildren",
+            "521,550.000 EUR",
+        ):
             self.assertTrue(any(words in text for text in read.texts), words)
 
     def test_wrong_results_are_said_to_be_wrong(self):
@@ -105,6 +111,13 @@ class Page(unittest.TestCase):
         self.assertIn("The results are not as the rules say", text)
         self.assertIn("period 1: the price is 9300", text)
         self.assertNotIn("The results are not as the rules say", self.page(AUCTION.read_bytes(), printed(AUCTION)))
+
+    def test_results_that_cannot_be_are_shown_as_wrong(self):
+        case = AUCTION.with_name("too-large-block")
+        text = self.page(case.read_bytes(), printed(case).replace(b"rejected", b"accepted"), [1])
+        self.assertIn("period 1: no execution balances", text)
+        worse = results_of(AUCTION.read_bytes(), frozenset({0}))
+        self.assertIn("the welfare would be greater", self.page(AUCTION.read_bytes(), worse))
 
     def test_a_participant_without_trades(self):
         data = journal_of("submit,A,B1,hour,buy,6000,1:10,,")

@@ -1,0 +1,214 @@
+"""From a table of orders, a row each, to a journal: what spreadsheets and scripts have, read with errors that name row and
+column."""
+
+import csv
+import io
+import re
+from fractions import Fraction
+
+from . import book, journal, rules, text
+from .tables import ORDER, RESULT
+
+# The columns that a row may leave empty, or a table out.
+OPTIONAL = ["parent", "group"]
+MOST_ERRORS = 20
+
+REASONS = {
+    "PeriodOutOfDay": "the day doesn't have that period",
+    "NameTaken": "the participant has an order of that name in a row above",
+    "UnknownParent": "the participant has no order of the parent's name in a row above",
+    "ParentNotBlock": "the parent is no block",
+    "HourlyFull": f"a book holds at most {rules.MOST_HOURLY} hourly orders",
+    "BlocksFull": f"a book holds at most {rules.MOST_BLOCKS} blocks",
+}
+# The column that a refusal is about.
+COLUMN_OF = {"PeriodOutOfDay": "periods", "NameTaken": "order", "UnknownParent": "parent", "ParentNotBlock": "parent"}
+
+RUN = re.compile(r"([1-9][0-9]{0,3})(?:-([1-9][0-9]{0,3}))?")
+DECIMAL = re.compile(r"(-?)([0-9]{1,9})(?:\.([0-9]+))?")
+
+
+class Wrong(Exception):
+    """What is wrong with a cell, or with a table."""
+
+
+def rows_of(data):
+    """The rows of a table, parted by commas, semicolons or tabs, whichever the header has most of; and whether a comma may be
+    the decimal point."""
+    try:
+        table = data.decode("utf-8-sig")
+    except UnicodeDecodeError as fault:
+        raise Wrong(f"the table isn't in UTF-8: byte {fault.start} can't be read") from None
+    first = table.splitlines()[0] if table.strip() else ""
+    delimiter = max(",;\t", key=first.count)
+    try:
+        rows = list(csv.reader(io.StringIO(table, newline=""), delimiter=delimiter, strict=True))
+    except csv.Error as fault:
+        raise Wrong(f"the table can't be read: {fault}") from None
+    return rows, delimiter != ","
+
+
+def trimmed(cells):
+    """The cells of a row without the empty ones at its end, which spreadsheets leave."""
+    while cells and not cells[-1].strip():
+        cells = cells[:-1]
+    return cells
+
+
+def columns_of(header):
+    """Where each column stands."""
+    places = {}
+    known = ORDER + RESULT
+    for at, cell in enumerate(header, 1):
+        name = cell.strip().lower()
+        if name not in known:
+            raise Wrong(f"row 1, column {at}: '{cell}' is no column; the columns are {', '.join(ORDER)}")
+        if name in places:
+            raise Wrong(f"row 1, column {at}: the column '{name}' is there twice")
+        places[name] = at - 1
+    missing = [name for name in ORDER if name not in places and name not in OPTIONAL]
+    if missing:
+        raise Wrong(f"row 1: there is no column {', '.join(missing)}; the columns are {', '.join(ORDER)}")
+    return places
+
+
+def scaled(cell, factor, least, greatest, unit):
+    """A decimal number times a factor, which must be whole and in a range."""
+    found = DECIMAL.fullmatch(cell)
+    if not found:
+        raise Wrong(f"'{cell}' should be a number of {unit}, as 92.5")
+    sign, whole, rest = found.groups()
+    value = Fraction(f"{whole}.{rest or 0}") * factor * (-1 if sign else 1)
+    digits = len(str(factor)) - 1
+    if value.denominator != 1:
+        raise Wrong(f"'{cell}' has more than {digits} digit{'s' * (digits > 1)} behind the point")
+    if not least <= value <= greatest:
+        ends = [text.fixed(Fraction(end) / factor, digits) for end in (least, greatest)]
+        raise Wrong(f"'{cell}' should be from {ends[0]} to {ends[1]} {unit}")
+    return int(value)
+
+
+def parts(cell):
+    return [part for part in re.split(r"[;\s]+", cell) if part]
+
+
+def read_periods(cell):
+    """Periods and runs of periods by increasing number, as `8`, `8-20` or `1;3;5-7`."""
+    numbers = []
+    for part in parts(cell):
+        found = RUN.fullmatch(part)
+        first, last = (int(found[1]), int(found[2] or found[1])) if found else (0, 0)
+        if not found or first > last or last > rules.GREATEST_PERIOD:
+            form = "periods and runs of them, as 8, 8-20 or 1;3;5-7"
+            raise Wrong(f"'{cell}' should be {form}, from 1 to {rules.GREATEST_PERIOD}")
+        numbers += range(first, last + 1)
+    if not numbers:
+        raise Wrong("it should name a period, as 8, or several, as 8-20 or 1;3;5-7")
+    if any(one >= other for one, other in zip(numbers, numbers[1:])):
+        raise Wrong(f"the periods '{cell}' should increase")
+    return numbers
+
+
+def read_volumes(cell, numbers, decimal_comma):
+    """One volume for all periods, or one for each, parted by `;`."""
+    shown = cell.replace(",", ".") if decimal_comma else cell
+    values = [scaled(part, 10, 1, rules.GREATEST_VOLUME, "MW") for part in parts(shown)]
+    if len(values) == 1:
+        values *= len(numbers)
+    if len(values) != len(numbers):
+        raise Wrong(
+            f"there are {len(values)} volumes for {len(numbers)} period{'s' * (len(numbers) > 1)}: give one, or one for each"
+        )
+    return tuple(zip(numbers, values))
+
+
+def read_word(*words):
+    def read(cell):
+        if cell.lower() not in words:
+            raise Wrong(f"'{cell}' should be {' or '.join(words)}")
+        return cell.lower()
+
+    return read
+
+
+def read_participant(cell):
+    if not cell.isascii() or text.participant(cell.encode()) is None:
+        raise Wrong(f"'{cell}' should be 1 to 8 letters A to Z")
+    return cell
+
+
+def read_name(cell):
+    if not cell.isascii() or text.name(cell.encode()) is None:
+        raise Wrong(f"'{cell}' should be 1 to 12 of A to Z, 0 to 9 and -")
+    return cell
+
+
+def read_price(cell):
+    return scaled(cell, 100, rules.LEAST_PRICE, rules.GREATEST_PRICE, "EUR/MWh")
+
+
+class Row:
+    """A row of the table: what is wrong with it is gathered by column."""
+
+    def __init__(self, cells, places, decimal_comma):
+        self.cells, self.places, self.decimal_comma = cells, places, decimal_comma
+        self.wrong = []
+
+    def cell(self, name):
+        at = self.places.get(name)
+        return self.cells[at].strip() if at is not None and at < len(self.cells) else ""
+
+    def read(self, name, reader):
+        """What a reader makes of a cell; None where it is wrong."""
+        try:
+            return reader(self.cell(name))
+        except Wrong as fault:
+            self.wrong.append(f"column {name}: {fault}")
+            return None
+
+    def read_link(self, name, kind):
+        if self.cell(name) and kind == "hour":
+            self.wrong.append(f"column {name}: an hourly order has none")
+            return None
+        return self.read(name, lambda cell: cell and read_name(cell))
+
+    def command(self):
+        """The submit that the row is; of no use where something is wrong."""
+        if len(self.cells) > len(self.places):
+            self.wrong.append(f"it has {len(self.cells)} cells, and the header {len(self.places)}")
+        who, name = self.read("participant", read_participant), self.read("order", read_name)
+        kind = self.read("kind", read_word("hour", "block"))
+        side = self.read("side", read_word("buy", "sell"))
+        decimal = (lambda cell: read_price(cell.replace(",", "."))) if self.decimal_comma else read_price
+        price, numbers = self.read("price_eur_mwh", decimal), self.read("periods", read_periods)
+        if kind == "hour" and numbers and len(numbers) != 1:
+            self.wrong.append(f"column periods: an hourly order has one period, and not {len(numbers)}")
+        volumes = self.read("volume_mw", lambda cell: read_volumes(cell, numbers or [1], self.decimal_comma))
+        parent, group = (self.read_link(name, kind) for name in OPTIONAL)
+        return journal.Submit(who, name, journal.Order(kind, side, price, volumes, parent, group))
+
+
+def read_orders(data, periods, closing):
+    """The journal of a table of orders for a day of so many periods, with a close or without; else all that is wrong, a line
+    each."""
+    rows, decimal_comma = rows_of(data)
+    if not rows or not trimmed(rows[0]):
+        raise Wrong(f"the table is empty: its first row should name the columns {', '.join(ORDER)}")
+    places = columns_of(trimmed(rows[0]))
+    wrong, held, commands = [], book.Book(periods), []
+    for number, cells in enumerate(rows[1:], 2):
+        if not any(cell.strip() for cell in cells):
+            continue
+        row = Row(trimmed(cells), places, decimal_comma)
+        command = row.command()
+        if not row.wrong:
+            commands.append(command)
+            reason = held.apply(command)
+            if reason:
+                column = COLUMN_OF.get(reason)
+                row.wrong.append((f"column {column}: " if column else "") + f"{REASONS[reason]} ({reason})")
+        wrong += [f"row {number}, {line}" for line in row.wrong]
+    if wrong:
+        more = len(wrong) - MOST_ERRORS
+        raise Wrong("\n".join(wrong[:MOST_ERRORS] + ([f"and {more} more"] if more > 0 else [])))
+    return journal.Journal(periods, commands + [journal.Close()] * closing)

@@ -1,0 +1,112 @@
+"""Results as tables of comma-separated values: a header with units, then a row for each period, order or participant."""
+
+import csv
+import io
+from fractions import Fraction
+
+from . import decisions, text, trades
+
+# The columns of a table of orders that make a journal: `order_table` reads them.
+ORDER = ["participant", "order", "kind", "side", "price_eur_mwh", "periods", "volume_mw", "parent", "group"]
+# What the table of a result's orders has besides.
+RESULT = ["offered_mwh", "executed_mwh", "outcome", "surplus_eur", "amount_eur"]
+
+
+def written(rows):
+    """The text of a table."""
+    out = io.StringIO()
+    csv.writer(out, lineterminator="\n").writerows(rows)
+    return out.getvalue()
+
+
+def price(cents):
+    return text.fixed(cents / Fraction(100), 2)
+
+
+def volume(tenths):
+    return text.fixed(tenths / Fraction(10), 1)
+
+
+def euros(day, amount):
+    return text.euros(amount, day.problem.hours, thousands="")
+
+
+def energy(day, tenths):
+    return text.energy(tenths, day.problem.hours, thousands="")
+
+
+def shares(day):
+    """What is bought and sold in each period, by hourly orders and by blocks."""
+    found = {number: dict.fromkeys(SHARES, 0) for number in day.problem.orders}
+    for row, made in trades.row_trades(day):
+        for trade in made:
+            found[trade.period][row.order.kind, trade.side] += trade.volume
+    return found
+
+
+SHARES = [(kind, side) for side in ("buy", "sell") for kind in ("hour", "block")]
+
+
+def periods(day):
+    heads = ["period", "hours", "price_eur_mwh", "volume_mw", "low_eur_mwh", "high_eur_mwh"]
+    yield heads + [f"{'hourly' if kind == 'hour' else kind}_{side}s_mw" for kind, side in SHARES]
+    for number, parts in shares(day).items():
+        found = day.outcome.cleared[number]
+        ends = ["", ""] if found is None else [price(found.low), price(found.high)]
+        traded = [price(day.said.prices[number - 1]), volume(day.said.volumes[number - 1])]
+        yield [number, float(day.problem.hours), *traded, *ends, *map(volume, parts.values())]
+
+
+def spans(numbers):
+    """Periods in few words, as `1;3-5`."""
+    runs = []
+    for number in numbers:
+        if runs and runs[-1][1] == number - 1:
+            runs[-1][1] = number
+        else:
+            runs.append([number, number])
+    return ";".join(str(first) if first == last else f"{first}-{last}" for first, last in runs)
+
+
+def order_cells(row):
+    """The cells of `ORDER`."""
+    order = row.order
+    volumes = [volume(tenths) for _, tenths in order.volumes]
+    each = volumes[0] if len(set(volumes)) == 1 else ";".join(volumes)
+    numbers = spans(number for number, _ in order.volumes)
+    return [row.who, row.name, order.kind, order.side, price(order.price), numbers, each, order.parent, order.group]
+
+
+def outcomes(day):
+    """What became of each row of the book, and the surplus of a block."""
+    found = iter(zip(decisions.decisions(day.problem, day.said.accepted, day.outcome), day.said.surpluses))
+    executed = iter(day.said.executed)
+    for row in day.problem.rows:
+        if row.order.kind == "hour":
+            tenths = next(executed)
+            yield "in full" if tenths == row.order.volumes[0][1] else "in part" if tenths else "not", ""
+        else:
+            decision, surplus = next(found)
+            yield decision.kind, euros(day, surplus)
+
+
+def orders(day):
+    yield ORDER + RESULT
+    for (row, made), outcome in zip(trades.row_trades(day), outcomes(day)):
+        offered = energy(day, sum(tenths for _, tenths in row.order.volumes))
+        executed = energy(day, sum(trade.volume for trade in made))
+        # What a participant is paid for a sell, and pays for a buy.
+        amount = sum(trade.amount() if trade.side == "sell" else -trade.amount() for trade in made)
+        yield [*order_cells(row), offered, executed, *outcome, euros(day, amount)]
+
+
+def participants(day):
+    yield ["participant", "orders", "bought_mwh", "sold_mwh", "paid_eur", "received_eur", "net_eur"]
+    for who, total in trades.totals(day).items():
+        count = sum(row.who == who for row in day.problem.rows)
+        energies = [energy(day, total.bought), energy(day, total.sold)]
+        amounts = [euros(day, amount) for amount in (total.paid, total.received, total.received - total.paid)]
+        yield [who, count, *energies, *amounts]
+
+
+TABLES = {"periods": periods, "orders": orders, "participants": participants}

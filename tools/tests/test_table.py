@@ -1,0 +1,187 @@
+"""The tables: that they add up, that the orders' table makes the same book again, and that errors name row and column."""
+
+import csv
+import io
+import tempfile
+import unittest
+from fractions import Fraction
+from pathlib import Path
+
+import support
+from support import AUCTION, day_of, printed, tool
+
+from lib import book, command, journal, order_table, tables
+
+HEADER = "participant,order,kind,side,price_eur_mwh,periods,volume_mw,parent,group"
+HOUR = "NORD,WIND-8,hour,sell,12.5,8,45,,"
+BLOCK = "COAL,PEAK,block,sell,80,8-20,90,,FILL"
+
+
+def read(rows):
+    """The rows of a written table as dictionaries."""
+    return list(csv.DictReader(io.StringIO(tables.written(rows))))
+
+
+def total(rows, column):
+    return sum(Fraction(row[column]) for row in rows)
+
+
+class Results(unittest.TestCase):
+    def days(self):
+        for name, data, text in support.cleared_cases():
+            with self.subTest(name):
+                yield day_of(data, text)
+
+    def test_the_tables_add_up(self):
+        for day in self.days():
+            periods, orders, participants = (read(of(day)) for of in tables.TABLES.values())
+            self.assertEqual((len(periods), len(orders)), (day.problem.periods, len(day.problem.rows)))
+            bought = total(periods, "hourly_buys_mw") + total(periods, "block_buys_mw")
+            sold = total(periods, "hourly_sells_mw") + total(periods, "block_sells_mw")
+            self.assertEqual([bought, sold], [total(periods, "volume_mw")] * 2)
+            self.assertEqual(total(participants, "bought_mwh"), bought)
+            self.assertEqual(total(orders, "executed_mwh"), bought + sold)
+            self.assertEqual([total(orders, "amount_eur"), total(participants, "net_eur")], [0, 0])
+            self.assertEqual(total(participants, "orders"), len(orders))
+
+    def test_the_auction_day(self):
+        day = day_of(AUCTION.read_bytes(), printed(AUCTION))
+        periods, orders, participants = (read(of(day)) for of in tables.TABLES.values())
+        row = periods[18]
+        self.assertEqual((row["period"], row["price_eur_mwh"], row["volume_mw"]), ("19", "165.00", "730.0"))
+        self.assertEqual((periods[1]["low_eur_mwh"], periods[1]["high_eur_mwh"]), ("2.00", "92.00"))
+        row = orders[-1]
+        self.assertEqual(
+            (row["outcome"], row["surplus_eur"], row["amount_eur"]), ("paradoxically rejected", "7920.000", "0.000")
+        )
+        self.assertEqual(participants[-1]["paid_eur"], "19860.000")
+
+    def test_the_table_of_orders_makes_the_same_book(self):
+        for day in self.days():
+            text = tables.written(tables.orders(day)).encode()
+            again = order_table.read_orders(text, day.problem.periods, True)
+            made, reasons = book.run(again)
+            self.assertEqual(set(reasons), {None})
+            self.assertEqual(list(made.rows.items()), list(day.book.rows.items()))
+
+
+class Orders(unittest.TestCase):
+    def made(self, *rows, header=HEADER, periods=24):
+        table = "".join(f"{row}\n" for row in [header, *rows]).encode()
+        return journal.journal_text(order_table.read_orders(table, periods, False)).splitlines()[1:]
+
+    def wrong(self, *rows, header=HEADER):
+        with self.assertRaises(order_table.Wrong) as fault:
+            self.made(*rows, header=header)
+        return str(fault.exception)
+
+    def test_orders(self):
+        self.assertEqual(self.made(HOUR), ["submit,NORD,WIND-8,hour,sell,1250,8:450,,"])
+        same = ";".join(f"{period}:900" for period in range(8, 21))
+        self.assertEqual(self.made(BLOCK), [f"submit,COAL,PEAK,block,sell,8000,{same},,FILL"])
+        self.assertEqual(self.made("A,K,block,buy,-0.05,1;3-4,5;0.1;7,,"), ["submit,A,K,block,buy,-5,1:50;3:1;4:70,,"])
+        self.assertEqual(self.made("A,K,block,BUY, 0 ,1, 5.0 ,,"), ["submit,A,K,block,buy,0,1:50,,"])
+        linked = self.made("A,K1,block,buy,1,1,5,,", "A,K2,block,buy,1,1,5,K1,")
+        self.assertEqual(linked[1], "submit,A,K2,block,buy,100,1:50,K1,")
+
+    def test_forms_of_tables(self):
+        made = self.made(HOUR)
+        short, head = "NORD,WIND-8,hour,sell,12.5,8,45", HEADER.removesuffix(",parent,group")
+        self.assertEqual(self.made(short, header=head), made)
+        self.assertEqual(self.made("", short + ",,", "", header=head + ",,"), made)
+        self.assertEqual(
+            self.made(
+                "hour;WIND-8;NORD;8;45,0;12,5;sell", header="kind;order;participant;periods;volume_mw;price_eur_mwh;side"
+            ),
+            made,
+        )
+        self.assertEqual(self.made(HOUR.replace(",", "\t"), header=HEADER.replace(",", "\t")), made)
+        self.assertEqual(self.made(HOUR + "\r", header="\ufeff" + HEADER.upper() + "\r"), made)
+
+    def test_errors_name_row_and_column(self):
+        for old, new, column, words in (
+            ("NORD", "nord", "participant", "1 to 8 letters A to Z"),
+            ("NORD", "", "participant", "1 to 8 letters A to Z"),
+            ("NORD", "ØRSTED", "participant", "1 to 8 letters A to Z"),
+            ("WIND-8", "WIND_8", "order", "1 to 12 of A to Z"),
+            ("WIND-8", "ABCDEFGHIJKLM", "order", "1 to 12 of A to Z"),
+            ("hour", "hourly", "kind", "hour or block"),
+            ("sell", "offer", "side", "buy or sell"),
+            ("12.5", "", "price_eur_mwh", "a number of EUR/MWh"),
+            ("12.5", "1e2", "price_eur_mwh", "a number of EUR/MWh"),
+            ("12.5", "12.505", "price_eur_mwh", "more than 2 digits"),
+            ("12.5", "4000.01", "price_eur_mwh", "from -500.00 to 4000.00 EUR/MWh"),
+            ("12.5", "-500.01", "price_eur_mwh", "from -500.00 to 4000.00 EUR/MWh"),
+            (",8,", ",,", "periods", "it should name a period"),
+            (",8,", ",0,", "periods", "periods and runs of them"),
+            (",8,", ",26,", "periods", "from 1 to 25"),
+            (",8,", ",9-8,", "periods", "periods and runs of them"),
+            (",8,", ",8-9,", "periods", "an hourly order has one period"),
+            (",8,", ",25,", "periods", "the day doesn't have that period"),
+            (",45,", ",,", "volume_mw", "there are 0 volumes for 1 period"),
+            (",45,", ",0,", "volume_mw", "from 0.1 to 9999.9 MW"),
+            (",45,", ",-1,", "volume_mw", "from 0.1 to 9999.9 MW"),
+            (",45,", ",10000,", "volume_mw", "from 0.1 to 9999.9 MW"),
+            (",45,", ",0.25,", "volume_mw", "more than 1 digit"),
+            (",45,", ",1;2,", "volume_mw", "there are 2 volumes for 1 period"),
+            (",45,,", ",45,K1,", "parent", "an hourly order has none"),
+            (",45,,", ",45,,G", "group", "an hourly order has none"),
+        ):
+            with self.subTest(new):
+                self.assertNotEqual(HOUR.replace(old, new), HOUR)
+                line = self.wrong(BLOCK, HOUR.replace(old, new))
+                self.assertTrue(line.startswith(f"row 3, column {column}: "), line)
+                self.assertIn(words, line)
+
+    def test_what_the_book_would_refuse(self):
+        self.assertIn("row 3, column order: the participant has an order of that name", self.wrong(HOUR, HOUR))
+        line = self.wrong("A,K2,block,buy,1,1,5,K1,", "A,K1,block,buy,1,1,5,,")
+        self.assertTrue(line.startswith("row 2, column parent: the participant has no order of the parent's name"), line)
+        self.assertIn("row 3, column parent: the parent is no block", self.wrong(HOUR, "NORD,K,block,buy,1,1,5,WIND-8,"))
+        blocks = [f"A,K{number},block,buy,1,1,5,," for number in range(25)]
+        self.assertIn("row 26, a book holds at most 24 blocks (BlocksFull)", self.wrong(*blocks))
+
+    def test_tables_that_are_none(self):
+        self.assertIn("row 1, column 3: 'typ' is no column", self.wrong(header=HEADER.replace("kind", "typ")))
+        self.assertIn("'side' is there twice", self.wrong(header=HEADER.replace("kind", "side")))
+        self.assertIn("there is no column kind", self.wrong(header=HEADER.replace("kind,", "")))
+        self.assertIn("the table is empty", self.wrong(header=""))
+        self.assertIn("row 2, it has 10 cells, and the header 9", self.wrong(BLOCK + ",1"))
+        with self.assertRaises(order_table.Wrong) as fault:
+            order_table.read_orders(HEADER.encode() + b"\nN\xd8RD", 24, True)
+        self.assertIn("isn't in UTF-8", str(fault.exception))
+
+    def test_only_the_first_errors_are_told(self):
+        lines = self.wrong(*["x"] * 100).split("\n")
+        self.assertEqual((len(lines), lines[-1][:4]), (order_table.MOST_ERRORS + 1, "and "))
+
+
+class CommandLine(unittest.TestCase):
+    def test_tables_and_journals(self):
+        texts = [AUCTION, f"{AUCTION}.stdout"]
+        with tempfile.TemporaryDirectory() as folder:
+            self.assertEqual(tool("table", *texts, "--all", folder), (0, b"", ""))
+            for name in tables.TABLES:
+                self.assertEqual(tool("table", *texts, "--rows", name), (0, Path(folder, f"{name}.csv").read_bytes(), ""))
+            status, out, _ = tool("table", "--journal", Path(folder, "orders.csv"))
+            self.assertEqual((status, out.splitlines()[0], out.splitlines()[-1]), (0, b"day,24,,,,,,,", b"close,,,,,,,,"))
+            status, out, _ = tool("table", "--journal", "-", "--open", "--periods=25", data=f"{HEADER}\n{HOUR}\n".encode())
+            self.assertEqual((status, out), (0, b"day,25,,,,,,,\nsubmit,NORD,WIND-8,hour,sell,1250,8:450,,\n"))
+
+    def test_faults(self):
+        status, out, err = tool("table", "--journal", "-", data=f"{HEADER}\n{HOUR},x\n".encode())
+        self.assertEqual((status, out), (command.NO_INPUT, b""))
+        self.assertEqual(err, "table: standard input: row 2, it has 10 cells, and the header 9\n")
+        self.assertEqual(tool("table", "--journal", AUCTION, AUCTION)[0], command.COMMAND_LINE)
+        self.assertEqual(tool("table", "--rows", "blocks", AUCTION)[0], command.COMMAND_LINE)
+        self.assertEqual(tool("table", AUCTION)[0], command.NO_INPUT)
+        status, _, err = tool("table", "-", data=b"day,24,,,,,,,\nresults\nday,24\n")
+        self.assertEqual(
+            (status, err),
+            (command.NO_INPUT, "table: no command of standard input closes the book, so that it has no results\n"),
+        )
+        self.assertEqual(tool("table", AUCTION, f"{AUCTION}.stdout", "-o", "/nowhere/a.csv")[0], command.NO_INPUT)
+
+
+if __name__ == "__main__":
+    unittest.main()
