@@ -17,7 +17,7 @@ use Rattle.dam_book.specs.declared.command.Command.{Command}
 use Rattle.dam_book.specs.declared.command.Command.TheVariants.{Submit, Amend, Cancel}
 use Rattle.dam_book.specs.declared.command.Reason.{Reason}
 use Rattle.dam_book.specs.declared.command.Reason.TheVariants.{Closed, PeriodOutOfDay, NameTaken, UnknownOrder, WrongShape, UnknownParent, ParentNotBlock, HourlyFull, BlocksFull, HasChildren}
-use Rattle.dam_book.specs.declared.limits.TheConstants.{MOST_HOURLY, MOST_BLOCKS}
+use Rattle.dam_book.specs.Limits.{most_hourly, most_blocks}
 use Rattle.dam_book.specs.Book.{Row, BookState, same_key, order_at, is_found, parent_passes, hourly_count, block_count, applies, refusal, carried_out, book_after, changed, IsRow, IsBook}
 use Rattle.dam_book.proofs.RowFacts.{none_head, AreRows-push, AreRows-remove_entry, are_unique-push, are_unique-remove_entry, count_by-remove_entry}
 use Rattle.dam_book.proofs.ChangeFacts.{insert_entry-absent, set_value-changed, are_unique-changed, AreRows-changed, count_by-changed}
@@ -86,8 +86,8 @@ IsBook-push b who name order is p n o clear =
       rows = AreRows-push b.periods b.rows ((who, name), order) is.rows (record { who = p; name = n; order = o; in_day = clear.in_day });
       unique = are_unique-push b.rows ((who, name), order) is.unique (none_from_test (order_at b (who, name)) clear.name);
       linked = are_linked-push [] b.rows ((who, name), order) is.linked (parent_there b.rows who (parent_of order) clear.parent clear.block);
-      few_hourly = omega (arith, hours, one_more (is_hour order) MOST_HOURLY (hourly_count b.rows) is.few_hourly clear.hourly);
-      few_blocks = omega (arith, blocks, one_more (is_block order) MOST_BLOCKS (block_count b.rows) is.few_blocks clear.blocks);
+      few_hourly = omega (arith, hours, one_more (is_hour order) most_hourly (hourly_count b.rows) is.few_hourly clear.hourly);
+      few_blocks = omega (arith, blocks, one_more (is_block order) most_blocks (block_count b.rows) is.few_blocks clear.blocks);
     }
 
 pub Kept-push : (b : BookState) (rows : List Row) (who name : List ℕ) (order : Order) (hourly blocks : ℕ) → rows ≡ b.rows ++ ((who, name), order) ∷ []

@@ -2,6 +2,7 @@
 use Rattle.std.specs.Prelude.{◌≡◌, ℕ, suc, ◌+◌, ◌≤◌, Bool, true, false, ◌==◌, ◌&&◌, ◌||◌, nat_le, not, List, [], ◌∷◌, ◌++◌, length, map, find, count_by, Option, Some, None, is_some, if◌then◌else◌}
 use Rattle.std.specs.Map.{lookup, remove_entry}
 use Rattle.std.specs.List.{list_any}
+use Rattle.dam_book.specs.Limits.{most_hourly, most_blocks}
 use Rattle.dam_book.specs.Name.{IsName, IsParticipant, same_text}
 use Rattle.dam_book.specs.Volumes.{have_beyond}
 use Rattle.dam_book.specs.Order.{IsOrder, is_hour, is_block, is_beyond, is_parent, parent_of, amended}
@@ -13,7 +14,6 @@ use Rattle.dam_book.specs.declared.command.Reply.TheVariants.{Done, Refused}
 use Rattle.dam_book.specs.declared.command.Reason.{Reason}
 use Rattle.dam_book.specs.declared.command.Reason.TheVariants.{Closed, PeriodOutOfDay, NameTaken, UnknownOrder, WrongShape, UnknownParent, ParentNotBlock, HourlyFull, BlocksFull, HasChildren}
 use Rattle.dam_book.specs.declared.command.Entry.{Entry}
-use Rattle.dam_book.specs.declared.limits.TheConstants.{MOST_HOURLY, MOST_BLOCKS}
 
 -- a participant and the name of one of its orders
 abbrev pub Key : Type 0
@@ -97,13 +97,13 @@ is_parent_hourly b (Cancel who name) = false
 is_parent_hourly b Close = false
 
 abbrev pub is_hourly_full : BookState → Command → Bool
-is_hourly_full b (Submit who name order) = is_hour order && nat_le MOST_HOURLY (hourly_count b.rows)
+is_hourly_full b (Submit who name order) = is_hour order && nat_le most_hourly (hourly_count b.rows)
 is_hourly_full b (Amend who name price volumes) = false
 is_hourly_full b (Cancel who name) = false
 is_hourly_full b Close = false
 
 abbrev pub is_blocks_full : BookState → Command → Bool
-is_blocks_full b (Submit who name order) = is_block order && nat_le MOST_BLOCKS (block_count b.rows)
+is_blocks_full b (Submit who name order) = is_block order && nat_le most_blocks (block_count b.rows)
 is_blocks_full b (Amend who name price volumes) = false
 is_blocks_full b (Cancel who name) = false
 is_blocks_full b Close = false
@@ -235,5 +235,5 @@ pub record IsBook (b : BookState) : Type 0 where
   pub rows : AreRows b.periods b.rows
   pub unique : are_unique b.rows ≡ true
   pub linked : are_linked [] b.rows ≡ true
-  pub few_hourly : hourly_count b.rows ≤ MOST_HOURLY
-  pub few_blocks : block_count b.rows ≤ MOST_BLOCKS
+  pub few_hourly : hourly_count b.rows ≤ most_hourly
+  pub few_blocks : block_count b.rows ≤ most_blocks

@@ -8,6 +8,7 @@ use crate::command::{Command, Reason, Reply};
 use crate::limits::{MOST_BLOCKS, MOST_HOURLY};
 use crate::name::{Name, Participant};
 use crate::order::{BlockOrder, Order};
+use crate::period;
 use crate::price::Price;
 use crate::volumes::Volumes;
 use indexmap::IndexMap;
@@ -53,16 +54,16 @@ impl<A: Allocator + Copy> Book<A> {
     pub fn begin(alloc: A, periods: u8) -> Result<Book<A>, BeginFault>
         ensures { MatchResult result (λ book. (is_day periods ≡ true) × (book ≡ empty_book periods)) (λ _. is_day periods ≡ false) }
     {
-        match periods {
-            23..=25 => Ok(Book {
-                periods,
-                orders: IndexMap::new(alloc),
-                hourly: 0,
-                blocks: 0,
-                closed: false,
-            }),
-            _ => Err(BeginFault::BadDay),
+        if !period::is_day(periods) {
+            return Err(BeginFault::BadDay);
         }
+        Ok(Book {
+            periods,
+            orders: IndexMap::new(alloc),
+            hourly: 0,
+            blocks: 0,
+            closed: false,
+        })
     }
 
     /// How many periods the delivery day has.

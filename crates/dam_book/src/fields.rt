@@ -10,7 +10,7 @@ ghost use Rattle.dam_book.specs.Fields.{price_text, qty_text, pair_text, volumes
 use crate::period::Period;
 use crate::price::Price;
 use crate::quantity::Qty;
-use crate::volumes::Volumes;
+use crate::volumes::{MOST_VOLUMES, Volumes};
 use arrayvec::ArrayVec;
 use itoa::Buffer;
 use std::alloc::{AllocError, Allocator};
@@ -70,7 +70,7 @@ fn parse_pair(text: &str) -> Option<(Period, Qty)>
     Some((period, qty))
 }
 
-fn parse_pairs(text: &str) -> Option<ArrayVec<(Period, Qty), 25>>
+fn parse_pairs(text: &str) -> Option<ArrayVec<(Period, Qty), MOST_VOLUMES>>
     ensures { MatchOption result ((ps : List Pair) → IsVolumes ps → text.now ≢ volumes_text ps) (λ a. ArePairs a.items × (0 < length a.items) × (text.now ≡ volumes_text a.items)) }
 {
     let mut pairs = ArrayVec::new();
@@ -113,7 +113,7 @@ pub fn read_qty(bytes: &[u8]) -> Option<Qty>
 
 /// The volumes whose text is `bytes`, or `None` where no volumes have that text.
 ///
-/// The text is 1 to `MOST_VOLUMES` pairs `period:volume` with a `;` between each two, by increasing
+/// The text is 1 to `LAST_PERIOD` pairs `period:volume` with a `;` between each two, by increasing
 /// period; both numbers are in decimal without leading zeros, the volume in tenths of a MW.
 pub fn read_volumes(bytes: &[u8]) -> Option<Volumes>
     ensures { MatchOption result ((v : List Pair) → IsVolumes v → bytes.now ≢ volumes_text v) (λ v. IsVolumes v × (bytes.now ≡ volumes_text v)) }

@@ -1,7 +1,7 @@
 //! Laws of the definitions, each the contract of a function that does nothing.
 ghost use Rattle.std.specs.Prelude.{◌≡◌, ◌≤◌, ◌+◌, ◌∷◌, ◌++◌, [], true, ℕ, ℤ, List, length, Some, slice_get};
 ghost use Rattle.std.specs.Bool.{Decides};
-ghost use Rattle.dam_book.specs.Limits.{last_period};
+ghost use Rattle.dam_book.specs.Limits.{lowest_price, highest_price, greatest_volume, last_period, longest_name, longest_participant, most_hourly, most_blocks, most_entries};
 ghost use Rattle.dam_book.specs.declared.order.Order.{Order};
 ghost use Rattle.dam_book.specs.declared.command.Command.{Command};
 ghost use Rattle.dam_book.specs.declared.command.Reply.{Reply};
@@ -20,6 +20,12 @@ ghost use Rattle.dam_book.specs.Quantity.{IsQuantity};
 ghost use Rattle.dam_book.specs.Volumes.{Pair, IsVolumes};
 ghost use Rattle.dam_book.specs.Fields.{price_text, qty_text, volumes_text};
 
+use crate::limits::{MOST_BLOCKS, MOST_ENTRIES, MOST_HOURLY};
+use crate::name::{LONGEST_NAME, LONGEST_PARTICIPANT};
+use crate::period::LAST_PERIOD;
+use crate::price::{HIGHEST_PRICE, LOWEST_PRICE};
+use crate::quantity::GREATEST_VOLUME;
+
 /// No two prices have the same text.
 pub fn price_texts_differ()
     ensures { (p q : ℤ) → IsPrice p → IsPrice q → price_text p ≡ price_text q → p ≡ q }
@@ -34,6 +40,19 @@ pub fn qty_texts_differ()
 pub fn volumes_texts_differ()
     ensures { (v w : List Pair) → IsVolumes v → IsVolumes w → volumes_text v ≡ volumes_text w
         → v ≡ w }
+{}
+
+/// Each exported constant is the number of its limit.
+pub fn limits()
+    ensures lowest_price { LOWEST_PRICE ≡ lowest_price }
+    ensures highest_price { HIGHEST_PRICE ≡ highest_price }
+    ensures greatest_volume { GREATEST_VOLUME ≡ greatest_volume }
+    ensures last_period { LAST_PERIOD ≡ last_period }
+    ensures longest_name { LONGEST_NAME ≡ longest_name }
+    ensures longest_participant { LONGEST_PARTICIPANT ≡ longest_participant }
+    ensures most_hourly { MOST_HOURLY ≡ most_hourly }
+    ensures most_blocks { MOST_BLOCKS ≡ most_blocks }
+    ensures most_entries { MOST_ENTRIES ≡ most_entries }
 {}
 
 /// No delivery day has more periods than the last number of a period.

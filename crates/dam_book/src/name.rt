@@ -18,7 +18,7 @@ pub const LONGEST_PARTICIPANT: usize = 8;
 /// A contract sees the bytes.
 #[derive(PartialEq, Eq, Hash, Debug, Drop)]
 pub struct Name {
-    text: ArrayVec<u8, 12>,
+    text: ArrayVec<u8, LONGEST_NAME>,
 }
 
 impl Model for Name {
@@ -39,7 +39,7 @@ impl Model for Name {
 /// A contract sees the bytes.
 #[derive(PartialEq, Eq, Hash, Debug, Drop)]
 pub struct Participant {
-    code: ArrayVec<u8, 8>,
+    code: ArrayVec<u8, LONGEST_PARTICIPANT>,
 }
 
 impl Model for Participant {

@@ -1,4 +1,6 @@
-ghost use Rattle.std.specs.Prelude.{◌≡◌, SomeIff};
+ghost use Rattle.std.specs.Prelude.{◌≡◌, ◌+◌, ◌<◌, SomeIff};
+ghost use Rattle.dam_book.specs.Limits.{last_period};
+ghost use Rattle.dam_book.specs.Book;
 ghost use Rattle.dam_book.specs.Period.{IsPeriod};
 
 use std::marker::Model;
@@ -38,6 +40,16 @@ impl Period {
         Some(Period { number })
     }
 
+    /// The period at a place of the day, counted from 0.
+    pub fn at(place: usize) -> Period
+        requires { place < last_period }
+        ensures { result ≡ place + 1 }
+    {
+        Period {
+            number: place as u8 + 1,
+        }
+    }
+
     /// The number, from 1.
     pub fn get(self) -> u8
         ensures value { result ≡ self }
@@ -45,6 +57,13 @@ impl Period {
     {
         self.number
     }
+}
+
+/// Whether a delivery day has so many periods: 24 hours, or one less or more where the clocks change.
+pub fn is_day(periods: u8) -> bool
+    ensures { result ≡ Book.is_day periods }
+{
+    23 <= periods && periods <= LAST_PERIOD
 }
 
 impl Default for Period {

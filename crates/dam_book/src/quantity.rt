@@ -4,9 +4,12 @@ ghost use Rattle.dam_book.specs.Quantity.{IsQuantity};
 use std::marker::Model;
 
 /// The greatest volume of an order in one period, in tenths of a MW.
-pub const GREATEST_QTY: u32 = 99_999;
+pub const GREATEST_VOLUME: u32 = 99_999;
 
-/// The volume of an order in one period, in whole tenths of a MW, from 1 to `GREATEST_QTY`.
+/// The same, under the name that it had.
+pub const GREATEST_QTY: u32 = GREATEST_VOLUME;
+
+/// The volume of an order in one period, in whole tenths of a MW, from 1 to `GREATEST_VOLUME`.
 ///
 /// A contract sees the number of tenths.
 #[derive(Clone, Copy, PartialEq, Eq, PartialOrd, Ord, Hash, Debug)]
@@ -32,7 +35,7 @@ impl Qty {
     pub fn new(tenths: u32) -> Option<Qty>
         ensures { SomeIff result (IsQuantity tenths) tenths }
     {
-        if tenths == 0 || tenths > GREATEST_QTY {
+        if tenths == 0 || tenths > GREATEST_VOLUME {
             return None;
         }
         Some(Qty { tenths })

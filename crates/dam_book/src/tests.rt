@@ -26,6 +26,8 @@ fn ranges_of_numbers(rt: HostRuntime) {
             if fits { Some(number) } else { None }
         );
     }
+    assert_eq!(rt; Period::at(0).get(), 1);
+    assert_eq!(rt; Period::at(24).get(), 25);
 }
 
 #[test]
@@ -86,9 +88,11 @@ fn faults_of_volumes(rt: HostRuntime) -> Result<(), Fail> {
 #[test]
 fn days(rt: HostRuntime) -> Result<(), Fail> {
     for periods in [0, 22, 26, 255] {
+        assert!(rt; !is_day(periods));
         assert!(rt; matches!(Book::begin(rt.alloc(), periods), Err(BeginFault::BadDay)));
     }
     for periods in [23, 24, 25] {
+        assert!(rt; is_day(periods));
         let book = Book::begin(rt.alloc(), periods)?;
         assert_eq!(rt; book.periods(), periods);
         assert!(rt; !book.is_closed() && book.is_empty());

@@ -1,14 +1,15 @@
 ghost use Rattle.std.specs.Prelude.{◌≡◌, ◌<◌, ◌≤◌, length, true, false, IfOk, IsErrOf};
+ghost use Rattle.dam_book.specs.Limits.{last_period};
 ghost use Rattle.dam_book.specs.Volumes.{ArePairs, IsVolumes, have_beyond, is_increasing};
 
-use crate::period::Period;
+use crate::period::{LAST_PERIOD, Period};
 use crate::quantity::Qty;
 use arrayvec::ArrayVec;
 use std::marker::Model;
 use thiserror::Error;
 
-/// The greatest number of periods in which one order has a volume.
-pub const MOST_VOLUMES: usize = 25;
+// One for each period of a day.
+pub(crate) const MOST_VOLUMES: usize = LAST_PERIOD as usize;
 
 /// Why pairs of periods and volumes make no `Volumes`, in the order in which it is looked for.
 #[derive(Clone, Copy, PartialEq, Eq, Debug, Error)]
@@ -16,7 +17,7 @@ pub enum VolumesFault {
     /// There is no pair.
     #[error("no volume")]
     NoVolume,
-    /// There are more than `MOST_VOLUMES` pairs.
+    /// There are more than `LAST_PERIOD` pairs.
     #[error("too many periods")]
     TooManyPeriods,
     /// A period isn't greater than the one before it.
@@ -24,14 +25,14 @@ pub enum VolumesFault {
     PeriodsNotIncreasing,
 }
 
-/// The volumes of an order: 1 to `MOST_VOLUMES` pairs of a period and a volume in tenths of a MW,
-/// by increasing period.
+/// The volumes of an order: 1 to `LAST_PERIOD` pairs of a period and a volume in tenths of a MW, by
+/// increasing period.
 ///
 /// A contract sees the list of the pairs. These are the hourly volumes of a profiled block order
 /// (EUPHEMIA Public Description, "Block Orders"); an amended hourly order takes them from one pair.
 #[derive(PartialEq, Eq, Hash, Debug, Drop)]
 pub struct Volumes {
-    pairs: ArrayVec<(Period, Qty), 25>,
+    pairs: ArrayVec<(Period, Qty), MOST_VOLUMES>,
 }
 
 impl Model for Volumes {
@@ -63,8 +64,8 @@ fn increases(pairs: &[(Period, Qty)]) -> bool
     true
 }
 
-fn array_of(pairs: &[(Period, Qty)]) -> ArrayVec<(Period, Qty), 25>
-    requires { length pairs.now ≤ 25 }
+fn array_of(pairs: &[(Period, Qty)]) -> ArrayVec<(Period, Qty), MOST_VOLUMES>
+    requires { length pairs.now ≤ last_period }
     ensures { result.items ≡ pairs.now }
 {
     let mut array = ArrayVec::new();
@@ -77,8 +78,8 @@ impl Volumes {
     pub fn new(pairs: &[(Period, Qty)]) -> Result<Volumes, VolumesFault>
         ensures ok { IfOk result (λ v. (v ≡ pairs.now) × IsVolumes pairs.now) }
         ensures no_volume { IsErrOf result VolumesFault.NoVolume → length pairs.now ≡ 0 }
-        ensures too_many { IsErrOf result VolumesFault.TooManyPeriods → MOST_VOLUMES < length pairs.now }
-        ensures not_increasing { IsErrOf result VolumesFault.PeriodsNotIncreasing → (0 < length pairs.now) × (length pairs.now ≤ MOST_VOLUMES) × (is_increasing 0 pairs.now ≡ false) }
+        ensures too_many { IsErrOf result VolumesFault.TooManyPeriods → last_period < length pairs.now }
+        ensures not_increasing { IsErrOf result VolumesFault.PeriodsNotIncreasing → (0 < length pairs.now) × (length pairs.now ≤ last_period) × (is_increasing 0 pairs.now ≡ false) }
     {
         if pairs.is_empty() {
             return Err(VolumesFault::NoVolume);
