@@ -25,7 +25,8 @@ same_key k l = same_text k.0 l.0 && same_text k.1 l.1
 abbrev pub Row : Type 0
 Row = Key × Order
 
--- the number of periods of the delivery day, the orders held in book order, and whether the book takes no more commands
+-- the number of periods of the delivery day, the orders held in book order, and whether the book takes
+-- no more commands
 pub record BookState : Type 0 where
   pub periods : ℕ
   pub rows : List Row
@@ -75,7 +76,8 @@ is_found test (Some order) = test order
 
 abbrev pub is_wrong_shape : BookState → Command → Bool
 is_wrong_shape b (Submit who name order) = false
-is_wrong_shape b (Amend who name price volumes) = is_found is_hour (order_at b (who, name)) && not (length volumes == 1)
+is_wrong_shape b (Amend who name price volumes) =
+    is_found is_hour (order_at b (who, name)) && not (length volumes == 1)
 is_wrong_shape b (Cancel who name) = false
 is_wrong_shape b Close = false
 
@@ -85,13 +87,15 @@ parent_passes test rows who None = false
 parent_passes test rows who (Some parent) = test (lookup (same_key (who, parent)) rows)
 
 abbrev pub is_unknown_parent : BookState → Command → Bool
-is_unknown_parent b (Submit who name order) = parent_passes (λ o. not (is_some o)) b.rows who (parent_of order)
+is_unknown_parent b (Submit who name order) =
+    parent_passes (λ o. not (is_some o)) b.rows who (parent_of order)
 is_unknown_parent b (Amend who name price volumes) = false
 is_unknown_parent b (Cancel who name) = false
 is_unknown_parent b Close = false
 
 abbrev pub is_parent_hourly : BookState → Command → Bool
-is_parent_hourly b (Submit who name order) = parent_passes (is_found is_hour) b.rows who (parent_of order)
+is_parent_hourly b (Submit who name order) =
+    parent_passes (is_found is_hour) b.rows who (parent_of order)
 is_parent_hourly b (Amend who name price volumes) = false
 is_parent_hourly b (Cancel who name) = false
 is_parent_hourly b Close = false
@@ -132,7 +136,9 @@ applies b c HasChildren = has_children b c
 
 -- the order in which they are looked for
 abbrev pub reasons : List Reason
-reasons = Closed ∷ PeriodOutOfDay ∷ NameTaken ∷ UnknownOrder ∷ WrongShape ∷ UnknownParent ∷ ParentNotBlock ∷ HourlyFull ∷ BlocksFull ∷ HasChildren ∷ []
+reasons =
+    Closed ∷ PeriodOutOfDay ∷ NameTaken ∷ UnknownOrder ∷ WrongShape ∷ UnknownParent ∷ ParentNotBlock
+    ∷ HourlyFull ∷ BlocksFull ∷ HasChildren ∷ []
 
 -- the first reason that applies
 abbrev pub refusal : BookState → Command → Option Reason
@@ -159,10 +165,12 @@ abbrev pub changed : Key → (Order → Order) → List Row → List Row
 changed k f [] = []
 changed k f (r ∷ rs) = if same_key k r.0 then (r.0, f r.1) ∷ rs else r ∷ changed k f rs
 
--- what a command does that is not refused: a new order is the last, an amended one keeps its place, and one that leaves the book loses it
+-- what a command does that is not refused: a new order is the last, an amended one keeps its place, and
+-- one that leaves the book loses it
 abbrev pub carried_out : BookState → Command → BookState
 carried_out b (Submit who name order) = record b { rows = b.rows ++ ((who, name), order) ∷ [] }
-carried_out b (Amend who name price volumes) = record b { rows = changed (who, name) (amended price volumes) b.rows }
+carried_out b (Amend who name price volumes) =
+    record b { rows = changed (who, name) (amended price volumes) b.rows }
 carried_out b (Cancel who name) = record b { rows = remove_entry (same_key (who, name)) b.rows }
 carried_out b Close = record b { closed = true }
 
@@ -182,7 +190,8 @@ run periods cs = run_from (empty_book periods) cs
 -- the entries of a run, numbered from `n`
 abbrev pub entries_from : ℕ → BookState → List Command → List Entry
 entries_from n b [] = []
-entries_from n b (c ∷ cs) = record { number = n; command = c; reply = reply_to b c } ∷ entries_from (suc n) (book_after b c) cs
+entries_from n b (c ∷ cs) =
+    record { number = n; command = c; reply = reply_to b c } ∷ entries_from (suc n) (book_after b c) cs
 
 abbrev pub entries_of : ℕ → List Command → List Entry
 entries_of periods cs = entries_from 1 (empty_book periods) cs
@@ -190,15 +199,17 @@ entries_of periods cs = entries_from 1 (empty_book periods) cs
 abbrev pub commands_of : List Entry → List Command
 commands_of es = map (λ (e : Entry). e.command) es
 
--- entries numbered from `n`, in which each reply is the step's on the book that the commands before it made
+-- entries numbered from `n`, in which each reply is the step's on the book that the commands before it
+-- made
 abbrev pub IsLegalFrom : ℕ → BookState → List Entry → Type 0
 IsLegalFrom n b [] = Unit {0}
-IsLegalFrom n b (e ∷ es) = (e.number ≡ n) × (e.reply ≡ reply_to b e.command) × IsLegalFrom (suc n) (book_after b e.command) es
+IsLegalFrom n b (e ∷ es) =
+    (e.number ≡ n) × (e.reply ≡ reply_to b e.command) × IsLegalFrom (suc n) (book_after b e.command) es
 
 abbrev pub IsLegalHistory : ℕ → List Entry → Type 0
 IsLegalHistory periods es = IsLegalFrom 1 (empty_book periods) es
 
--- an entry with the next number, and the reply of the step on the book that the commands before it made
+-- an entry with the next number, and the step's reply on the book that the commands before it made
 pub record Follows (periods : ℕ) (es : List Entry) (e : Entry) : Type 0 where
   pub number : e.number ≡ length es + 1
   pub reply : e.reply ≡ reply_to (run periods (commands_of es)) e.command
@@ -221,11 +232,14 @@ abbrev pub are_unique : List Row → Bool
 are_unique [] = true
 are_unique (r ∷ rs) = not (is_some (lookup (same_key r.0) rs)) && are_unique rs
 
--- the parent that the row names, if any, is a block of the same participant among these rows: there is none that isn't
+-- the parent that the row names, if any, is a block of the same participant among these rows: there is
+-- none that isn't
 abbrev pub has_parent_in : List Row → Row → Bool
-has_parent_in rows r = not (parent_passes (λ o. not (is_found is_block o)) rows r.0.0 (parent_of r.1))
+has_parent_in rows r =
+    not (parent_passes (λ o. not (is_found is_block o)) rows r.0.0 (parent_of r.1))
 
--- the parents of the rows, if any, are blocks of the same participant at lesser places, the rows of `front` standing before
+-- the parents of the rows, if any, are blocks of the same participant at lesser places, the rows of
+-- `front` standing before
 abbrev pub are_linked : List Row → List Row → Bool
 are_linked front [] = true
 are_linked front (r ∷ rs) = has_parent_in front r && are_linked (front ++ r ∷ []) rs

@@ -1,7 +1,8 @@
--- The limits of the auction, each with its unit. Definitions cite them here, and no constant of the code.
+-- The limits of the auction, each with its unit. Definitions cite them here, and no constant of the
+-- code.
 use Rattle.std.specs.Prelude.{ℕ, ℤ, pos, negsuc}
 
--- the least limit or clearing price, in cents per MWh: minus 50,000, which is written as one under minus 49,999
+-- the least limit or clearing price, in cents per MWh: minus 50,000, written as one under minus 49,999
 abbrev pub lowest_price : ℤ
 lowest_price = negsuc 49999
 

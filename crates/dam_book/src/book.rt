@@ -1,6 +1,7 @@
 ghost use Rattle.std.specs.Prelude.{◌≡◌, ◌∷◌, [], true, false, None, nat_eq, find, option_map, slice_get, length, MatchResult, IfOk, OnOk, OnErr};
 ghost use Rattle.std.specs.List.{list_any};
 ghost use Rattle.std.specs.Option.{option_copied};
+ghost use Rattle.dam_book.specs.inside.Reasons.{later_reasons};
 ghost use Rattle.dam_book.specs.Book.{IsBook, empty_book, is_day, order_at, IsSubmit, names_parent, applies, refusal, reply_to, carried_out, book_after};
 
 use crate::boxed::BoxedOrder;
@@ -44,15 +45,20 @@ impl<A: Allocator> Model for Book<A> {
 
     ghost Value = { BookState };
 
-    ghost view = { λ b. record { periods = b.periods; rows = b.orders.entries; closed = b.closed } };
+    ghost view = { λ b.
+        record { periods = b.periods; rows = b.orders.entries; closed = b.closed } };
 
-    ghost invariant = { λ b. IsBook (record { periods = b.periods; rows = b.orders.entries; closed = b.closed }) × (b.hourly ≡ hourly_count b.orders.entries) × (b.blocks ≡ block_count b.orders.entries) };
+    ghost invariant = { λ b.
+        IsBook (record { periods = b.periods; rows = b.orders.entries; closed = b.closed })
+        × (b.hourly ≡ hourly_count b.orders.entries)
+        × (b.blocks ≡ block_count b.orders.entries) };
 }
 
 impl<A: Allocator + Copy> Book<A> {
     /// The empty book of a day of 23, 24 or 25 periods, open.
     pub fn begin(alloc: A, periods: u8) -> Result<Book<A>, BeginFault>
-        ensures { MatchResult result (λ book. (is_day periods ≡ true) × (book ≡ empty_book periods)) (λ _. is_day periods ≡ false) }
+        ensures { MatchResult result (λ book. (is_day periods ≡ true) × (book ≡ empty_book periods))
+            (λ _. is_day periods ≡ false) }
     {
         if !period::is_day(periods) {
             return Err(BeginFault::BadDay);
@@ -131,7 +137,8 @@ impl<A: Allocator + Copy> Book<A> {
         ensures reply { IfOk result (λ reply. reply ≡ reply_to self.old command.now) }
         ensures ok { OnOk result (self.new ≡ book_after self.old command.now) }
         ensures err { OnErr result (self.new ≡ self.old) }
-        ensures err_only { OnErr result (IsSubmit command.now × (refusal self.old command.now ≡ None)) }
+        ensures err_only { OnErr result
+            (IsSubmit command.now × (refusal self.old command.now ≡ None)) }
     {
         if let Some(reason) = self.refusal(command) {
             return Ok(Reply::Refused(reason));
@@ -198,7 +205,8 @@ impl<A: Allocator + Copy> Book<A> {
 
     // The reasons that look at the parent of a new block and at the room for it.
     fn block_refusal(&self, who: &Participant, block: &BlockOrder) -> Option<Reason>
-        ensures { (name : _) → result ≡ find (applies self.now (Command.Submit who.now name (Order.Block block.now))) (Reason.UnknownParent ∷ Reason.ParentNotBlock ∷ Reason.HourlyFull ∷ Reason.BlocksFull ∷ Reason.HasChildren ∷ []) }
+        ensures { (name : _) → let command = Command.Submit who.now name (Order.Block block.now) in
+            result ≡ find (applies self.now command) later_reasons }
     {
         if let Some(parent) = block.parent() {
             match self.find(who, parent) {
@@ -215,7 +223,8 @@ impl<A: Allocator + Copy> Book<A> {
 
     fn amend_refusal(&self, who: &Participant, name: &Name, volumes: &Volumes) -> Option<Reason>
         requires { self.now.closed ≡ false }
-        ensures { (price : _) → result ≡ refusal self.now (Command.Amend who.now name.now price volumes.now) }
+        ensures { (price : _)
+            → result ≡ refusal self.now (Command.Amend who.now name.now price volumes.now) }
     {
         if volumes.is_beyond(self.periods) {
             return Some(Reason::PeriodOutOfDay);
@@ -231,6 +240,7 @@ impl<A: Allocator + Copy> Book<A> {
         requires { self.now.closed ≡ false }
         ensures { result ≡ refusal self.now (Command.Cancel who.now name.now) }
     {
+        // Its contract tells that parents are blocks: no hourly order has children.
         let _parents_are_blocks = self.periods();
         match self.find(who, name) {
             None => Some(Reason::UnknownOrder),
@@ -248,9 +258,11 @@ impl<A: Allocator + Copy> Book<A> {
 
     fn add(&mut self, who: &Participant, name: &Name, order: &Order) -> Result<(), AllocError>
         requires { refusal self.old (Command.Submit who.now name.now order.now) ≡ None }
-        ensures ok { OnOk result (self.new ≡ carried_out self.old (Command.Submit who.now name.now order.now)) }
+        ensures ok { OnOk result
+            (self.new ≡ carried_out self.old (Command.Submit who.now name.now order.now)) }
         ensures err { OnErr result (self.new ≡ self.old) }
     {
+        // Their contracts tell that the new row is within the limits.
         let _who = who.as_bytes();
         let _name = name.as_bytes();
         let _order = order.is_beyond(self.periods);
@@ -266,8 +278,10 @@ impl<A: Allocator + Copy> Book<A> {
 
     fn amend(&mut self, who: &Participant, name: &Name, price: Price, volumes: &Volumes)
         requires { refusal self.old (Command.Amend who.now name.now price volumes.now) ≡ None }
-        ensures { self.new ≡ carried_out self.old (Command.Amend who.now name.now price volumes.now) }
+        ensures { self.new
+            ≡ carried_out self.old (Command.Amend who.now name.now price volumes.now) }
     {
+        // Their contracts tell that the changed row is within the limits.
         let _cents = price.get();
         let _pairs = volumes.pairs();
         let key = (who.copy(), name.copy());

@@ -19,7 +19,8 @@ use std::alloc::{AllocError, Allocator};
 // `+1` and `007` are refused.
 
 fn parse_signed(text: &str) -> Option<i32>
-    ensures { MatchOption result ((z : ℤ) → FitsSigned w32 z → text.now ≢ signed_decimal z) (λ z. FitsSigned w32 z × (text.now ≡ signed_decimal z)) }
+    ensures { MatchOption result ((z : ℤ) → FitsSigned w32 z → text.now ≢ signed_decimal z)
+        (λ z. FitsSigned w32 z × (text.now ≡ signed_decimal z)) }
 {
     let Ok(integer) = text.parse::<i32>() else {
         return None;
@@ -32,7 +33,8 @@ fn parse_signed(text: &str) -> Option<i32>
 }
 
 fn parse_unsigned(text: &str) -> Option<u32>
-    ensures { MatchOption result ((n : ℕ) → n < 2 ^ 32 → text.now ≢ decimal n) (λ n. (n < 2 ^ 32) × (text.now ≡ decimal n)) }
+    ensures { MatchOption result ((n : ℕ) → n < 2 ^ 32 → text.now ≢ decimal n)
+        (λ n. (n < 2 ^ 32) × (text.now ≡ decimal n)) }
 {
     let Ok(number) = text.parse::<u32>() else {
         return None;
@@ -45,7 +47,8 @@ fn parse_unsigned(text: &str) -> Option<u32>
 }
 
 fn parse_period(text: &str) -> Option<Period>
-    ensures { MatchOption result ((p : ℕ) → IsPeriod p → text.now ≢ decimal p) (λ p. IsPeriod p × (text.now ≡ decimal p)) }
+    ensures { MatchOption result ((p : ℕ) → IsPeriod p → text.now ≢ decimal p)
+        (λ p. IsPeriod p × (text.now ≡ decimal p)) }
 {
     let number = parse_unsigned(text)?;
     let Ok(number) = u8::try_from(number) else {
@@ -55,14 +58,17 @@ fn parse_period(text: &str) -> Option<Period>
 }
 
 fn parse_qty(text: &str) -> Option<Qty>
-    ensures { MatchOption result ((q : ℕ) → IsQuantity q → text.now ≢ qty_text q) (λ q. IsQuantity q × (text.now ≡ qty_text q)) }
+    ensures { MatchOption result ((q : ℕ) → IsQuantity q → text.now ≢ qty_text q)
+        (λ q. IsQuantity q × (text.now ≡ qty_text q)) }
 {
     let tenths = parse_unsigned(text)?;
     Qty::new(tenths)
 }
 
 fn parse_pair(text: &str) -> Option<(Period, Qty)>
-    ensures { MatchOption result ((p : Pair) → IsPeriod p.0 → IsQuantity p.1 → text.now ≢ pair_text p) (λ p. IsPeriod p.0 × IsQuantity p.1 × (text.now ≡ pair_text p)) }
+    ensures { MatchOption result
+        ((p : Pair) → IsPeriod p.0 → IsQuantity p.1 → text.now ≢ pair_text p)
+        (λ p. IsPeriod p.0 × IsQuantity p.1 × (text.now ≡ pair_text p)) }
 {
     let (period, qty) = text.split_once(':')?;
     let period = parse_period(period)?;
@@ -71,7 +77,8 @@ fn parse_pair(text: &str) -> Option<(Period, Qty)>
 }
 
 fn parse_pairs(text: &str) -> Option<ArrayVec<(Period, Qty), MOST_VOLUMES>>
-    ensures { MatchOption result ((ps : List Pair) → IsVolumes ps → text.now ≢ volumes_text ps) (λ a. ArePairs a.items × (0 < length a.items) × (text.now ≡ volumes_text a.items)) }
+    ensures { MatchOption result ((ps : List Pair) → IsVolumes ps → text.now ≢ volumes_text ps)
+        (λ a. ArePairs a.items × (0 < length a.items) × (text.now ≡ volumes_text a.items)) }
 {
     let mut pairs = ArrayVec::new();
     for piece in text.split(';') {
@@ -89,7 +96,8 @@ fn parse_pairs(text: &str) -> Option<ArrayVec<(Period, Qty), MOST_VOLUMES>>
 /// front of a price under zero. So `-0`, `+1`, `007`, the empty text and a number outside the limits
 /// are refused.
 pub fn read_price(bytes: &[u8]) -> Option<Price>
-    ensures { MatchOption result ((p : ℤ) → IsPrice p → bytes.now ≢ price_text p) (λ p. IsPrice p × (bytes.now ≡ price_text p)) }
+    ensures { MatchOption result ((p : ℤ) → IsPrice p → bytes.now ≢ price_text p)
+        (λ p. IsPrice p × (bytes.now ≡ price_text p)) }
 {
     let Ok(text) = str::from_utf8(bytes) else {
         return None;
@@ -103,7 +111,8 @@ pub fn read_price(bytes: &[u8]) -> Option<Price>
 /// The text is the tenths of a MW in decimal without leading zeros. So `+1`, `007`, the empty text, `0`
 /// and a number above the limit are refused.
 pub fn read_qty(bytes: &[u8]) -> Option<Qty>
-    ensures { MatchOption result ((q : ℕ) → IsQuantity q → bytes.now ≢ qty_text q) (λ q. IsQuantity q × (bytes.now ≡ qty_text q)) }
+    ensures { MatchOption result ((q : ℕ) → IsQuantity q → bytes.now ≢ qty_text q)
+        (λ q. IsQuantity q × (bytes.now ≡ qty_text q)) }
 {
     let Ok(text) = str::from_utf8(bytes) else {
         return None;
@@ -116,7 +125,8 @@ pub fn read_qty(bytes: &[u8]) -> Option<Qty>
 /// The text is 1 to `LAST_PERIOD` pairs `period:volume` with a `;` between each two, by increasing
 /// period; both numbers are in decimal without leading zeros, the volume in tenths of a MW.
 pub fn read_volumes(bytes: &[u8]) -> Option<Volumes>
-    ensures { MatchOption result ((v : List Pair) → IsVolumes v → bytes.now ≢ volumes_text v) (λ v. IsVolumes v × (bytes.now ≡ volumes_text v)) }
+    ensures { MatchOption result ((v : List Pair) → IsVolumes v → bytes.now ≢ volumes_text v)
+        (λ v. IsVolumes v × (bytes.now ≡ volumes_text v)) }
 {
     let Ok(text) = str::from_utf8(bytes) else {
         return None;

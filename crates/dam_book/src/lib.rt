@@ -1,4 +1,19 @@
 //! The typed orders of the day-ahead auction, and the sequential book that takes them.
+//!
+//! A `Book` holds the orders of one delivery day, in the order of their submits. It takes one `Command`
+//! after another and answers each with a `Reply`: participants submit, amend and cancel orders, and the
+//! operator closes the book. Prices, volumes, periods and names check their limits where they are made, so
+//! an order that exists is a valid one.
+//!
+//! ```
+//! let mut book = Book::begin(alloc, 24)?;
+//! let order = Order::Hour(HourOrder::new(Side::Buy, price, period, qty));
+//! let submit = Command::Submit { who, name, order };
+//! assert_eq!(book.apply(&submit)?, Reply::Done);
+//! assert_eq!(book.apply(&submit)?, Reply::Refused(Reason::NameTaken));
+//! ```
+//!
+//! The crate knows nothing of clearing prices, of which blocks are accepted, nor of journals as files.
 #![tactic(auto)]
 
 mod book;

@@ -39,9 +39,11 @@ impl Model for HourOrder {
 
     ghost view = { λ o. record { side = o.side; price = o.price; period = o.period; qty = o.qty } };
 
-    ghost invariant = { λ o. IsHourOrder (record { side = o.side; price = o.price; period = o.period; qty = o.qty }) };
+    ghost invariant = { λ o.
+        IsHourOrder (record { side = o.side; price = o.price; period = o.period; qty = o.qty }) };
 
-    ghost inverse = { λ t. record { side = t.side; price = t.price; period = t.period; qty = t.qty } };
+    ghost inverse = { λ t.
+        record { side = t.side; price = t.price; period = t.period; qty = t.qty } };
 }
 
 impl HourOrder {
@@ -52,6 +54,7 @@ impl HourOrder {
         ensures period { result.period ≡ period }
         ensures qty { result.qty ≡ qty }
     {
+        // Their contracts tell that each part is within its limits.
         let _in_range = (price.get(), period.get(), qty.get());
         HourOrder {
             side,
@@ -112,11 +115,32 @@ impl Model for BlockOrder {
 
     ghost Value = { BlockTerms };
 
-    ghost view = { λ o. record { side = o.side; price = o.price; volumes = o.volumes; parent = o.parent; group = o.group } };
+    ghost view = { λ o.
+        record {
+          side = o.side;
+          price = o.price;
+          volumes = o.volumes;
+          parent = o.parent;
+          group = o.group;
+        } };
 
-    ghost invariant = { λ o. IsBlockOrder (record { side = o.side; price = o.price; volumes = o.volumes; parent = o.parent; group = o.group }) };
+    ghost invariant = { λ o.
+        IsBlockOrder (record {
+          side = o.side;
+          price = o.price;
+          volumes = o.volumes;
+          parent = o.parent;
+          group = o.group;
+        }) };
 
-    ghost inverse = { λ t. record { side = t.side; price = t.price; volumes = t.volumes; parent = t.parent; group = t.group } };
+    ghost inverse = { λ t.
+        record {
+          side = t.side;
+          price = t.price;
+          volumes = t.volumes;
+          parent = t.parent;
+          group = t.group;
+        } };
 }
 
 fn copy_of(name: &Option<Name>) -> Option<Name>
@@ -126,6 +150,7 @@ fn copy_of(name: &Option<Name>) -> Option<Name>
     match name {
         None => None,
         Some(name) => {
+            // Its contract tells that it is a name.
             let _valid = name.as_bytes();
             Some(name.copy())
         }
@@ -147,6 +172,7 @@ impl BlockOrder {
         ensures parent { result.parent ≡ parent }
         ensures group { result.group ≡ group }
     {
+        // Their contracts tell that each part is within its limits.
         let _cents = price.get();
         let _pairs = volumes.pairs();
         let parent = copy_of(&parent);
@@ -268,6 +294,7 @@ impl Order {
         match self {
             Order::Hour(order) => order.period().get() > periods,
             Order::Block(order) => {
+                // Its contract tells that the order is valid.
                 let _valid = order.price();
                 order.volumes().is_beyond(periods)
             }

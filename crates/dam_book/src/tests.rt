@@ -137,3 +137,23 @@ fn entries_are_compared(rt: HostRuntime) {
     assert!(rt; entry == entry.copy());
     assert!(rt; entry != refused);
 }
+
+#[test]
+fn texts_of_faults(rt: HostRuntime) -> Result<(), Fail> {
+    let alloc = rt.alloc();
+    assert_eq!(rt;
+        BeginFault::BadDay.to_string(alloc)?.as_str(),
+        "no delivery day has so many periods"
+    );
+    for (fault, text) in [
+        (VolumesFault::NoVolume, "no volume"),
+        (VolumesFault::TooManyPeriods, "too many periods"),
+        (
+            VolumesFault::PeriodsNotIncreasing,
+            "periods do not increase",
+        ),
+    ] {
+        assert_eq!(rt; fault.to_string(alloc)?.as_str(), text);
+    }
+    Ok(())
+}

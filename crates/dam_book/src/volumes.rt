@@ -55,6 +55,7 @@ fn increases(pairs: &[(Period, Qty)]) -> bool
     let mut low = 0;
     for (period, qty) in pairs {
         let number = period.get();
+        // Its contract tells that the volume is in range.
         let _in_range = qty.get();
         if number <= low {
             return false;
@@ -78,8 +79,11 @@ impl Volumes {
     pub fn new(pairs: &[(Period, Qty)]) -> Result<Volumes, VolumesFault>
         ensures ok { IfOk result (λ v. (v ≡ pairs.now) × IsVolumes pairs.now) }
         ensures no_volume { IsErrOf result VolumesFault.NoVolume → length pairs.now ≡ 0 }
-        ensures too_many { IsErrOf result VolumesFault.TooManyPeriods → last_period < length pairs.now }
-        ensures not_increasing { IsErrOf result VolumesFault.PeriodsNotIncreasing → (0 < length pairs.now) × (length pairs.now ≤ last_period) × (is_increasing 0 pairs.now ≡ false) }
+        ensures too_many { IsErrOf result VolumesFault.TooManyPeriods
+            → last_period < length pairs.now }
+        ensures not_increasing { IsErrOf result VolumesFault.PeriodsNotIncreasing
+            → (0 < length pairs.now) × (length pairs.now ≤ last_period)
+            × (is_increasing 0 pairs.now ≡ false) }
     {
         if pairs.is_empty() {
             return Err(VolumesFault::NoVolume);
