@@ -51,8 +51,8 @@ def hourly_differences(problem, said, follows):
         if wanted is not None and executed != wanted:
             price = follows.cleared[row.order.volumes[0][0]].price
             line = said.lines[f"hour {row}"]
-            right = f"the rule gives {wanted} ({better_word(row, price)})"
-            yield f"results line {line}: hour {row}: {executed} is executed, and {right}"
+            gives = f"the rule gives {wanted} ({better_word(row, price)})"
+            yield f"results line {line}: hour {row}: {executed} is executed, and {gives}"
 
 
 def block_differences(problem, said, follows):
