@@ -1,0 +1,128 @@
+-- What one answer more makes of the least unfinished one and of the highest that was found.
+use Rattle.std.proofs.Common.{◌≡◌, ℕ, ◌+◌, ◌^◌, ◌<◌, ◌≤◌, ◌⊎◌, inl, inr, Bool, true, false, not, ◌&&◌, nat_lt, cond, ◌==◌, Option, Some, None, List, [], ◌∷◌, ◌++◌, slice_index_or, ap, sym, subst, refl, arith}
+use Rattle.std.specs.List.{All, Contains, count_by}
+use Rattle.std.proofs.lemmas.Bool.Decides.{nat_tests}
+use Rattle.std.proofs.lemmas.List.Elements.{All-push, All-weaker, Contains-push, Contains-append_left, Contains-append_right}
+use Rattle.std.proofs.lemmas.List.Sums.{sum_by-append}
+use Rattle.std.proofs.lemmas.Bool.{eqb-true}
+use Rattle.dam_blocks.specs.declared.selection.Best.{Best}
+use Rattle.dam_blocks.specs.Problem.{ProblemState}
+use Rattle.dam_search.specs.declared.answer.PieceAnswer.{PieceAnswer}
+use Rattle.dam_search.specs.Piece.{Rises}
+use Rattle.dam_search.specs.Answer.{AreAnswered}
+use Rattle.dam_search.specs.Search.{IsWorked, answers_about, is_lesser, IsLeastUnfinished, IsLong, IsHighestFound}
+use Rattle.dam_search.proofs.Ranks.{IsTransitive, rises_twice}
+
+not_done : (b : Bool) → not b ≡ true → b ≡ false
+not_done true e = absurd (cc)
+not_done false e = refl
+
+is_done : (b : Bool) → not b ≡ false → b ≡ true
+is_done true e = refl
+is_done false e = absurd (cc)
+
+-- ---- the least answer that isn't done
+
+Behind : PieceAnswer → PieceAnswer → Type 0
+Behind u a = a.done ≡ false → u.piece ≤ a.piece
+
+pub lesser_step : (answers : List PieceAnswer) (a : PieceAnswer) (least : Option PieceAnswer) → IsLeastUnfinished answers least → is_lesser a least ≡ true → IsLeastUnfinished (answers ++ a ∷ []) (Some a)
+lesser_step answers a None h e = (
+  Contains-push answers a,
+  not_done a.done e,
+  All-push (λ (x : PieceAnswer). x.done ≡ false → a.piece ≤ x.piece) answers a
+      (All-weaker (λ (x : PieceAnswer). x.done ≡ true) (λ (x : PieceAnswer). x.done ≡ false → a.piece ≤ x.piece) (λ (x : PieceAnswer) (d : x.done ≡ true) (f : x.done ≡ false). absurd (cc)) answers h)
+      (λ f. omega arith),
+)
+lesser_step answers a (Some u) h e =
+    let both = parts a.done (nat_lt a.piece u.piece) e in
+    let less : a.piece < u.piece = grind (arith, nat_tests, both.1) in (
+      Contains-push answers a,
+      not_done a.done both.0,
+      All-push (λ (x : PieceAnswer). x.done ≡ false → a.piece ≤ x.piece) answers a
+          (All-weaker (λ (x : PieceAnswer). x.done ≡ false → u.piece ≤ x.piece) (λ (x : PieceAnswer). x.done ≡ false → a.piece ≤ x.piece)
+          (λ (x : PieceAnswer) (b : x.done ≡ false → u.piece ≤ x.piece) (f : x.done ≡ false). (let m = b f in omega (arith, m, less))) answers h.2)
+          (λ f. omega arith),
+    )
+  where
+    parts : (b c : Bool) → (not b && c) ≡ true → (not b ≡ true) × (c ≡ true)
+    parts true c e = absurd (cc)
+    parts false c e = (refl, e)
+
+pub kept_step : (answers : List PieceAnswer) (a : PieceAnswer) (least : Option PieceAnswer) → IsLeastUnfinished answers least → is_lesser a least ≡ false → IsLeastUnfinished (answers ++ a ∷ []) least
+kept_step answers a None h e = All-push (λ (x : PieceAnswer). x.done ≡ true) answers a h (is_done a.done e)
+kept_step answers a (Some u) h e = (
+  Contains-append_left answers (a ∷ []) u h.0,
+  h.1,
+  All-push (λ (x : PieceAnswer). x.done ≡ false → u.piece ≤ x.piece) answers a h.2 (λ f. (let m = behind a.done (nat_lt a.piece u.piece) f e in grind (arith, nat_tests, m))),
+)
+  where
+    behind : (b c : Bool) → b ≡ false → (not b && c) ≡ false → c ≡ false
+    behind true c f e = absurd (cc)
+    behind false c f e = e
+
+-- ---- the highest that was found
+
+pub long_from : (best next result : Option Best) → IsLong best → IsLong next → (result ≡ best) ⊎ (result ≡ next) → IsLong result
+long_from best next result l m (inl e) = subst IsLong (sym e) l
+long_from best next result l m (inr e) = subst IsLong (sym e) m
+
+-- what the answers found ranks at or below what is highest
+below_highest : (answers : List PieceAnswer) (best : Option Best) → IsHighestFound answers best → All (λ (x : PieceAnswer). Rises x.best best) answers
+below_highest answers None h = All-weaker (λ (x : PieceAnswer). x.best ≡ None) (λ (x : PieceAnswer). Rises x.best None) (λ (x : PieceAnswer) (e : x.best ≡ None). subst (λ (o : Option Best). Rises o None) (sym e) tt) answers h
+below_highest answers (Some b) h = h.others
+
+no_more : (o : Option Best) → Rises o None → o ≡ None
+no_more None h = refl
+no_more (Some b) h = absurd h
+
+-- one of the answers found it
+among_highest : (answers : List PieceAnswer) (b : Best) (best : Option Best) → best ≡ Some b → IsHighestFound answers best → (a : PieceAnswer) × Contains answers a × (a.best ≡ Some b)
+among_highest answers b best e h = let k = subst (λ (o : Option Best). IsHighestFound answers o) e h in k.among
+
+-- the answers so far and the next one
+everyone : (answers : List PieceAnswer) (a : PieceAnswer) (best result : Option Best) → IsTransitive → All (λ (x : PieceAnswer). IsLong x.best) answers → IsLong best → IsLong result → IsHighestFound answers best
+    → Rises best result → Rises a.best result → All (λ (x : PieceAnswer). Rises x.best result) (answers ++ a ∷ [])
+everyone answers a best result through long lb lr h before next =
+    All-push (λ (x : PieceAnswer). Rises x.best result) answers a
+    (λ k d l. rises_twice (slice_index_or answers k d).best best result through (long k d l) lb lr (below_highest answers best h k d l) before) next
+
+pub highest_step : (answers : List PieceAnswer) (a : PieceAnswer) (best result : Option Best) → IsTransitive → All (λ (x : PieceAnswer). IsLong x.best) answers → IsLong best → IsLong result → IsHighestFound answers best
+    → (result ≡ best) ⊎ (result ≡ a.best) → Rises best result → Rises a.best result → IsHighestFound (answers ++ a ∷ []) result
+highest_step answers a best None through long lb lr h either before next =
+    let all = everyone answers a best None through long lb lr h before next in
+    All-weaker (λ (x : PieceAnswer). Rises x.best None) (λ (x : PieceAnswer). x.best ≡ None) (λ (x : PieceAnswer) (r : Rises x.best None). no_more x.best r) (answers ++ a ∷ []) all
+highest_step answers a best (Some b) through long lb lr h either before next = record {
+  among = elim either [
+    | inl e ↦ (let some = among_highest answers b best (sym e) h in (some.0, Contains-append_left answers (a ∷ []) some.0 some.1, some.2))
+    | inr e ↦ (a, Contains-push answers a, sym e)
+  ];
+  others = everyone answers a best (Some b) through long lb lr h before next;
+}
+
+-- ---- one answer about each piece
+
+count_by-cons : (p : PieceAnswer → Bool) (a : PieceAnswer) (answers : List PieceAnswer) → count_by p (a ∷ answers) ≡ cond (p a) 1 0 + count_by p answers
+count_by-cons p a answers = let f : PieceAnswer → ℕ = λ x. cond (p x) 1 0 in let e = sum_by-append f (a ∷ []) answers in omega (arith, e)
+
+counted : (p : PieceAnswer → Bool) (answers : List PieceAnswer) → 0 < count_by p answers → (a : PieceAnswer) × Contains answers a × (p a ≡ true)
+counted p [] h = absurd (omega arith)
+counted p (a ∷ answers) h =
+    elim (p a) as (λ b. p a ≡ b → (x : PieceAnswer) × Contains (a ∷ answers) x × (p x ≡ true)) [
+      | true ↦ λ e. (a, Contains-append_left (a ∷ []) answers a (Contains-push [] a), e)
+      | false ↦ λ e.
+          (let rest : 0 < count_by p answers = omega (arith, h, count_by-cons p a answers, ap {B = ℕ} (λ (b : Bool). cond b 1 0) e) in
+          let found = counted p answers rest in
+          (found.0, Contains-append_right (a ∷ []) answers found.0 found.1, found.2))
+    ] refl
+
+pub answered : (problem : ProblemState) (depth nodes : ℕ) (answers : List PieceAnswer) → All (λ (a : PieceAnswer). IsWorked problem depth nodes a) answers
+    → ((q : ℕ) → q < 2 ^ depth → answers_about answers q ≡ 1) → All (λ (a : PieceAnswer). a.done ≡ true) answers → AreAnswered problem depth answers
+answered problem depth nodes answers worked one done = record {
+  sound = λ k d l. (worked k d l).sound;
+  done = done;
+  each = λ piece l.
+      (let some : 0 < answers_about answers piece = omega (arith, one piece l) in
+      let found = counted (λ (a : PieceAnswer). a.piece == piece) answers some in
+      (found.0, found.1, eqb-true found.0.piece piece found.2));
+}

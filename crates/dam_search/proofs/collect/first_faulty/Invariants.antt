@@ -1,0 +1,7 @@
+-- Each piece before has one answer.
+use Rattle.std.proofs.Common.{◌≡◌, ℕ, ◌<◌}
+use Rattle.dam_search.specs.Search.{answers_about}
+use Rattle.dam_search.proofs.collect.first_faulty.Given as goal
+
+abbrev pub invariant-loop-piece : goal.invariant-loop-piece
+invariant-loop-piece l = (q : ℕ) → q < l.piece → answers_about l.answers q ≡ 1

@@ -1,0 +1,15 @@
+-- What was found stays, or the answer's own takes its place.
+use Rattle.std.proofs.Common.{Option, Some, sym, subst}
+use Rattle.dam_blocks.specs.declared.selection.Best.{Best}
+use Rattle.dam_search.specs.Piece.{Rises}
+use Rattle.dam_search.proofs.Ranks.{stays}
+use Rattle.dam_search.proofs.collect.higher.Goals as goal
+
+pub returns-in_default-clause-before : goal.returns-in_default-clause-before
+returns-in_default-clause-before c = stays c.args.best
+
+pub returns-then-surpasses-clause-answer : goal.returns-then-surpasses-clause-answer
+returns-then-surpasses-clause-answer c = subst (λ (o : Option Best). Rises o (Some c.in-Some.candidate)) (sym c.in-Some.is) (stays (Some c.in-Some.candidate))
+
+pub returns-else-surpasses-clause-before : goal.returns-else-surpasses-clause-before
+returns-else-surpasses-clause-before c = stays c.args.best

@@ -1,0 +1,35 @@
+-- The answers about the pieces of a search, and what they come to.
+use Rattle.std.specs.Prelude.{◌≡◌, ℕ, ◌^◌, ◌<◌, max, ℤ, pos, ◌≤ℤ◌, Bool, true, Some, List, [], ◌∷◌, All, Contains}
+use Rattle.dam_blocks.specs.declared.selection.Best.{Best}
+use Rattle.dam_blocks.specs.Problem.{ProblemState}
+use Rattle.dam_blocks.specs.Selection.{choice}
+use Rattle.dam_blocks.specs.Eligible.{IsEligible}
+use Rattle.dam_search.specs.declared.answer.PieceAnswer.{PieceAnswer}
+use Rattle.dam_search.specs.Piece.{Rises, welfare_found, IsSound}
+
+-- a sound answer about its piece of a cutting of this depth
+abbrev pub IsSoundAnswer : ProblemState → ℕ → PieceAnswer → Type 0
+IsSoundAnswer problem depth a = IsSound problem (choice depth a.piece) a.best a.read a.done
+
+-- sound answers, all of them done, and one about each piece of a cutting of this depth
+pub record AreAnswered (problem : ProblemState) (depth : ℕ) (answers : List PieceAnswer) : Type 0 where
+  pub sound : All (λ (a : PieceAnswer). IsSoundAnswer problem depth a) answers
+  pub done : All (λ (a : PieceAnswer). a.done ≡ true) answers
+  pub each : (piece : ℕ) → piece < 2 ^ depth → (a : PieceAnswer) × Contains answers a × (a.piece ≡ piece)
+
+-- some eligible selection has at least this welfare
+pub record IsReached (problem : ProblemState) (value : ℕ) : Type 0 where
+  pub selection : List Bool
+  pub welfare : ℤ
+  pub eligible : IsEligible problem selection welfare
+  pub reaches : pos value ≤ℤ welfare
+
+-- the greatest welfare of what the answers found, 0 where they found nothing
+abbrev pub greatest_found : List PieceAnswer → ℕ
+greatest_found [] = 0
+greatest_found (a ∷ answers) = max (welfare_found a.best) (greatest_found answers)
+
+-- one of the selections that the answers found, and the others rank at or below it
+pub record IsHighest (answers : List PieceAnswer) (b : Best) : Type 0 where
+  pub among : (a : PieceAnswer) × Contains answers a × (a.best ≡ Some b)
+  pub others : All (λ (a : PieceAnswer). Rises a.best (Some b)) answers

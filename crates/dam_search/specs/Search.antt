@@ -1,0 +1,52 @@
+-- The answers of the workers, and what a search makes of them.
+use Rattle.std.specs.Prelude.{◌≡◌, ◌≢◌, ℕ, ◌-◌, ◌^◌, ◌<◌, ◌≤◌, Bool, true, false, not, ◌&&◌, nat_lt, ◌==◌, Option, Some, None, List, length, All, Contains, count_by}
+use Rattle.dam_book.specs.declared.limits.TheConstants.{MOST_BLOCKS}
+use Rattle.dam_blocks.specs.declared.selection.Best.{Best}
+use Rattle.dam_blocks.specs.Problem.{ProblemState}
+use Rattle.dam_blocks.specs.Selection.{choice}
+use Rattle.dam_search.specs.declared.answer.PieceAnswer.{PieceAnswer}
+use Rattle.dam_search.specs.Piece.{IsSpent, all_nodes, live_nodes}
+use Rattle.dam_search.specs.Answer.{IsSoundAnswer, IsReached, IsHighest}
+
+-- a worker's answer about a piece of the cutting: it is sound, read no more than some eligible selection has, and kept to the limit
+pub record IsWorked (problem : ProblemState) (depth nodes : ℕ) (a : PieceAnswer) : Type 0 where
+  pub in_cutting : a.piece < 2 ^ depth
+  pub sound : IsSoundAnswer problem depth a
+  pub reached : IsReached problem a.read
+  pub spent : IsSpent problem (choice depth a.piece) (length problem.blocks - depth) 0 nodes a.visited a.done
+
+-- the piece of the cutting visited as many nodes as it may, and could have had to visit more, by either bound
+pub record IsUnfinished (problem : ProblemState) (depth nodes piece visited : ℕ) : Type 0 where
+  pub in_cutting : piece < 2 ^ depth
+  pub limit_met : visited ≡ nodes
+  pub over_all : nodes < all_nodes (length problem.blocks - depth)
+  pub over_live : nodes < live_nodes problem 0 (choice depth piece) (length problem.blocks - depth)
+
+-- how many answers there are about the piece
+abbrev pub answers_about : List PieceAnswer → ℕ → ℕ
+answers_about answers piece = count_by (λ (a : PieceAnswer). a.piece == piece) answers
+
+-- the piece has no answer or more than one, and each before it has one
+pub record IsFirstFaulty (answers : List PieceAnswer) (piece : ℕ) : Type 0 where
+  pub faulty : answers_about answers piece ≢ 1
+  pub before : (q : ℕ) → q < piece → answers_about answers q ≡ 1
+
+-- whether the answer isn't done, and is about a lesser piece than that one
+abbrev pub is_lesser : PieceAnswer → Option PieceAnswer → Bool
+is_lesser a None = not a.done
+is_lesser a (Some u) = not a.done && nat_lt a.piece u.piece
+
+-- the answer about the least piece of those that aren't done
+abbrev pub IsLeastUnfinished : List PieceAnswer → Option PieceAnswer → Type 0
+IsLeastUnfinished answers None = All (λ (a : PieceAnswer). a.done ≡ true) answers
+IsLeastUnfinished answers (Some u) = Contains answers u × (u.done ≡ false) × All (λ (a : PieceAnswer). a.done ≡ false → u.piece ≤ a.piece) answers
+
+-- what was found is as long as a selection is
+abbrev pub IsLong : Option Best → Type 0
+IsLong None = Unit {0}
+IsLong (Some b) = length b.selection ≡ MOST_BLOCKS
+
+-- the highest of what the answers found, nothing where they found nothing
+abbrev pub IsHighestFound : List PieceAnswer → Option Best → Type 0
+IsHighestFound answers None = All (λ (a : PieceAnswer). a.best ≡ None) answers
+IsHighestFound answers (Some b) = IsHighest answers b

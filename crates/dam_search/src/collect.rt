@@ -1,0 +1,128 @@
+ghost use Rattle.std.specs.Prelude.{◌≡◌, ◌⊎◌, ◌<◌, ◌≤◌, ◌^◌, ℕ, pos, [], length, All, MatchOption, IfOk, IsErrOf};
+ghost use Rattle.dam_blocks.specs.Result.{IsResult};
+ghost use Rattle.dam_search.specs.Limits.{most_cut};
+ghost use Rattle.dam_search.specs.Piece.{Rises};
+ghost use Rattle.dam_search.specs.Search.{IsWorked, IsUnfinished, answers_about, IsFirstFaulty, is_lesser, IsLong, IsLeastUnfinished, IsHighestFound};
+
+use crate::answer::PieceAnswer;
+use crate::fault::SearchFault;
+use crate::laws;
+use crate::piece::surpasses;
+use dam_blocks::{Best, Problem};
+use std::alloc::Allocator;
+
+/// The number of pieces of a cutting of this depth.
+pub(crate) fn pieces(depth: usize) -> u32
+    requires { depth ≤ most_cut }
+    ensures value { result ≡ 2 ^ depth }
+    ensures few { result ≤ 256 }
+{
+    1 << depth
+}
+
+/// How many answers there are about a piece.
+fn answers_about(answers: &[PieceAnswer], piece: u32) -> usize
+    ensures { result ≡ answers_about answers.now piece }
+{
+    answers
+        .iter()
+        .filter(|answer| answer.piece == piece)
+        .count()
+}
+
+/// The first piece that has no answer or more than one.
+fn first_faulty(answers: &[PieceAnswer], pieces: u32) -> Option<u32>
+    ensures { MatchOption result ((q : ℕ) → q < pieces → answers_about answers.now q ≡ 1)
+        (λ piece. IsFirstFaulty answers.now piece) }
+{
+    for piece in 0..pieces {
+        if answers_about(answers, piece) != 1 {
+            return Some(piece);
+        }
+    }
+    None
+}
+
+/// Whether the answer isn't done, and is about a lesser piece than the one found so far.
+fn is_lesser(answer: &PieceAnswer, least: &Option<PieceAnswer>) -> bool
+    ensures { result ≡ is_lesser answer.now least.now }
+{
+    match least {
+        Some(least) => !answer.done && answer.piece < least.piece,
+        None => !answer.done,
+    }
+}
+
+/// The answer about the least piece of those that aren't done.
+fn least_unfinished(answers: &[PieceAnswer]) -> Option<PieceAnswer>
+    ensures { IsLeastUnfinished answers.now result }
+{
+    let mut least = None;
+    for answer in answers {
+        if is_lesser(answer, &least) {
+            least = Some(*answer);
+        }
+    }
+    least
+}
+
+/// The better of what was found before and what the answer found.
+fn higher(best: Option<Best>, answer: &PieceAnswer) -> Option<Best>
+    ensures either { (result ≡ best) ⊎ (result ≡ answer.now.best) }
+    ensures before { Rises best result }
+    ensures answer { Rises answer.now.best result }
+{
+    let Some(candidate) = answer.best else {
+        return best;
+    };
+    if surpasses(&candidate, &best) {
+        Some(candidate)
+    } else {
+        best
+    }
+}
+
+/// The highest of what the answers found.
+fn highest(answers: &[PieceAnswer]) -> Option<Best>
+    requires { All (λ a. IsLong a.best) answers.now }
+    ensures { IsHighestFound answers.now result }
+{
+    dam_blocks::laws::ranking();
+    let mut best = None;
+    for answer in answers {
+        best = higher(best, answer);
+    }
+    best
+}
+
+/// What the workers' answers come to: the result, or the first fault. A piece without just one answer comes first, and
+/// then the least one that is unfinished.
+pub(crate) fn collected<A: Allocator>(
+    problem: &Problem<A>,
+    depth: usize,
+    nodes: u32,
+    answers: &[PieceAnswer],
+) -> Result<Best, SearchFault>
+    requires depth { depth ≤ length problem.now.blocks }
+    requires few { depth ≤ most_cut }
+    requires worked { All (λ a. IsWorked problem.now depth nodes a) answers.now }
+    ensures ok { IfOk result (λ best. IsResult problem.now best.selection (pos best.welfare)) }
+    ensures unfinished { (piece visited : ℕ) → IsErrOf result (SearchFault.Unfinished piece visited)
+        → IsUnfinished problem.now depth nodes piece visited }
+{
+    laws::collecting();
+    let _kept = problem.periods();
+    if let Some(piece) = first_faulty(answers, pieces(depth)) {
+        return Err(SearchFault::Collected { piece });
+    }
+    if let Some(answer) = least_unfinished(answers) {
+        return Err(SearchFault::Unfinished {
+            piece: answer.piece,
+            visited: answer.visited,
+        });
+    }
+    match highest(answers) {
+        Some(best) => Ok(best),
+        None => unreachable!(),
+    }
+}

@@ -1,0 +1,50 @@
+//! The laws of the search, each the contract of a function that does nothing.
+//!
+//! A caller that needs one of them in a proof calls the function, at no cost.
+
+ghost use Rattle.std.specs.Prelude.{◌≡◌, ◌≤◌, max, ℕ, pos, None, List, length, All};
+ghost use Rattle.dam_blocks.specs.declared.selection.Best.{Best};
+ghost use Rattle.dam_blocks.specs.Problem.{ProblemState, IsProblem};
+ghost use Rattle.dam_blocks.specs.Result.{IsResult};
+ghost use Rattle.dam_search.specs.declared.answer.PieceAnswer.{PieceAnswer};
+ghost use Rattle.dam_search.specs.Limits.{most_workers, most_cut, most_nodes};
+ghost use Rattle.dam_search.specs.Answer.{AreAnswered, IsReached, greatest_found, IsHighest};
+
+use crate::plan::{MOST_CUT, MOST_NODES, MOST_WORKERS};
+
+/// The limits of a plan are the exported constants.
+pub fn limits()
+    ensures workers { most_workers ≡ MOST_WORKERS }
+    ensures cut { most_cut ≡ MOST_CUT }
+    ensures nodes { most_nodes ≡ MOST_NODES }
+{}
+
+/// The collecting law: of sound answers about every piece, all of them done, the highest that was found is the
+/// result, provided that no value read exceeds the greatest welfare found.
+///
+/// The value may also be that of another eligible selection, as one that was offered to the workers before they started:
+/// it is enough that some eligible selection has at least the value read.
+pub fn collecting()
+    ensures bests { (problem : ProblemState) (depth : ℕ) (answers : List PieceAnswer) (b : Best) → IsProblem problem
+        → depth ≤ length problem.blocks → AreAnswered problem depth answers
+        → All (λ a. a.read ≤ greatest_found answers) answers
+        → IsHighest answers b → IsResult problem b.selection (pos b.welfare) }
+    ensures first { (problem : ProblemState) (depth first : ℕ) (answers : List PieceAnswer) (b : Best) → IsProblem problem
+        → depth ≤ length problem.blocks → AreAnswered problem depth answers → IsReached problem first
+        → All (λ a. a.read ≤ max first (greatest_found answers)) answers
+        → IsHighest answers b → IsResult problem b.selection (pos b.welfare) }
+    ensures reached { (problem : ProblemState) (depth : ℕ) (answers : List PieceAnswer) (b : Best) → IsProblem problem
+        → depth ≤ length problem.blocks → AreAnswered problem depth answers
+        → All (λ a. IsReached problem a.read) answers
+        → IsHighest answers b → IsResult problem b.selection (pos b.welfare) }
+    ensures found { (problem : ProblemState) (depth : ℕ) (answers : List PieceAnswer) → IsProblem problem
+        → depth ≤ length problem.blocks → AreAnswered problem depth answers
+        → All (λ a. IsReached problem a.read) answers
+        → ¬ (All (λ a. a.best ≡ None) answers) }
+{
+    dam_blocks::laws::empty_is_eligible();
+    dam_blocks::laws::eligible_welfare();
+    dam_blocks::laws::ranking();
+    dam_blocks::laws::existence();
+    dam_blocks::laws::choices();
+}

@@ -1,0 +1,21 @@
+/// What is called round each job's work, on the thread that does it.
+///
+/// A search calls it round each piece, with the piece's number. So a caller can see which jobs are at work side by
+/// side, or have one wait for another: a call may take as long as it likes.
+pub trait Turnstile {
+    /// Called before the work of a job.
+    fn before(&self, job: u32);
+
+    /// Called after the work of a job.
+    fn after(&self, job: u32);
+}
+
+/// Lets every job through at once.
+#[derive(Clone, Copy, PartialEq, Eq, Debug)]
+pub struct FreeTurn;
+
+impl Turnstile for FreeTurn {
+    fn before(&self, _job: u32) {}
+
+    fn after(&self, _job: u32) {}
+}
