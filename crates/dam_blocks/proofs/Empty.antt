@@ -80,7 +80,7 @@ empty_eligible laws problem are =
         admissible = empty_admissible problem.blocks;
         prices = day.prices;
         are_prices = day.are_prices;
-        no_loss = record { surplus = λ i b e f. absurd (empty_accepted i e) };
+        no_loss = record { gains = λ i e. absurd (empty_accepted i e) };
         welfare_is = day.welfare_is;
       },
     )

@@ -1,6 +1,5 @@
 -- A problem has a result: whether a selection is eligible is decided, and of the eligible ones one is the best.
-use Rattle.std.proofs.Common.{◌≡◌, ℕ, zero, suc, ◌+◌, ◌-◌, ◌≤◌, ◌^◌, ℤ, pos, neg_ℤ, ◌≤ℤ◌, Bool, true, false, inl, inr, Some, List, [], ◌∷◌, length, replicate, length-append, subst, refl, arith}
-use Rattle.std.specs.List.{slice_get}
+use Rattle.std.proofs.Common.{◌≡◌, ℕ, zero, suc, ◌+◌, ◌-◌, ◌≤◌, ◌^◌, ℤ, pos, neg_ℤ, ◌≤ℤ◌, Bool, true, false, inl, inr, List, [], ◌∷◌, length, replicate, length-append, subst, refl, arith}
 use Rattle.std.proofs.lemmas.List.{length-replicate}
 use Rattle.dam_book.specs.declared.order.Side.TheVariants.{Buy, Sell}
 use Rattle.dam_book.specs.declared.limits.TheConstants.{MOST_BLOCKS}
@@ -10,9 +9,9 @@ use Rattle.std.proofs.Math.Decide.{map_dec}
 use Rattle.dam_blocks.specs.declared.problem.Block.{Block}
 use Rattle.dam_blocks.specs.Problem.{ProblemState, AreHours, IsProblem}
 use Rattle.dam_blocks.specs.Selection.{accepts, padded, empty_selection, choice, net_volume, IsAdmissible}
-use Rattle.dam_blocks.specs.Eligible.{ArePrices, surplus_of, HasNoLoss, IsEligible}
+use Rattle.dam_blocks.specs.Eligible.{ArePrices, gain_at, HasNoLoss, IsEligible}
 use Rattle.dam_blocks.specs.Result.{RanksAtOrBelow, IsResult}
-use Rattle.dam_blocks.proofs.Deciding.{decided_both, decided_if, decided_true, decided_at_least, decided_each, decided_at}
+use Rattle.dam_blocks.proofs.Deciding.{decided_both, decided_if, decided_true, decided_at_least, decided_each}
 use Rattle.dam_blocks.proofs.Admitting.{accepted_within, decided_admissible}
 use Rattle.dam_blocks.proofs.Empty.{ExistenceLaws, AreWithin, Cleared, cleared}
 use Rattle.dam_blocks.proofs.Prices.{prices_unique}
@@ -47,18 +46,12 @@ within_from_prices law blocks sel t (ss ∷ hours) (p ∷ prices) are =
     (law ss (net_volume blocks sel t) supports.volumes supports.execution supports.balance, within_from_prices law blocks sel (suc t) hours prices are.1)
 
 -- ---- no loss
-abbrev GainsAt : List Block → List ℤ → ℕ → Type 0
-GainsAt blocks prices i = (b : Block) → slice_get blocks i ≡ Some b → pos 0 ≤ℤ surplus_of prices b.order
-
-decided_gain : (blocks : List Block) (prices : List ℤ) (i : ℕ) → Dec (GainsAt blocks prices i)
-decided_gain blocks prices i = decided_at (slice_get blocks i) (λ (b : Block). pos 0 ≤ℤ surplus_of prices b.order) (λ b. decided_at_least (pos 0) (surplus_of prices b.order))
-
 decided_no_loss : (blocks : List Block) (sel : List Bool) (prices : List ℤ) → Dec (HasNoLoss blocks sel prices)
-decided_no_loss blocks sel prices = map_dec {A = (i : ℕ) → accepts sel i ≡ true → GainsAt blocks prices i} {B = HasNoLoss blocks sel prices}
-    (λ all. record { surplus = λ i b e at. all i e b at })
-    (λ h i e b at. h.surplus i b e at)
-    (decided_each (λ (i : ℕ). accepts sel i ≡ true) (GainsAt blocks prices) (length sel) (accepted_within sel)
-    (λ i. decided_if (accepts sel i ≡ true) (GainsAt blocks prices i) (decided_true (accepts sel i)) (decided_gain blocks prices i)))
+decided_no_loss blocks sel prices = map_dec {A = (i : ℕ) → accepts sel i ≡ true → pos 0 ≤ℤ gain_at blocks sel prices i} {B = HasNoLoss blocks sel prices}
+    (λ all. record { gains = all })
+    (λ h. h.gains)
+    (decided_each (λ (i : ℕ). accepts sel i ≡ true) (λ (i : ℕ). pos 0 ≤ℤ gain_at blocks sel prices i) (length sel) (accepted_within sel)
+    (λ i. decided_if (accepts sel i ≡ true) (pos 0 ≤ℤ gain_at blocks sel prices i) (decided_true (accepts sel i)) (decided_at_least (pos 0) (gain_at blocks sel prices i))))
 
 -- ---- the selection
 abbrev pub IsAnEligible : ProblemState → List Bool → Type 0

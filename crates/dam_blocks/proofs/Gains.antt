@@ -1,5 +1,6 @@
 -- An eligible selection has a welfare of at least 0: the hourly orders gain at the prices, and no accepted block loses.
 use Rattle.std.proofs.Common.{◌≡◌, ℕ, suc, ◌↔◌, ℤ, pos, ◌+ℤ◌, ◌*ℤ◌, ◌≤ℤ◌, Bool, Option, Some, None, List, [], ◌∷◌, refl, arith}
+use Rattle.std.specs.List.{slice_get}
 use Rattle.std.specs.Option.{option_map}
 use Rattle.std.proofs.lemmas.Int.{ints}
 use Rattle.dam_hour.specs.declared.step.Step.{Step}
@@ -9,7 +10,7 @@ use Rattle.dam_hour.specs.Best.{welfare_of, surplus_at, greatest_welfare}
 use Rattle.dam_blocks.specs.declared.problem.Block.{Block}
 use Rattle.dam_blocks.specs.Problem.{ProblemState, IsProblem}
 use Rattle.dam_blocks.specs.Selection.{over_accepted, net_volume, block_value}
-use Rattle.dam_blocks.specs.Eligible.{IsClearingPrice, ArePrices, surplus_in, surplus_from, surplus_of, HasNoLoss, added, period_welfare, welfare_from, IsEligible}
+use Rattle.dam_blocks.specs.Eligible.{IsClearingPrice, ArePrices, surplus_in, surplus_from, surplus_of, gain_at, HasNoLoss, added, period_welfare, welfare_from, IsEligible}
 use Rattle.dam_blocks.proofs.Sums.{over_accepted-plus, over_accepted-zero, over_accepted-at_least, accepted_surplus}
 
 -- what the laws of one period say of its price
@@ -59,9 +60,15 @@ gains_from laws blocks sel t (ss ∷ hours) (p ∷ prices) w are e =
     let sum = parts.4 in let own = hour.2 in
     omega (arith, ints, rest, least, here, both, sum, own)
 
+gain_is : (blocks : List Block) (sel : List Bool) (prices : List ℤ) (i : ℕ) (b : Block) → slice_get blocks i ≡ Some b
+    → gain_at blocks sel prices i ≡ surplus_of prices b.order
+gain_is blocks sel prices i b e = rw e
+
 -- the surpluses of all accepted blocks add up to at least 0
 no_loss_in_all : (blocks : List Block) (sel : List Bool) (prices : List ℤ) → HasNoLoss blocks sel prices → pos 0 ≤ℤ over_accepted (surplus_of prices) blocks sel
-no_loss_in_all blocks sel prices h = over_accepted-at_least (surplus_of prices) blocks sel h.surplus
+no_loss_in_all blocks sel prices h =
+    over_accepted-at_least (surplus_of prices) blocks sel (λ i b e at.
+    (let gain = h.gains i e in let is = gain_is blocks sel prices i b at in omega (arith, ints, gain, is)))
 
 pub welfare_at_least_zero : PriceLaws → (problem : ProblemState) (sel : List Bool) (w : ℤ) → IsProblem problem → IsEligible problem sel w → pos 0 ≤ℤ w
 welfare_at_least_zero laws problem sel w is e =

@@ -1,5 +1,5 @@
 -- The prices and the welfare of a selection, surplus and no loss, and which selections are eligible.
-use Rattle.std.specs.Prelude.{◌≡◌, ℕ, suc, ℤ, pos, ◌+ℤ◌, ◌-ℤ◌, ◌*ℤ◌, ◌≤ℤ◌, Bool, true, Option, Some, None, option_map, List, [], ◌∷◌, length, slice_get}
+use Rattle.std.specs.Prelude.{◌≡◌, ℕ, suc, ℤ, pos, ◌+ℤ◌, ◌-ℤ◌, ◌*ℤ◌, ◌≤ℤ◌, Bool, true, Option, Some, None, option_map, unwrap_or, List, [], ◌∷◌, length, slice_get}
 use Rattle.dam_book.specs.Terms.{BlockTerms}
 use Rattle.dam_book.specs.declared.limits.TheConstants.{MOST_BLOCKS}
 use Rattle.dam_hour.specs.Price.{AreEnds, price_between}
@@ -36,9 +36,13 @@ surplus_from t (p ∷ prices) o = surplus_in t p o +ℤ surplus_from (suc t) pri
 abbrev pub surplus_of : List ℤ → BlockTerms → ℤ
 surplus_of prices o = surplus_from 1 prices o
 
+-- what the accepted block at a place may not have below 0: its own surplus, whatever else is accepted; 0 where no block stands
+abbrev pub gain_at : List Block → List Bool → List ℤ → ℕ → ℤ
+gain_at blocks sel prices i = unwrap_or (option_map (λ b. surplus_of prices b.order) (slice_get blocks i)) (pos 0)
+
 -- no accepted block loses; a rejected one may have any surplus
 pub record HasNoLoss (blocks : List Block) (sel : List Bool) (prices : List ℤ) : Type 0 where
-  pub surplus : (i : ℕ) (b : Block) → accepts sel i ≡ true → slice_get blocks i ≡ Some b → pos 0 ≤ℤ surplus_of prices b.order
+  pub gains : (i : ℕ) → accepts sel i ≡ true → pos 0 ≤ℤ gain_at blocks sel prices i
 
 -- the sum, where there are both
 abbrev pub added : Option ℤ → Option ℤ → Option ℤ

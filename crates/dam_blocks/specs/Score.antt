@@ -7,7 +7,7 @@ use Rattle.dam_blocks.specs.declared.scoring.Verdict.{Verdict}
 use Rattle.dam_blocks.specs.declared.scoring.Verdict.TheVariants.{NotAdmissible, Unbalanced, Losing, Eligible}
 use Rattle.dam_blocks.specs.Problem.{ProblemState}
 use Rattle.dam_blocks.specs.Selection.{accepts, net_volume, IsAdmissible}
-use Rattle.dam_blocks.specs.Eligible.{ArePrices, surplus_of, IsEligible}
+use Rattle.dam_blocks.specs.Eligible.{ArePrices, gain_at, IsEligible}
 
 -- no execution of the period balances, and one of each period before it does
 pub record IsFirstUnbalanced (problem : ProblemState) (sel : List Bool) (t : ℕ) : Type 0 where
@@ -17,13 +17,11 @@ pub record IsFirstUnbalanced (problem : ProblemState) (sel : List Bool) (t : ℕ
   pub unbalanced : IsUnbalanced hour (net_volume problem.blocks sel t)
   pub before : (s : ℕ) (ss : List Step) → 1 ≤ s → s < t → slice_get problem.hours (s - 1) ≡ Some ss → IsBalanced ss (net_volume problem.blocks sel s)
 
--- the accepted block at the place has a surplus below 0, and no accepted one before it has
+-- the accepted block at the place loses, and no accepted one before it does
 pub record IsFirstLosing (blocks : List Block) (sel : List Bool) (prices : List ℤ) (i : ℕ) : Type 0 where
-  pub block : Block
-  pub stands : slice_get blocks i ≡ Some block
   pub accepted : accepts sel i ≡ true
-  pub loses : surplus_of prices block.order <ℤ pos 0
-  pub before : (j : ℕ) (b : Block) → j < i → accepts sel j ≡ true → slice_get blocks j ≡ Some b → pos 0 ≤ℤ surplus_of prices b.order
+  pub loses : gain_at blocks sel prices i <ℤ pos 0
+  pub before : (j : ℕ) → j < i → accepts sel j ≡ true → pos 0 ≤ℤ gain_at blocks sel prices j
 
 -- the first of the faults, or the welfare
 abbrev pub IsVerdict : ProblemState → List Bool → Verdict → Type 0

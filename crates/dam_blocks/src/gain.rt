@@ -1,9 +1,10 @@
 ghost use Rattle.std.specs.Prelude.{◌≡◌, ◌≤◌, ◌-ℤ◌, ◌≤ℤ◌, pos, negsuc, length};
-ghost use Rattle.dam_blocks.specs.Eligible.{surplus_in, surplus_of};
+ghost use Rattle.dam_blocks.specs.Eligible.{surplus_in, surplus_of, gain_at};
 ghost use Rattle.dam_blocks.specs.Magnitude.{IsWithin, greatest_surplus};
 
 use crate::accepted::{signed, times, volume_in};
-use crate::problem::{MOST_PERIODS, period_at};
+use crate::problem::{Block, MOST_PERIODS, period_at};
+use crate::selection::Selection;
 use dam_book::{BlockOrder, Period, Price};
 
 /// How far the limit is above the price, in cents per MWh.
@@ -40,4 +41,23 @@ pub fn surplus(order: &BlockOrder, prices: &[Price]) -> i64
         total += surplus_in(order, period_at(place), *price);
     }
     total
+}
+
+/// What the accepted block at a place may not have below 0: its own surplus at the prices, whatever
+/// else the selection accepts.
+///
+/// (EUPHEMIA Public Description, "Price Determination Sub-problem".)
+pub(crate) fn gain_at(
+    blocks: &[Block],
+    _selection: Selection,
+    prices: &[Price],
+    place: usize,
+) -> i64
+    requires { length prices.now ≤ MOST_PERIODS }
+    ensures { result ≡ gain_at blocks.now _selection prices.now place }
+{
+    match blocks.get(place) {
+        Some(block) => surplus(&block.order, prices),
+        None => 0,
+    }
 }

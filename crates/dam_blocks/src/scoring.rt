@@ -5,7 +5,7 @@ ghost use Rattle.dam_blocks.specs.Eligible.{ArePrices, HasNoLoss, selection_welf
 ghost use Rattle.dam_blocks.specs.Score.{IsFirstUnbalanced, IsFirstLosing, IsVerdict};
 
 use crate::accepted::{block_value, net_volume};
-use crate::gain::surplus;
+use crate::gain::gain_at;
 use crate::laws;
 use crate::links::admissible;
 use crate::problem::{MOST_PERIODS, Problem, period_at};
@@ -68,8 +68,8 @@ fn first_losing<A: Allocator>(
         (λ place. IsFirstLosing problem.now.blocks selection prices.now place) }
 {
     let blocks = problem.blocks();
-    for (place, block) in blocks.iter().enumerate() {
-        if selection.has(place) && surplus(&block.order, prices) < 0 {
+    for place in 0..blocks.len() {
+        if selection.has(place) && gain_at(blocks, selection, prices, place) < 0 {
             return Some(place);
         }
     }
