@@ -1,7 +1,7 @@
 //! One period cleared many times over.
 
 use dam_book::{Price, Qty, Side};
-use dam_hour::{GREATEST_NET, GREATEST_STEPS, Hour, Step};
+use dam_hour::{GREATEST_NET, MOST_STEPS, Hour, Step};
 use std::alloc::{AllocError, Global};
 
 /// The nets that are cleared by turns, evenly over the range.
@@ -11,7 +11,7 @@ const NETS: u32 = 4_001;
 pub fn hour_of(alloc: Global, count: usize) -> Result<Hour, AllocError> {
     let mut steps = Vec::new(alloc);
     let mut state = 1u32;
-    for turn in 0..count.min(GREATEST_STEPS) {
+    for turn in 0..count.min(MOST_STEPS) {
         state = state.wrapping_mul(1_664_525).wrapping_add(1_013_904_223);
         if let Some(step) = step_of(state / 256) {
             steps.push(step)?;

@@ -5,7 +5,7 @@ use Rattle.std.proofs.lemmas.List.{get_or-drop, length-drop, length-take-le, tak
 use Rattle.std.proofs.Math.ListN.{set}
 use Rattle.std.proofs.Math.Nat.{two-pow-succ, mod-eq_of_lt}
 use Rattle.std.proofs.lemmas.Nat.{pow_pos, pow_below}
-use Rattle.dam_book.specs.declared.limits.TheConstants.{MOST_BLOCKS}
+use Rattle.dam_book.specs.Limits.{most_blocks}
 use Rattle.std.proofs.lemmas.Bool.{cases_lt}
 use Rattle.std.proofs.lemmas.Option.{slice_get_within}
 use Rattle.dam_blocks.specs.Problem.{ProblemState, IsProblem}
@@ -86,20 +86,20 @@ accepts-replicate (suc n) zero e = absurd (cc)
 accepts-replicate (suc n) (suc i) e = accepts-replicate n i e
 
 -- a selection that accepts only the first n places is a choice over them
-pub padded_choice : (n : ℕ) (sel : List Bool) → n ≤ MOST_BLOCKS → length sel ≡ MOST_BLOCKS → ((i : ℕ) → accepts sel i ≡ true → i < n)
+pub padded_choice : (n : ℕ) (sel : List Bool) → n ≤ most_blocks → length sel ≡ most_blocks → ((i : ℕ) → accepts sel i ≡ true → i < n)
     → (k : ℕ) × (k < 2 ^ n) × (padded (choice n k) ≡ sel)
 padded_choice n sel few long only =
     let front : length (take n sel) ≡ n = length-take-le n sel (omega arith) in
     let found = some_choice (take n sel) in
     let is : choice n found.0 ≡ take n sel = subst (λ (m : ℕ). choice m found.0 ≡ take n sel) front found.2 in
     let back = none_accepted (drop n sel) (λ i e. (let at = only (n + i) (sym (get_or-drop n sel i false) ∙ e) in absurd (omega (arith, at)))) in
-    let left : length (drop n sel) ≡ MOST_BLOCKS - length (choice n found.0) = omega (arith, length-drop n sel, length-choice n found.0) in (
+    let left : length (drop n sel) ≡ most_blocks - length (choice n found.0) = omega (arith, length-drop n sel, length-choice n found.0) in (
       found.0,
       subst (λ (m : ℕ). found.0 < 2 ^ m) front found.1,
       ap₂ (λ (x y : List Bool). x ++ y) is (ap (λ (m : ℕ). replicate m false) (sym left) ∙ sym back) ∙ take-append-drop n sel,
     )
 
-pub admissible_choice : (problem : ProblemState) (sel : List Bool) → IsProblem problem → length sel ≡ MOST_BLOCKS → IsAdmissible problem.blocks sel
+pub admissible_choice : (problem : ProblemState) (sel : List Bool) → IsProblem problem → length sel ≡ most_blocks → IsAdmissible problem.blocks sel
     → (k : ℕ) × (k < 2 ^ length problem.blocks) × (padded (choice (length problem.blocks) k) ≡ sel)
 admissible_choice problem sel is long admissible =
     padded_choice (length problem.blocks) sel is.few_blocks long
@@ -113,7 +113,7 @@ pub record IsChosen (count number place rest : ℕ) (sel : List Bool) : Type 0 w
   pub is_padded : sel ≡ padded front
   pub whole : front ++ choice (count - place) rest ≡ choice count number
 
-pub nothing_chosen : (count number : ℕ) (sel : List Bool) → sel ≡ replicate MOST_BLOCKS false → IsChosen count number 0 number sel
+pub nothing_chosen : (count number : ℕ) (sel : List Bool) → sel ≡ replicate most_blocks false → IsChosen count number 0 number sel
 nothing_chosen count number sel e =
     let all : count - 0 ≡ count = omega arith in
     record { front = []; long = refl; is_padded = e; whole = ap (λ (n : ℕ). choice n number) all }
@@ -129,16 +129,16 @@ keep_front (x ∷ front) n = ap (λ (zs : List Bool). x ∷ zs) (keep_front fron
 length_one : (front : List Bool) (b : Bool) → length (front ++ b ∷ []) ≡ suc (length front)
 length_one front b = omega (arith, length-append front (b ∷ []))
 
-room : (front : List Bool) (b : Bool) → length front < MOST_BLOCKS → MOST_BLOCKS - length front ≡ suc (MOST_BLOCKS - length (front ++ b ∷ []))
+room : (front : List Bool) (b : Bool) → length front < most_blocks → most_blocks - length front ≡ suc (most_blocks - length (front ++ b ∷ []))
 room front b h = omega (arith, length_one front b)
 
-padded-true : (front : List Bool) → length front < MOST_BLOCKS → set (padded front) (length front) true ≡ padded (front ++ true ∷ [])
+padded-true : (front : List Bool) → length front < most_blocks → set (padded front) (length front) true ≡ padded (front ++ true ∷ [])
 padded-true front h =
-    ap (λ (n : ℕ). set (front ++ replicate n false) (length front) true) (room front true h) ∙ set_front front (MOST_BLOCKS - length (front ++ true ∷ []))
+    ap (λ (n : ℕ). set (front ++ replicate n false) (length front) true) (room front true h) ∙ set_front front (most_blocks - length (front ++ true ∷ []))
 
-padded-false : (front : List Bool) → length front < MOST_BLOCKS → padded front ≡ padded (front ++ false ∷ [])
+padded-false : (front : List Bool) → length front < most_blocks → padded front ≡ padded (front ++ false ∷ [])
 padded-false front h =
-    ap (λ (n : ℕ). front ++ replicate n false) (room front false h) ∙ keep_front front (MOST_BLOCKS - length (front ++ false ∷ []))
+    ap (λ (n : ℕ). front ++ replicate n false) (room front false h) ∙ keep_front front (most_blocks - length (front ++ false ∷ []))
 
 one_less : (count place : ℕ) → place < count → count - place ≡ suc (count - (place + 1))
 one_less count place h = omega arith
@@ -149,7 +149,7 @@ choice-true n k h = rw (lt_true k (2 ^ n) h)
 choice-false : (n k : ℕ) → 2 ^ n ≤ k → choice (suc n) k ≡ false ∷ choice n (k - 2 ^ n)
 choice-false n k h = rw (lt_false k (2 ^ n) h)
 
-pub one_accepted : (count number place rest : ℕ) (sel : List Bool) → place < count → count ≤ MOST_BLOCKS → rest < 2 ^ (count - (place + 1))
+pub one_accepted : (count number place rest : ℕ) (sel : List Bool) → place < count → count ≤ most_blocks → rest < 2 ^ (count - (place + 1))
     → IsChosen count number place rest sel → IsChosen count number (place + 1) rest (set sel place true)
 one_accepted count number place rest sel l few h c =
     let long = c.long in
@@ -162,7 +162,7 @@ one_accepted count number place rest sel l few h c =
           ∙ c.whole;
     }
 
-pub one_rejected : (count number place rest : ℕ) (sel : List Bool) → place < count → count ≤ MOST_BLOCKS → 2 ^ (count - (place + 1)) ≤ rest
+pub one_rejected : (count number place rest : ℕ) (sel : List Bool) → place < count → count ≤ most_blocks → 2 ^ (count - (place + 1)) ≤ rest
     → IsChosen count number place rest sel → IsChosen count number (place + 1) (rest - 2 ^ (count - (place + 1))) sel
 one_rejected count number place rest sel l few h c =
     let long = c.long in
@@ -182,7 +182,7 @@ all_chosen count number place rest sel l c =
     c.is_padded ∙ ap padded front
 
 -- the number of choices as the code makes it
-pub power_is : (count : ℕ) → count ≤ MOST_BLOCKS → (1 * 2 ^ count) % 4294967296 ≡ 2 ^ count
+pub power_is : (count : ℕ) → count ≤ most_blocks → (1 * 2 ^ count) % 4294967296 ≡ 2 ^ count
 power_is count few =
     let small : 2 ^ count < 2 ^ 32 = pow_below count 32 (omega (arith, few)) in
     let one : 1 * 2 ^ count ≡ 2 ^ count = omega arith in
@@ -220,7 +220,7 @@ one_tried problem count number tried sel sel' w w' is so_far e kept better = rec
   ];
 }
 
-pub all_tried : (problem : ProblemState) (count number : ℕ) (sel : List Bool) (welfare : ℤ) → count ≡ length problem.blocks → count ≤ MOST_BLOCKS → 2 ^ count ≤ number
+pub all_tried : (problem : ProblemState) (count number : ℕ) (sel : List Bool) (welfare : ℤ) → count ≡ length problem.blocks → count ≤ most_blocks → 2 ^ count ≤ number
     → IsBestSoFar problem count number sel welfare → IsResult problem sel welfare
 all_tried problem count number sel welfare is few all so_far = record {
   eligible = so_far.eligible;

@@ -7,12 +7,15 @@ use Rattle.std.proofs.lemmas.Bool.{cases_lt}
 use Rattle.std.proofs.lemmas.Option.{slice_get_within}
 use Rattle.std.proofs.lemmas.List.{drop_all, length-set}
 use Rattle.std.proofs.Math.ListN.{set}
+use Rattle.dam_book.specs.Limits.{last_period, most_hourly}
+use Rattle.dam_hour.specs.Limits.{greatest_value}
 use Rattle.dam_hour.specs.declared.step.Step.{Step}
 use Rattle.dam_hour.specs.Execution.{AreInRange, IsBalanced, IsUnbalanced}
 use Rattle.dam_hour.specs.Price.{AreEnds}
 use Rattle.dam_hour.specs.Best.{greatest_welfare, AreBestTotals}
 use Rattle.dam_blocks.specs.declared.problem.Block.{Block}
 use Rattle.dam_blocks.specs.Problem.{ProblemState, AreHours, hourly_orders}
+use Rattle.dam_blocks.specs.Magnitude.{greatest_block_value}
 use Rattle.dam_blocks.specs.Selection.{net_volume, block_value}
 use Rattle.dam_blocks.specs.Eligible.{IsClearingPrice, ArePrices, added, period_welfare, welfare_from}
 use Rattle.dam_blocks.specs.Score.{IsFirstUnbalanced}
@@ -27,10 +30,10 @@ hour_at (hour ∷ hours) zero most ss are few e =
     (subst (λ (h : List Step). AreInRange h) same are.0, omega (arith, few, ap length same))
 hour_at (hour ∷ hours) (suc i) most ss are few e = hour_at hours i most ss are.1 (omega (arith, few)) e
 
-pub period_within : (hours : List (List Step)) (i : ℕ) (ss : List Step) (net : ℤ) (bought sold : ℕ) (w : ℤ) → AreHours hours → hourly_orders hours ≤ 4000
-    → slice_get hours i ≡ Some ss → AreBestTotals ss net bought sold w → (neg_ℤ (pos 159998400000000) ≤ℤ w) × (w ≤ℤ pos 159998400000000)
+pub period_within : (hours : List (List Step)) (i : ℕ) (ss : List Step) (net : ℤ) (bought sold : ℕ) (w : ℤ) → AreHours hours → hourly_orders hours ≤ most_hourly
+    → slice_get hours i ≡ Some ss → AreBestTotals ss net bought sold w → (neg_ℤ (pos (most_hourly * greatest_value)) ≤ℤ w) × (w ≤ℤ pos (most_hourly * greatest_value))
 period_within hours i ss net bought sold w are few at t =
-    let hour = hour_at hours i 4000 ss are few at in
+    let hour = hour_at hours i most_hourly ss are few at in
     let within = welfare_within ss t.volumes hour.0 t.best.execution in
     let is = t.welfare_is in let long = hour.1 in
     (omega (arith, ints, within.0, is, long), omega (arith, ints, within.1, is, long))
@@ -38,9 +41,9 @@ period_within hours i ss net bought sold w are few at t =
 -- ---- the periods so far
 pub record IsClearedSoFar (blocks : List Block) (sel : List Bool) (hours : List (List Step)) (place : ℕ) (welfare : ℤ) (prices : List ℤ) : Type 0 where
   pub sum : added (Some welfare) (welfare_from blocks sel (place + 1) (drop place hours)) ≡ welfare_from blocks sel 1 hours
-  pub low : neg_ℤ (pos (place * 160958390400000)) ≤ℤ welfare
-  pub high : welfare ≤ℤ pos (place * 160958390400000)
-  pub long : length prices ≡ 25
+  pub low : neg_ℤ (pos (place * (most_hourly * greatest_value + greatest_block_value))) ≤ℤ welfare
+  pub high : welfare ≤ℤ pos (place * (most_hourly * greatest_value + greatest_block_value))
+  pub long : length prices ≡ last_period
   pub each : (k : ℕ) (ss : List Step) → k < place → slice_get hours k ≡ Some ss → IsClearingPrice ss (net_volume blocks sel (k + 1)) (get_or prices k (pos 0))
 
 added_zero : (x : Option ℤ) → added (Some (pos 0)) x ≡ x
@@ -51,7 +54,7 @@ added_assoc : (w v : ℤ) (x : Option ℤ) → added (Some w) (added (Some v) x)
 added_assoc w v None = refl
 added_assoc w v (Some r) = let e : w +ℤ (v +ℤ r) ≡ (w +ℤ v) +ℤ r = omega (arith, ints) in ap (λ (z : ℤ). Some z) e
 
-pub nothing_cleared : (blocks : List Block) (sel : List Bool) (hours : List (List Step)) (prices : List ℤ) → length prices ≡ 25 → IsClearedSoFar blocks sel hours 0 (pos 0) prices
+pub nothing_cleared : (blocks : List Block) (sel : List Bool) (hours : List (List Step)) (prices : List ℤ) → length prices ≡ last_period → IsClearedSoFar blocks sel hours 0 (pos 0) prices
 nothing_cleared blocks sel hours prices long = record {
   sum = added_zero (welfare_from blocks sel 1 hours);
   low = omega (arith, ints);
@@ -84,9 +87,9 @@ raised_is x k g e = rw e
 
 pub cleared_more : (blocks : List Block) (sel : List Bool) (hours : List (List Step)) (place t : ℕ) (welfare : ℤ) (prices : List ℤ) (ss : List Step)
     (net low high p g value after : ℤ)
-    → slice_get hours place ≡ Some ss → place < 25 → t ≡ place + 1 → net ≡ net_volume blocks sel t → AreEnds ss net low high → IsClearingPrice ss net p
-    → greatest_welfare ss net ≡ Some g → value ≡ block_value blocks sel t → neg_ℤ (pos 159998400000000) ≤ℤ g → g ≤ℤ pos 159998400000000
-    → neg_ℤ (pos 959990400000) ≤ℤ value → value ≤ℤ pos 959990400000 → after ≡ welfare +ℤ (g +ℤ value)
+    → slice_get hours place ≡ Some ss → place < last_period → t ≡ place + 1 → net ≡ net_volume blocks sel t → AreEnds ss net low high → IsClearingPrice ss net p
+    → greatest_welfare ss net ≡ Some g → value ≡ block_value blocks sel t → neg_ℤ (pos (most_hourly * greatest_value)) ≤ℤ g → g ≤ℤ pos (most_hourly * greatest_value)
+    → neg_ℤ (pos greatest_block_value) ≤ℤ value → value ≤ℤ pos greatest_block_value → after ≡ welfare +ℤ (g +ℤ value)
     → IsClearedSoFar blocks sel hours place welfare prices → IsClearedSoFar blocks sel hours (place + 1) after (set prices place p)
 cleared_more blocks sel hours place t welfare prices ss net low high p g value after at room period net_is ends price great value_is gl gh vl vh e so_far =
     let one : suc place ≡ place + 1 = omega arith in
@@ -134,7 +137,7 @@ prices_from_each blocks sel t (ss ∷ hours) (p ∷ prices) l each =
           subst (λ (n : ℕ). IsClearingPrice other (net_volume blocks sel n) (get_or prices k (pos 0))) next (each (suc k) other at))),
     )
 
-pub all_prices : (blocks : List Block) (sel : List Bool) (hours : List (List Step)) (place : ℕ) (welfare : ℤ) (prices : List ℤ) → length hours ≤ place → length hours ≤ 25
+pub all_prices : (blocks : List Block) (sel : List Bool) (hours : List (List Step)) (place : ℕ) (welfare : ℤ) (prices : List ℤ) → length hours ≤ place → length hours ≤ last_period
     → IsClearedSoFar blocks sel hours place welfare prices → ArePrices blocks sel 1 hours (take (length hours) prices)
 all_prices blocks sel hours place welfare prices all room so_far =
     prices_from_each blocks sel 1 hours prices (let long = so_far.long in omega (arith, room, long)) (λ k ss at. (let inside = slice_get_within hours k ss at in so_far.each k ss (omega (arith, inside, all)) at))

@@ -2,7 +2,7 @@
 use Rattle.std.proofs.Common.{◌≡◌, ℕ, suc, ℤ, pos, ◌+ℤ◌, Bool, true, Option, Some, List, [], ◌∷◌, refl, arith}
 use Rattle.std.specs.Option.{option_map}
 use Rattle.std.proofs.lemmas.Int.{ints}
-use Rattle.dam_book.specs.declared.limits.TheConstants.{MOST_BLOCKS}
+use Rattle.dam_book.specs.Limits.{most_blocks}
 use Rattle.dam_hour.specs.declared.step.Step.{Step}
 use Rattle.dam_hour.specs.Execution.{AreInRange, IsWithinOffers}
 use Rattle.dam_hour.specs.Price.{AreEnds, price_between}
@@ -24,13 +24,13 @@ within_offers : (ss : List Step) (net : ℤ) → net ≡ pos 0 → IsWithinOffer
 within_offers ss net e = record { at_least = omega (arith, ints, e); at_most = omega (arith, ints, e) }
 
 pub empty_accepted : (i : ℕ) → accepts empty_selection i ≡ true → ⊥
-empty_accepted i e = accepts-replicate MOST_BLOCKS i e
+empty_accepted i e = accepts-replicate most_blocks i e
 
 empty_admissible : (blocks : List Block) → IsAdmissible blocks empty_selection
 empty_admissible blocks = record { each = λ i e. absurd (empty_accepted i e) }
 
 empty_net : (blocks : List Block) (t : ℕ) → net_volume blocks empty_selection t ≡ pos 0
-empty_net blocks t = over_accepted-replicate (net_volume_of t) blocks MOST_BLOCKS
+empty_net blocks t = over_accepted-replicate (net_volume_of t) blocks most_blocks
 
 -- each net volume is within the offers of its period, from period t on
 abbrev pub AreWithin : List Block → List Bool → ℕ → List (List Step) → Type 0

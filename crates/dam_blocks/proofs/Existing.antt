@@ -2,7 +2,7 @@
 use Rattle.std.proofs.Common.{◌≡◌, ℕ, zero, suc, ◌+◌, ◌-◌, ◌≤◌, ◌^◌, ℤ, pos, neg_ℤ, ◌≤ℤ◌, Bool, true, false, inl, inr, List, [], ◌∷◌, length, replicate, length-append, subst, refl, arith}
 use Rattle.std.proofs.lemmas.List.{length-replicate}
 use Rattle.dam_book.specs.declared.order.Side.TheVariants.{Buy, Sell}
-use Rattle.dam_book.specs.declared.limits.TheConstants.{MOST_BLOCKS}
+use Rattle.dam_book.specs.Limits.{most_blocks}
 use Rattle.dam_hour.specs.declared.step.Step.{Step}
 use Rattle.dam_hour.specs.Execution.{IsExecution, offered_volume, Balances, IsWithinOffers}
 use Rattle.std.proofs.Math.Decide.{map_dec}
@@ -57,7 +57,7 @@ decided_no_loss blocks sel prices = map_dec {A = (i : ℕ) → accepts sel i ≡
 abbrev pub IsAnEligible : ProblemState → List Bool → Type 0
 IsAnEligible problem sel = (w : ℤ) × IsEligible problem sel w
 
-decided_cleared : (problem : ProblemState) (sel : List Bool) → length sel ≡ MOST_BLOCKS → IsAdmissible problem.blocks sel
+decided_cleared : (problem : ProblemState) (sel : List Bool) → length sel ≡ most_blocks → IsAdmissible problem.blocks sel
     → Cleared problem.blocks sel 1 problem.hours → Dec (IsAnEligible problem sel)
 decided_cleared problem sel long admissible day = map_dec {A = HasNoLoss problem.blocks sel day.prices} {B = IsAnEligible problem sel}
     (λ h. (
@@ -75,7 +75,7 @@ decided_cleared problem sel long admissible day = map_dec {A = HasNoLoss problem
     (prices_unique problem.blocks sel 1 problem.hours e.1.prices day.prices e.1.are_prices day.are_prices) e.1.no_loss)
     (decided_no_loss problem.blocks sel day.prices)
 
-pub decided_eligible : ExistenceLaws → BalanceLaw → (problem : ProblemState) (sel : List Bool) → AreHours problem.hours → length sel ≡ MOST_BLOCKS
+pub decided_eligible : ExistenceLaws → BalanceLaw → (problem : ProblemState) (sel : List Bool) → AreHours problem.hours → length sel ≡ most_blocks
     → Dec (IsAnEligible problem sel)
 decided_eligible laws law problem sel are long = elim (decided_admissible problem.blocks sel) [
   | no fails ↦ no (λ e. fails e.1.admissible)
@@ -123,10 +123,10 @@ best_so_far problem count empty decided (suc number) =
     let next : number + 1 ≡ suc number = omega arith in
     subst (FindsBest problem count) next (another_tried problem count number (decided number) (best_so_far problem count empty decided number))
 
-length-padded : (count k : ℕ) → count ≤ MOST_BLOCKS → length (padded (choice count k)) ≡ MOST_BLOCKS
+length-padded : (count k : ℕ) → count ≤ most_blocks → length (padded (choice count k)) ≡ most_blocks
 length-padded count k few =
-    let rest = replicate (MOST_BLOCKS - length (choice count k)) false in
-    omega (arith, few, length-choice count k, length-append (choice count k) rest, length-replicate (MOST_BLOCKS - length (choice count k)) false)
+    let rest = replicate (most_blocks - length (choice count k)) false in
+    omega (arith, few, length-choice count k, length-append (choice count k) rest, length-replicate (most_blocks - length (choice count k)) false)
 
 pub result_exists : ExistenceLaws → BalanceLaw → (problem : ProblemState) → IsProblem problem → IsAnEligible problem empty_selection
     → (sel : List Bool) × ((w : ℤ) × IsResult problem sel w)

@@ -1,7 +1,7 @@
 -- The front of an admissible selection is admissible.
 use Rattle.std.proofs.Common.{◌≡◌, ℕ, zero, suc, ◌-◌, ◌<◌, Bool, true, false, Some, List, [], ◌∷◌, ◌++◌, length, replicate, ◌∙◌, sym, arith}
 use Rattle.std.specs.List.{slice_get}
-use Rattle.dam_book.specs.declared.limits.TheConstants.{MOST_BLOCKS}
+use Rattle.dam_book.specs.Limits.{most_blocks}
 use Rattle.dam_blocks.specs.declared.problem.Block.{Block}
 use Rattle.dam_blocks.specs.Problem.{ProblemState, IsParent, IsProblem}
 use Rattle.dam_blocks.specs.Selection.{accepts, padded, IsAllowed, IsAdmissible}
@@ -26,7 +26,7 @@ unpadded (x ∷ xs) n zero e = e
 unpadded (x ∷ xs) n (suc i) e = unpadded xs n i e
 
 padded_accepts : (xs : List Bool) (i : ℕ) → accepts (padded xs) i ≡ true → accepts xs i ≡ true
-padded_accepts xs i e = unpadded xs (MOST_BLOCKS - length xs) i e
+padded_accepts xs i e = unpadded xs (most_blocks - length xs) i e
 
 -- the parent of a block stands at a lesser place
 parent_before : (problem : ProblemState) (i j : ℕ) (block other : Block) → IsProblem problem → slice_get problem.blocks i ≡ Some block
@@ -50,7 +50,7 @@ front_allowed problem xs ys i is e allowed = record {
         parent = λ p.
             (let before = parent_before problem i j allowed.block other is allowed.stands at p in
             let inside = accepted_within xs i e in
-            whole_accepts xs (replicate (MOST_BLOCKS - length xs) false) j (front_accepts xs ys j (omega (arith, before, inside)) (whole.parent p)));
+            whole_accepts xs (replicate (most_blocks - length xs) false) j (front_accepts xs ys j (omega (arith, before, inside)) (whole.parent p)));
         group = λ a. whole.group (whole_accepts xs ys j (padded_accepts xs j a));
       });
 }

@@ -1,45 +1,34 @@
 -- How large values and welfares are.
-use Rattle.std.proofs.Common.{◌≡◌, ℕ, suc, ◌+◌, ◌*◌, ◌≤◌, ◌==◌, cond, ◌||◌, ◌⊎◌, inl, inr, refl, ℤ, pos, negsuc, neg_ℤ, ◌*ℤ◌, ◌≤ℤ◌, Bool, true, false, Some, List, [], ◌∷◌, length, arith}
+use Rattle.std.proofs.Common.{◌≡◌, ℕ, suc, ◌+◌, ◌*◌, ◌≤◌, ◌==◌, cond, ℤ, pos, negsuc, neg_ℤ, nat_abs, ◌*ℤ◌, ◌≤ℤ◌, Bool, true, false, Some, List, [], ◌∷◌, length, arith}
 use Rattle.std.proofs.lemmas.Int.{ints}
-use Rattle.std.proofs.lemmas.Bool.Decides.{nat_tests}
 use Rattle.std.proofs.Math.Nat.{mul-le-mul}
+use Rattle.dam_book.specs.Limits.{lowest_price, greatest_volume, last_period, most_blocks}
 use Rattle.dam_book.specs.Book.{is_day}
 use Rattle.dam_book.specs.Price.{IsPrice}
 use Rattle.dam_book.specs.Volumes.{Pair, ArePairs}
 use Rattle.dam_book.specs.Terms.{BlockTerms, IsBlockOrder}
 use Rattle.dam_book.specs.declared.order.Side.{Side}
 use Rattle.dam_book.specs.declared.order.Side.TheVariants.{Buy, Sell}
+use Rattle.dam_hour.specs.Limits.{greatest_price, greatest_value}
 use Rattle.dam_hour.specs.declared.step.Step.{Step}
 use Rattle.dam_hour.specs.Execution.{AreInRange, IsExecution, Balances}
-use Rattle.dam_hour.specs.Best.{signed, welfare_of, greatest_value, greatest_welfare}
+use Rattle.dam_hour.specs.Best.{signed, welfare_of, greatest_welfare}
 use Rattle.dam_blocks.specs.declared.problem.Block.{Block}
 use Rattle.dam_blocks.specs.Problem.{ProblemState, hourly_orders, AreHours, AreBlocks, IsProblem}
 use Rattle.dam_blocks.specs.Selection.{volume_in, value_of, net_volume, block_value}
 use Rattle.dam_blocks.specs.Eligible.{period_welfare, welfare_from, selection_welfare}
-use Rattle.dam_blocks.specs.Magnitude.{IsWithin, greatest_selection_welfare}
+use Rattle.dam_blocks.specs.Magnitude.{IsWithin, greatest_block_value, greatest_selection_welfare}
 use Rattle.dam_blocks.proofs.Gains.{added_some, raised_some}
 
--- ---- the day
-day_is : (a b c : Bool) → (a || (b || c)) ≡ true → (a ≡ true) ⊎ ((b ≡ true) ⊎ (c ≡ true))
-day_is true b c e = inl refl
-day_is false true c e = inr (inl refl)
-day_is false false c e = inr (inr e)
-
-pub day_small : (n : ℕ) → is_day n ≡ true → n ≤ 25
-day_small n e = elim (day_is (n == 23) (n == 24) (n == 25) e) [
-  | inl a ↦ (let is : n ≡ 23 = grind (arith, nat_tests) in omega (arith, is))
-  | inr r ↦ elim r [ inl b ↦ (let is : n ≡ 24 = grind (arith, nat_tests) in omega (arith, is)) | inr d ↦ (let is : n ≡ 25 = grind (arith, nat_tests) in omega (arith, is)) ]
-]
-
 -- ---- the hourly orders
-price_times : (p : ℤ) (x : ℕ) → IsPrice p → x ≤ 99999 → (neg_ℤ (pos 39999600000) ≤ℤ (p *ℤ pos x)) × ((p *ℤ pos x) ≤ℤ pos 39999600000)
+price_times : (p : ℤ) (x : ℕ) → IsPrice p → x ≤ greatest_volume → (neg_ℤ (pos greatest_value) ≤ℤ (p *ℤ pos x)) × ((p *ℤ pos x) ≤ℤ pos greatest_value)
 price_times (pos n) x is h =
     let limit = is.at_most in
-    let m : n * x ≤ 400000 * 99999 = mul-le-mul {n₁ = n} {m₁ = x} {n₂ = 400000} {m₂ = 99999} (omega (arith, ints, limit)) h in
+    let m : n * x ≤ greatest_price * greatest_volume = mul-le-mul {n₁ = n} {m₁ = x} {n₂ = greatest_price} {m₂ = greatest_volume} (omega (arith, ints, limit)) h in
     (omega (arith, ints, m), omega (arith, ints, m))
 price_times (negsuc n) x is h =
     let limit = is.at_least in
-    let m : suc n * x ≤ 50000 * 99999 = mul-le-mul {n₁ = suc n} {m₁ = x} {n₂ = 50000} {m₂ = 99999} (omega (arith, ints, limit)) h in
+    let m : suc n * x ≤ nat_abs lowest_price * greatest_volume = mul-le-mul {n₁ = suc n} {m₁ = x} {n₂ = nat_abs lowest_price} {m₂ = greatest_volume} (omega (arith, ints, limit)) h in
     (omega (arith, ints, m), omega (arith, ints, m))
 
 signed_within : (side : Side) (z : ℤ) (n : ℕ) → neg_ℤ (pos n) ≤ℤ z → z ≤ℤ pos n → (neg_ℤ (pos n) ≤ℤ signed side z) × (signed side z ≤ℤ pos n)
@@ -47,22 +36,22 @@ signed_within Buy z n l h = (l, h)
 signed_within Sell z n l h = (omega (arith, ints, l, h), omega (arith, ints, l, h))
 
 pub welfare_within : (ss : List Step) (xs : List ℕ) → AreInRange ss → IsExecution ss xs
-    → (neg_ℤ (pos (length ss * 39999600000)) ≤ℤ welfare_of ss xs) × (welfare_of ss xs ≤ℤ pos (length ss * 39999600000))
+    → (neg_ℤ (pos (length ss * greatest_value)) ≤ℤ welfare_of ss xs) × (welfare_of ss xs ≤ℤ pos (length ss * greatest_value))
 welfare_within [] [] r e = (omega (arith, ints), omega (arith, ints))
 welfare_within [] (x ∷ xs) r e = absurd e
 welfare_within (s ∷ ss) [] r e = absurd e
 welfare_within (s ∷ ss) (x ∷ xs) r e =
     let q = r.1.at_most in let fit = e.0 in
     let own = price_times s.price x r.0 (omega (arith, q, fit)) in
-    let here = signed_within s.side (s.price *ℤ pos x) 39999600000 own.0 own.1 in
+    let here = signed_within s.side (s.price *ℤ pos x) greatest_value own.0 own.1 in
     let rest = welfare_within ss xs r.2 e.1 in
     (omega (arith, ints, here.0, rest.0), omega (arith, ints, here.1, rest.1))
 
 -- ---- the blocks
-volume_small : (ps : List Pair) (t : ℕ) → ArePairs ps → volume_in ps t ≤ 99999
+volume_small : (ps : List Pair) (t : ℕ) → ArePairs ps → volume_in ps t ≤ greatest_volume
 volume_small [] t are = omega arith
 volume_small (p ∷ ps) t are =
-    elim (p.0 == t) as (λ b. cond b p.1 (volume_in ps t) ≤ 99999) [ true ↦ are.1.at_most | false ↦ volume_small ps t are.2 ]
+    elim (p.0 == t) as (λ b. cond b p.1 (volume_in ps t) ≤ greatest_volume) [ true ↦ are.1.at_most | false ↦ volume_small ps t are.2 ]
 
 pub value_within : (t : ℕ) (o : BlockTerms) → IsBlockOrder o → IsWithin greatest_value (value_of t o)
 value_within t o is =
@@ -82,13 +71,13 @@ block_value_within periods t (b ∷ bs) (false ∷ sel) are =
     record { at_least = omega (arith, ints, l); at_most = omega (arith, ints, h) }
 
 -- ---- a selection
--- what the laws of one period say of a welfare
+-- what the laws of one period say of a welfare, and those of the book of a day
 pub record Reached : Type 0 where
+  pub short : (periods : ℕ) → is_day periods ≡ true → periods ≤ last_period
   pub reached : (ss : List Step) (net w : ℤ) → greatest_welfare ss net ≡ Some w → (xs : List ℕ) × IsExecution ss xs × Balances ss net xs × (welfare_of ss xs ≡ w)
 
--- 24 blocks at most in a period
-period_size : Reached → (periods t : ℕ) (blocks : List Block) (sel : List Bool) (ss : List Step) (u : ℤ) → AreBlocks periods blocks → length blocks ≤ 24 → AreInRange ss
-    → period_welfare blocks sel t ss ≡ Some u → IsWithin (length ss * 39999600000 + 959990400000) u
+period_size : Reached → (periods t : ℕ) (blocks : List Block) (sel : List Bool) (ss : List Step) (u : ℤ) → AreBlocks periods blocks → length blocks ≤ most_blocks → AreInRange ss
+    → period_welfare blocks sel t ss ≡ Some u → IsWithin (length ss * greatest_value + greatest_block_value) u
 period_size laws periods t blocks sel ss u are few range e =
     let parts = raised_some (greatest_welfare ss (net_volume blocks sel t)) (block_value blocks sel t) u e in
     let best = laws.reached ss (net_volume blocks sel t) parts.0 parts.1 in
@@ -97,8 +86,8 @@ period_size laws periods t blocks sel ss u are few range e =
     let l = value.at_least in let h = value.at_most in let is = best.3 in let sum = parts.2 in
     record { at_least = omega (arith, ints, hourly.0, l, is, sum, few); at_most = omega (arith, ints, hourly.1, h, is, sum, few) }
 
-periods_size : Reached → (periods t : ℕ) (blocks : List Block) (sel : List Bool) (hours : List (List Step)) (w : ℤ) → AreBlocks periods blocks → length blocks ≤ 24 → AreHours hours
-    → welfare_from blocks sel t hours ≡ Some w → IsWithin (hourly_orders hours * 39999600000 + length hours * 959990400000) w
+periods_size : Reached → (periods t : ℕ) (blocks : List Block) (sel : List Bool) (hours : List (List Step)) (w : ℤ) → AreBlocks periods blocks → length blocks ≤ most_blocks → AreHours hours
+    → welfare_from blocks sel t hours ≡ Some w → IsWithin (hourly_orders hours * greatest_value + length hours * greatest_block_value) w
 periods_size laws periods t blocks sel [] w are few ranges e =
     let zero : pos 0 ≡ w = cc in record { at_least = omega (arith, ints, zero); at_most = omega (arith, ints, zero) }
 periods_size laws periods t blocks sel (ss ∷ hours) w are few ranges e =
@@ -111,5 +100,5 @@ periods_size laws periods t blocks sel (ss ∷ hours) w are few ranges e =
 pub welfare_size : Reached → (problem : ProblemState) (sel : List Bool) (w : ℤ) → IsProblem problem → selection_welfare problem sel ≡ Some w → IsWithin greatest_selection_welfare w
 welfare_size laws problem sel w is e =
     let size = periods_size laws (length problem.hours) 1 problem.blocks sel problem.hours w is.blocks is.few_blocks is.hours e in
-    let l = size.at_least in let h = size.at_most in let hourly = is.few_hourly in let day = day_small (length problem.hours) is.day in
+    let l = size.at_least in let h = size.at_most in let hourly = is.few_hourly in let day = laws.short (length problem.hours) is.day in
     record { at_least = omega (arith, ints, l, hourly, day); at_most = omega (arith, ints, h, hourly, day) }

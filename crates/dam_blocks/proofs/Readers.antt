@@ -1,16 +1,16 @@
 -- What the readers of a problem find is within the limits.
 use Rattle.std.proofs.Common.{◌≡◌, ℕ, zero, suc, ◌≤◌, Some, List, [], ◌∷◌, subst, arith}
 use Rattle.std.specs.List.{slice_get}
-use Rattle.dam_book.specs.declared.limits.TheConstants.{MOST_HOURLY}
+use Rattle.dam_book.specs.Limits.{most_hourly}
 use Rattle.dam_hour.specs.declared.step.Step.{Step}
 use Rattle.dam_hour.specs.Execution.{IsHour}
 use Rattle.dam_blocks.specs.declared.problem.Block.{Block}
 use Rattle.dam_blocks.specs.Problem.{hourly_orders, AreHours, IsBlock, AreBlocks}
 use Rattle.dam_blocks.proofs.Clearing.{hour_at}
 
-pub hour_is : (hours : List (List Step)) (i : ℕ) (hour : List Step) → slice_get hours i ≡ Some hour → AreHours hours → hourly_orders hours ≤ MOST_HOURLY → IsHour hour
+pub hour_is : (hours : List (List Step)) (i : ℕ) (hour : List Step) → slice_get hours i ≡ Some hour → AreHours hours → hourly_orders hours ≤ most_hourly → IsHour hour
 hour_is hours i hour e are few =
-    let at = hour_at hours i MOST_HOURLY hour are few e in
+    let at = hour_at hours i most_hourly hour are few e in
     let long = at.1 in
     record { few = omega (arith, long); in_range = at.0 }
 

@@ -7,6 +7,7 @@ use Rattle.std.proofs.lemmas.List.{take_more, length-set, length-take}
 use Rattle.std.proofs.lemmas.List.Elements.{filter_map-append}
 use Rattle.std.proofs.lemmas.Option.{slice_get_within, get_or_from_slice_get}
 use Rattle.std.proofs.Math.ListN.{set}
+use Rattle.dam_book.specs.Limits.{last_period}
 use Rattle.dam_book.specs.Terms.{HourTerms, BlockTerms}
 use Rattle.dam_book.specs.Book.{Key, Row}
 use Rattle.dam_book.specs.declared.order.Order.TheVariants.{Hour, Block as BlockVariant}
@@ -60,8 +61,8 @@ hour_more n i rows hours hours' steps total l is pushed so_far =
 -- ---- the rows with their places
 pub record IsPlacedSoFar (all : List Row) (place : ℕ) (rows : List ProblemRow) (steps : List ℕ) (blocks : ℕ) : Type 0 where
   pub sum : rows ++ rows_behind (take place all) (drop place all) ≡ rows_behind [] all
-  pub long : length steps ≡ 25
-  pub hourly : (t : ℕ) → 1 ≤ t → t ≤ 25 → get_or steps (t - 1) 0 ≡ length (steps_in t (take place all))
+  pub long : length steps ≡ last_period
+  pub hourly : (t : ℕ) → 1 ≤ t → t ≤ last_period → get_or steps (t - 1) 0 ≡ length (steps_in t (take place all))
   pub block_count : blocks ≡ length (blocks_in (take place all))
 
 rows_more : (all : List Row) (place : ℕ) (r : Row) (rows rows' : List ProblemRow) (q : ProblemRow) → slice_get all place ≡ Some r
@@ -138,7 +139,7 @@ same_test : (m n : ℕ) → m ≡ n → (m == n) ≡ true
 same_test m n h = grind (arith, nat_tests)
 
 pub hour_placed : (all : List Row) (place : ℕ) (k : Key) (o : HourTerms) (rows rows' : List ProblemRow) (steps steps' : List ℕ) (blocks : ℕ) (q : ProblemRow)
-    → slice_get all place ≡ Some (k, Hour o) → 1 ≤ o.period → o.period ≤ 25
+    → slice_get all place ≡ Some (k, Hour o) → 1 ≤ o.period → o.period ≤ last_period
     → q ≡ record { who = k.0; name = k.1; at = AtHour o.period (get_or steps (o.period - 1) 0) }
     → rows' ≡ rows ++ q ∷ [] → steps' ≡ set steps (o.period - 1) (get_or steps (o.period - 1) 0 + 1)
     → IsPlacedSoFar all place rows steps blocks → IsPlacedSoFar all (place + 1) rows' steps' blocks
@@ -197,11 +198,11 @@ none_counted zero i = refl
 none_counted (suc n) zero = refl
 none_counted (suc n) (suc i) = none_counted n i
 
-pub nothing_placed : (all : List Row) (rows : List ProblemRow) → rows ≡ [] → IsPlacedSoFar all 0 rows (replicate 25 0) 0
+pub nothing_placed : (all : List Row) (rows : List ProblemRow) → rows ≡ [] → IsPlacedSoFar all 0 rows (replicate last_period 0) 0
 nothing_placed all rows e = record {
   sum = ap (λ (qs : List ProblemRow). qs ++ rows_behind [] all) e;
   long = refl;
-  hourly = λ t low high. none_counted 25 (t - 1);
+  hourly = λ t low high. none_counted last_period (t - 1);
   block_count = refl;
 }
 
@@ -214,7 +215,7 @@ filter_small : {X Y : Type 0} (f : X → Option Y) (xs : List X) → length (fil
 filter_small f [] = omega arith
 filter_small f (x ∷ xs) = let here = option_small (f x) (filter_map f xs) in let rest = filter_small f xs in omega (arith, here, rest)
 
-pub steps_small : (all : List Row) (place : ℕ) (rows : List ProblemRow) (steps : List ℕ) (blocks t : ℕ) → 1 ≤ t → t ≤ 25 → IsPlacedSoFar all place rows steps blocks → get_or steps (t - 1) 0 ≤ place
+pub steps_small : (all : List Row) (place : ℕ) (rows : List ProblemRow) (steps : List ℕ) (blocks t : ℕ) → 1 ≤ t → t ≤ last_period → IsPlacedSoFar all place rows steps blocks → get_or steps (t - 1) 0 ≤ place
 steps_small all place rows steps blocks t low high so_far =
     let is = so_far.hourly t low high in let few = filter_small (λ (r : Row). step_in t r.1) (take place all) in let front = length-take place all in omega (arith, is, few, front)
 
@@ -224,7 +225,7 @@ blocks_small all place rows steps blocks so_far =
 
 -- the same as the code has it, with the period read twice
 pub hour_counted : (all : List Row) (place : ℕ) (k : Key) (o : HourTerms) (rows rows' : List ProblemRow) (steps steps' : List ℕ) (blocks blocks' m period : ℕ) (q : ProblemRow)
-    → slice_get all place ≡ Some (k, Hour o) → 1 ≤ o.period → o.period ≤ 25 → m ≡ o.period → period ≡ o.period
+    → slice_get all place ≡ Some (k, Hour o) → 1 ≤ o.period → o.period ≤ last_period → m ≡ o.period → period ≡ o.period
     → q ≡ record { who = k.0; name = k.1; at = AtHour period (get_or steps (m - 1) 0) }
     → rows' ≡ rows ++ q ∷ [] → steps' ≡ set steps (m - 1) (get_or steps (m - 1) 0 + 1) → blocks' ≡ blocks
     → IsPlacedSoFar all place rows steps blocks → IsPlacedSoFar all (place + 1) rows' steps' blocks'

@@ -5,6 +5,7 @@ use Rattle.std.proofs.lemmas.Int.{ints}
 use Rattle.std.proofs.Math.Seq.{drop-cons}
 use Rattle.dam_book.specs.Terms.{BlockTerms}
 use Rattle.dam_blocks.specs.declared.problem.Block.{Block}
+use Rattle.dam_blocks.specs.Magnitude.{greatest_gain}
 use Rattle.dam_blocks.specs.Selection.{accepts, over_accepted}
 use Rattle.dam_blocks.specs.Eligible.{surplus_in, surplus_from}
 use Rattle.dam_blocks.specs.Result.{accepts_first}
@@ -100,11 +101,11 @@ surplus_at_next t i prices p o l e =
 -- the sum over the periods so far, each of which adds at most the limit, and that of the periods that are left
 pub record IsSurplusSoFar (o : BlockTerms) (prices : List ℤ) (place : ℕ) (total : ℤ) : Type 0 where
   pub sum : total +ℤ surplus_from (place + 1) (drop place prices) o ≡ surplus_from 1 prices o
-  pub low : neg_ℤ (pos (place * 44999550000)) ≤ℤ total
-  pub high : total ≤ℤ pos (place * 44999550000)
+  pub low : neg_ℤ (pos (place * greatest_gain)) ≤ℤ total
+  pub high : total ≤ℤ pos (place * greatest_gain)
 
 pub surplus_more : (o : BlockTerms) (prices : List ℤ) (place t : ℕ) (p total v after : ℤ) → place < length prices → p ≡ get_or prices place p → t ≡ place + 1
-    → v ≡ surplus_in t p o → neg_ℤ (pos 44999550000) ≤ℤ v → v ≤ℤ pos 44999550000 → after ≡ total +ℤ v
+    → v ≡ surplus_in t p o → neg_ℤ (pos greatest_gain) ≤ℤ v → v ≤ℤ pos greatest_gain → after ≡ total +ℤ v
     → IsSurplusSoFar o prices place total → IsSurplusSoFar o prices (place + 1) after
 surplus_more o prices place t p total v after l at period is low high e so_far =
     let step = surplus_at_next (place + 1) place prices p o l at in

@@ -4,7 +4,7 @@ use Rattle.std.specs.List.{slice_get}
 use Rattle.std.proofs.lemmas.Int.{ints}
 use borrow.Author.Differences.{up, down}
 use Rattle.dam_book.specs.Terms.{BlockTerms}
-use Rattle.dam_book.specs.declared.limits.TheConstants.{MOST_BLOCKS}
+use Rattle.dam_book.specs.Limits.{most_blocks}
 use Rattle.dam_book.specs.declared.order.Side.{Side}
 use Rattle.dam_book.specs.declared.order.Side.TheVariants.{Buy, Sell}
 use Rattle.dam_hour.specs.Best.{signed}
@@ -63,8 +63,8 @@ over_accepted-append f (b ∷ bs) (false ∷ xs) ys = over_accepted-append f bs 
 
 pub over_accepted-padded : (f : BlockTerms → ℤ) (bs : List Block) (xs : List Bool) → over_accepted f bs (padded xs) ≡ over_accepted f bs xs
 over_accepted-padded f bs xs =
-    let parts = over_accepted-append f bs xs (replicate (MOST_BLOCKS - length xs) false) in
-    let none = over_accepted-replicate f (drop (length xs) bs) (MOST_BLOCKS - length xs) in
+    let parts = over_accepted-append f bs xs (replicate (most_blocks - length xs) false) in
+    let none = over_accepted-replicate f (drop (length xs) bs) (most_blocks - length xs) in
     omega (arith, ints, parts, none)
 
 pub over_accepted-zero : (bs : List Block) (sel : List Bool) → over_accepted (λ o. pos 0) bs sel ≡ pos 0

@@ -2,7 +2,7 @@
 use Rattle.std.proofs.Common.{◌≡◌, ◌≢◌, ℕ, zero, suc, ◌+◌, ◌-◌, ◌<◌, ℤ, pos, negsuc, nat_abs, ◌≤ℤ◌, Bool, Some, List, [], ◌∷◌, length, take, ◌∙◌, sym, subst, refl, arith}
 use Rattle.std.specs.List.{slice_get}
 use Rattle.std.proofs.lemmas.Int.{ints}
-use Rattle.dam_book.specs.declared.limits.TheConstants.{MOST_BLOCKS}
+use Rattle.dam_book.specs.Limits.{most_blocks}
 use Rattle.dam_hour.specs.declared.step.Step.{Step}
 use Rattle.dam_hour.specs.Execution.{Balances}
 use Rattle.dam_blocks.specs.declared.problem.Block.{Block}
@@ -15,7 +15,7 @@ use Rattle.dam_blocks.specs.Score.{IsFirstUnbalanced, IsFirstLosing, IsVerdict}
 use Rattle.dam_blocks.proofs.Prices.{prices_unique}
 
 pub eligible_from : (problem : ProblemState) (sel : List Bool) (prices : List ℤ) (hours : List (List Step)) (w : ℤ) → hours ≡ problem.hours
-    → length sel ≡ MOST_BLOCKS → IsAdmissible problem.blocks sel → ArePrices problem.blocks sel 1 problem.hours (take (length problem.hours) prices)
+    → length sel ≡ most_blocks → IsAdmissible problem.blocks sel → ArePrices problem.blocks sel 1 problem.hours (take (length problem.hours) prices)
     → HasNoLoss problem.blocks sel (take (length hours) prices) → selection_welfare problem sel ≡ Some w → IsEligible problem sel w
 eligible_from problem sel prices hours w same long admissible are no_loss welfare = record {
   as_long = long;

@@ -1,7 +1,7 @@
 -- The prices and the welfare of a selection, surplus and no loss, and which selections are eligible.
 use Rattle.std.specs.Prelude.{◌≡◌, ℕ, suc, ℤ, pos, ◌+ℤ◌, ◌-ℤ◌, ◌*ℤ◌, ◌≤ℤ◌, Bool, true, Option, Some, None, option_map, unwrap_or, List, [], ◌∷◌, length, slice_get}
 use Rattle.dam_book.specs.Terms.{BlockTerms}
-use Rattle.dam_book.specs.declared.limits.TheConstants.{MOST_BLOCKS}
+use Rattle.dam_book.specs.Limits.{most_blocks}
 use Rattle.dam_hour.specs.Price.{AreEnds, price_between}
 use Rattle.dam_hour.specs.Best.{signed, greatest_welfare}
 use Rattle.dam_hour.specs.declared.step.Step.{Step}
@@ -64,7 +64,7 @@ selection_welfare problem sel = welfare_from problem.blocks sel 1 problem.hours
 
 -- a selection that the links and groups admit, with which every period balances and by which no accepted block loses, and its welfare
 pub record IsEligible (problem : ProblemState) (sel : List Bool) (welfare : ℤ) : Type 0 where
-  pub as_long : length sel ≡ MOST_BLOCKS
+  pub as_long : length sel ≡ most_blocks
   pub admissible : IsAdmissible problem.blocks sel
   pub prices : List ℤ
   pub are_prices : ArePrices problem.blocks sel 1 problem.hours prices

@@ -1,19 +1,25 @@
--- How large values, surpluses and welfares can be, in cents per MWh times tenths of a MW.
-use Rattle.std.specs.Prelude.{ℕ, ℤ, pos, neg_ℤ, ◌≤ℤ◌}
+-- How large values, surpluses and welfares can be, in cents per MWh times tenths of a MW: sums and products of the auction's limits.
+use Rattle.std.specs.Prelude.{ℕ, ◌+◌, ◌*◌, ℤ, pos, neg_ℤ, ◌≤ℤ◌}
+use Rattle.dam_book.specs.Limits.{greatest_volume, last_period, most_hourly, most_blocks}
+use Rattle.dam_hour.specs.Limits.{price_span, greatest_value}
 
 -- the size is at most this number, above 0 or below
 pub record IsWithin (greatest : ℕ) (z : ℤ) : Type 0 where
   pub at_least : neg_ℤ (pos greatest) ≤ℤ z
   pub at_most : z ≤ℤ pos greatest
 
--- all blocks of a book in one period: 24 blocks by 400,000 cents per MWh by 99,999 tenths of a MW
+-- the value of all blocks of a book in one period
 abbrev pub greatest_block_value : ℕ
-greatest_block_value = 959990400000
+greatest_block_value = most_blocks * greatest_value
 
--- a block over a day: 25 periods by 450,000 cents per MWh, the greatest difference of two prices, by 99,999 tenths of a MW
+-- what a block gains in one period: the greatest difference of two prices, by a volume
+abbrev pub greatest_gain : ℕ
+greatest_gain = price_span * greatest_volume
+
+-- what a block gains over a day
 abbrev pub greatest_surplus : ℕ
-greatest_surplus = 1124988750000
+greatest_surplus = last_period * greatest_gain
 
--- a selection: 4,000 hourly orders, and 24 blocks in 25 periods, each by 400,000 cents per MWh by 99,999 tenths of a MW
+-- the welfare of a selection: every hourly order once, and every block in every period of the longest day
 abbrev pub greatest_selection_welfare : ℕ
-greatest_selection_welfare = 183998160000000
+greatest_selection_welfare = (most_hourly + most_blocks * last_period) * greatest_value

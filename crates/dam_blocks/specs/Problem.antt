@@ -6,7 +6,7 @@ use Rattle.dam_book.specs.Volumes.{have_beyond}
 use Rattle.dam_book.specs.Book.{Row, BookState, is_day, IsBook}
 use Rattle.dam_book.specs.declared.order.Order.{Order}
 use Rattle.dam_book.specs.declared.order.Order.TheVariants.{Hour, Block as BlockVariant}
-use Rattle.dam_book.specs.declared.limits.TheConstants.{MOST_HOURLY, MOST_BLOCKS}
+use Rattle.dam_book.specs.Limits.{most_hourly, most_blocks}
 use Rattle.dam_hour.specs.Execution.{AreInRange}
 use Rattle.dam_hour.specs.declared.step.Step.{Step}
 use Rattle.dam_blocks.specs.declared.problem.Block.{Block}
@@ -107,9 +107,9 @@ pub record IsProblem (p : ProblemState) : Type 0 where
   pub is_of_book : p ≡ problem_of book
   pub day : is_day (length p.hours) ≡ true
   pub hours : AreHours p.hours
-  pub few_hourly : hourly_orders p.hours ≤ MOST_HOURLY
+  pub few_hourly : hourly_orders p.hours ≤ most_hourly
   pub blocks : AreBlocks (length p.hours) p.blocks
-  pub few_blocks : length p.blocks ≤ MOST_BLOCKS
+  pub few_blocks : length p.blocks ≤ most_blocks
   pub unique : (i j : ℕ) (a b : Block) → slice_get p.blocks i ≡ Some a → slice_get p.blocks j ≡ Some b → a.who ≡ b.who → a.name ≡ b.name → i ≡ j
   pub parents : (i : ℕ) (b : Block) (name : List ℕ) → slice_get p.blocks i ≡ Some b → b.order.parent ≡ Some name → HasParentBefore p.blocks i b
   pub rows : (i : ℕ) (r : ProblemRow) → slice_get p.rows i ≡ Some r → StandsAt p r r.at

@@ -2,7 +2,7 @@
 use Rattle.std.specs.Prelude.{◌≡◌, ◌≢◌, ℕ, zero, suc, ◌-◌, ◌^◌, ℤ, pos, neg_ℤ, ◌+ℤ◌, ◌*ℤ◌, Bool, true, false, nat_lt, ◌==◌, Some, List, [], ◌∷◌, ◌++◌, length, replicate, slice_get, slice_index_or, if◌then◌else◌}
 use Rattle.dam_book.specs.Terms.{BlockTerms}
 use Rattle.dam_book.specs.Volumes.{Pair}
-use Rattle.dam_book.specs.declared.limits.TheConstants.{MOST_BLOCKS}
+use Rattle.dam_book.specs.Limits.{most_blocks}
 use Rattle.dam_book.specs.declared.order.Side.TheVariants.{Buy}
 use Rattle.dam_hour.specs.Execution.{volume_on}
 use Rattle.dam_hour.specs.Best.{signed}
@@ -17,11 +17,11 @@ accepts sel i = slice_index_or sel i false
 
 -- the acceptances of the first places, with no other place accepted
 abbrev pub padded : List Bool → List Bool
-padded decided = decided ++ replicate (MOST_BLOCKS - length decided) false
+padded decided = decided ++ replicate (most_blocks - length decided) false
 
 -- the empty selection
 abbrev pub empty_selection : List Bool
-empty_selection = replicate MOST_BLOCKS false
+empty_selection = replicate most_blocks false
 
 -- the k-th choice over n places: the first of them is accepted by the first half of the choices, and so on
 abbrev pub choice : ℕ → ℕ → List Bool

@@ -1,11 +1,12 @@
 //! What blocks add to a period: one block alone, and the accepted ones of a list together.
 
-ghost use Rattle.std.specs.Prelude.{◌≡◌, ◌≤◌, ◌≤ℤ◌, ◌*ℤ◌, pos, neg_ℤ, negsuc, length};
-ghost use Rattle.dam_book.specs.declared.limits.TheConstants.{MOST_BLOCKS};
-ghost use Rattle.dam_hour.specs.Best.{signed, greatest_value};
+ghost use Rattle.std.specs.Prelude.{◌≡◌, ◌≤◌, ◌≤ℤ◌, ◌*ℤ◌, pos, neg_ℤ, length};
+ghost use Rattle.dam_book.specs.Limits.{greatest_volume, most_blocks};
+ghost use Rattle.dam_hour.specs.Limits.{greatest_net, price_span, greatest_value};
+ghost use Rattle.dam_hour.specs.Best.{signed};
 ghost use Rattle.dam_hour.specs.Execution.{IsNetVolume};
 ghost use Rattle.dam_blocks.specs.Selection.{volume_in, net_volume_of, bought_volume_of, value_of, net_volume, bought_volume, block_value};
-ghost use Rattle.dam_blocks.specs.Magnitude.{IsWithin, greatest_block_value};
+ghost use Rattle.dam_blocks.specs.Magnitude.{IsWithin, greatest_block_value, greatest_gain};
 
 use crate::problem::Block;
 use crate::selection::Selection;
@@ -14,7 +15,7 @@ use dam_book::{BlockOrder, Period, Side, Volumes};
 /// The volume in a period, in tenths of a MW; 0 where there is none.
 pub fn volume_in(volumes: &Volumes, period: Period) -> u32
     ensures value { result ≡ volume_in volumes.now period }
-    ensures small { result ≤ 99999 }
+    ensures small { result ≤ greatest_volume }
 {
     let pairs = volumes.pairs();
     for (own, qty) in pairs {
@@ -27,8 +28,8 @@ pub fn volume_in(volumes: &Volumes, period: Period) -> u32
 
 /// The amount, with the other sign for a sell.
 pub(crate) fn signed(side: Side, amount: i64) -> i64
-    requires at_least { negsuc 99999999999 ≤ℤ amount }
-    requires at_most { amount ≤ℤ pos 100000000000 }
+    requires at_least { neg_ℤ (pos greatest_gain) ≤ℤ amount }
+    requires at_most { amount ≤ℤ pos greatest_gain }
     ensures { result ≡ signed side amount }
 {
     match side {
@@ -39,12 +40,12 @@ pub(crate) fn signed(side: Side, amount: i64) -> i64
 
 /// Cents per MWh times tenths of a MW.
 pub(crate) fn times(cents: i32, volume: u32) -> i64
-    requires at_least { negsuc 449999 ≤ℤ cents }
-    requires at_most { cents ≤ℤ pos 450000 }
-    requires volume { volume ≤ 99999 }
+    requires at_least { neg_ℤ (pos price_span) ≤ℤ cents }
+    requires at_most { cents ≤ℤ pos price_span }
+    requires volume { volume ≤ greatest_volume }
     ensures value { result ≡ cents *ℤ pos volume }
-    ensures low { negsuc 44999549999 ≤ℤ result }
-    ensures high { result ≤ℤ pos 44999550000 }
+    ensures low { neg_ℤ (pos greatest_gain) ≤ℤ result }
+    ensures high { result ≤ℤ pos greatest_gain }
 {
     i64::from(cents) * i64::from(volume)
 }
@@ -53,8 +54,8 @@ pub(crate) fn times(cents: i32, volume: u32) -> i64
 /// there where it sells, and minus its volume where it buys.
 pub fn net_volume_of(order: &BlockOrder, period: Period) -> i64
     ensures value { result ≡ net_volume_of period order.now }
-    ensures low { negsuc 99998 ≤ℤ result }
-    ensures high { result ≤ℤ pos 99999 }
+    ensures low { neg_ℤ (pos greatest_volume) ≤ℤ result }
+    ensures high { result ≤ℤ pos greatest_volume }
 {
     let volume = i64::from(volume_in(order.volumes(), period));
     -signed(order.side(), volume)
@@ -63,7 +64,7 @@ pub fn net_volume_of(order: &BlockOrder, period: Period) -> i64
 /// A block's volume in a period where it buys, in tenths of a MW; 0 where it sells.
 pub fn bought_volume_of(order: &BlockOrder, period: Period) -> u32
     ensures value { pos result ≡ bought_volume_of period order.now }
-    ensures small { result ≤ 99999 }
+    ensures small { result ≤ greatest_volume }
 {
     let volume = volume_in(order.volumes(), period);
     match order.side() {
@@ -86,7 +87,7 @@ pub fn value_of(order: &BlockOrder, period: Period) -> i64
 ///
 /// The selection's places are those of the list.
 pub fn net_volume(blocks: &[Block], selection: Selection, period: Period) -> i64
-    requires { length blocks.now ≤ MOST_BLOCKS }
+    requires { length blocks.now ≤ most_blocks }
     ensures value { result ≡ net_volume blocks.now selection period }
     ensures valid { IsNetVolume result }
 {
@@ -101,9 +102,9 @@ pub fn net_volume(blocks: &[Block], selection: Selection, period: Period) -> i64
 
 /// The accepted buy blocks' volume in a period, in tenths of a MW.
 pub fn bought_volume(blocks: &[Block], selection: Selection, period: Period) -> u64
-    requires { length blocks.now ≤ MOST_BLOCKS }
+    requires { length blocks.now ≤ most_blocks }
     ensures value { pos result ≡ bought_volume blocks.now selection period }
-    ensures small { result ≤ 2399976 }
+    ensures small { result ≤ greatest_net }
 {
     let mut total = 0;
     for (place, block) in blocks.iter().enumerate() {
@@ -117,7 +118,7 @@ pub fn bought_volume(blocks: &[Block], selection: Selection, period: Period) -> 
 /// The accepted buy blocks' limit times volume in a period less the accepted sell blocks', in cents
 /// per MWh times tenths of a MW.
 pub fn block_value(blocks: &[Block], selection: Selection, period: Period) -> i64
-    requires { length blocks.now ≤ MOST_BLOCKS }
+    requires { length blocks.now ≤ most_blocks }
     ensures value { result ≡ block_value blocks.now selection period }
     ensures size { IsWithin greatest_block_value result }
 {

@@ -1,25 +1,27 @@
-ghost use Rattle.std.specs.Prelude.{◌≡◌, ◌≤◌, ◌-ℤ◌, ◌≤ℤ◌, pos, negsuc, length};
+ghost use Rattle.std.specs.Prelude.{◌≡◌, ◌≤◌, ◌-ℤ◌, ◌≤ℤ◌, pos, neg_ℤ, length};
+ghost use Rattle.dam_book.specs.Limits.{last_period};
+ghost use Rattle.dam_hour.specs.Limits.{price_span};
 ghost use Rattle.dam_blocks.specs.Eligible.{surplus_in, surplus_of, gain_at};
-ghost use Rattle.dam_blocks.specs.Magnitude.{IsWithin, greatest_surplus};
+ghost use Rattle.dam_blocks.specs.Magnitude.{IsWithin, greatest_gain, greatest_surplus};
 
 use crate::accepted::{signed, times, volume_in};
-use crate::problem::{Block, MOST_PERIODS, period_at};
+use crate::problem::Block;
 use crate::selection::Selection;
 use dam_book::{BlockOrder, Period, Price};
 
 /// How far the limit is above the price, in cents per MWh.
 fn difference(limit: Price, price: Price) -> i32
     ensures value { result ≡ limit -ℤ price }
-    ensures low { negsuc 449999 ≤ℤ result }
-    ensures high { result ≤ℤ pos 450000 }
+    ensures low { neg_ℤ (pos price_span) ≤ℤ result }
+    ensures high { result ≤ℤ pos price_span }
 {
     limit.get() - price.get()
 }
 
 fn surplus_in(order: &BlockOrder, period: Period, price: Price) -> i64
     ensures value { result ≡ surplus_in period price order.now }
-    ensures low { negsuc 44999549999 ≤ℤ result }
-    ensures high { result ≤ℤ pos 44999550000 }
+    ensures low { neg_ℤ (pos greatest_gain) ≤ℤ result }
+    ensures high { result ≤ℤ pos greatest_gain }
 {
     let volume = volume_in(order.volumes(), period);
     let above = difference(order.price(), price);
@@ -32,13 +34,13 @@ fn surplus_in(order: &BlockOrder, period: Period, price: Price) -> i64
 /// nothing. In each period it is the volume times price less limit, for a sell, and times limit less
 /// price, for a buy.
 pub fn surplus(order: &BlockOrder, prices: &[Price]) -> i64
-    requires { length prices.now ≤ MOST_PERIODS }
+    requires { length prices.now ≤ last_period }
     ensures value { result ≡ surplus_of prices.now order.now }
     ensures size { IsWithin greatest_surplus result }
 {
     let mut total = 0;
     for (place, price) in prices.iter().enumerate() {
-        total += surplus_in(order, period_at(place), *price);
+        total += surplus_in(order, Period::at(place), *price);
     }
     total
 }
@@ -53,7 +55,7 @@ pub(crate) fn gain_at(
     prices: &[Price],
     place: usize,
 ) -> i64
-    requires { length prices.now ≤ MOST_PERIODS }
+    requires { length prices.now ≤ last_period }
     ensures { result ≡ gain_at blocks.now _selection prices.now place }
 {
     match blocks.get(place) {

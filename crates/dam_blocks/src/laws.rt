@@ -4,7 +4,7 @@
 
 ghost use Rattle.std.specs.Prelude.{◌≡◌, ◌≢◌, ◌<◌, ◌^◌, ◌+ℤ◌, ◌≤ℤ◌, ◌⊎◌, ℕ, ℤ, pos, Some, List, ◌++◌, Bool, length, drop};
 ghost use Rattle.dam_book.specs.Terms.{BlockTerms};
-ghost use Rattle.dam_book.specs.declared.limits.TheConstants.{MOST_BLOCKS};
+ghost use Rattle.dam_book.specs.Limits.{last_period, most_blocks};
 ghost use Rattle.dam_blocks.specs.declared.problem.Block.{Block};
 ghost use Rattle.dam_blocks.specs.declared.scoring.Verdict.{Verdict};
 ghost use Rattle.dam_blocks.specs.declared.scoring.Verdict.TheVariants.{Eligible};
@@ -14,6 +14,13 @@ ghost use Rattle.dam_blocks.specs.Eligible.{selection_welfare, IsEligible};
 ghost use Rattle.dam_blocks.specs.Magnitude.{IsWithin, greatest_selection_welfare};
 ghost use Rattle.dam_blocks.specs.Score.{IsVerdict};
 ghost use Rattle.dam_blocks.specs.Result.{RanksAbove, RanksAtOrBelow, IsResult};
+
+use crate::problem::MOST_PERIODS;
+
+/// The exported constant is the number of its limit.
+pub fn limits()
+    ensures periods { MOST_PERIODS ≡ last_period }
+{}
 
 /// The empty selection is eligible.
 pub fn empty_is_eligible()
@@ -46,12 +53,13 @@ pub fn verdict()
         → IsEligible problem sel w → v ≡ w }
 {}
 
-/// How large the welfare of a selection can be: 4,000 hourly orders, and 24 blocks in 25 periods, each
-/// count at most 400,000 cents per MWh times 99,999 tenths of a MW.
+/// How large the welfare of a selection can be: every hourly order, and every block in every period,
+/// counts at most the greatest limit times the greatest volume.
 pub fn magnitude()
     ensures { (problem : ProblemState) (sel : List Bool) (w : ℤ) → IsProblem problem
         → selection_welfare problem sel ≡ Some w → IsWithin greatest_selection_welfare w }
 {
+    dam_book::laws::days_are_short();
     dam_hour::laws::welfare();
 }
 
@@ -61,9 +69,9 @@ pub fn ranking()
     ensures either { (v w : ℤ) (xs ys : List Bool) → RanksAbove v xs w ys ⊎ RanksAtOrBelow v xs w ys }
     ensures apart { (v w : ℤ) (xs ys : List Bool) → RanksAbove v xs w ys → ¬ (RanksAtOrBelow v xs w ys) }
     ensures itself { (v : ℤ) (xs : List Bool) → RanksAtOrBelow v xs v xs }
-    ensures transitive { (u v w : ℤ) (xs ys zs : List Bool) → length xs ≡ MOST_BLOCKS → length ys ≡ MOST_BLOCKS
-        → length zs ≡ MOST_BLOCKS → RanksAtOrBelow u xs v ys → RanksAtOrBelow v ys w zs → RanksAtOrBelow u xs w zs }
-    ensures same { (v w : ℤ) (xs ys : List Bool) → length xs ≡ MOST_BLOCKS → length ys ≡ MOST_BLOCKS
+    ensures transitive { (u v w : ℤ) (xs ys zs : List Bool) → length xs ≡ most_blocks → length ys ≡ most_blocks
+        → length zs ≡ most_blocks → RanksAtOrBelow u xs v ys → RanksAtOrBelow v ys w zs → RanksAtOrBelow u xs w zs }
+    ensures same { (v w : ℤ) (xs ys : List Bool) → length xs ≡ most_blocks → length ys ≡ most_blocks
         → RanksAtOrBelow v xs w ys → RanksAtOrBelow w ys v xs → (xs ≡ ys) × (v ≡ w) }
 {}
 
@@ -104,7 +112,7 @@ pub fn fronts()
 /// admissible selection is one of the choices over the problem's blocks.
 pub fn choices()
     ensures each { (xs : List Bool) → (k : ℕ) × (k < 2 ^ length xs) × (choice (length xs) k ≡ xs) }
-    ensures admissible { (problem : ProblemState) (sel : List Bool) → IsProblem problem → length sel ≡ MOST_BLOCKS
+    ensures admissible { (problem : ProblemState) (sel : List Bool) → IsProblem problem → length sel ≡ most_blocks
         → IsAdmissible problem.blocks sel
         → (k : ℕ) × (k < 2 ^ length problem.blocks) × (padded (choice (length problem.blocks) k) ≡ sel) }
     ensures once { (n j k : ℕ) → j < 2 ^ n → k < 2 ^ n → choice n j ≡ choice n k → j ≡ k }

@@ -1,26 +1,27 @@
 ghost use Rattle.std.specs.Prelude.{◌≡◌, ◌+◌, ◌-◌, ◌<◌, ◌↔◌, true, false, length, slice_get, option_map, IfOk, IfSome, IsErrOf};
 ghost use Rattle.std.specs.Option.{option_copied};
+ghost use Rattle.dam_book.specs.Limits.{last_period};
 ghost use Rattle.dam_book.specs.Terms.{IsBlockOrder};
 ghost use Rattle.dam_book.specs.Volumes.{have_beyond};
 ghost use Rattle.dam_hour.specs.Execution.{IsHour};
 ghost use Rattle.dam_blocks.specs.Problem.{IsProblem, problem_of};
 
 use crate::rows::{blocks_of, hours_of, rows_of};
-use dam_book::{BlockOrder, Book, Name, Participant, Period};
+use dam_book::{BlockOrder, Book, LAST_PERIOD, Name, Participant, Period};
 use dam_hour::{Hour, Step};
 use std::alloc::{AllocError, Allocator, Global};
 use std::marker::Model;
 use thiserror::Error;
 
 /// The greatest number of periods of a delivery day.
-pub const MOST_PERIODS: usize = 25;
+pub const MOST_PERIODS: usize = LAST_PERIOD as usize;
 
 /// The period at a place of the day, counted from 0.
 pub fn period_at(place: usize) -> Period
-    requires { place < MOST_PERIODS }
+    requires { place < last_period }
     ensures { result ≡ place + 1 }
 {
-    Period::new(place as u8 + 1).unwrap()
+    Period::at(place)
 }
 
 /// A block order with the participant and the name that it stands under.

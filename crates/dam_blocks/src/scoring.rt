@@ -1,4 +1,5 @@
 ghost use Rattle.std.specs.Prelude.{◌≡◌, ◌≤◌, ◌≤ℤ◌, pos, negsuc, length, take, slice_get, Some, MatchResult, MatchOption, ℕ, ◌<◌};
+ghost use Rattle.dam_book.specs.Limits.{last_period};
 ghost use Rattle.dam_blocks.specs.declared.problem.Block.{Block};
 ghost use Rattle.dam_blocks.specs.Selection.{accepts};
 ghost use Rattle.dam_blocks.specs.Eligible.{ArePrices, HasNoLoss, selection_welfare};
@@ -8,7 +9,7 @@ use crate::accepted::{block_value, net_volume};
 use crate::gain::gain_at;
 use crate::laws;
 use crate::links::admissible;
-use crate::problem::{MOST_PERIODS, Problem, period_at};
+use crate::problem::{MOST_PERIODS, Problem};
 use crate::selection::Selection;
 use dam_book::{Period, Price};
 use std::alloc::Allocator;
@@ -41,12 +42,13 @@ fn clear_day<A: Allocator>(problem: &Problem<A>, selection: Selection) -> Result
         × (selection_welfare problem.now selection ≡ Some c.welfare))
         (λ t. IsFirstUnbalanced problem.now selection t) }
 {
+    dam_book::laws::days_are_short();
     let hours = problem.hours();
     let blocks = problem.blocks();
     let mut prices = [Price::new(0).unwrap(); MOST_PERIODS];
     let mut welfare = 0;
     for (place, hour) in hours.iter().enumerate() {
-        let period = period_at(place);
+        let period = Period::at(place);
         let Some(cleared) = hour.clear(net_volume(blocks, selection, period)) else {
             return Err(period);
         };
@@ -62,7 +64,7 @@ fn first_losing<A: Allocator>(
     selection: Selection,
     prices: &[Price],
 ) -> Option<usize>
-    requires { length prices.now ≤ MOST_PERIODS }
+    requires { length prices.now ≤ last_period }
     ensures { MatchOption result
         (HasNoLoss problem.now.blocks selection prices.now)
         (λ place. IsFirstLosing problem.now.blocks selection prices.now place) }

@@ -1,4 +1,5 @@
 ghost use Rattle.std.specs.Prelude.{◌≡◌, ◌<◌, ◌≤◌, ◌^◌, true, length, slice_set};
+ghost use Rattle.dam_book.specs.Limits.{most_blocks};
 ghost use Rattle.dam_blocks.specs.Selection.{accepts, padded, empty_selection, choice};
 
 use dam_book::MOST_BLOCKS;
@@ -24,7 +25,7 @@ impl Model for Selection {
 
 /// The number of choices over so many places.
 pub(crate) fn choices(count: usize) -> u32
-    requires { count ≤ MOST_BLOCKS }
+    requires { count ≤ most_blocks }
     ensures { result ≡ 2 ^ count }
 {
     1 << count
@@ -42,18 +43,18 @@ impl Selection {
 
     /// The selection with the block at this place accepted too.
     pub fn with(mut self, place: usize) -> Selection
-        requires { place < MOST_BLOCKS }
+        requires { place < most_blocks }
         ensures { result ≡ slice_set self place true }
     {
         self.accepted[place] = true;
         self
     }
 
-    /// Whether the block at this place is accepted. A selection has 24 places, one for each block that a
-    /// book may have; no place past the last is accepted.
+    /// Whether the block at this place is accepted. A selection has a place for each block that
+    /// a book may have; no place past the last is accepted.
     pub fn has(self, place: usize) -> bool
         ensures value { result ≡ accepts self place }
-        ensures places { length self ≡ MOST_BLOCKS }
+        ensures places { length self ≡ most_blocks }
     {
         self.accepted.get(place).copied().unwrap_or(false)
     }
@@ -61,7 +62,7 @@ impl Selection {
     /// The choice of this number over the first `count` places, of which there are 2 to the power
     /// `count`: the first half of them accepts the first place, and so on within each half.
     pub fn choice(count: usize, number: u32) -> Selection
-        requires count { count ≤ MOST_BLOCKS }
+        requires count { count ≤ most_blocks }
         requires number { number < 2 ^ count }
         ensures { result ≡ padded (choice count number) }
     {

@@ -1,9 +1,10 @@
 -- Where the net volume is within the offers there are a balanced execution, the ends and a best execution; and each is the only one.
 use Rattle.std.proofs.Common.{◌≡◌, ℕ, zero, suc, min, ◌-◌, ◌≤◌, ℤ, pos, negsuc, neg_ℤ, ◌+ℤ◌, ◌-ℤ◌, ◌≤ℤ◌, List, [], ◌∷◌, inl, inr, ap, ap₂, ◌∙◌, sym, refl, arith}
 use Rattle.std.proofs.lemmas.Int.{ints, by_lt_z}
-use Rattle.dam_book.specs.declared.price.TheConstants.{LOWEST_PRICE, HIGHEST_PRICE}
+use Rattle.dam_book.specs.Limits.{lowest_price, highest_price}
 use Rattle.dam_book.specs.declared.order.Side.{Side}
 use Rattle.dam_book.specs.declared.order.Side.TheVariants.{Buy, Sell}
+use Rattle.dam_hour.specs.Limits.{price_span}
 use Rattle.dam_hour.specs.declared.step.Step.{Step}
 use Rattle.dam_hour.specs.Execution.{AreInRange, IsExecution, IsWithinOffers, executed_volume, offered_volume, volume_on, IsBalanced}
 use Rattle.dam_hour.specs.Price.{AreEnds}
@@ -14,7 +15,7 @@ use Rattle.dam_hour.proofs.Totals.{totals_at, best_at, best_is_best}
 use Rattle.dam_hour.proofs.Supporting.{higher, lower, high_or_next_low, low_or_previous_high, highest_enough, lowest_enough, ends_from, least_is_low}
 
 -- ---- the least price that is high enough, by its distance from the lowest
-pub least_found : (ss : List Step) (net : ℤ) (n : ℕ) (p : ℤ) → p ≡ LOWEST_PRICE +ℤ pos n → p ≤ℤ HIGHEST_PRICE → IsHighEnough ss net p
+pub least_found : (ss : List Step) (net : ℤ) (n : ℕ) (p : ℤ) → p ≡ lowest_price +ℤ pos n → p ≤ℤ highest_price → IsHighEnough ss net p
     → (q : ℤ) × IsLeastHighEnough ss net q
 least_found ss net zero p e m h = (
   p,
@@ -39,7 +40,7 @@ least_found ss net (suc n) p e m h =
       )
     ]
 
-pub greatest_found : (ss : List Step) (net : ℤ) (n : ℕ) (p : ℤ) → HIGHEST_PRICE ≡ p +ℤ pos n → LOWEST_PRICE ≤ℤ p → IsLowEnough ss net p
+pub greatest_found : (ss : List Step) (net : ℤ) (n : ℕ) (p : ℤ) → highest_price ≡ p +ℤ pos n → lowest_price ≤ℤ p → IsLowEnough ss net p
     → (q : ℤ) × IsGreatestLowEnough ss net q
 greatest_found ss net zero p e m h = (
   p,
@@ -66,13 +67,13 @@ greatest_found ss net (suc n) p e m h =
 
 -- the number of cents from the lowest price to the highest
 abbrev cents : ℕ
-cents = 450000
+cents = price_span
 
 pub least_exists : (ss : List Step) (net : ℤ) → AreInRange ss → IsWithinOffers ss net → (q : ℤ) × IsLeastHighEnough ss net q
-least_exists ss net r w = least_found ss net cents HIGHEST_PRICE refl (omega (arith, ints)) (highest_enough ss net r w)
+least_exists ss net r w = least_found ss net cents highest_price refl (omega (arith, ints)) (highest_enough ss net r w)
 
 pub greatest_exists : (ss : List Step) (net : ℤ) → AreInRange ss → IsWithinOffers ss net → (q : ℤ) × IsGreatestLowEnough ss net q
-greatest_exists ss net r w = greatest_found ss net cents LOWEST_PRICE refl (omega (arith, ints)) (lowest_enough ss net r w)
+greatest_exists ss net r w = greatest_found ss net cents lowest_price refl (omega (arith, ints)) (lowest_enough ss net r w)
 
 pub ends_exist : (ss : List Step) (net : ℤ) → AreInRange ss → IsWithinOffers ss net → (low : ℤ) × (high : ℤ) × AreEnds ss net low high
 ends_exist ss net r w =

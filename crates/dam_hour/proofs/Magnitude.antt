@@ -6,25 +6,27 @@ use Rattle.std.proofs.lemmas.Nat.{mul-le}
 use Rattle.dam_book.specs.Price.{IsPrice}
 use Rattle.dam_book.specs.declared.order.Side.{Side}
 use Rattle.dam_book.specs.declared.order.Side.TheVariants.{Buy, Sell}
+use Rattle.dam_book.specs.Limits.{greatest_volume}
+use Rattle.dam_hour.specs.Limits.{greatest_price, greatest_value}
 use Rattle.dam_hour.specs.declared.step.Step.{Step}
 use Rattle.dam_hour.specs.Execution.{AreInRange, IsExecution, volume_on, executed_volume}
-use Rattle.dam_hour.specs.Best.{signed, welfare_of, greatest_value, AreSmall, AreBestTotals}
+use Rattle.dam_hour.specs.Best.{signed, welfare_of, AreSmall, AreBestTotals}
 
 -- a limit times an executed volume
-value_small : (side : Side) (limit : ℤ) (x q : ℕ) → IsPrice limit → x ≤ q → q ≤ 99999
+value_small : (side : Side) (limit : ℤ) (x q : ℕ) → IsPrice limit → x ≤ q → q ≤ greatest_volume
     → (neg_ℤ (pos greatest_value) ≤ℤ signed side (limit *ℤ pos x)) × (signed side (limit *ℤ pos x) ≤ℤ pos greatest_value)
 value_small Buy limit x q r h m =
-    let a : unsigned_abs limit ≤ 400000 = omega (arith, ints, r.at_least, r.at_most) in
-    let b = mul-le (unsigned_abs limit) x 400000 99999 a (omega arith) in
+    let a : unsigned_abs limit ≤ greatest_price = omega (arith, ints, r.at_least, r.at_most) in
+    let b = mul-le (unsigned_abs limit) x greatest_price greatest_volume a (omega arith) in
     let p = unsigned_abs-mul limit (pos x) in
     (omega (arith, ints, b, p), omega (arith, ints, b, p))
 value_small Sell limit x q r h m =
-    let a : unsigned_abs limit ≤ 400000 = omega (arith, ints, r.at_least, r.at_most) in
-    let b = mul-le (unsigned_abs limit) x 400000 99999 a (omega arith) in
+    let a : unsigned_abs limit ≤ greatest_price = omega (arith, ints, r.at_least, r.at_most) in
+    let b = mul-le (unsigned_abs limit) x greatest_price greatest_volume a (omega arith) in
     let p = unsigned_abs-mul limit (pos x) in
     (omega (arith, ints, b, p), omega (arith, ints, b, p))
 
-volume_small : (side own : Side) (x q : ℕ) → x ≤ q → q ≤ 99999 → volume_on side own x ≤ 99999
+volume_small : (side own : Side) (x q : ℕ) → x ≤ q → q ≤ greatest_volume → volume_on side own x ≤ greatest_volume
 volume_small Buy Buy x q h m = omega arith
 volume_small Sell Sell x q h m = omega arith
 volume_small Buy Sell x q h m = omega arith

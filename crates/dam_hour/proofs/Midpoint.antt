@@ -5,7 +5,7 @@ use Rattle.std.specs.Int.{int_div_euclid}
 use Rattle.std.specs.Ordering.{int_eq}
 use Rattle.std.proofs.lemmas.Int.{ints}
 use Rattle.std.proofs.lemmas.Bool.Decides.{Decides-int_eq}
-use Rattle.dam_book.specs.declared.price.TheConstants.{LOWEST_PRICE, HIGHEST_PRICE}
+use Rattle.dam_book.specs.Limits.{lowest_price, highest_price}
 use Rattle.dam_hour.specs.Price.{price_between}
 
 -- twice the half is the number or one less
@@ -26,7 +26,7 @@ chosen false b false d low high middle h l m = (l, m)
 pub price_lies_between : (low high : ℤ) → low ≤ℤ high → (low ≤ℤ price_between low high) × (price_between low high ≤ℤ high)
 price_lies_between low high h =
     let r = half_rounds_down (low +ℤ high) in
-    chosen (int_eq low LOWEST_PRICE) (int_lt high HIGHEST_PRICE) (int_lt LOWEST_PRICE low) (int_eq high HIGHEST_PRICE) low high (int_div_euclid (low +ℤ high) (pos 2)) h
+    chosen (int_eq low lowest_price) (int_lt high highest_price) (int_lt lowest_price low) (int_eq high highest_price) low high (int_div_euclid (low +ℤ high) (pos 2)) h
     (omega (arith, ints, r.0, r.1)) (omega (arith, ints, r.0, r.1))
 
 lt_true : (a b : ℤ) → a <ℤ b → int_lt a b ≡ true
@@ -61,17 +61,17 @@ picked_middle false b true true low high middle e f = cc
 picked_middle false b true false low high middle e f = refl
 picked_middle false b false d low high middle e f = refl
 
-pub price_at_low_end : (high : ℤ) → high <ℤ HIGHEST_PRICE → price_between LOWEST_PRICE high ≡ high
+pub price_at_low_end : (high : ℤ) → high <ℤ highest_price → price_between lowest_price high ≡ high
 price_at_low_end high h =
-    picked_high (int_eq LOWEST_PRICE LOWEST_PRICE) (int_lt high HIGHEST_PRICE) (int_lt LOWEST_PRICE LOWEST_PRICE) (int_eq high HIGHEST_PRICE) LOWEST_PRICE high
-    (int_div_euclid (LOWEST_PRICE +ℤ high) (pos 2)) (eq_true LOWEST_PRICE) (lt_true high HIGHEST_PRICE h)
+    picked_high (int_eq lowest_price lowest_price) (int_lt high highest_price) (int_lt lowest_price lowest_price) (int_eq high highest_price) lowest_price high
+    (int_div_euclid (lowest_price +ℤ high) (pos 2)) (eq_true lowest_price) (lt_true high highest_price h)
 
-pub price_at_high_end : (low : ℤ) → LOWEST_PRICE <ℤ low → price_between low HIGHEST_PRICE ≡ low
+pub price_at_high_end : (low : ℤ) → lowest_price <ℤ low → price_between low highest_price ≡ low
 price_at_high_end low h =
-    picked_low (int_eq low LOWEST_PRICE) (int_lt HIGHEST_PRICE HIGHEST_PRICE) (int_lt LOWEST_PRICE low) (int_eq HIGHEST_PRICE HIGHEST_PRICE) low HIGHEST_PRICE
-    (int_div_euclid (low +ℤ HIGHEST_PRICE) (pos 2)) (lt_false HIGHEST_PRICE HIGHEST_PRICE (omega (arith, ints))) (lt_true LOWEST_PRICE low h) (eq_true HIGHEST_PRICE)
+    picked_low (int_eq low lowest_price) (int_lt highest_price highest_price) (int_lt lowest_price low) (int_eq highest_price highest_price) low highest_price
+    (int_div_euclid (low +ℤ highest_price) (pos 2)) (lt_false highest_price highest_price (omega (arith, ints))) (lt_true lowest_price low h) (eq_true highest_price)
 
-pub price_inside : (low high : ℤ) → LOWEST_PRICE <ℤ low → high <ℤ HIGHEST_PRICE → price_between low high ≡ int_div_euclid (low +ℤ high) (pos 2)
+pub price_inside : (low high : ℤ) → lowest_price <ℤ low → high <ℤ highest_price → price_between low high ≡ int_div_euclid (low +ℤ high) (pos 2)
 price_inside low high h g =
-    picked_middle (int_eq low LOWEST_PRICE) (int_lt high HIGHEST_PRICE) (int_lt LOWEST_PRICE low) (int_eq high HIGHEST_PRICE) low high
-    (int_div_euclid (low +ℤ high) (pos 2)) (eq_false low LOWEST_PRICE (omega (arith, ints))) (eq_false high HIGHEST_PRICE (omega (arith, ints)))
+    picked_middle (int_eq low lowest_price) (int_lt high highest_price) (int_lt lowest_price low) (int_eq high highest_price) low high
+    (int_div_euclid (low +ℤ high) (pos 2)) (eq_false low lowest_price (omega (arith, ints))) (eq_false high highest_price (omega (arith, ints)))

@@ -2,7 +2,7 @@
 use Rattle.std.proofs.Common.{◌≡◌, ℕ, zero, suc, ◌+◌, ◌<◌, ◌≤◌, ℤ, pos, negsuc, ◌+ℤ◌, ◌-ℤ◌, ◌≤ℤ◌, List, [], ◌∷◌, ◌⊎◌, inl, inr, ◌∙◌, sym, refl, arith}
 use Rattle.std.proofs.lemmas.Int.{ints, by_lt_z}
 use Rattle.dam_book.specs.Price.{IsPrice}
-use Rattle.dam_book.specs.declared.price.TheConstants.{LOWEST_PRICE, HIGHEST_PRICE}
+use Rattle.dam_book.specs.Limits.{lowest_price, highest_price}
 use Rattle.dam_book.specs.declared.order.Side.{Side}
 use Rattle.dam_book.specs.declared.order.Side.TheVariants.{Buy, Sell}
 use Rattle.dam_hour.specs.declared.step.Step.{Step}
@@ -162,12 +162,12 @@ none_better_on Sell Buy m q h = refl
 
 -- no buy is better than the highest price and no sell than the lowest
 abbrev end_of : Side → ℤ
-end_of Buy = HIGHEST_PRICE
-end_of Sell = LOWEST_PRICE
+end_of Buy = highest_price
+end_of Sell = lowest_price
 
 margin_end : (side own : Side) (l : ℤ) → IsPrice l → (m : ℕ) → (q : ℕ) → m ≡ if_better (margin_of own l (end_of side)) q → volume_on side own m ≡ 0
-margin_end Buy Buy l r m q e = let a = r.at_most in let z = none_better (margin_of Buy l HIGHEST_PRICE) q (omega (arith, ints, a)) in e ∙ z
-margin_end Sell Sell l r m q e = let a = r.at_least in let z = none_better (margin_of Sell l LOWEST_PRICE) q (omega (arith, ints, a)) in e ∙ z
+margin_end Buy Buy l r m q e = let a = r.at_most in let z = none_better (margin_of Buy l highest_price) q (omega (arith, ints, a)) in e ∙ z
+margin_end Sell Sell l r m q e = let a = r.at_least in let z = none_better (margin_of Sell l lowest_price) q (omega (arith, ints, a)) in e ∙ z
 margin_end Buy Sell l r m q e = refl
 margin_end Sell Buy l r m q e = refl
 
@@ -180,13 +180,13 @@ end_better side (s ∷ ss) r =
 
 -- at the other end none is worse
 abbrev other_end_of : Side → ℤ
-other_end_of Buy = LOWEST_PRICE
-other_end_of Sell = HIGHEST_PRICE
+other_end_of Buy = lowest_price
+other_end_of Sell = highest_price
 
 margin_other_end : (side own : Side) (l : ℤ) → IsPrice l → (q m : ℕ)
     → m ≡ if_better (margin_of own l (other_end_of side)) q + if_at (margin_of own l (other_end_of side)) q → volume_on side own q ≡ volume_on side own m
-margin_other_end Buy Buy l r q m e = let a = r.at_least in none_worse (margin_of Buy l LOWEST_PRICE) q (omega (arith, ints, a)) ∙ sym e
-margin_other_end Sell Sell l r q m e = let a = r.at_most in none_worse (margin_of Sell l HIGHEST_PRICE) q (omega (arith, ints, a)) ∙ sym e
+margin_other_end Buy Buy l r q m e = let a = r.at_least in none_worse (margin_of Buy l lowest_price) q (omega (arith, ints, a)) ∙ sym e
+margin_other_end Sell Sell l r q m e = let a = r.at_most in none_worse (margin_of Sell l highest_price) q (omega (arith, ints, a)) ∙ sym e
 margin_other_end Buy Sell l r q m e = refl
 margin_other_end Sell Buy l r q m e = refl
 
@@ -200,12 +200,12 @@ end_not_worse side (s ∷ ss) r =
     let rest = end_not_worse side ss r.2 in
     omega (arith, here, sum, rest)
 
-pub highest_enough : (ss : List Step) (net : ℤ) → AreInRange ss → IsWithinOffers ss net → IsHighEnough ss net HIGHEST_PRICE
+pub highest_enough : (ss : List Step) (net : ℤ) → AreInRange ss → IsWithinOffers ss net → IsHighEnough ss net highest_price
 highest_enough ss net r w =
     let b = end_better Buy ss r in let s = end_not_worse Sell ss r in let a = w.at_least in
     record { enough = omega (arith, ints, b, s, a) }
 
-pub lowest_enough : (ss : List Step) (net : ℤ) → AreInRange ss → IsWithinOffers ss net → IsLowEnough ss net LOWEST_PRICE
+pub lowest_enough : (ss : List Step) (net : ℤ) → AreInRange ss → IsWithinOffers ss net → IsLowEnough ss net lowest_price
 lowest_enough ss net r w =
     let s = end_better Sell ss r in let b = end_not_worse Buy ss r in let a = w.at_most in
     record { enough = omega (arith, ints, b, s, a) }
@@ -218,7 +218,7 @@ tests_supporting ss net p r h l =
 pub least_is_low : (ss : List Step) (net p : ℤ) → AreInRange ss → IsWithinOffers ss net → IsLeastHighEnough ss net p → IsLowEnough ss net p
 least_is_low ss net p r w t =
     let a = t.in_range.at_least in let b = t.in_range.at_most in
-    by_lt_z LOWEST_PRICE p
+    by_lt_z lowest_price p
     (λ less. elim (high_or_next_low ss net (p -ℤ pos 1) p (omega (arith, ints))) [
       | inl high ↦
           (let before : IsPrice (p -ℤ pos 1) = record { at_least = omega (arith, ints); at_most = omega (arith, ints) } in
@@ -226,12 +226,12 @@ least_is_low ss net p r w t =
           absurd (let false : 0 < 0 = omega (arith, ints, no) in omega (arith, false)))
       | inr other ↦ other.1
     ])
-    (λ most. lower ss net p LOWEST_PRICE most (lowest_enough ss net r w))
+    (λ most. lower ss net p lowest_price most (lowest_enough ss net r w))
 
 pub greatest_is_high : (ss : List Step) (net p : ℤ) → AreInRange ss → IsWithinOffers ss net → IsGreatestLowEnough ss net p → IsHighEnough ss net p
 greatest_is_high ss net p r w t =
     let a = t.in_range.at_least in let b = t.in_range.at_most in
-    by_lt_z p HIGHEST_PRICE
+    by_lt_z p highest_price
     (λ less. elim (low_or_previous_high ss net p (p +ℤ pos 1) refl) [
       | inl low ↦
           (let after : IsPrice (p +ℤ pos 1) = record { at_least = omega (arith, ints); at_most = omega (arith, ints) } in
@@ -239,7 +239,7 @@ greatest_is_high ss net p r w t =
           absurd (let false : 0 < 0 = omega (arith, ints, no) in omega (arith, false)))
       | inr other ↦ other.1
     ])
-    (λ most. higher ss net HIGHEST_PRICE p most (highest_enough ss net r w))
+    (λ most. higher ss net highest_price p most (highest_enough ss net r w))
 
 pub ends_from : (ss : List Step) (net low high : ℤ) → AreInRange ss → IsWithinOffers ss net → IsLeastHighEnough ss net low → IsGreatestLowEnough ss net high → AreEnds ss net low high
 ends_from ss net low high r w l h = record {

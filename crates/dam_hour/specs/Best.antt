@@ -3,10 +3,11 @@ use Rattle.std.specs.Prelude.{◌≡◌, ℕ, ◌*◌, ◌≤◌, ℤ, pos, neg_
 use Rattle.std.specs.Int.{int_max}
 use Rattle.std.specs.List.{flat_map}
 use Rattle.std.specs.Ordering.{int_eq}
-use Rattle.dam_book.specs.declared.quantity.TheConstants.{GREATEST_QTY}
+use Rattle.dam_book.specs.Limits.{greatest_volume}
 use Rattle.dam_book.specs.declared.order.Side.{Side}
 use Rattle.dam_book.specs.declared.order.Side.TheVariants.{Buy, Sell}
 use Rattle.dam_hour.specs.declared.step.Step.{Step}
+use Rattle.dam_hour.specs.Limits.{greatest_value}
 use Rattle.dam_hour.specs.Execution.{IsExecution, executed_volume, Balances}
 
 -- a buy counts as it is, and a sell with the other sign
@@ -49,14 +50,10 @@ pub record AreBestTotals (ss : List Step) (net : ℤ) (bought sold : ℕ) (welfa
   pub sold_is : sold ≡ executed_volume Sell ss volumes
   pub welfare_is : welfare ≡ welfare_of ss volumes
 
--- the greatest limit times the greatest volume: 400,000 cents per MWh by 99,999 tenths of a MW
-abbrev pub greatest_value : ℕ
-greatest_value = 39999600000
-
 -- volumes and a welfare within what so many steps can give
 pub record AreSmall (steps bought sold : ℕ) (welfare : ℤ) : Type 0 where
-  pub bought_at_most : bought ≤ steps * GREATEST_QTY
-  pub sold_at_most : sold ≤ steps * GREATEST_QTY
+  pub bought_at_most : bought ≤ steps * greatest_volume
+  pub sold_at_most : sold ≤ steps * greatest_volume
   pub welfare_at_least : neg_ℤ (pos (steps * greatest_value)) ≤ℤ welfare
   pub welfare_at_most : welfare ≤ℤ pos (steps * greatest_value)
 

@@ -4,7 +4,7 @@ use Rattle.dam_book.specs.Price.{IsPrice}
 use Rattle.dam_book.specs.Quantity.{IsQuantity}
 use Rattle.dam_book.specs.declared.order.Side.{Side}
 use Rattle.dam_book.specs.declared.order.Side.TheVariants.{Buy, Sell}
-use Rattle.dam_hour.specs.declared.hour.TheConstants.{GREATEST_STEPS, GREATEST_NET}
+use Rattle.dam_hour.specs.Limits.{most_steps, greatest_net}
 use Rattle.dam_hour.specs.declared.step.Step.{Step}
 
 -- each step has a limit and a volume that an order may have
@@ -14,13 +14,13 @@ AreInRange (s ∷ ss) = IsPrice s.price × IsQuantity s.qty × AreInRange ss
 
 -- the steps of an hour: few enough, and each in range
 pub record IsHour (ss : List Step) : Type 0 where
-  pub few : length ss ≤ GREATEST_STEPS
+  pub few : length ss ≤ most_steps
   pub in_range : AreInRange ss
 
 -- a net volume that the blocks of a book can have in a period: what the accepted ones sell there less what they buy, in tenths of a MW
 pub record IsNetVolume (net : ℤ) : Type 0 where
-  pub at_least : neg_ℤ GREATEST_NET ≤ℤ net
-  pub at_most : net ≤ℤ GREATEST_NET
+  pub at_least : neg_ℤ (pos greatest_net) ≤ℤ net
+  pub at_most : net ≤ℤ pos greatest_net
 
 -- a whole volume for each step, in tenths of a MW, from 0 to the step's own
 abbrev pub IsExecution : List Step → List ℕ → Type 0

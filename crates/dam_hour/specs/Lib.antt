@@ -1,3 +1,4 @@
+pub mod Limits
 pub mod Execution
 pub mod Price
 pub mod Best

@@ -3,7 +3,7 @@ use Rattle.std.specs.Prelude.{◌≡◌, ℕ, ℤ, pos, ◌+ℤ◌, ◌≤ℤ◌
 use Rattle.std.specs.Int.{int_div_euclid}
 use Rattle.std.specs.Ordering.{int_eq}
 use Rattle.dam_book.specs.Price.{IsPrice}
-use Rattle.dam_book.specs.declared.price.TheConstants.{LOWEST_PRICE, HIGHEST_PRICE}
+use Rattle.dam_book.specs.Limits.{lowest_price, highest_price}
 use Rattle.dam_book.specs.declared.order.Side.{Side}
 use Rattle.dam_book.specs.declared.order.Side.TheVariants.{Buy, Sell}
 use Rattle.dam_hour.specs.declared.step.Step.{Step}
@@ -43,5 +43,5 @@ pub record AreEnds (ss : List Step) (net low high : ℤ) : Type 0 where
 -- the one end that is no end of the range, and else the middle, a half rounded down (`int_div_euclid` by 2 rounds down also below zero)
 abbrev pub price_between : ℤ → ℤ → ℤ
 price_between low high =
-    if int_eq low LOWEST_PRICE && int_lt high HIGHEST_PRICE then high
-    else (if int_lt LOWEST_PRICE low && int_eq high HIGHEST_PRICE then low else int_div_euclid (low +ℤ high) (pos 2))
+    if int_eq low lowest_price && int_lt high highest_price then high
+    else (if int_lt lowest_price low && int_eq high highest_price then low else int_div_euclid (low +ℤ high) (pos 2))

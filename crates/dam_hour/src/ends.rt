@@ -1,6 +1,7 @@
 ghost use Rattle.std.specs.Prelude.{◌≡◌, ◌≤◌, ◌↔◌, pos, ◌+ℤ◌, ◌-ℤ◌, IsTrue};
 ghost use Rattle.std.specs.Int.{int_div_euclid};
-ghost use Rattle.dam_book.specs.declared.price.TheConstants.{LOWEST_PRICE, HIGHEST_PRICE};
+ghost use Rattle.dam_book.specs.Limits.{lowest_price, highest_price};
+ghost use Rattle.dam_hour.specs.Limits.{price_span};
 ghost use Rattle.dam_hour.specs.Execution.{IsHour, IsNetVolume, IsWithinOffers};
 ghost use Rattle.dam_hour.specs.Price.{price_between};
 ghost use Rattle.dam_hour.specs.Volumes.{IsHighEnough, IsLowEnough, IsLeastHighEnough, IsGreatestLowEnough};
@@ -14,16 +15,16 @@ const SPAN: u32 = (HIGHEST_PRICE - LOWEST_PRICE) as u32;
 
 /// The price so many cents above the least one.
 fn price_above(cents: u32) -> Price
-    requires { cents ≤ SPAN }
-    ensures { result ≡ LOWEST_PRICE +ℤ pos cents }
+    requires { cents ≤ price_span }
+    ensures { result ≡ lowest_price +ℤ pos cents }
 {
     Price::new(LOWEST_PRICE + cents as i32).unwrap()
 }
 
 /// The price so many cents below the greatest one.
 fn price_below(cents: u32) -> Price
-    requires { cents ≤ SPAN }
-    ensures { result ≡ HIGHEST_PRICE -ℤ pos cents }
+    requires { cents ≤ price_span }
+    ensures { result ≡ highest_price -ℤ pos cents }
 {
     Price::new(HIGHEST_PRICE - cents as i32).unwrap()
 }

@@ -1,6 +1,7 @@
 ghost use Rattle.std.specs.Prelude.{◌≡◌, ◌≤◌, ◌-◌, take, pos, ◌*ℤ◌, ◌+ℤ◌, ℕ, List, length, slice_get, IfOk, IfSome, IfNone, MatchOption, IsTrue, ◌↔◌, [], None};
 ghost use Rattle.std.specs.Option.{option_map};
 ghost use Rattle.dam_book.specs.declared.order.Side.TheVariants.{Buy, Sell};
+ghost use Rattle.dam_hour.specs.Limits.{most_steps};
 ghost use Rattle.dam_hour.specs.Execution.{IsHour, IsNetVolume, IsWithinOffers, IsUnbalanced};
 ghost use Rattle.dam_hour.specs.Price.{AreEnds, price_between};
 ghost use Rattle.dam_hour.specs.Best.{IsBest, AreBestTotals, AreSmall, greatest_welfare};
@@ -10,17 +11,18 @@ use crate::ends::{high_end, is_within_offers, low_end, price_between};
 use crate::execution::{Left, fill};
 use crate::step::Step;
 use crate::volumes::{Bounds, surplus};
-use dam_book::{Price, Side};
+use dam_book::{GREATEST_VOLUME, MOST_BLOCKS, MOST_HOURLY, Price, Side};
 use std::alloc::{AllocError, Allocator, Global};
 use std::marker::Model;
 
-/// The most steps of one period: 4,000 hourly orders, and 24 blocks that may stand as steps.
-pub const GREATEST_STEPS: usize = 4_024;
+/// The most steps of one period: the hourly orders of a full book, and its blocks, which may stand as
+/// steps too.
+pub const MOST_STEPS: usize = MOST_HOURLY + MOST_BLOCKS;
 
-/// The greatest net volume of a period, of either sign: 24 blocks of 99,999 tenths of a MW.
-pub const GREATEST_NET: i64 = 2_399_976;
+/// The greatest net volume of a period, of either sign, in tenths of a MW: that of all blocks of a book.
+pub const GREATEST_NET: i64 = MOST_BLOCKS as i64 * GREATEST_VOLUME as i64;
 
-/// One period: its steps in book order, at most `GREATEST_STEPS`.
+/// One period: its steps in book order, at most `MOST_STEPS`.
 ///
 /// A contract sees the list of the steps.
 #[derive(Drop)]
@@ -145,7 +147,7 @@ fn welfare_at(steps: &[Step], net: i64, price: Price) -> i64
 impl<A: Allocator> Hour<A> {
     /// The hour of these steps, which stand in book order. The error is want of memory.
     pub fn build(alloc: A, steps: &[Step]) -> Result<Hour<A>, AllocError>
-        requires { length steps.now ≤ GREATEST_STEPS }
+        requires { length steps.now ≤ most_steps }
         ensures { IfOk result (λ hour. hour ≡ steps.now) }
     {
         let mut kept = Vec::with_capacity(alloc, steps.len())?;

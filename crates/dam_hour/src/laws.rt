@@ -6,11 +6,20 @@ ghost use Rattle.std.specs.Prelude.{◌≡◌, ◌↔◌, ℕ, ◌+◌, ◌≤�
 ghost use Rattle.std.specs.Int.{int_div_euclid};
 ghost use Rattle.dam_book.specs.declared.order.Side.{Side};
 ghost use Rattle.dam_book.specs.declared.order.Side.TheVariants.{Buy, Sell};
-ghost use Rattle.dam_book.specs.declared.price.TheConstants.{LOWEST_PRICE, HIGHEST_PRICE};
+ghost use Rattle.dam_book.specs.Limits.{lowest_price, highest_price};
 ghost use Rattle.dam_hour.specs.declared.step.Step.{Step};
+ghost use Rattle.dam_hour.specs.Limits.{most_steps, greatest_net};
 ghost use Rattle.dam_hour.specs.Execution.{AreInRange, IsExecution, executed_volume, Balances, IsWithinOffers, IsBalanced, IsUnbalanced};
 ghost use Rattle.dam_hour.specs.Price.{Supports, IsSupporting, AreEnds, price_between};
 ghost use Rattle.dam_hour.specs.Best.{AreSmall, IsBest, welfare_of, surplus_at, greatest_welfare};
+
+use crate::hour::{GREATEST_NET, MOST_STEPS};
+
+/// Each exported constant is the number of its limit.
+pub fn limits()
+    ensures steps { MOST_STEPS ≡ most_steps }
+    ensures net { GREATEST_NET ≡ pos greatest_net }
+{}
 
 /// The exchange law: the supporting prices are all whole cents from the one end to the other, and
 /// each of them supports the best execution.
@@ -51,11 +60,11 @@ pub fn uniqueness()
 pub fn price()
     ensures between { (low high : ℤ) → low ≤ℤ high
         → (low ≤ℤ price_between low high) × (price_between low high ≤ℤ high) }
-    ensures low_open { (high : ℤ) → high <ℤ HIGHEST_PRICE → price_between LOWEST_PRICE high ≡ high }
-    ensures high_open { (low : ℤ) → LOWEST_PRICE <ℤ low → price_between low HIGHEST_PRICE ≡ low }
-    ensures inside { (low high : ℤ) → LOWEST_PRICE <ℤ low → high <ℤ HIGHEST_PRICE
+    ensures low_open { (high : ℤ) → high <ℤ highest_price → price_between lowest_price high ≡ high }
+    ensures high_open { (low : ℤ) → lowest_price <ℤ low → price_between low highest_price ≡ low }
+    ensures inside { (low high : ℤ) → lowest_price <ℤ low → high <ℤ highest_price
         → price_between low high ≡ int_div_euclid (low +ℤ high) (pos 2) }
-    ensures all_open { price_between LOWEST_PRICE HIGHEST_PRICE ≡ pos 175000 }
+    ensures all_open { price_between lowest_price highest_price ≡ pos 175000 }
 {}
 
 /// The greatest welfare as a function of the net volume is the best execution's, and there is none

@@ -17,5 +17,5 @@ mod step;
 mod tests;
 mod volumes;
 
-pub use hour::{Cleared, GREATEST_NET, GREATEST_STEPS, Hour};
+pub use hour::{Cleared, GREATEST_NET, Hour, MOST_STEPS};
 pub use step::Step;

@@ -4,7 +4,7 @@
 ghost use Rattle.std.specs.Prelude.{◌<◌, length, IfSome};
 
 use crate::step::Step;
-use dam_book::{HIGHEST_PRICE, LOWEST_PRICE, Side};
+use dam_book::{GREATEST_VOLUME, HIGHEST_PRICE, LOWEST_PRICE, Side};
 
 /// The totals and the price that a plain program finds.
 #[derive(Clone, Copy, PartialEq, Eq, Debug)]
@@ -127,7 +127,7 @@ pub(crate) fn read(rows: &[Row]) -> Found {
     for row in rows {
         let limit = row.step.price.get();
         let is_buy = row.step.side == Side::Buy;
-        let value = i64::from(limit).saturating_mul(row.executed.min(99_999) as i64);
+        let value = i64::from(limit).saturating_mul(row.executed.min(u64::from(GREATEST_VOLUME)) as i64);
         if is_buy {
             bought = bought.saturating_add(row.executed);
             welfare = welfare.saturating_add(value);

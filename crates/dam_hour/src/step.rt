@@ -1,6 +1,8 @@
-ghost use Rattle.std.specs.Prelude.{◌≡◌, ◌≤◌, pos, negsuc, ◌≤ℤ◌};
+ghost use Rattle.std.specs.Prelude.{◌≡◌, ◌≤◌, pos, neg_ℤ, ◌≤ℤ◌};
+ghost use Rattle.dam_book.specs.Limits.{greatest_volume};
 ghost use Rattle.dam_book.specs.Price.{IsPrice};
 ghost use Rattle.dam_book.specs.Quantity.{IsQuantity};
+ghost use Rattle.dam_hour.specs.Limits.{price_span};
 ghost use Rattle.dam_hour.specs.Volumes.{margin_of, if_at, share};
 
 use dam_book::{Price, Qty, Side};
@@ -20,8 +22,8 @@ impl Step {
     /// How many cents better than the price the limit is: 0 at the price, below 0 where it is worse.
     pub(crate) fn margin(self, price: Price) -> i32
         ensures value { result ≡ margin_of self.side self.price price }
-        ensures at_least { negsuc 449999 ≤ℤ result }
-        ensures at_most { result ≤ℤ pos 450000 }
+        ensures at_least { neg_ℤ (pos price_span) ≤ℤ result }
+        ensures at_most { result ≤ℤ pos price_span }
     {
         match self.side {
             Side::Buy => self.price.get() - price.get(),
@@ -43,7 +45,7 @@ impl Step {
     /// The step's volume in tenths of a MW.
     pub(crate) fn volume(self) -> u64
         ensures value { result ≡ self.qty }
-        ensures small { result ≤ 99999 }
+        ensures small { result ≤ greatest_volume }
     {
         u64::from(self.qty.get())
     }
@@ -61,7 +63,7 @@ impl Step {
     /// and at the price as much as is left for it.
     pub(crate) fn share(&self, price: Price, left: u64) -> u64
         ensures value { result ≡ share (margin_of self.now.side self.now.price price) self.now.qty left }
-        ensures small { result ≤ 99999 }
+        ensures small { result ≤ greatest_volume }
     {
         let volume = self.volume();
         let margin = self.margin(price);

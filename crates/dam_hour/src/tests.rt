@@ -1,5 +1,5 @@
 use crate::plain::{Found, Row, merge, read, try_all};
-use crate::{Cleared, GREATEST_NET, GREATEST_STEPS, Hour, Step};
+use crate::{Cleared, GREATEST_NET, MOST_STEPS, Hour, Step};
 use dam_book::{Price, Qty, Side};
 use std::alloc::{AllocError, Global};
 use std::process::Abort;
@@ -41,7 +41,7 @@ fn hour_of(rt: &impl Abort, alloc: Global, orders: &[Order]) -> Result<Hour, All
         }
     }
     assert_eq!(rt; steps.len(), orders.len());
-    assert!(rt; steps.len() <= GREATEST_STEPS);
+    assert!(rt; steps.len() <= MOST_STEPS);
     Hour::build(alloc, steps.as_slice())
 }
 

@@ -1,8 +1,9 @@
 ghost use Rattle.std.specs.Prelude.{◌≡◌, ◌+◌, ◌*◌, ◌≤◌, length};
+ghost use Rattle.dam_book.specs.Limits.{greatest_volume};
+ghost use Rattle.dam_hour.specs.Limits.{most_steps, price_span};
 ghost use Rattle.dam_hour.specs.Execution.{offered_volume, volume_on};
 ghost use Rattle.dam_hour.specs.Volumes.{margin_of, if_better, if_at, better_volume, at_volume, full_surplus};
 
-use crate::hour::GREATEST_STEPS;
 use crate::step::Step;
 use dam_book::{Price, Side};
 
@@ -17,10 +18,10 @@ pub(crate) struct Bounds {
 
 impl Bounds {
     pub(crate) fn of(steps: &[Step], side: Side, price: Price) -> Bounds
-        requires { length steps.now ≤ GREATEST_STEPS }
+        requires { length steps.now ≤ most_steps }
         ensures least { result.least ≡ better_volume side price steps.now }
         ensures most { result.most ≡ better_volume side price steps.now + at_volume side price steps.now }
-        ensures small { result.most ≤ GREATEST_STEPS * 99999 }
+        ensures small { result.most ≤ most_steps * greatest_volume }
     {
         let mut least = 0;
         let mut most = 0;
@@ -36,8 +37,8 @@ impl Bounds {
         ensures least { result.least ≡ volume_on side step.side (if_better (margin_of step.side step.price price) step.qty) }
         ensures most { result.most ≡ volume_on side step.side (if_better (margin_of step.side step.price price) step.qty)
             + volume_on side step.side (if_at (margin_of step.side step.price price) step.qty) }
-        ensures least_small { result.least ≤ 99999 }
-        ensures most_small { result.most ≤ 99999 }
+        ensures least_small { result.least ≤ greatest_volume }
+        ensures most_small { result.most ≤ greatest_volume }
     {
         let margin = step.margin(price);
         if step.side != side || margin < 0 {
@@ -58,9 +59,9 @@ impl Bounds {
 
 /// The whole volume of one side.
 pub(crate) fn offered(steps: &[Step], side: Side) -> u64
-    requires { length steps.now ≤ GREATEST_STEPS }
+    requires { length steps.now ≤ most_steps }
     ensures value { result ≡ offered_volume side steps.now }
-    ensures small { result ≤ GREATEST_STEPS * 99999 }
+    ensures small { result ≤ most_steps * greatest_volume }
 {
     let mut total = 0;
     for step in steps {
@@ -74,9 +75,9 @@ pub(crate) fn offered(steps: &[Step], side: Side) -> u64
 /// What the steps gain at the price where the better ones are executed in full, in cents times
 /// tenths of a MW.
 pub(crate) fn surplus(steps: &[Step], price: Price) -> u64
-    requires { length steps.now ≤ GREATEST_STEPS }
+    requires { length steps.now ≤ most_steps }
     ensures value { result ≡ full_surplus price steps.now }
-    ensures small { result ≤ GREATEST_STEPS * (450000 * 99999) }
+    ensures small { result ≤ most_steps * (price_span * greatest_volume) }
 {
     let mut total = 0;
     for step in steps {

@@ -2,6 +2,7 @@
 use Rattle.std.proofs.Common.{◌∙◌, sym, arith, rules}
 use Rattle.std.proofs.lemmas.Int.{ints}
 use Rattle.std.proofs.lemmas.Option.{slice_get_read}
+use Rattle.dam_hour.specs.Limits.{greatest_value}
 use Rattle.dam_blocks.specs.Selection.{value_of}
 use Rattle.dam_blocks.proofs.Steps.{sum_more, sum_same}
 use Rattle.dam_blocks.proofs.accepted.block_value.Goals as goal
@@ -12,8 +13,8 @@ loop-place-preserved c =
     let few = c.requires in
     elim c.if-has.branch [
       | then-has w ↦
-          sum_more (value_of c.args.period) 39999600000 _ _ _ _ w.value_of-total.result _ c.index-blocks-place.result
+          sum_more (value_of c.args.period) greatest_value _ _ _ _ w.value_of-total.result _ c.index-blocks-place.result
           (slice_get_read _ _ _ _ (search rules) c.loop-place-test.true c.index-blocks-place.is) (sym c.has.ensures.value ∙ w.if-has.true)
           w.value_of-total.ensures.value w.value_of-total.ensures.size.at_least w.value_of-total.ensures.size.at_most (omega (arith, ints, few, w.total-is)) c.loop-place.invariant
-      | else-has w ↦ sum_same (value_of c.args.period) 39999600000 _ _ _ _ _ (sym c.has.ensures.value ∙ w.if-has.false) (omega (arith, ints)) c.loop-place.invariant
+      | else-has w ↦ sum_same (value_of c.args.period) greatest_value _ _ _ _ _ (sym c.has.ensures.value ∙ w.if-has.false) (omega (arith, ints)) c.loop-place.invariant
     ]

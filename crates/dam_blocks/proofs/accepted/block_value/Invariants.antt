@@ -1,7 +1,8 @@
--- The sum so far; each block adds at most 400,000 times 99,999.
+-- The sum so far; each block adds at most a greatest value.
+use Rattle.dam_hour.specs.Limits.{greatest_value}
 use Rattle.dam_blocks.specs.Selection.{value_of}
 use Rattle.dam_blocks.proofs.Steps.{IsSumSoFar}
 use Rattle.dam_blocks.proofs.accepted.block_value.Given as goal
 
 abbrev pub invariant-loop-place : goal.invariant-loop-place
-invariant-loop-place l = IsSumSoFar (value_of l.period) 39999600000 l.blocks l.selection l.place l.total
+invariant-loop-place l = IsSumSoFar (value_of l.period) greatest_value l.blocks l.selection l.place l.total

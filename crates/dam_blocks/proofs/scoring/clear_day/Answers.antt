@@ -8,14 +8,13 @@ use Rattle.dam_blocks.specs.declared.problem.Block.{Block}
 use Rattle.dam_blocks.specs.Selection.{net_volume, block_value}
 use Rattle.dam_blocks.specs.Eligible.{ArePrices, welfare_from}
 use Rattle.dam_blocks.proofs.Clearing.{period_within, cleared_more, all_prices, all_welfare, first_unbalanced}
-use Rattle.dam_blocks.proofs.Magnitudes.{day_small}
 use Rattle.dam_blocks.proofs.scoring.clear_day.Goals as goal
 
 pub returns-in_default : goal.returns-in_default
 returns-in_default g c =
     let at = slice_get_read _ _ _ _ (search rules) c.loop-place-test.true c.index-hours-place.is in
-    let net = c.net_volume.ensures.value ∙ ap (λ (bs : List Block). net_volume bs c.args.selection c.period_at-period.result) c.blocks-blocks.ensures.value in
-    first_unbalanced c.args.problem.now c.args.selection _ _ _ _ _ _ _ c.hours-hours.ensures.value at c.period_at-period.ensures
+    let net = c.net_volume.ensures.value ∙ ap (λ (bs : List Block). net_volume bs c.args.selection c.at-period.result) c.blocks-blocks.ensures.value in
+    first_unbalanced c.args.problem.now c.args.selection _ _ _ _ _ _ _ c.hours-hours.ensures.value at c.at-period.ensures
     (omega (arith, ints, net, c.net_volume.ensures.valid.at_least, c.net_volume.ensures.valid.at_most)) c.in_default.ensures.none c.loop-place.invariant
 
 pub overflow_add-welfare : goal.overflow_add-welfare
@@ -30,7 +29,7 @@ overflow_add-welfare-in-loop-place g c =
     let at = slice_get_read _ _ c.loop-place.place _ (search rules) c.loop-place-test.true c.index-hours-place.is in
     let there = ap (λ (hs : List (List Step)). slice_get hs c.loop-place.place) (sym c.hours-hours.ensures.value) ∙ at in
     let w = period_within c.args.problem.now.hours c.loop-place.place c.index-hours-place.result _ _ _ _ c.hours-hours.ensures.valid.hours c.hours-hours.ensures.valid.few_hourly there c.in-Some.ensures.totals in
-    let few = day_small (length c.args.problem.now.hours) c.hours-hours.ensures.valid.day in
+    let few = c.days_are_short.ensures (length c.args.problem.now.hours) c.hours-hours.ensures.valid.day in
     let same = ap length c.hours-hours.ensures.value in
     omega (arith, ints, w.0, w.1, c.block_value.ensures.size.at_least, c.block_value.ensures.size.at_most, few, same)
 
@@ -39,12 +38,12 @@ loop-place-preserved g c =
     let at = slice_get_read _ _ c.loop-place.place _ (search rules) c.loop-place-test.true c.index-hours-place.is in
     let there = ap (λ (hs : List (List Step)). slice_get hs c.loop-place.place) (sym c.hours-hours.ensures.value) ∙ at in
     let w = period_within c.args.problem.now.hours c.loop-place.place c.index-hours-place.result _ _ _ _ c.hours-hours.ensures.valid.hours c.hours-hours.ensures.valid.few_hourly there c.in-Some.ensures.totals in
-    let few = day_small (length c.args.problem.now.hours) c.hours-hours.ensures.valid.day in
+    let few = c.days_are_short.ensures (length c.args.problem.now.hours) c.hours-hours.ensures.valid.day in
     let same = ap length c.hours-hours.ensures.value in
-    let net = c.net_volume.ensures.value ∙ ap (λ (bs : List Block). net_volume bs c.args.selection c.period_at-period.result) c.blocks-blocks.ensures.value in
-    let value = c.block_value.ensures.value ∙ ap (λ (bs : List Block). block_value bs c.args.selection c.period_at-period.result) c.blocks-blocks.ensures.value in
+    let net = c.net_volume.ensures.value ∙ ap (λ (bs : List Block). net_volume bs c.args.selection c.at-period.result) c.blocks-blocks.ensures.value in
+    let value = c.block_value.ensures.value ∙ ap (λ (bs : List Block). block_value bs c.args.selection c.at-period.result) c.blocks-blocks.ensures.value in
     cleared_more _ _ _ _ _ _ _ _ _ c.in-Some.cleared.low c.in-Some.cleared.high c.in-Some.cleared.price c.in-Some.cleared.welfare c.block_value.result _
-    at (omega (arith, few, same)) c.period_at-period.ensures
+    at (omega (arith, few, same)) c.at-period.ensures
     (omega (arith, ints, net, c.net_volume.ensures.valid.at_least, c.net_volume.ensures.valid.at_most))
     c.in-Some.ensures.ends (record { low = c.in-Some.cleared.low; high = c.in-Some.cleared.high; ends = c.in-Some.ensures.ends; between = c.in-Some.ensures.price })
     c.in-Some.ensures.welfare value w.0 w.1 c.block_value.ensures.size.at_least c.block_value.ensures.size.at_most
@@ -52,7 +51,7 @@ loop-place-preserved g c =
 
 pub returns : goal.returns
 returns g c =
-    let few = day_small (length c.args.problem.now.hours) c.hours-hours.ensures.valid.day in
+    let few = c.days_are_short.ensures (length c.args.problem.now.hours) c.hours-hours.ensures.valid.day in
     let same = ap length c.hours-hours.ensures.value in (
       subst (λ (hs : List (List Step)). ArePrices c.args.problem.now.blocks c.args.selection 1 hs (take (length hs) c.loop-place.prices)) c.hours-hours.ensures.value
           (all_prices _ _ _ _ _ _ c.loop-place-test.false (omega (arith, few, same)) c.loop-place.invariant),

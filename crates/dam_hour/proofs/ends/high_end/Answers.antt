@@ -1,7 +1,8 @@
-use Rattle.std.proofs.Common.{ℤ, negsuc, sym, subst, arith, rules}
+use Rattle.std.proofs.Common.{ℤ, sym, subst, arith, rules}
 use Rattle.std.proofs.lemmas.Int.{ints, to_z-of_z}
 use mir.Syntax.{w64}
 use mir.Val.{to_z, of_z}
+use Rattle.dam_book.specs.Limits.{lowest_price}
 use Rattle.dam_hour.specs.Volumes.{IsLowEnough}
 use Rattle.dam_hour.proofs.Supporting.{lowest_enough, below_not_low}
 use Rattle.dam_hour.proofs.ends.high_end.Goals as goal
@@ -12,7 +13,7 @@ loop-from-init c =
     record {
       ordered = omega arith;
       in_range = omega arith;
-      enough = subst (λ (z : ℤ). IsLowEnough c.args.steps.now z (negsuc 49999)) (sym same) (lowest_enough c.args.steps.now c.args.net c.requires.steps.in_range c.requires.within);
+      enough = subst (λ (z : ℤ). IsLowEnough c.args.steps.now z lowest_price) (sym same) (lowest_enough c.args.steps.now c.args.net c.requires.steps.in_range c.requires.within);
       greatest = λ q r _. (let a = r.at_most in omega (arith, ints));
     }
 

@@ -1,6 +1,6 @@
 use Rattle.std.proofs.Common.{ℤ, pos, ◌-ℤ◌, ◌≤ℤ◌, ◌≤◌, ◌-◌}
 use Rattle.dam_book.specs.Price.{IsPrice}
-use Rattle.dam_book.specs.declared.price.TheConstants.{HIGHEST_PRICE}
+use Rattle.dam_book.specs.Limits.{highest_price}
 use Rattle.dam_hour.specs.declared.ends.TheConstants.{SPAN}
 use Rattle.dam_hour.specs.Volumes.{IsLowEnough}
 use Rattle.dam_hour.proofs.ends.high_end.Given as goal
@@ -9,8 +9,8 @@ abbrev pub invariant-loop-from : goal.invariant-loop-from
 invariant-loop-from l = record {
   ordered : l.from ≤ l.to;
   in_range : l.to ≤ SPAN;
-  enough : IsLowEnough l.steps l.net (HIGHEST_PRICE -ℤ pos l.to);
-  greatest : (q : ℤ) → IsPrice q → IsLowEnough l.steps l.net q → q ≤ℤ (HIGHEST_PRICE -ℤ pos l.from);
+  enough : IsLowEnough l.steps l.net (highest_price -ℤ pos l.to);
+  greatest : (q : ℤ) → IsPrice q → IsLowEnough l.steps l.net q → q ≤ℤ (highest_price -ℤ pos l.from);
 }
 
 abbrev pub decreases-loop-from : goal.decreases-loop-from

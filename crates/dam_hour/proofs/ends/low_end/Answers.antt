@@ -1,7 +1,8 @@
-use Rattle.std.proofs.Common.{ℤ, pos, sym, subst, arith, rules}
+use Rattle.std.proofs.Common.{ℤ, sym, subst, arith, rules}
 use Rattle.std.proofs.lemmas.Int.{ints, to_z-of_z}
 use mir.Syntax.{w64}
 use mir.Val.{to_z, of_z}
+use Rattle.dam_book.specs.Limits.{highest_price}
 use Rattle.dam_hour.specs.Volumes.{IsHighEnough}
 use Rattle.dam_hour.proofs.Supporting.{highest_enough, above_not_high}
 use Rattle.dam_hour.proofs.ends.low_end.Goals as goal
@@ -12,7 +13,7 @@ loop-from-init c =
     record {
       ordered = omega arith;
       in_range = omega arith;
-      enough = subst (λ (z : ℤ). IsHighEnough c.args.steps.now z (pos 400000)) (sym same) (highest_enough c.args.steps.now c.args.net c.requires.steps.in_range c.requires.within);
+      enough = subst (λ (z : ℤ). IsHighEnough c.args.steps.now z highest_price) (sym same) (highest_enough c.args.steps.now c.args.net c.requires.steps.in_range c.requires.within);
       least = λ q r _. (let a = r.at_least in omega (arith, ints));
     }
 

@@ -4,6 +4,7 @@ use Rattle.std.proofs.lemmas.Int.{ints, to_z-of_z, unsigned_abs-mul}
 use Rattle.std.proofs.lemmas.Nat.{mul-le}
 use mir.Syntax.{w64}
 use mir.Val.{to_z, of_z}
+use Rattle.dam_hour.specs.Limits.{greatest_net, greatest_price}
 use Rattle.dam_hour.specs.Execution.{IsNetVolume}
 use Rattle.dam_book.specs.Price.{IsPrice}
 use Rattle.dam_hour.proofs.hour.welfare_at.Goals as goal
@@ -11,9 +12,9 @@ use Rattle.dam_hour.proofs.hour.welfare_at.Goals as goal
 -- a price times a net volume is below 2 ^ 40
 value_small : (p n : ℤ) → IsPrice p → IsNetVolume n → unsigned_abs (p *ℤ n) < 2 ^ 40
 value_small p n r w =
-    let a : unsigned_abs p ≤ 400000 = omega (arith, ints, r.at_least, r.at_most) in
-    let b : unsigned_abs n ≤ 2399976 = omega (arith, ints, w.at_least, w.at_most) in
-    omega (arith, unsigned_abs-mul p n, mul-le (unsigned_abs p) (unsigned_abs n) 400000 2399976 a b)
+    let a : unsigned_abs p ≤ greatest_price = omega (arith, ints, r.at_least, r.at_most) in
+    let b : unsigned_abs n ≤ greatest_net = omega (arith, ints, w.at_least, w.at_most) in
+    omega (arith, unsigned_abs-mul p n, mul-le (unsigned_abs p) (unsigned_abs n) greatest_price greatest_net a b)
 
 pub returns : goal.returns
 returns c =
