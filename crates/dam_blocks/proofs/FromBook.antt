@@ -44,7 +44,7 @@ hours_in_range t zero periods rows are = tt
 hours_in_range t (suc n) periods rows are = (steps_in_range t periods rows are, hours_in_range (suc t) n periods rows are)
 
 -- ---- how many hourly orders there are
-hourly_count-cons : (r : Row) (rs : List Row) → hourly_count (r ∷ rs) ≡ cond (is_hour r.1) 1 0 + hourly_count rs
+pub hourly_count-cons : (r : Row) (rs : List Row) → hourly_count (r ∷ rs) ≡ cond (is_hour r.1) 1 0 + hourly_count rs
 hourly_count-cons r rs = let sum = sum_by-append (λ (x : Row). cond (is_hour x.1) 1 0) (r ∷ []) rs in omega (arith, sum)
 
 block_count-cons : (r : Row) (rs : List Row) → block_count (r ∷ rs) ≡ cond (is_block r.1) 1 0 + block_count rs
@@ -99,17 +99,6 @@ few_hours t n [] = let e = hours_none t n in omega (arith, e)
 few_hours t n (r ∷ rs) = let here = hours_more t n r.0 r.1 rs in let rest = few_hours t n rs in let sum = hourly_count-cons r rs in omega (arith, here, rest, sum)
 
 -- one period's orders are no more than all
-one_period : (t : ℕ) (k : Key) (o : Order) (rs : List Row) → length (steps_in t ((k, o) ∷ rs)) ≤ length (steps_in t rs) + cond (is_hour o) 1 0
-one_period t k (Hour o) rs = elim (o.period == t) as (λ b. (o.period == t) ≡ b → length (steps_in t ((k, Hour o) ∷ rs)) ≤ length (steps_in t rs) + 1) [
-  | true ↦ λ e. (let s = steps_same t k o rs e in omega (arith, s))
-  | false ↦ λ e. (let s = steps_apart t k o rs e in omega (arith, s))
-] refl
-one_period t k (BlockVariant o) rs = omega arith
-
-pub few_steps : (t : ℕ) (rows : List Row) → length (steps_in t rows) ≤ hourly_count rows
-few_steps t [] = omega arith
-few_steps t (r ∷ rs) = let here = one_period t r.0 r.1 rs in let rest = few_steps t rs in let sum = hourly_count-cons r rs in omega (arith, here, rest, sum)
-
 -- ---- the blocks
 blocks_option : (periods : ℕ) (k : Key) (o : Order) (bs : List Block) → IsRow periods (k, o) → AreBlocks periods bs → AreBlocks periods (cons_option (block_under k.0 k.1 o) bs)
 blocks_option periods k (Hour o) bs is are = are
@@ -344,6 +333,10 @@ problem_is b is closed =
           subst (λ (n : ℕ). HasParentBefore (blocks_in b.rows) n c) first (parents_before [] b.rows i c name is.linked at parent));
       rows = λ i r at. rows_stand b.periods b.rows [] b.rows refl is.rows i r at;
     }
+
+pub problem_made : (b : BookState) (hours : List (List Step)) (blocks : List Block) (rows : List ProblemRow) → hours ≡ hours_from 1 b.periods b.rows
+    → blocks ≡ blocks_in b.rows → rows ≡ rows_behind [] b.rows → record { hours = hours; blocks = blocks; rows = rows } ≡ problem_of b
+problem_made b hours blocks rows h k r = rw (h, k, r) refl
 
 pub problem_kept : (b : BookState) (hours : List (List Step)) (blocks : List Block) (rows : List ProblemRow) → IsBook b → b.closed ≡ true → hours ≡ hours_from 1 b.periods b.rows → blocks ≡ blocks_in b.rows
     → rows ≡ rows_behind [] b.rows → IsProblem (record { hours = hours; blocks = blocks; rows = rows })

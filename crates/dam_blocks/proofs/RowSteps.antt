@@ -9,13 +9,17 @@ use Rattle.std.proofs.lemmas.Option.{slice_get_within, get_or_from_slice_get}
 use Rattle.std.proofs.Math.ListN.{set}
 use Rattle.dam_book.specs.Limits.{last_period}
 use Rattle.dam_book.specs.Terms.{HourTerms, BlockTerms}
-use Rattle.dam_book.specs.Book.{Key, Row}
+use Rattle.dam_book.specs.Book.{Key, Row, hourly_count}
+use Rattle.dam_book.specs.Order.{is_hour}
+use Rattle.dam_book.specs.declared.order.Order.{Order}
 use Rattle.dam_book.specs.declared.order.Order.TheVariants.{Hour, Block as BlockVariant}
 use Rattle.dam_hour.specs.declared.step.Step.{Step}
 use Rattle.dam_blocks.specs.declared.problem.Block.{Block}
 use Rattle.dam_blocks.specs.declared.problem.Place.TheVariants.{Hour as AtHour, Block as AtBlock}
 use Rattle.dam_blocks.specs.declared.problem.ProblemRow.{ProblemRow}
 use Rattle.dam_blocks.specs.Problem.{step_in, steps_in, hours_from, block_under, blocks_in, place_behind, rows_behind}
+use Rattle.dam_blocks.proofs.FromBook.{hourly_count-cons}
+use Rattle.dam_blocks.specs.Making.{hourly_in, step_of, steps_among, hours_among}
 
 drop_at : {X : Type 0} (xs : List X) (i : ℕ) (x : X) → slice_get xs i ≡ Some x → drop i xs ≡ x ∷ drop (i + 1) xs
 drop_at xs i x e = go xs i x e ∙ ap (λ (n : ℕ). x ∷ drop n xs) (let one : suc i ≡ i + 1 = omega arith in one)
@@ -38,6 +42,16 @@ more_some f xs i x y items items' total at is pushed so_far =
     ∙ ap (λ (zs : _). items ++ filter_map f zs) (sym (drop_at xs i x at))
     ∙ so_far
 
+pub same_block : (b : Block) (who name : List ℕ) (o : BlockTerms) → b.who ≡ who → b.name ≡ name → b.order ≡ o
+    → Some b ≡ block_under who name (BlockVariant o)
+same_block b who name o e f g =
+    ap (λ (w : List ℕ). Some (record { who = w; name = b.name; order = b.order })) e
+    ∙ ap (λ (n : List ℕ). Some (record { who = who; name = n; order = b.order })) f
+    ∙ ap (λ (p : BlockTerms). Some (record { who = who; name = name; order = p })) g
+
+pub one_longer : {X : Type 0} (xs ys : List X) (x : X) → ys ≡ xs ++ x ∷ [] → length ys ≡ length xs + 1
+one_longer xs ys x e = ap length e ∙ length-append xs (x ∷ [])
+
 -- what doesn't pass is left out
 pub more_none : {X Y : Type 0} (f : X → Option Y) (xs : List X) (i : ℕ) (x : X) (items total : List Y) → slice_get xs i ≡ Some x → None ≡ f x
     → items ++ filter_map f (drop i xs) ≡ total → items ++ filter_map f (drop (i + 1) xs) ≡ total
@@ -47,16 +61,49 @@ more_none f xs i x items total at is so_far =
     ∙ so_far
 
 -- a period more
-pub hour_more : (n i : ℕ) (rows : List Row) (hours hours' : List (List Step)) (steps : List Step) (total : List (List Step)) → i < n → steps ≡ steps_in (i + 1) rows
-    → hours' ≡ hours ++ steps ∷ [] → hours ++ hours_from (i + 1) (n - i) rows ≡ total → hours' ++ hours_from ((i + 1) + 1) (n - (i + 1)) rows ≡ total
+pub hour_more : (n i : ℕ) (rows : List HourTerms) (hours hours' : List (List Step)) (steps : List Step) (total : List (List Step)) → i < n → steps ≡ steps_among (i + 1) rows
+    → hours' ≡ hours ++ steps ∷ [] → hours ++ hours_among (i + 1) (n - i) rows ≡ total → hours' ++ hours_among ((i + 1) + 1) (n - (i + 1)) rows ≡ total
 hour_more n i rows hours hours' steps total l is pushed so_far =
     let left : n - i ≡ suc (n - (i + 1)) = omega arith in
     let next : suc (i + 1) ≡ (i + 1) + 1 = omega arith in
-    ap (λ (hs : List (List Step)). hs ++ hours_from ((i + 1) + 1) (n - (i + 1)) rows) pushed
-    ∙ append_assoc hours (steps ∷ []) (hours_from ((i + 1) + 1) (n - (i + 1)) rows)
-    ∙ ap₂ (λ (ss : List Step) (m : ℕ). hours ++ ss ∷ hours_from m (n - (i + 1)) rows) is (sym next)
-    ∙ ap (λ (m : ℕ). hours ++ hours_from (i + 1) m rows) (sym left)
+    ap (λ (hs : List (List Step)). hs ++ hours_among ((i + 1) + 1) (n - (i + 1)) rows) pushed
+    ∙ append_assoc hours (steps ∷ []) (hours_among ((i + 1) + 1) (n - (i + 1)) rows)
+    ∙ ap₂ (λ (ss : List Step) (m : ℕ). hours ++ ss ∷ hours_among m (n - (i + 1)) rows) is (sym next)
+    ∙ ap (λ (m : ℕ). hours ++ hours_among (i + 1) m rows) (sym left)
     ∙ so_far
+
+option_small : {X : Type 0} (o : Option X) (xs : List X) → length (cons_option o xs) ≤ 1 + length xs
+option_small None xs = omega arith
+option_small (Some x) xs = omega arith
+
+-- no more pass than there are
+filter_small : {X Y : Type 0} (f : X → Option Y) (xs : List X) → length (filter_map f xs) ≤ length xs
+filter_small f [] = omega arith
+filter_small f (x ∷ xs) = let here = option_small (f x) (filter_map f xs) in let rest = filter_small f xs in omega (arith, here, rest)
+
+-- ---- the hourly orders of all periods, and of each
+among_option : (t : ℕ) (k : Key) (o : Order) (rs : List Row) → steps_among t (hourly_in rs) ≡ steps_in t rs → steps_among t (hourly_in ((k, o) ∷ rs)) ≡ steps_in t ((k, o) ∷ rs)
+among_option t k (Hour o) rs e = ap (cons_option (step_of t o)) e
+among_option t k (BlockVariant o) rs e = e
+
+among_period : (t : ℕ) (rows : List Row) → steps_among t (hourly_in rows) ≡ steps_in t rows
+among_period t [] = refl
+among_period t (r ∷ rs) = among_option t r.0 r.1 rs (among_period t rs)
+
+pub among_periods : (t n : ℕ) (rows : List Row) → hours_among t n (hourly_in rows) ≡ hours_from t n rows
+among_periods t zero rows = refl
+among_periods t (suc n) rows = ap₂ (λ (ss : List Step) (hours : List (List Step)). ss ∷ hours) (among_period t rows) (among_periods (suc t) n rows)
+
+pub few_among : (t : ℕ) (orders : List HourTerms) → length (steps_among t orders) ≤ length orders
+few_among t orders = filter_small (step_of t) orders
+
+hourly_option : (k : Key) (o : Order) (rs : List Row) → length (hourly_in rs) ≤ hourly_count rs → length (hourly_in ((k, o) ∷ rs)) ≤ hourly_count rs + cond (is_hour o) 1 0
+hourly_option k (Hour o) rs h = omega (arith, h)
+hourly_option k (BlockVariant o) rs h = omega (arith, h)
+
+pub few_hourly_in : (rows : List Row) → length (hourly_in rows) ≤ hourly_count rows
+few_hourly_in [] = omega arith
+few_hourly_in (r ∷ rs) = let here = hourly_option r.0 r.1 rs (few_hourly_in rs) in let sum = hourly_count-cons r rs in omega (arith, here, sum)
 
 -- ---- the rows with their places
 pub record IsPlacedSoFar (all : List Row) (place : ℕ) (rows : List ProblemRow) (steps : List ℕ) (blocks : ℕ) : Type 0 where
@@ -205,15 +252,6 @@ nothing_placed all rows e = record {
   hourly = λ t low high. none_counted last_period (t - 1);
   block_count = refl;
 }
-
-option_small : {X : Type 0} (o : Option X) (xs : List X) → length (cons_option o xs) ≤ 1 + length xs
-option_small None xs = omega arith
-option_small (Some x) xs = omega arith
-
--- no more pass than there are
-filter_small : {X Y : Type 0} (f : X → Option Y) (xs : List X) → length (filter_map f xs) ≤ length xs
-filter_small f [] = omega arith
-filter_small f (x ∷ xs) = let here = option_small (f x) (filter_map f xs) in let rest = filter_small f xs in omega (arith, here, rest)
 
 pub steps_small : (all : List Row) (place : ℕ) (rows : List ProblemRow) (steps : List ℕ) (blocks t : ℕ) → 1 ≤ t → t ≤ last_period → IsPlacedSoFar all place rows steps blocks → get_or steps (t - 1) 0 ≤ place
 steps_small all place rows steps blocks t low high so_far =

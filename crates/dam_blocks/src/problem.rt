@@ -6,7 +6,7 @@ ghost use Rattle.dam_book.specs.Volumes.{have_beyond};
 ghost use Rattle.dam_hour.specs.Execution.{IsHour};
 ghost use Rattle.dam_blocks.specs.Problem.{IsProblem, problem_of};
 
-use crate::rows::{blocks_of, hours_of, rows_of};
+use crate::rows::{hours_of, lists_of};
 use dam_book::{BlockOrder, Book, LAST_PERIOD, Name, Participant, Period};
 use dam_hour::{Hour, Step};
 use std::alloc::{AllocError, Allocator, Global};
@@ -33,14 +33,15 @@ pub struct Block {
 }
 
 impl Block {
-    /// An equal block; it can't fail.
-    pub fn copy(&self) -> Block
-        ensures { result ≡ self.now }
+    /// The block order under this participant and name, all of them copied.
+    pub(crate) fn of(who: &Participant, name: &Name, order: &BlockOrder) -> Block
+        ensures who { result.who ≡ who.now }
+        ensures name { result.name ≡ name.now }
+        ensures order { result.order ≡ order.now }
     {
-        let order = &self.order;
         Block {
-            who: self.who.copy(),
-            name: self.name.copy(),
+            who: who.copy(),
+            name: name.copy(),
             order: BlockOrder::new(
                 order.side(),
                 order.price(),
@@ -49,6 +50,13 @@ impl Block {
                 order.group().map(|group| group.copy()),
             ),
         }
+    }
+
+    /// An equal block; it can't fail.
+    pub fn copy(&self) -> Block
+        ensures { result ≡ self.now }
+    {
+        Block::of(&self.who, &self.name, &self.order)
     }
 }
 
@@ -123,11 +131,12 @@ impl<A: Allocator + Copy> Problem<A> {
         if !book.is_closed() {
             return Err(ProblemFault::StillOpen);
         }
-        let _limits = book.periods();
+        let periods = book.periods();
+        let lists = lists_of(alloc, book)?;
         Ok(Problem {
-            hours: hours_of(alloc, book)?,
-            blocks: blocks_of(alloc, book)?,
-            rows: rows_of(alloc, book)?,
+            hours: hours_of(alloc, &lists.hourly, periods)?,
+            blocks: lists.blocks,
+            rows: lists.rows,
         })
     }
 }

@@ -28,15 +28,16 @@ pub enum Verdict {
     Eligible(u64),
 }
 
-/// The prices of the periods under a selection, and its welfare.
+/// The prices of the periods under a selection, and its welfare: all that a verdict needs of a day.
 #[derive(Clone, Copy)]
-struct Clearing {
+struct PricedDay {
     prices: [Price; MOST_PERIODS],
     welfare: i64,
 }
 
-/// Clears every period with the selection; the `Err` is the first period that doesn't balance.
-fn clear_day<A: Allocator>(problem: &Problem<A>, selection: Selection) -> Result<Clearing, Period>
+/// Finds the price of every period with the selection, and the welfare of the day; the `Err` is the first
+/// period that doesn't balance. What is published besides, as the executed volumes, isn't looked at.
+fn price_day<A: Allocator>(problem: &Problem<A>, selection: Selection) -> Result<PricedDay, Period>
     ensures { MatchResult result
         (λ c. ArePrices problem.now.blocks selection 1 problem.now.hours (take (length problem.now.hours) c.prices)
         × (selection_welfare problem.now selection ≡ Some c.welfare))
@@ -55,7 +56,7 @@ fn clear_day<A: Allocator>(problem: &Problem<A>, selection: Selection) -> Result
         prices[place] = cleared.price;
         welfare += cleared.welfare + block_value(blocks, selection, period);
     }
-    Ok(Clearing { prices, welfare })
+    Ok(PricedDay { prices, welfare })
 }
 
 /// The first accepted block that loses at the prices.
@@ -90,13 +91,13 @@ pub fn score<A: Allocator>(problem: &Problem<A>, selection: Selection) -> Verdic
     if !admissible(problem, selection) {
         return Verdict::NotAdmissible;
     }
-    let cleared = match clear_day(problem, selection) {
-        Ok(cleared) => cleared,
+    let day = match price_day(problem, selection) {
+        Ok(day) => day,
         Err(period) => return Verdict::Unbalanced(period),
     };
-    let prices = &cleared.prices[..problem.hours().len()];
+    let prices = &day.prices[..problem.hours().len()];
     match first_losing(problem, selection, prices) {
         Some(place) => Verdict::Losing(place),
-        None => Verdict::Eligible(cleared.welfare as u64),
+        None => Verdict::Eligible(day.welfare as u64),
     }
 }

@@ -1,16 +1,15 @@
 -- A period more.
 use Rattle.std.proofs.Common.{◌+◌, length, ap, ◌∙◌, arith}
-use Rattle.dam_blocks.proofs.FromBook.{few_steps}
-use Rattle.dam_blocks.proofs.RowSteps.{hour_more}
+use Rattle.dam_blocks.proofs.RowSteps.{hour_more, few_among}
 use Rattle.dam_blocks.proofs.rows.hours_of.Goals as goal
 
 pub build-requires : goal.build-requires
 build-requires g c =
-    let few = few_steps (c.loop-number.number + 1) c.args.book.now.rows in
-    let limit = c.periods-periods.ensures.valid.few_hourly in
+    let few = few_among (c.loop-number.number + 1) c.args.hourly.now in
+    let limit = c.requires in
     omega (arith, few, limit, ap length c.deref.ensures.value, ap length c.in_ok-steps.ensures)
 
 pub loop-number-preserved : goal.loop-number-preserved
 loop-number-preserved g c =
-    hour_more c.periods-periods.result c.loop-number.number c.args.book.now.rows c.loop-number.hours.items _ c.in_ok-build.field-0 _ c.loop-number-test.true
+    hour_more c.args.periods c.loop-number.number c.args.hourly.now c.loop-number.hours.items _ c.in_ok-build.field-0 _ c.loop-number-test.true
     (c.in_ok-build.ensures ∙ c.deref.ensures.value ∙ c.in_ok-steps.ensures) c.in_ok-push.ensures.items c.loop-number.invariant

@@ -1,14 +1,16 @@
--- A row more.
-use Rattle.dam_book.specs.Book.{Row}
-use Rattle.dam_blocks.specs.Problem.{step_in}
+-- An order more.
+use Rattle.std.proofs.Common.{rules}
+use Rattle.std.proofs.lemmas.Option.{slice_get_read}
+use Rattle.dam_blocks.specs.Making.{step_of}
 use Rattle.dam_blocks.proofs.RowSteps.{more_some, more_none}
 use Rattle.dam_blocks.proofs.rows.steps_of.Goals as goal
 use Rattle.dam_blocks.proofs.rows.steps_of.Goals.{in-Some+in_ok-push, in_default}
 
-pub loop-place-preserved : goal.loop-place-preserved
-loop-place-preserved g c =
-    elim c.match-step_in.branch [
+pub loop-order-preserved : goal.loop-order-preserved
+loop-order-preserved g c =
+    let at = slice_get_read _ _ _ _ (search rules) c.loop-order-test.true c.order-item.is in
+    elim c.match-step_of.branch [
       | in-Some+in_ok-push w ↦
-          rw w.steps-is (more_some (λ (r : Row). step_in c.args.period r.1) c.args.book.now.rows c.loop-place.place _ _ c.loop-place.steps.items _ _ c.row_at.ensures w.in-Some.ensures w.in_ok-push.ensures.items c.loop-place.invariant)
-      | in_default w ↦ rw w.steps-is (more_none (λ (r : Row). step_in c.args.period r.1) c.args.book.now.rows c.loop-place.place _ c.loop-place.steps.items _ c.row_at.ensures w.in_default.ensures c.loop-place.invariant)
+          rw w.steps-is (more_some (step_of c.args.period) c.args.hourly.now _ _ _ c.loop-order.steps.items _ _ at w.in-Some.ensures w.in_ok-push.ensures.items c.loop-order.invariant)
+      | in_default w ↦ rw w.steps-is (more_none (step_of c.args.period) c.args.hourly.now _ _ c.loop-order.steps.items _ at w.in_default.ensures c.loop-order.invariant)
     ]

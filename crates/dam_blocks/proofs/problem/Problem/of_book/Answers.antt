@@ -1,8 +1,27 @@
 -- The problem of a book keeps what every book keeps.
-use Rattle.std.proofs.Common.{rules}
-use Rattle.dam_blocks.proofs.FromBook.{problem_kept}
+use Rattle.std.proofs.Common.{ℕ, length, ap, ap₂, ◌∙◌, List, rules, arith}
+use Rattle.dam_book.specs.Terms.{HourTerms}
+use Rattle.dam_blocks.specs.Making.{hours_among}
+use Rattle.dam_blocks.proofs.FromBook.{problem_made, problem_kept}
+use Rattle.dam_blocks.proofs.RowSteps.{among_periods, few_hourly_in}
 use Rattle.dam_blocks.proofs.problem.Problem.of_book.Goals as goal
+
+pub hours_of-requires : goal.hours_of-requires
+hours_of-requires g c =
+    let few = few_hourly_in c.args.book.now.rows in
+    let limit = c.periods-periods.ensures.valid.few_hourly in
+    omega (arith, few, limit, ap length c.deref.ensures.value, ap length c.in_ok-lists.ensures.hourly)
 
 pub invariant_of-result : goal.invariant_of-result
 invariant_of-result g c =
-    problem_kept c.args.book.now _ _ _ c.periods-limits.ensures.valid (search rules) c.in_ok-hours_of.ensures c.in_ok-blocks_of.ensures c.in_ok-rows_of.ensures
+    let hours = c.in_ok-hours_of.ensures
+    ∙ ap₂ (λ (n : ℕ) (os : List HourTerms). hours_among 1 n os) c.periods-periods.ensures.value (c.deref.ensures.value ∙ c.in_ok-lists.ensures.hourly)
+    ∙ among_periods 1 c.args.book.now.periods c.args.book.now.rows in
+    problem_kept c.args.book.now _ _ _ c.periods-periods.ensures.valid (search rules) hours c.in_ok-lists.ensures.blocks c.in_ok-lists.ensures.rows
+
+pub returns-clause-ok : goal.returns-clause-ok
+returns-clause-ok g c =
+    let hours = c.in_ok-hours_of.ensures
+    ∙ ap₂ (λ (n : ℕ) (os : List HourTerms). hours_among 1 n os) c.periods-periods.ensures.value (c.deref.ensures.value ∙ c.in_ok-lists.ensures.hourly)
+    ∙ among_periods 1 c.args.book.now.periods c.args.book.now.rows in
+    (search rules, problem_made c.args.book.now _ _ _ hours c.in_ok-lists.ensures.blocks c.in_ok-lists.ensures.rows)
