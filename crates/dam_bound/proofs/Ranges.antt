@@ -6,7 +6,8 @@ use Rattle.dam_book.specs.Book.{is_day}
 use Rattle.dam_book.specs.Volumes.{Pair, ArePairs}
 use Rattle.dam_hour.specs.declared.step.Step.{Step}
 use Rattle.dam_hour.specs.Execution.{AreInRange}
-use Rattle.dam_hour.specs.Best.{welfare_of, greatest_value, greatest_welfare}
+use Rattle.dam_hour.specs.Limits.{greatest_value}
+use Rattle.dam_hour.specs.Best.{welfare_of, greatest_welfare}
 use Rattle.dam_blocks.specs.declared.problem.Block.{Block}
 use Rattle.dam_blocks.specs.Problem.{ProblemState, hourly_orders, AreHours, AreBlocks, IsProblem}
 use Rattle.dam_blocks.specs.Selection.{volume_in, net_volume, block_value}
