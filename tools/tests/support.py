@@ -11,26 +11,26 @@ sys.path[:0] = [str(TOOLS), str(TOP / "tests" / "fuzz")]
 
 from lib import book, command, journal, results, selection
 
-AUCTION = TOP / "tests" / "cases" / "clear" / "auction-day"
+AUCTION = TOP / "tests" / "cases" / "clear" / "auction-day.csv"
 
 
 def status(case):
-    path = Path(f"{case}.status")
+    path = case.with_suffix(".status")
     return int(path.read_text()) if path.exists() else 0
 
 
 def cases(folder):
     """The inputs of the worked cases of a folder."""
-    return sorted(path.with_suffix("") for path in (TOP / "tests" / "cases" / folder).glob("*.args"))
+    return sorted((TOP / "tests" / "cases" / folder).glob("*.csv"))
 
 
 def cleared_cases():
     """The journal and the results of each worked clearing."""
-    return [(case.name, case.read_bytes(), printed(case)) for case in cases("clear") if status(case) == 0]
+    return [(case.stem, case.read_bytes(), printed(case)) for case in cases("clear") if status(case) == 0]
 
 
 def printed(case, of="stdout"):
-    path = Path(f"{case}.{of}")
+    path = case.with_suffix(f".{of}")
     return path.read_bytes() if path.exists() else b""
 
 

@@ -89,7 +89,7 @@ class Results(unittest.TestCase):
         self.assertIn("block OLD,UNIT-7: it is accepted and loses 270000", wrong)
 
     def test_a_selection_that_balances_nowhere_is_refused(self):
-        case = support.TOP / "tests/cases/clear/too-large-block"
+        case = support.TOP / "tests/cases/clear/too-large-block.csv"
         wrong = differences(case.read_bytes(), printed(case).replace(b"rejected", b"accepted"))
         self.assertIn("period 1: no execution balances", "\n".join(wrong))
 
@@ -97,7 +97,7 @@ class Results(unittest.TestCase):
 class Text(unittest.TestCase):
     def test_replies_and_faults_of_the_worked_cases(self):
         for case in support.cases("replay"):
-            with self.subTest(case.name):
+            with self.subTest(case.stem):
                 self.assertEqual(self.replies(case.read_bytes()), (printed(case), printed(case, "stderr")))
 
     def replies(self, data):
@@ -268,7 +268,7 @@ class Best(unittest.TestCase):
                 self.assertEqual(audit(data, printed(AUCTION), "--best", "--by", method)[0], 0)
 
     def test_of_equal_selections_the_earlier_block_is_accepted(self):
-        case = support.TOP / "tests/cases/clear/two-equal-blocks"
+        case = support.TOP / "tests/cases/clear/two-equal-blocks.csv"
         data = case.read_bytes()
         for method in self.methods():
             with self.subTest(method):

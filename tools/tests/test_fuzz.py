@@ -22,7 +22,7 @@ class Fuzz(unittest.TestCase):
             found = Path(folder, "found")
             run = [sys.executable, support.TOP / "tests" / "fuzz" / "run", program, "--keep", found, "--tries", "60", *words]
             ran = subprocess.run(run, capture_output=True, text=True, env={**os.environ, "DAM_DEFECT": defect})
-            kept = [path.with_suffix("").read_bytes() for path in sorted(found.glob("*.args"))] if found.is_dir() else []
+            kept = [path.read_bytes() for path in sorted(found.glob("*.csv"))] if found.is_dir() else []
             return ran.returncode, ran.stdout + ran.stderr, kept
 
     def test_a_program_that_is_right(self):

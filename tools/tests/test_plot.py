@@ -93,7 +93,7 @@ class Pictures(unittest.TestCase):
 
     def test_command_line(self):
         with tempfile.TemporaryDirectory() as folder:
-            texts = [AUCTION, f"{AUCTION}.stdout"]
+            texts = [AUCTION, AUCTION.with_suffix(".stdout")]
             begins = {"svg": b"<?xml", "png": b"\x89PNG"}
             for name in PICTURES:
                 words = [f"--picture={name}"]

@@ -77,7 +77,7 @@ class Page(unittest.TestCase):
 
     def test_the_page_is_whole_and_stands_alone(self):
         for name in ("auction-day", "empty", "too-large-block"):
-            case = AUCTION.with_name(name)
+            case = AUCTION.with_name(f"{name}.csv")
             text = self.page(case.read_bytes(), printed(case), [1, 2])
             read = Reader(text)
             with self.subTest(name):
@@ -113,7 +113,7 @@ class Page(unittest.TestCase):
         self.assertNotIn("The results are not as the rules say", self.page(AUCTION.read_bytes(), printed(AUCTION)))
 
     def test_results_that_cannot_be_are_shown_as_wrong(self):
-        case = AUCTION.with_name("too-large-block")
+        case = AUCTION.with_name("too-large-block.csv")
         text = self.page(case.read_bytes(), printed(case).replace(b"rejected", b"accepted"), [1])
         self.assertIn("period 1: no execution balances", text)
         worse = results_of(AUCTION.read_bytes(), frozenset({0}))
@@ -124,7 +124,7 @@ class Page(unittest.TestCase):
         self.assertIn("trades nothing", self.page(data, results_of(data, frozenset())))
 
     def test_command_line(self):
-        texts = [AUCTION, f"{AUCTION}.stdout"]
+        texts = [AUCTION, AUCTION.with_suffix(".stdout")]
         status, out, err = tool("report", *texts, "-o", "-", "--curves", "none", "--title", "Today")
         self.assertEqual((status, err, b"<title>Today</title>" in out), (0, "", True))
         self.assertNotIn(b"Supply and demand in period", out)

@@ -158,7 +158,7 @@ class Orders(unittest.TestCase):
 
 class CommandLine(unittest.TestCase):
     def test_tables_and_journals(self):
-        texts = [AUCTION, f"{AUCTION}.stdout"]
+        texts = [AUCTION, AUCTION.with_suffix(".stdout")]
         with tempfile.TemporaryDirectory() as folder:
             self.assertEqual(tool("table", *texts, "--all", folder), (0, b"", ""))
             for name in tables.TABLES:
@@ -180,7 +180,7 @@ class CommandLine(unittest.TestCase):
             (status, err),
             (command.NO_INPUT, "table: no command of standard input closes the book, so that it has no results\n"),
         )
-        self.assertEqual(tool("table", AUCTION, f"{AUCTION}.stdout", "-o", "/nowhere/a.csv")[0], command.NO_INPUT)
+        self.assertEqual(tool("table", AUCTION, AUCTION.with_suffix(".stdout"), "-o", "/nowhere/a.csv")[0], command.NO_INPUT)
 
 
 if __name__ == "__main__":

@@ -2,6 +2,7 @@ use crate::fault::{RunFault, fault_line, status};
 use crate::input::MOST_READ;
 use crate::replay::run_replay;
 use dam_results::JournalFault;
+use std::alloc::Global;
 use std::io;
 use std::io::{Read, Write};
 use std::test::Fail;
@@ -80,6 +81,34 @@ impl Write for Broken {
 
     fn flush(&mut self) -> io::Result<()> {
         Err(io::Error::from(io::ErrorKind::Other))
+    }
+}
+
+/// A writer that keeps back what it takes until it is flushed.
+#[derive(Drop)]
+struct Holding {
+    held: Vec<u8>,
+    passed_on: Vec<u8>,
+}
+
+impl Holding {
+    fn new(alloc: Global) -> Holding {
+        Holding {
+            held: Vec::new(alloc),
+            passed_on: Vec::new(alloc),
+        }
+    }
+}
+
+impl Write for Holding {
+    fn write(&mut self, buf: &[u8]) -> io::Result<usize> {
+        self.held.write(buf)
+    }
+
+    fn flush(&mut self) -> io::Result<()> {
+        self.passed_on.write_all(&self.held)?;
+        self.held.clear();
+        Ok(())
     }
 }
 
@@ -177,6 +206,14 @@ fn a_failed_write_is_answered(rt: HostRuntime) {
         let result = run_replay(rt.alloc(), &mut reader, &mut Broken(breakage));
         assert_eq!(rt; result, Err(RunFault::Write));
     }
+}
+
+#[test]
+fn replies_are_flushed(rt: HostRuntime) {
+    let mut reader = STORED_RUN;
+    let mut writer = Holding::new(rt.alloc());
+    assert_eq!(rt; run_replay(rt.alloc(), &mut reader, &mut writer), Ok(()));
+    assert_eq!(rt; writer.passed_on.as_slice(), STORED_REPLIES);
 }
 
 mod clearing;

@@ -21,7 +21,8 @@ pub(crate) struct Clearing<A: Allocator> {
 impl<A: Allocator> Clearing<A> {
     /// The executed volume of the hourly order at a place of a period.
     pub(crate) fn executed(&self, period: Period, place: usize) -> Option<u32>
-        ensures { result ≡ volume_at (map (λ v. v.items) self.now.executions.items) (period - 1) place }
+        ensures { result
+            ≡ volume_at (map (λ v. v.items) self.now.executions.items) (period - 1) place }
     {
         let volumes = self.executions.get(usize::from(period.get()) - 1)?;
         volumes.get(place).copied()

@@ -31,7 +31,8 @@ pub struct JournalRead {
 impl FromJournal for JournalRead {
     ghost use Rattle.std.specs.Prelude.{◌≡◌};
 
-    ghost made_of = { λ periods commands journal. (journal.periods ≡ periods) × (journal.commands.items ≡ commands) };
+    ghost made_of = { λ periods commands journal.
+        (journal.periods ≡ periods) × (journal.commands.items ≡ commands) };
 
     fn begin(alloc: Global, periods: u8) -> Result<JournalRead, AllocError> {
         Ok(JournalRead {
@@ -141,7 +142,8 @@ fn read_first(fields: &ByteRecord) -> Result<u8, JournalFault>
 fn read_later(number: usize, fields: &ByteRecord) -> Result<Command, JournalFault>
     requires { 1 < number }
     ensures { MatchResult result
-        (λ command. (number ≤ most_records) × IsCommand command × (fields_of fields.now ≡ row_of command))
+        (λ command. (number ≤ most_records) × IsCommand command
+        × (fields_of fields.now ≡ row_of command))
         (IsRecordFault number (fields_of fields.now)) }
 {
     if number > MOST_RECORDS {

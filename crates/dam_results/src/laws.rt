@@ -35,6 +35,7 @@ pub fn fault_is_no_journal()
 
 /// A text has one first fault: of two that differ, one is want of memory.
 pub fn text_has_one_fault()
-    ensures { (text : List ℕ) (fault other : JournalFault) → IsFaultOf text fault → IsFaultOf text other
+    ensures { (text : List ℕ) (fault other : JournalFault)
+        → IsFaultOf text fault → IsFaultOf text other
         → (fault ≡ other) ⊎ ((fault ≡ Memory) ⊎ (other ≡ Memory)) }
 {}

@@ -30,7 +30,8 @@ fn outcome_of<A: Allocator, B: Allocator>(
 ) -> RowResult
     requires place { StandsAt problem.now row.now row.now.at }
     requires cleared { AreCleared problem.now.blocks selection problem.now.hours
-        clearing.now.periods.items clearing.now.prices.items (map (λ v. v.items) clearing.now.executions.items) }
+        clearing.now.periods.items clearing.now.prices.items
+        (map (λ v. v.items) clearing.now.executions.items) }
     ensures { IsRowResult problem.now selection clearing.now.prices.items row.now result }
 {
     let _limits = problem.periods();
@@ -63,8 +64,10 @@ pub(crate) fn outcomes<A: Allocator + Copy, B: Allocator>(
     clearing: &Clearing<A>,
 ) -> Result<Vec<RowResult, A>, AllocError>
     requires { AreCleared problem.now.blocks selection problem.now.hours
-        clearing.now.periods.items clearing.now.prices.items (map (λ v. v.items) clearing.now.executions.items) }
-    ensures { IfOk result (λ rows. AreRowResults problem.now selection clearing.now.prices.items problem.now.rows rows.items) }
+        clearing.now.periods.items clearing.now.prices.items
+        (map (λ v. v.items) clearing.now.executions.items) }
+    ensures { IfOk result (λ rows.
+        AreRowResults problem.now selection clearing.now.prices.items problem.now.rows rows.items) }
 {
     let rows = problem.rows();
     let mut results = Vec::with_capacity(alloc, rows.len())?;

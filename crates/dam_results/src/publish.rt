@@ -19,7 +19,8 @@ pub fn results<A: Allocator + Copy, B: Allocator>(
     best: Best,
 ) -> Result<Results<A>, AllocError>
     requires { IsEligible problem.now best.selection (pos best.welfare) }
-    ensures { IfOk result (λ r. ArePublished problem.now best.selection r.welfare r.periods.items r.rows.items) }
+    ensures { IfOk result (λ r.
+        ArePublished problem.now best.selection r.welfare r.periods.items r.rows.items) }
 {
     let Best { selection, welfare } = best;
     let clearing = clear_day(alloc, problem, best)?;

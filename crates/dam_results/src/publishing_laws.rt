@@ -8,7 +8,10 @@ ghost use Rattle.dam_results.specs.Published.{ArePublished};
 
 /// A selection is published in one way at most.
 pub fn selections_are_published_alike()
-    ensures { (problem : ProblemState) (sel : List Bool) (welfare other : ℕ) (periods days : List PeriodResult) (rows others : List RowResult) → ArePublished problem sel welfare periods rows → ArePublished problem sel other days others → (welfare ≡ other) × (periods ≡ days) × (rows ≡ others) }
+    ensures { (problem : ProblemState) (sel : List Bool) (welfare other : ℕ)
+        (periods days : List PeriodResult) (rows others : List RowResult)
+        → ArePublished problem sel welfare periods rows → ArePublished problem sel other days others
+        → (welfare ≡ other) × (periods ≡ days) × (rows ≡ others) }
 {
     dam_hour::laws::uniqueness();
 }

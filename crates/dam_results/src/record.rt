@@ -7,7 +7,7 @@ ghost use Rattle.dam_book.specs.Order.{IsOrder};
 ghost use Rattle.dam_book.specs.Fields.{volumes_text};
 ghost use Rattle.dam_book.specs.Book.{is_day};
 ghost use Rattle.dam_results.specs.Records.{day_row, row_of, order_fields, optional_text, side_word};
-ghost use Rattle.dam_results.specs.Row.{fields_in};
+ghost use Rattle.dam_results.specs.Row.{fields_in, ReadsCommand, ReadsOrder};
 ghost use Rattle.dam_results.specs.Rules.{OneOf, Periods, OneVolume, NameOrEmpty, Keeps, IsLeastBroken, day_rules, hour_rules, block_rules, submit_of, submit_rules, amend_rules, cancel_rules, close_rules, command_rules};
 ghost use Rattle.dam_results.specs.Journal.{IsCommand};
 
@@ -27,7 +27,9 @@ fn check(kept: bool, field: usize) -> Result<(), usize>
 }
 
 fn read_periods(field: &[u8]) -> Option<u8>
-    ensures { MatchOption result (¬ (Keeps Periods field.now)) (λ periods. (is_day periods ≡ true) × (field.now ≡ decimal periods)) }
+    ensures { MatchOption result
+        (¬ (Keeps Periods field.now))
+        (λ periods. (is_day periods ≡ true) × (field.now ≡ decimal periods)) }
 {
     match field {
         b"23" => Some(23),
@@ -38,7 +40,9 @@ fn read_periods(field: &[u8]) -> Option<u8>
 }
 
 fn read_side(field: &[u8]) -> Option<Side>
-    ensures { MatchOption result (¬ (Keeps (OneOf (codes "buy" ∷ codes "sell" ∷ [])) field.now)) (λ side. field.now ≡ side_word side) }
+    ensures { MatchOption result
+        (¬ (Keeps (OneOf (codes "buy" ∷ codes "sell" ∷ [])) field.now))
+        (λ side. field.now ≡ side_word side) }
 {
     match field {
         b"buy" => Some(Side::Buy),
@@ -48,7 +52,10 @@ fn read_side(field: &[u8]) -> Option<Side>
 }
 
 fn read_pair(field: &[u8]) -> Option<(Period, Qty)>
-    ensures { MatchOption result (¬ (Keeps OneVolume field.now)) (λ pair. IsPeriod pair.0 × IsQuantity pair.1 × (field.now ≡ volumes_text ((pair.0, pair.1) ∷ []))) }
+    ensures { MatchOption result
+        (¬ (Keeps OneVolume field.now))
+        (λ pair. IsPeriod pair.0 × IsQuantity pair.1
+        × (field.now ≡ volumes_text ((pair.0, pair.1) ∷ []))) }
 {
     laws::volumes_texts_differ();
     let Some(volumes) = read_volumes(field) else {
@@ -64,7 +71,9 @@ fn read_pair(field: &[u8]) -> Option<(Period, Qty)>
 
 // A name, or none where the field is empty.
 fn read_name_or_empty(field: &[u8]) -> Option<Option<Name>>
-    ensures { MatchOption result (¬ (Keeps NameOrEmpty field.now)) (λ name. IfSome name IsName × (field.now ≡ optional_text name)) }
+    ensures { MatchOption result
+        (¬ (Keeps NameOrEmpty field.now))
+        (λ name. IfSome name IsName × (field.now ≡ optional_text name)) }
 {
     if field.is_empty() {
         return Some(None);
@@ -76,7 +85,9 @@ fn read_name_or_empty(field: &[u8]) -> Option<Option<Name>>
 /// The day of the first record: how many periods it has.
 pub(crate) fn read_day(row: &Row) -> Result<u8, usize>
     requires { row.now.kind.now ≡ codes "day" }
-    ensures { MatchResult result (λ periods. (is_day periods ≡ true) × (fields_in row.now ≡ day_row periods)) (IsLeastBroken day_rules (fields_in row.now)) }
+    ensures { MatchResult result
+        (λ periods. (is_day periods ≡ true) × (fields_in row.now ≡ day_row periods))
+        (IsLeastBroken day_rules (fields_in row.now)) }
 {
     let periods = read_periods(row.who).ok_or(2usize)?;
     check(row.name.is_empty(), 3)?;
@@ -94,7 +105,7 @@ fn read_hour(row: &Row) -> Result<Order, usize>
     requires who { IsParticipant row.now.who.now }
     requires name { IsName row.now.name.now }
     requires form { row.now.form.now ≡ codes "hour" }
-    ensures { MatchResult result (λ order. IsOrder order × (fields_in row.now ≡ codes "submit" ∷ row.now.who.now ∷ row.now.name.now ∷ order_fields order)) (IsLeastBroken (submit_of hour_rules) (fields_in row.now)) }
+    ensures { ReadsOrder (submit_of hour_rules) row.now result }
 {
     let side = read_side(row.side).ok_or(5usize)?;
     let price = read_price(row.price).ok_or(6usize)?;
@@ -109,7 +120,7 @@ fn read_block(row: &Row) -> Result<Order, usize>
     requires who { IsParticipant row.now.who.now }
     requires name { IsName row.now.name.now }
     requires form { row.now.form.now ≡ codes "block" }
-    ensures { MatchResult result (λ order. IsOrder order × (fields_in row.now ≡ codes "submit" ∷ row.now.who.now ∷ row.now.name.now ∷ order_fields order)) (IsLeastBroken (submit_of block_rules) (fields_in row.now)) }
+    ensures { ReadsOrder (submit_of block_rules) row.now result }
 {
     let side = read_side(row.side).ok_or(5usize)?;
     let price = read_price(row.price).ok_or(6usize)?;
@@ -125,7 +136,7 @@ fn read_order(row: &Row) -> Result<Order, usize>
     requires kind { row.now.kind.now ≡ codes "submit" }
     requires who { IsParticipant row.now.who.now }
     requires name { IsName row.now.name.now }
-    ensures { MatchResult result (λ order. IsOrder order × (fields_in row.now ≡ codes "submit" ∷ row.now.who.now ∷ row.now.name.now ∷ order_fields order)) (IsLeastBroken (submit_rules (fields_in row.now)) (fields_in row.now)) }
+    ensures { ReadsOrder (submit_rules (fields_in row.now)) row.now result }
 {
     match row.form {
         b"hour" => read_hour(row),
@@ -136,7 +147,7 @@ fn read_order(row: &Row) -> Result<Order, usize>
 
 fn read_submit(row: &Row) -> Result<Command, usize>
     requires { row.now.kind.now ≡ codes "submit" }
-    ensures { MatchResult result (λ command. IsCommand command × (fields_in row.now ≡ row_of command)) (IsLeastBroken (submit_rules (fields_in row.now)) (fields_in row.now)) }
+    ensures { ReadsCommand (submit_rules (fields_in row.now)) row.now result }
 {
     let who = Participant::new(row.who).ok_or(2usize)?;
     let name = Name::new(row.name).ok_or(3usize)?;
@@ -146,7 +157,7 @@ fn read_submit(row: &Row) -> Result<Command, usize>
 
 fn read_amend(row: &Row) -> Result<Command, usize>
     requires { row.now.kind.now ≡ codes "amend" }
-    ensures { MatchResult result (λ command. IsCommand command × (fields_in row.now ≡ row_of command)) (IsLeastBroken amend_rules (fields_in row.now)) }
+    ensures { ReadsCommand amend_rules row.now result }
 {
     let who = Participant::new(row.who).ok_or(2usize)?;
     let name = Name::new(row.name).ok_or(3usize)?;
@@ -166,7 +177,7 @@ fn read_amend(row: &Row) -> Result<Command, usize>
 
 fn read_cancel(row: &Row) -> Result<Command, usize>
     requires { row.now.kind.now ≡ codes "cancel" }
-    ensures { MatchResult result (λ command. IsCommand command × (fields_in row.now ≡ row_of command)) (IsLeastBroken cancel_rules (fields_in row.now)) }
+    ensures { ReadsCommand cancel_rules row.now result }
 {
     let who = Participant::new(row.who).ok_or(2usize)?;
     let name = Name::new(row.name).ok_or(3usize)?;
@@ -181,7 +192,7 @@ fn read_cancel(row: &Row) -> Result<Command, usize>
 
 fn read_close(row: &Row) -> Result<Command, usize>
     requires { row.now.kind.now ≡ codes "close" }
-    ensures { MatchResult result (λ command. IsCommand command × (fields_in row.now ≡ row_of command)) (IsLeastBroken close_rules (fields_in row.now)) }
+    ensures { ReadsCommand close_rules row.now result }
 {
     check(row.who.is_empty(), 2)?;
     check(row.name.is_empty(), 3)?;
@@ -196,7 +207,7 @@ fn read_close(row: &Row) -> Result<Command, usize>
 
 /// The command of a later record.
 pub(crate) fn read_command(row: &Row) -> Result<Command, usize>
-    ensures { MatchResult result (λ command. IsCommand command × (fields_in row.now ≡ row_of command)) (IsLeastBroken (command_rules (fields_in row.now)) (fields_in row.now)) }
+    ensures { ReadsCommand (command_rules (fields_in row.now)) row.now result }
 {
     match row.kind {
         b"submit" => read_submit(row),

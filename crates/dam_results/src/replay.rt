@@ -79,7 +79,8 @@ impl FromJournal for Replay {
     ghost use Rattle.dam_results.specs.Replies.{AreReplies};
     ghost use Rattle.dam_results.specs.Run.{IsRun};
 
-    ghost made_of = { λ periods commands replay. IsRun periods commands replay.book × AreReplies periods commands replay.text.items };
+    ghost made_of = { λ periods commands replay.
+        IsRun periods commands replay.book × AreReplies periods commands replay.text.items };
 
     fn begin(alloc: Global, periods: u8) -> Result<Replay, AllocError> {
         Replay::on(alloc, empty_book(alloc, periods))

@@ -23,7 +23,9 @@ impl<'a> Row<'a> {
     /// `None` where the record doesn't have nine fields.
     #[tactic(auto, using(crate::proofs::Fields::missing))]
     pub(crate) fn of(fields: &'a ByteRecord) -> Option<Row<'a>>
-        ensures { MatchOption result (length (fields_of fields.entry.now) ≢ 9) (λ row. fields_of fields.entry.now ≡ fields_in row) }
+        ensures { MatchOption result
+            (length (fields_of fields.entry.now) ≢ 9)
+            (λ row. fields_of fields.entry.now ≡ fields_in row) }
     {
         if fields.len() != 9 {
             return None;

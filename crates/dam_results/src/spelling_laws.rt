@@ -27,7 +27,8 @@ pub fn spellings_read_alike()
 pub fn written_journals_are_spelled()
     ensures { (periods : ℕ) (entries : List Entry)
         → is_day periods ≡ true → AllByRecursion IsCommand (commands_of entries)
-        → IsSpelled (day_row periods ∷ map row_of (commands_of entries)) (journal_text periods entries) }
+        → IsSpelled (day_row periods ∷ map row_of (commands_of entries))
+        (journal_text periods entries) }
 {}
 
 /// The written journal of as many entries as a journal may hold is within the limit on bytes, and

@@ -52,7 +52,8 @@ fn write_names<A: Allocator>(
     who: &Participant,
     name: &Name,
 ) -> Result<(), AllocError>
-    ensures { OnOk result (text.new.items ≡ text.old.items ++ (who.now ++ (codes "," ++ (name.now ++ codes ",")))) }
+    ensures { OnOk result (text.new.items
+        ≡ text.old.items ++ (who.now ++ (codes "," ++ (name.now ++ codes ",")))) }
 {
     text.extend_from_slice(who.as_bytes())?;
     text.extend_from_slice(b",")?;
@@ -66,7 +67,8 @@ fn write_hour<A: Allocator>(
     name: &Name,
     executed: u32,
 ) -> Result<(), AllocError>
-    ensures { OnOk result (text.new.items ≡ text.old.items ++ row_result_line (RowResult.Hour who.now name.now executed)) }
+    ensures { OnOk result (text.new.items
+        ≡ text.old.items ++ row_result_line (RowResult.Hour who.now name.now executed)) }
 {
     text.extend_from_slice(b"hour,")?;
     write_names(text, who, name)?;
@@ -81,7 +83,8 @@ fn write_block<A: Allocator>(
     accepted: bool,
     surplus: i64,
 ) -> Result<(), AllocError>
-    ensures { OnOk result (text.new.items ≡ text.old.items ++ row_result_line (RowResult.Block who.now name.now accepted surplus)) }
+    ensures { OnOk result (text.new.items
+        ≡ text.old.items ++ row_result_line (RowResult.Block who.now name.now accepted surplus)) }
 {
     text.extend_from_slice(b"block,")?;
     write_names(text, who, name)?;
@@ -117,7 +120,9 @@ pub fn results_text<A: Allocator, B: Allocator>(
     alloc: A,
     results: &Results<B>,
 ) -> Result<Vec<u8, A>, AllocError>
-    ensures { IfOk result (λ text. text.items ≡ Published.results_text results.now.welfare results.now.periods.items results.now.rows.items) }
+    ensures { IfOk result (λ text. text.items
+        ≡ Published.results_text results.now.welfare
+        results.now.periods.items results.now.rows.items) }
 {
     let mut text = Vec::new(alloc);
     write_day(&mut text, results.periods.len() as u64)?;

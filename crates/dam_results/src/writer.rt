@@ -40,7 +40,8 @@ fn price_field(alloc: Global, price: Price) -> Result<Vec<u8>, AllocError>
 }
 
 fn volumes_field(alloc: Global, volumes: &Volumes) -> Result<Vec<u8>, AllocError>
-    ensures { IfOk result (λ field. IsVolumes volumes.now × (field.items ≡ volumes_text volumes.now)) }
+    ensures { IfOk result (λ field.
+        IsVolumes volumes.now × (field.items ≡ volumes_text volumes.now)) }
 {
     let _valid = volumes.pairs();
     let mut field = Vec::new(alloc);
@@ -68,7 +69,8 @@ fn one_volume(order: &HourOrder) -> Volumes
 }
 
 fn put_row(out: &mut Writer<Vec<u8>>, row: &[&[u8]]) -> Result<(), AllocError>
-    ensures { OnOk result ((text : List ℕ) → Wrote out.old text → Wrote out.new (text ++ row_text default_writer (map (λ f. f.now) row.now))) }
+    ensures { OnOk result ((text : List ℕ) → Wrote out.old text
+        → Wrote out.new (text ++ row_text default_writer (map (λ f. f.now) row.now))) }
 {
     if out.write_fields(row).is_err() {
         return Err(AllocError);
@@ -78,7 +80,8 @@ fn put_row(out: &mut Writer<Vec<u8>>, row: &[&[u8]]) -> Result<(), AllocError>
 
 fn put_day(out: &mut Writer<Vec<u8>>, periods: u8) -> Result<(), AllocError>
     requires { is_day periods ≡ true }
-    ensures { OnOk result ((text : List ℕ) → Wrote out.old text → Wrote out.new (text ++ row_line (day_row periods))) }
+    ensures { OnOk result ((text : List ℕ) → Wrote out.old text
+        → Wrote out.new (text ++ row_line (day_row periods))) }
 {
     let mut number = Buffer::new();
     let periods = number.format(periods).as_bytes();
@@ -92,7 +95,8 @@ fn put_hour(
     name: &Name,
     order: &HourOrder,
 ) -> Result<(), AllocError>
-    ensures { OnOk result (PutsCommand out.old out.new (Command.Submit who.now name.now (Order.Hour order.now))) }
+    ensures { OnOk result (PutsCommand out.old out.new
+        (Command.Submit who.now name.now (Order.Hour order.now))) }
 {
     let price = price_field(alloc, order.price())?;
     let volumes = volumes_field(alloc, &one_volume(order))?;
@@ -119,7 +123,8 @@ fn put_block<'a>(
     name: &'a Name,
     order: &'a BlockOrder,
 ) -> Result<(), AllocError>
-    ensures { OnOk result (PutsCommand out.old out.new (Command.Submit who.entry.now name.entry.now (Order.Block order.entry.now))) }
+    ensures { OnOk result (PutsCommand out.old out.new
+        (Command.Submit who.entry.now name.entry.now (Order.Block order.entry.now))) }
 {
     let price = price_field(alloc, order.price())?;
     let volumes = volumes_field(alloc, order.volumes())?;

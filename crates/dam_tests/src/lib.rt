@@ -10,6 +10,8 @@ mod drawn;
 #[cfg(test)]
 mod enumeration;
 #[cfg(test)]
+mod faults;
+#[cfg(test)]
 mod growth;
 #[cfg(test)]
 mod plain;

@@ -1,4 +1,4 @@
-use super::{Breakage, Broken, Dripping};
+use super::{Breakage, Broken, Dripping, Holding};
 use crate::clear::run_clear;
 use crate::fault::RunFault;
 
@@ -93,6 +93,14 @@ fn clears_an_empty_day(rt: HostRuntime) {
     let mut written = Vec::new(rt.alloc());
     assert_eq!(rt; run_clear(rt.alloc(), &mut reader, &mut written), Ok(()));
     assert_eq!(rt; written.as_slice(), EMPTY_RESULTS);
+}
+
+#[test]
+fn results_are_flushed(rt: HostRuntime) {
+    let mut reader = EMPTY_DAY;
+    let mut writer = Holding::new(rt.alloc());
+    assert_eq!(rt; run_clear(rt.alloc(), &mut reader, &mut writer), Ok(()));
+    assert_eq!(rt; writer.passed_on.as_slice(), EMPTY_RESULTS);
 }
 
 #[test]
