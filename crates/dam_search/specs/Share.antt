@@ -2,7 +2,7 @@
 use Rattle.std.specs.Prelude.{◌≡◌, ℕ, ◌≤◌, List, [], All, vec_capacity}
 use Rattle.dam_blocks.specs.Problem.{ProblemState}
 use Rattle.dam_search.specs.declared.answer.PieceAnswer.{PieceAnswer}
-use Rattle.dam_search.specs.declared.search.Share.{Share}
+use Rattle.dam_search.specs.declared.workers.Share.{Share}
 use Rattle.dam_search.specs.Search.{IsWorked}
 
 -- the share has no answers, and room for so many

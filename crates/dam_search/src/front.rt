@@ -103,7 +103,8 @@ impl Front {
     pub(crate) fn opened<A: Allocator>(self, relaxed: &Relaxed<A>, least: u64) -> Option<Front>
         requires { length self ≤ length relaxed.now.blocks }
         ensures { MatchOption result
-            ((sel : List Bool) (w : ℤ) → IsCompletion self sel → selection_welfare relaxed.now sel ≡ Some w → w <ℤ pos least)
+            ((sel : List Bool) (w : ℤ) → IsCompletion self sel
+            → selection_welfare relaxed.now sel ≡ Some w → w <ℤ pos least)
             (λ front. (front ≡ self) × (reaches (relaxed_welfare relaxed.now self) least ≡ true)) }
     {
         dam_bound::laws::bound();

@@ -25,20 +25,21 @@ pub fn limits()
 /// The value may also be that of another eligible selection, as one that was offered to the workers before they started:
 /// it is enough that some eligible selection has at least the value read.
 pub fn collecting()
-    ensures bests { (problem : ProblemState) (depth : ℕ) (answers : List PieceAnswer) (b : Best) → IsProblem problem
-        → depth ≤ length problem.blocks → AreAnswered problem depth answers
+    ensures bests { (problem : ProblemState) (depth : ℕ) (answers : List PieceAnswer) (b : Best)
+        → IsProblem problem → depth ≤ length problem.blocks → AreAnswered problem depth answers
         → All (λ a. a.read ≤ greatest_found answers) answers
         → IsHighest answers b → IsResult problem b.selection (pos b.welfare) }
-    ensures first { (problem : ProblemState) (depth first : ℕ) (answers : List PieceAnswer) (b : Best) → IsProblem problem
-        → depth ≤ length problem.blocks → AreAnswered problem depth answers → IsReached problem first
+    ensures first { (problem : ProblemState) (depth first : ℕ) (answers : List PieceAnswer)
+        (b : Best) → IsProblem problem → depth ≤ length problem.blocks → AreAnswered problem depth answers
+        → IsReached problem first
         → All (λ a. a.read ≤ max first (greatest_found answers)) answers
         → IsHighest answers b → IsResult problem b.selection (pos b.welfare) }
-    ensures reached { (problem : ProblemState) (depth : ℕ) (answers : List PieceAnswer) (b : Best) → IsProblem problem
-        → depth ≤ length problem.blocks → AreAnswered problem depth answers
+    ensures reached { (problem : ProblemState) (depth : ℕ) (answers : List PieceAnswer) (b : Best)
+        → IsProblem problem → depth ≤ length problem.blocks → AreAnswered problem depth answers
         → All (λ a. IsReached problem a.read) answers
         → IsHighest answers b → IsResult problem b.selection (pos b.welfare) }
-    ensures found { (problem : ProblemState) (depth : ℕ) (answers : List PieceAnswer) → IsProblem problem
-        → depth ≤ length problem.blocks → AreAnswered problem depth answers
+    ensures found { (problem : ProblemState) (depth : ℕ) (answers : List PieceAnswer)
+        → IsProblem problem → depth ≤ length problem.blocks → AreAnswered problem depth answers
         → All (λ a. IsReached problem a.read) answers
         → ¬ (All (λ a. a.best ≡ None) answers) }
 {

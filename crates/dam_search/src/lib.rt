@@ -12,8 +12,8 @@ mod incumbent;
 pub mod laws;
 mod piece;
 mod plan;
-mod search;
 mod turnstile;
+mod workers;
 
 pub use answer::PieceAnswer;
 pub use fault::SearchFault;
@@ -22,3 +22,4 @@ pub use incumbent::{Incumbent, Private};
 pub use piece::search_piece;
 pub use plan::{MOST_CUT, MOST_NODES, MOST_WORKERS, Plan};
 pub use turnstile::{FreeTurn, Turnstile};
+pub use workers::search;

@@ -45,9 +45,10 @@ fn try_selection<A: Allocator, I: Incumbent>(
     requires best { IsFind problem.now [] found.old.best }
     requires offered { welfare_found found.old.best ≤ I.top incumbent.old }
     ensures finds { Finds problem.now front.now found.old.best found.new.best }
-    ensures covers { (sel : List Bool) (w : ℤ) → IsCompletion front.now sel → IsEligible problem.now sel w
-        → IsMatched w sel found.new.best }
-    ensures offered { I.top incumbent.new ≡ max (I.top incumbent.old) (welfare_found found.new.best) }
+    ensures covers { (sel : List Bool) (w : ℤ) → IsCompletion front.now sel
+        → IsEligible problem.now sel w → IsMatched w sel found.new.best }
+    ensures offered { I.top incumbent.new
+        ≡ max (I.top incumbent.old) (welfare_found found.new.best) }
     ensures told { I.told incumbent.new ≡ I.told incumbent.old }
     ensures read { found.new.read ≡ found.old.read }
     ensures visited { found.new.visited ≡ found.old.visited }
@@ -87,9 +88,11 @@ fn explore<A: Allocator, B: Allocator, I: Incumbent>(
     ensures covers { result ≡ true → Covers problem.now front found.new.best found.new.read }
     ensures spends { Spends problem.now front (length problem.now.blocks - length front)
         (I.told incumbent.old) nodes found.old.visited found.new.visited result }
-    ensures reads { Reads (length problem.now.blocks - length front) found.old.visited found.new.visited
-        found.old.read found.new.read (I.told incumbent.old) (I.told incumbent.new) }
-    ensures offered { I.top incumbent.new ≡ max (I.top incumbent.old) (welfare_found found.new.best) }
+    ensures reads { Reads (length problem.now.blocks - length front)
+        found.old.visited found.new.visited found.old.read found.new.read
+        (I.told incumbent.old) (I.told incumbent.new) }
+    ensures offered { I.top incumbent.new
+        ≡ max (I.top incumbent.old) (welfare_found found.new.best) }
 {
     dam_blocks::laws::ranking();
     dam_bound::laws::completions();
@@ -152,8 +155,9 @@ pub fn search_piece<A: Allocator, B: Allocator, I: Incumbent>(
     ensures offered { I.top incumbent.new ≡ max (I.top incumbent.old) (welfare_found result.best) }
     ensures told { I.told incumbent.new ≡ max (I.told incumbent.old) result.read }
 
-    // The greatest value read in the call: the incumbent is read where a node under full depth is visited.
-    ensures read { 0 < result.visited → depth < length problem.now.blocks → result.read ≡ I.told incumbent.new }
+    // The greatest value read in the call: the incumbent is read at each node under full depth.
+    ensures read { 0 < result.visited → depth < length problem.now.blocks
+        → result.read ≡ I.told incumbent.new }
     ensures unread { (result.visited ≡ 0) ⊎ (depth ≡ length problem.now.blocks) → result.read ≡ 0 }
 {
     let _kept = problem.periods();

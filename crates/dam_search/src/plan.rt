@@ -31,7 +31,8 @@ impl Model for Plan {
 
     ghost view = { λ p. record { workers = p.workers; cut = p.cut; nodes = p.nodes } };
 
-    ghost invariant = { λ p. IsPlan (record { workers = p.workers; cut = p.cut; nodes = p.nodes }) };
+    ghost invariant = { λ p.
+        IsPlan (record { workers = p.workers; cut = p.cut; nodes = p.nodes }) };
 
     ghost inverse = { λ p. record { workers = p.workers; cut = p.cut; nodes = p.nodes } };
 }

@@ -4,8 +4,8 @@ use Rattle.std.specs.List.{All}
 use Rattle.std.proofs.lemmas.List.Elements.{All-push}
 use Rattle.dam_search.specs.declared.answer.PieceAnswer.{PieceAnswer}
 use Rattle.dam_search.specs.Search.{IsWorked}
-use Rattle.dam_search.proofs.search.work.Goals as goal
-use Rattle.dam_search.proofs.search.work.Goals.{then-piece-from, else-piece-from}
+use Rattle.dam_search.proofs.workers.work.Goals as goal
+use Rattle.dam_search.proofs.workers.work.Goals.{then-piece-from, else-piece-from}
 
 pub loop-piece-preserved : goal.loop-piece-preserved
 loop-piece-preserved g c =

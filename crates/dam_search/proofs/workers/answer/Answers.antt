@@ -3,7 +3,7 @@ use Rattle.std.proofs.Common.{ℕ, ◌-◌, ◌^◌, ◌<◌, length, sym, subst
 use Rattle.dam_blocks.specs.Selection.{choice}
 use Rattle.dam_search.specs.Piece.{IsSound, IsSpent}
 use Rattle.dam_search.proofs.Collecting.{spent_less, reached_less, reached_next}
-use Rattle.dam_search.proofs.search.answer.Goals as goal
+use Rattle.dam_search.proofs.workers.answer.Goals as goal
 
 pub returns : goal.returns
 returns c =

@@ -66,7 +66,8 @@ fn work<T: Turnstile>(task: &Task, turnstile: &T, share: &mut Share)
     requires few { task.now.depth ≤ most_cut }
     requires first { IsReached task.now.problem.now task.now.first }
     requires ready { IsReady (2 ^ task.now.depth) share.old }
-    ensures { All (λ a. IsWorked task.now.problem.now task.now.depth task.now.plan.nodes a) share.new.answers.items }
+    ensures { All (λ a. IsWorked task.now.problem.now task.now.depth task.now.plan.nodes a)
+        share.new.answers.items }
 {
     let mut incumbent = Private::new();
     incumbent.offer(task.first);
@@ -146,7 +147,8 @@ pub fn search<R: Threads + Sync, T: Turnstile + Sync>(
 ) -> Result<Best, SearchFault>
     ensures ok { IfOk result (λ best. IsResult problem.now best.selection (pos best.welfare)) }
     ensures unfinished { (piece visited : ℕ) → IsErrOf result (SearchFault.Unfinished piece visited)
-        → IsUnfinished problem.now (min plan.cut (length problem.now.blocks)) plan.nodes piece visited }
+        → IsUnfinished problem.now (min plan.cut (length problem.now.blocks))
+        plan.nodes piece visited }
 {
     let relaxed = Relaxed::build(alloc, problem)?;
     let depth = usize::from(plan.cut()).min(problem.block_count());

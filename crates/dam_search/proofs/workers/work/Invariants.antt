@@ -4,7 +4,7 @@ use Rattle.std.specs.List.{All}
 use Rattle.dam_search.specs.declared.answer.PieceAnswer.{PieceAnswer}
 use Rattle.dam_search.specs.Answer.{IsReached}
 use Rattle.dam_search.specs.Search.{IsWorked}
-use Rattle.dam_search.proofs.search.work.Given as goal
+use Rattle.dam_search.proofs.workers.work.Given as goal
 
 abbrev pub invariant-loop-piece : goal.invariant-loop-piece
 invariant-loop-piece g l = record {

@@ -3,7 +3,7 @@ use Rattle.std.proofs.Common.{◌≡◌, ℕ, min, List, length, ◌∙◌, ap�
 use Rattle.std.specs.List.{All}
 use Rattle.dam_search.specs.declared.answer.PieceAnswer.{PieceAnswer}
 use Rattle.dam_search.specs.Search.{IsWorked, IsUnfinished}
-use Rattle.dam_search.proofs.search.search.Goals as goal
+use Rattle.dam_search.proofs.workers.search.Goals as goal
 
 pub collected-requires-clause-worked : goal.collected-requires-clause-worked
 collected-requires-clause-worked g c =

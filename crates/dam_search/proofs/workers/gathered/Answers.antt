@@ -3,9 +3,9 @@ use Rattle.std.proofs.Common.{List, ◌++◌, ◌∙◌, ap, sym, subst}
 use Rattle.std.specs.List.{All}
 use Rattle.std.proofs.lemmas.List.Elements.{All-append, All-get_or}
 use Rattle.dam_search.specs.declared.answer.PieceAnswer.{PieceAnswer}
-use Rattle.dam_search.specs.declared.search.Share.{Share}
+use Rattle.dam_search.specs.declared.workers.Share.{Share}
 use Rattle.dam_search.specs.Search.{IsWorked}
-use Rattle.dam_search.proofs.search.gathered.Goals as goal
+use Rattle.dam_search.proofs.workers.gathered.Goals as goal
 
 pub loop-share-preserved : goal.loop-share-preserved
 loop-share-preserved c problem depth nodes worked =
