@@ -1,7 +1,7 @@
 //! One period cleared many times over.
 
 use dam_book::{Price, Qty, Side};
-use dam_hour::{GREATEST_NET, MOST_STEPS, Hour, Step};
+use dam_hour::{GREATEST_NET, Hour, MOST_STEPS, Step};
 use std::alloc::{AllocError, Global};
 
 /// The nets that are cleared by turns, evenly over the range.

@@ -127,7 +127,9 @@ pub(crate) fn read(rows: &[Row]) -> Found {
     for row in rows {
         let limit = row.step.price.get();
         let is_buy = row.step.side == Side::Buy;
-        let value = i64::from(limit).saturating_mul(row.executed.min(u64::from(GREATEST_VOLUME)) as i64);
+        let value = i64::from(limit).saturating_mul(
+            row.executed.min(u64::from(GREATEST_VOLUME)) as i64,
+        );
         if is_buy {
             bought = bought.saturating_add(row.executed);
             welfare = welfare.saturating_add(value);

@@ -1,5 +1,5 @@
 use crate::plain::{Found, Row, merge, read, try_all};
-use crate::{Cleared, GREATEST_NET, MOST_STEPS, Hour, Step};
+use crate::{Cleared, GREATEST_NET, Hour, MOST_STEPS, Step};
 use dam_book::{Price, Qty, Side};
 use std::alloc::{AllocError, Global};
 use std::process::Abort;
