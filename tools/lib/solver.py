@@ -1,11 +1,16 @@
 """Whether a better selection of blocks exists, by HiGHS (through scipy).
 
 HiGHS is given a program of whole and real numbers of which each eligible selection is a solution: its executions, some
-supporting price of each period at which no accepted block loses, links and groups. It is asked for a solution of at least the
-welfare at hand, with a slack for its rounding. Each selection that it gives is looked at exactly, by the rules and in whole
-numbers: it is better, or it is forbidden and HiGHS is asked again. When HiGHS has no more solution, none is better. That it
-doesn't miss one is believed of HiGHS; that what it finds is better is not."""
+supporting price of each period at which no accepted block loses, links and groups. It is asked for a solution of more welfare
+than that at hand; then, for each block that is rejected, for one of as much welfare that accepts this block and is the same on
+the blocks before it. Each selection that it gives is looked at exactly, by the rules and in whole numbers: it is better, or it
+is forbidden and HiGHS is asked again. When HiGHS has no more solution, none is better. That it doesn't miss one is believed of
+HiGHS; that what it finds is better is not."""
 
+import contextlib
+import itertools
+import os
+import sys
 import time
 
 import numpy
@@ -14,6 +19,28 @@ from scipy import optimize, sparse
 from . import best, rules, selection
 
 EUR, MW = 100, 10  # cents and tenths: the program is reckoned in EUR per MWh and MW, for moderate numbers
+
+# What is rounding: half a unit of welfare, or this part of the greatest sum. HiGHS loses solutions where the rows leave no more
+# room than that, so it gets more, and offers some selections that turn out to lose or to have less welfare. Where it has offered
+# too many, its room for welfare is narrowed.
+HALF, ROUNDING, ROOM, TOO_MANY = 0.5 / (EUR * MW), 1e-11, 1_000, 100
+
+
+NO_SOLUTION = 2  # a status of scipy's
+
+
+@contextlib.contextmanager
+def quiet():
+    """Sends to nowhere what HiGHS prints by itself on standard output."""
+    sys.stdout.flush()
+    kept, nowhere = os.dup(1), os.open(os.devnull, os.O_WRONLY)
+    os.dup2(nowhere, 1)
+    try:
+        yield
+    finally:
+        os.dup2(kept, 1)
+        os.close(kept)
+        os.close(nowhere)
 
 
 class Program:
@@ -31,21 +58,23 @@ class Program:
         return len(self.costs) - 1
 
     def row(self, terms, lower=-numpy.inf, upper=numpy.inf):
-        """Terms are pairs of a column and a factor."""
+        """Terms are pairs of a column and a factor. Answers the row's number."""
         self.at += [(len(self.rows), column, factor) for column, factor in terms]
         self.rows.append((lower, upper))
+        return len(self.rows) - 1
 
-    def solve(self, seconds):
+    def solve(self, seconds, presolve):
         rows, columns, factors = zip(*self.at)
         matrix = sparse.csc_matrix((factors, (rows, columns)), shape=(len(self.rows), len(self.costs)))
         lower, upper = zip(*self.rows)
-        return optimize.milp(
-            numpy.array(self.costs),
-            integrality=numpy.array(self.whole, dtype=int),
-            bounds=optimize.Bounds(self.lower, self.upper),
-            constraints=optimize.LinearConstraint(matrix, lower, upper),
-            options={"time_limit": seconds, "mip_rel_gap": 0},
-        )
+        with quiet():
+            return optimize.milp(
+                numpy.array(self.costs),
+                integrality=numpy.array(self.whole, dtype=int),
+                bounds=optimize.Bounds(self.lower, self.upper),
+                constraints=optimize.LinearConstraint(matrix, lower, upper),
+                options={"time_limit": seconds, "mip_rel_gap": 0, "presolve": presolve},
+            )
 
 
 class Model:
@@ -55,7 +84,7 @@ class Model:
     all buys less the cost of what is taken; what all steps and accepted blocks gain together is never less, and as much exactly
     where the prices support the execution, which is the one row over the whole day."""
 
-    def __init__(self, problem, welfare):
+    def __init__(self, problem):
         self.problem = problem
         self.program = Program()
         curves = best.curves(problem)
@@ -68,9 +97,9 @@ class Model:
             helping = [(gains[other], 1) for other in rules.rescuers(place, problem.blocks)]
             self.program.row([(gain, 1), *helping], lower=0)
         self.links_and_groups()
-        slack = 1e-7 * self.size
-        self.program.row(self.duality, upper=slack)
-        self.program.row(self.welfare, lower=(welfare / (EUR * MW)) - self.value - slack)
+        self.slack = max(HALF, ROUNDING * self.size)
+        self.program.row(self.duality, upper=ROOM * self.slack)
+        self.least = self.program.row(self.welfare)
         for column, factor in self.welfare:
             self.program.costs[column] -= factor
 
@@ -84,7 +113,8 @@ class Model:
         ]
         least = max(sum(min(volume, 0) for _, volume in nets), curve.least)
         most = min(sum(max(volume, 0) for _, volume in nets), curve.most)
-        lower, upper = curve.supporting(most)[0] / EUR, curve.supporting(least)[1] / EUR
+        lower, upper = price_ends(curve, least, most)
+        lower, upper = lower / EUR, upper / EUR
         price = self.program.column(lower=lower, upper=upper)
         taken = []
         for limit, volume in zip(curve.limits, curve.volumes):
@@ -132,18 +162,37 @@ class Model:
         for one, other in equal_blocks(self.problem):
             self.program.row([(self.accepted[one], 1), (self.accepted[other], -1)], lower=0)
 
+    def ask(self, welfare, fixed, room):
+        """From now on solutions have at least a welfare, and accept or reject the blocks at the first places as in a list."""
+        self.program.rows[self.least] = (welfare / (EUR * MW) - self.value - room * self.slack, numpy.inf)
+        for place, column in enumerate(self.accepted):
+            self.program.lower[column] = fixed[place] if place < len(fixed) else 0
+            self.program.upper[column] = fixed[place] if place < len(fixed) else 1
+
     def forbid(self, accepted):
         terms = [(column, -1 if place in accepted else 1) for place, column in enumerate(self.accepted)]
         self.program.row(terms, lower=1 - len(accepted))
 
     def next(self, seconds):
-        """A selection that isn't forbidden; None where there is none. Fails where HiGHS doesn't say."""
-        answer = self.program.solve(seconds)
-        if answer.x is not None:
-            return frozenset(place for place, column in enumerate(self.accepted) if answer.x[column] > 0.5)
-        if answer.status == 2:  # no solution
-            return None
-        raise TimeoutError(answer.message)
+        """A selection that isn't forbidden; None where there is none. Fails where HiGHS doesn't say.
+
+        Of books with equal prices HiGHS sometimes says that there is none, by its presolve or without it, and is wrong; where
+        it is asked in both ways that is rare."""
+        for presolve in (True, False):
+            answer = self.program.solve(seconds, presolve)
+            if answer.x is not None:
+                return frozenset(place for place, column in enumerate(self.accepted) if answer.x[column] > 0.5)
+            if answer.status != NO_SOLUTION:
+                raise TimeoutError(f"HiGHS gave up: {answer.message}")
+        return None
+
+
+def price_ends(curve, least, most):
+    """Between which prices the rule's price lies, for the net volumes from `least` to `most`: between supporting prices, and
+    never beyond the limits of all orders but where no order or every one is taken."""
+    edges = [rules.price_between(*curve.supporting(net))[0] for net in (curve.least, curve.most)]
+    lower, upper = min(curve.limits[:1] + edges), max(curve.limits[-1:] + edges)
+    return max(lower, curve.supporting(most)[0]), min(upper, curve.supporting(least)[1])
 
 
 def equal_blocks(problem):
@@ -161,21 +210,33 @@ def equal_blocks(problem):
             last[key] = place
 
 
+def questions(accepted, welfare, blocks):
+    """What is asked of HiGHS: the least welfare, and how the blocks at the first places are decided."""
+    flags = [int(place in accepted) for place in range(blocks)]
+    yield welfare + 1, []
+    for place in range(blocks):
+        if not flags[place]:
+            yield welfare, flags[:place] + [1]
+
+
 def better(problem, accepted, welfare, seconds):
     """A selection that ranks above this eligible one, or None where HiGHS has none; and how that was found."""
     until = time.monotonic() + seconds
-    model = Model(problem, welfare)
+    model = Model(problem)
     model.forbid(accepted)
     looked = 0
-    while True:
-        try:
-            other = model.next(max(1, until - time.monotonic()))
-        except TimeoutError as fault:
-            raise TimeoutError(f"HiGHS gave up after {looked} selections: {fault}") from None
-        if other is None:
-            return None, f"HiGHS has no other selection of that welfare but {looked} that are not better"
-        looked += 1
-        value = selection.eligible(problem, other)
-        if value is not None and selection.ranks_above(len(problem.blocks), value, other, welfare, accepted):
-            return best.Found(other, value), "found by HiGHS"
-        model.forbid(other)
+    for least, fixed in questions(accepted, welfare, len(problem.blocks)):
+        for offered in itertools.count():
+            model.ask(least, fixed, ROOM if offered < TOO_MANY else 1)
+            left = until - time.monotonic()
+            if left <= 0:
+                raise TimeoutError(f"after {seconds:g} seconds and {looked} selections HiGHS has still others to offer")
+            other = model.next(left)
+            if other is None:
+                break
+            looked += 1
+            value = selection.eligible(problem, other)
+            if value is not None and selection.ranks_above(len(problem.blocks), value, other, welfare, accepted):
+                return best.Found(other, value), "found by HiGHS"
+            model.forbid(other)
+    return None, f"HiGHS has none to offer but {looked} that are forbidden or of less welfare"

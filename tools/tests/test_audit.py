@@ -243,7 +243,7 @@ class Best(unittest.TestCase):
         from lib import solver
 
         tried = 0
-        for day, selections in small_problems(60):
+        for day, selections in [*small_problems(80), *self.equal_prices()]:
             for rank, (welfare, accepted) in enumerate(selections[:4]):
                 found, _ = solver.better(day, accepted, welfare, 60)
                 self.assertEqual(found is None, rank == 0)
@@ -251,6 +251,18 @@ class Best(unittest.TestCase):
                     self.assertIn((found.welfare, found.accepted), selections[:rank])
                 tried += 1
         self.assertGreater(tried, 100)
+
+    def equal_prices(self):
+        """A book whose prices are all equal, of which HiGHS may hold for infeasible what isn't."""
+        data = journal_of(
+            "submit,A,K1,block,buy,81610,1:10;23:10,,",
+            "submit,A,S1,hour,sell,81610,23:10,,",
+            "submit,A,S2,hour,sell,81610,1:10,,",
+            "submit,A,S3,hour,sell,81610,1:10,,",
+            "submit,A,K2,block,sell,81610,1:10,,",
+        )
+        day = problem(data)
+        yield day, ranked(day)
 
     def methods(self):
         return ["enumeration", "highs"] if command.has("scipy") else ["enumeration"]
