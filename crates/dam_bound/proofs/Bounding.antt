@@ -11,13 +11,14 @@ use Rattle.dam_blocks.specs.Selection.{net_volume, block_value}
 use Rattle.dam_blocks.specs.Eligible.{added, period_welfare, welfare_from}
 use Rattle.dam_blocks.specs.Magnitude.{IsWithin}
 use Rattle.dam_bound.specs.Relaxed.{as_steps, relaxed_hours}
+use Rattle.dam_bound.specs.Levels.{greatest_period_bound}
 use Rattle.dam_bound.proofs.Levelling.{drop_at}
 
 -- the welfare of the periods so far, and what is left of them
 pub record IsBoundSoFar (blocks : List Block) (taken : List Bool) (left : List Block) (hours : List (List Step)) (place : ℕ) (total : ℤ) : Type 0 where
   pub sum : added (Some total) (welfare_from blocks taken (place + 1) (relaxed_hours left (place + 1) (drop place hours))) ≡ welfare_from blocks taken 1 (relaxed_hours left 1 hours)
-  pub low : neg_ℤ (pos (place * 161918380800000)) ≤ℤ total
-  pub high : total ≤ℤ pos (place * 161918380800000)
+  pub low : neg_ℤ (pos (place * greatest_period_bound)) ≤ℤ total
+  pub high : total ≤ℤ pos (place * greatest_period_bound)
 
 added_zero : (x : Option ℤ) → added (Some (pos 0)) x ≡ x
 added_zero None = refl
@@ -41,7 +42,7 @@ from_place blocks taken left hours place ss at =
     ∙ ap (λ (t : ℕ). added (period_welfare blocks taken (place + 1) (ss ++ as_steps (place + 1) left)) (welfare_from blocks taken t (relaxed_hours left t (drop (place + 1) hours)))) next
 
 pub one_bound : (blocks : List Block) (taken : List Bool) (left : List Block) (hours : List (List Step)) (place t : ℕ) (ss : List Step) (w total after : ℤ)
-    → slice_get hours place ≡ Some ss → t ≡ place + 1 → Some w ≡ period_welfare blocks taken t (ss ++ as_steps t left) → IsWithin 161918380800000 w → after ≡ total +ℤ w
+    → slice_get hours place ≡ Some ss → t ≡ place + 1 → Some w ≡ period_welfare blocks taken t (ss ++ as_steps t left) → IsWithin greatest_period_bound w → after ≡ total +ℤ w
     → IsBoundSoFar blocks taken left hours place total → IsBoundSoFar blocks taken left hours (place + 1) after
 one_bound blocks taken left hours place t ss w total after at period is within e so_far =
     let here : Some w ≡ period_welfare blocks taken (place + 1) (ss ++ as_steps (place + 1) left) = is ∙ ap (λ (u : ℕ). period_welfare blocks taken u (ss ++ as_steps u left)) period in

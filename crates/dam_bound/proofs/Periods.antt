@@ -4,9 +4,9 @@ use Rattle.std.specs.List.{slice_get}
 use Rattle.std.specs.Option.{option_map}
 use Rattle.std.proofs.lemmas.List.{take_more, take_all, map-append}
 use Rattle.std.proofs.lemmas.Option.{get_or_from_slice_get, slice_get-map, slice_get_within}
-use Rattle.dam_book.specs.declared.limits.TheConstants.{MOST_BLOCKS}
+use Rattle.dam_book.specs.Limits.{most_blocks}
 use Rattle.dam_hour.specs.declared.step.Step.{Step}
-use Rattle.dam_blocks.specs.declared.problem.TheConstants.{MOST_PERIODS}
+use Rattle.dam_book.specs.Limits.{last_period}
 use Rattle.dam_blocks.specs.declared.problem.Block.{Block}
 use Rattle.dam_blocks.specs.Problem.{hourly_orders}
 use Rattle.dam_bound.specs.Levels.{LevelsState, AreLevels, last_steps, AreDayLevels}
@@ -54,7 +54,7 @@ one_period blocks hours count t periods ss levels at period last are so_far =
       ];
     }
 
-pub all_periods : (blocks : List Block) (hours : List (List Step)) (count : ℕ) (periods : List LevelsState) → count ≤ MOST_PERIODS → length blocks ≤ MOST_BLOCKS
+pub all_periods : (blocks : List Block) (hours : List (List Step)) (count : ℕ) (periods : List LevelsState) → count ≤ last_period → length blocks ≤ most_blocks
     → AreDaySoFar blocks hours count periods → AreDayLevels blocks periods
 all_periods blocks hours count periods few_periods few_blocks so_far =
     let long = so_far.long in record { few_periods = omega (arith, long, few_periods); few_blocks = few_blocks; each = so_far.each }

@@ -6,6 +6,7 @@ use Rattle.dam_book.specs.Book.{is_day}
 use Rattle.dam_book.specs.Volumes.{Pair, ArePairs}
 use Rattle.dam_hour.specs.declared.step.Step.{Step}
 use Rattle.dam_hour.specs.Execution.{AreInRange}
+use Rattle.dam_book.specs.Limits.{last_period, greatest_volume, most_blocks}
 use Rattle.dam_hour.specs.Limits.{greatest_value}
 use Rattle.dam_hour.specs.Best.{welfare_of, greatest_welfare}
 use Rattle.dam_blocks.specs.declared.problem.Block.{Block}
@@ -18,10 +19,10 @@ use Rattle.dam_bound.proofs.Standing.{stand}
 use Rattle.dam_bound.proofs.Covering.{Laws, added_some, raised_some}
 
 -- ---- the steps
-volume_small : (ps : List Pair) (t : ℕ) → ArePairs ps → volume_in ps t ≤ 99999
+volume_small : (ps : List Pair) (t : ℕ) → ArePairs ps → volume_in ps t ≤ greatest_volume
 volume_small [] t are = omega arith
 volume_small (p ∷ ps) t are =
-    elim (p.0 == t) as (λ b. cond b p.1 (volume_in ps t) ≤ 99999) [ true ↦ are.1.at_most | false ↦ volume_small ps t are.2 ]
+    elim (p.0 == t) as (λ b. cond b p.1 (volume_in ps t) ≤ greatest_volume) [ true ↦ are.1.at_most | false ↦ volume_small ps t are.2 ]
 
 pub steps_in_range : (periods t : ℕ) (bs : List Block) → AreBlocks periods bs → AreInRange (as_steps t bs)
 steps_in_range periods t [] are = tt
@@ -66,8 +67,8 @@ period_size laws periods t bs decided ss u are range e =
     let own = s.welfare in let is = best.3 in let sum = parts.2 in
     record { at_least = omega (arith, ints, l, all, worth, own, is, sum, long, few); at_most = omega (arith, ints, h, all, worth, own, is, sum, long, few) }
 
-periods_size : Laws → (periods t : ℕ) (bs : List Block) (decided : List Bool) (hours : List (List Step)) (w : ℤ) → AreBlocks periods bs → length bs ≤ 24 → AreHours hours
-    → welfare_from bs decided t (relaxed_hours (drop (length decided) bs) t hours) ≡ Some w → IsWithin (hourly_orders hours * greatest_value + length hours * (24 * greatest_value)) w
+periods_size : Laws → (periods t : ℕ) (bs : List Block) (decided : List Bool) (hours : List (List Step)) (w : ℤ) → AreBlocks periods bs → length bs ≤ most_blocks → AreHours hours
+    → welfare_from bs decided t (relaxed_hours (drop (length decided) bs) t hours) ≡ Some w → IsWithin (hourly_orders hours * greatest_value + length hours * (most_blocks * greatest_value)) w
 periods_size laws periods t bs decided [] w are few ranges e =
     let zero : pos 0 ≡ w = cc in record { at_least = omega (arith, ints, zero); at_most = omega (arith, ints, zero) }
 periods_size laws periods t bs decided (ss ∷ hours) w are few ranges e =
@@ -83,7 +84,7 @@ day_is true b c e = inl refl
 day_is false true c e = inr (inl refl)
 day_is false false c e = inr (inr e)
 
-pub day_small : (n : ℕ) → is_day n ≡ true → n ≤ 25
+pub day_small : (n : ℕ) → is_day n ≡ true → n ≤ last_period
 day_small n e = elim (day_is (n == 23) (n == 24) (n == 25) e) [
   | inl a ↦ (let is : n ≡ 23 = grind (arith, nat_tests) in omega (arith, is))
   | inr r ↦ elim r [ inl b ↦ (let is : n ≡ 24 = grind (arith, nat_tests) in omega (arith, is)) | inr d ↦ (let is : n ≡ 25 = grind (arith, nat_tests) in omega (arith, is)) ]

@@ -1,5 +1,6 @@
 -- The relaxed welfare of a prefix, and how many prefixes reach a value.
-use Rattle.std.specs.Prelude.{ℕ, zero, suc, ◌+◌, ℤ, pos, int_le, Bool, true, false, ◌==◌, Option, Some, None, List, [], ◌∷◌, ◌++◌, length, drop, if◌then◌else◌}
+use Rattle.std.specs.Prelude.{ℕ, zero, suc, ◌+◌, ℤ, pos, int_le, Bool, true, false, ◌==◌, if◌then◌else◌}
+use Rattle.std.specs.Prelude.{Option, Some, None, List, [], ◌∷◌, ◌++◌, length, drop}
 use Rattle.dam_book.specs.Terms.{BlockTerms}
 use Rattle.dam_hour.specs.declared.step.Step.{Step}
 use Rattle.dam_blocks.specs.declared.problem.Block.{Block}
@@ -14,17 +15,21 @@ step_of t o = record { side = o.side; price = o.price; qty = volume_in o.volumes
 -- a step for each of the blocks that have a volume in the period
 abbrev pub as_steps : ℕ → List Block → List Step
 as_steps t [] = []
-as_steps t (b ∷ bs) = if volume_in b.order.volumes t == 0 then as_steps t bs else step_of t b.order ∷ as_steps t bs
+as_steps t (b ∷ bs) =
+    if volume_in b.order.volumes t == 0 then as_steps t bs else step_of t b.order ∷ as_steps t bs
 
 -- the steps of each period from t on, and behind them the blocks as steps of that period
 abbrev pub relaxed_hours : List Block → ℕ → List (List Step) → List (List Step)
 relaxed_hours undecided t [] = []
-relaxed_hours undecided t (ss ∷ hours) = (ss ++ as_steps t undecided) ∷ relaxed_hours undecided (suc t) hours
+relaxed_hours undecided t (ss ∷ hours) =
+    (ss ++ as_steps t undecided) ∷ relaxed_hours undecided (suc t) hours
 
--- the welfare of the decisions where each undecided block stands as a step of its own in each of its periods; None where some period so relaxed has no execution that balances
+-- the welfare of the decisions where each undecided block stands as a step of its own in each of its
+-- periods; None where some period so relaxed has no execution that balances
 abbrev pub relaxed_welfare : ProblemState → List Bool → Option ℤ
 relaxed_welfare problem decided =
-    welfare_from problem.blocks decided 1 (relaxed_hours (drop (length decided) problem.blocks) 1 problem.hours)
+    welfare_from problem.blocks decided 1
+    (relaxed_hours (drop (length decided) problem.blocks) 1 problem.hours)
 
 -- the problem without the places of its rows, at which no bound looks
 abbrev pub without_rows : ProblemState → ProblemState
@@ -35,9 +40,11 @@ abbrev pub reaches : Option ℤ → ℕ → Bool
 reaches None value = false
 reaches (Some w) value = int_le (pos value) w
 
--- among a prefix that leaves so many blocks undecided and all prefixes that extend it, the number of those that leave some block undecided and whose relaxed welfare reaches the value
+-- among a prefix that leaves so many blocks undecided and all prefixes that extend it, the number of
+-- those that leave some block undecided and whose relaxed welfare reaches the value
 abbrev pub live_count : ProblemState → ℕ → List Bool → ℕ → ℕ
 live_count problem value decided zero = 0
 live_count problem value decided (suc left) =
-    live_count problem value (decided ++ true ∷ []) left + live_count problem value (decided ++ false ∷ []) left
+    live_count problem value (decided ++ true ∷ []) left
+    + live_count problem value (decided ++ false ∷ []) left
     + (if reaches (relaxed_welfare problem decided) value then 1 else 0)

@@ -1,6 +1,5 @@
-ghost use Rattle.std.specs.Prelude.{◌≡◌, ◌+◌, ◌-◌, ◌≤◌, ◌<◌, ◌++◌, List, length, drop, Some, IfOk, MatchOption, IsTrue, ◌↔◌};
-ghost use Rattle.std.specs.Option.{option_map};
-ghost use Rattle.dam_book.specs.declared.limits.TheConstants.{MOST_HOURLY, MOST_BLOCKS};
+ghost use Rattle.std.specs.Prelude.{◌≡◌, ◌≤◌, ◌++◌, List, length, IfOk, MatchOption};
+ghost use Rattle.dam_book.specs.Limits.{most_hourly, most_blocks};
 ghost use Rattle.dam_hour.specs.Execution.{IsHour};
 ghost use Rattle.dam_hour.specs.declared.step.Step.{Step};
 ghost use Rattle.dam_blocks.specs.Selection.{volume_in};
@@ -52,15 +51,16 @@ fn relaxed_hour<A: Allocator + Copy>(
     blocks: &[Block],
     period: Period,
 ) -> Result<Hour<A>, AllocError>
-    requires steps { length steps.now ≤ MOST_HOURLY }
-    requires blocks { length blocks.now ≤ MOST_BLOCKS }
+    requires steps { length steps.now ≤ most_hourly }
+    requires blocks { length blocks.now ≤ most_blocks }
     ensures { IfOk result (λ hour. hour ≡ steps.now ++ as_steps period blocks.now) }
 {
     let relaxed = relaxed_steps(alloc, steps, blocks, period)?;
     Hour::build(alloc, &relaxed)
 }
 
-/// A period with its undecided blocks as steps, at each depth: the number of blocks that are decided.
+/// A period with its undecided blocks as steps, at each depth: so many of the first blocks are
+/// decided.
 ///
 /// Depths between which no block has a volume in the period share an hour.
 #[derive(Drop)]
@@ -87,8 +87,8 @@ impl<A: Allocator + Copy> Levels<A> {
         blocks: &[Block],
         period: Period,
     ) -> Result<Levels<A>, AllocError>
-        requires steps { length steps.now ≤ MOST_HOURLY }
-        requires blocks { length blocks.now ≤ MOST_BLOCKS }
+        requires steps { length steps.now ≤ most_hourly }
+        requires blocks { length blocks.now ≤ most_blocks }
         ensures levels { IfOk result (λ levels. AreLevels period steps.now blocks.now levels) }
         ensures last { IfOk result (λ levels. last_steps levels ≡ steps.now) }
     {

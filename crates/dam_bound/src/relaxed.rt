@@ -1,10 +1,10 @@
-ghost use Rattle.std.specs.Prelude.{◌≡◌, ◌+◌, ◌≤◌, ◌++◌, List, Bool, length, drop, map, IfOk, IfSome};
-ghost use Rattle.dam_book.specs.declared.limits.TheConstants.{MOST_BLOCKS};
+ghost use Rattle.std.specs.Prelude.{◌≡◌, ◌≤◌, ◌++◌, List, Bool, length, drop, map, IfOk, IfSome};
+ghost use Rattle.dam_book.specs.Limits.{most_blocks};
 ghost use Rattle.dam_blocks.specs.Selection.{padded};
 ghost use Rattle.dam_blocks.specs.Eligible.{period_welfare};
 ghost use Rattle.dam_blocks.specs.Magnitude.{IsWithin};
 ghost use Rattle.dam_bound.specs.Relaxed.{as_steps, relaxed_welfare, without_rows};
-ghost use Rattle.dam_bound.specs.Levels.{AreLevels, last_steps, AreDayLevels};
+ghost use Rattle.dam_bound.specs.Levels.{AreLevels, last_steps, AreDayLevels, greatest_period_bound};
 
 use crate::levels::Levels;
 use dam_blocks::{Block, Problem, Selection, block_value, laws, net_volume, period_at};
@@ -74,8 +74,8 @@ impl<A: Allocator + Copy> Relaxed<A> {
     }
 }
 
-/// The greatest welfare of a period at a depth, with what the accepted blocks are worth there; `None`
-/// where no execution balances.
+/// The greatest welfare of a period at a depth, with what the accepted blocks are worth there;
+/// `None` where no execution balances.
 fn period_bound<A: Allocator>(
     levels: &Levels<A>,
     blocks: &[Block],
@@ -85,9 +85,10 @@ fn period_bound<A: Allocator>(
 ) -> Option<i64>
     requires levels { AreLevels period (last_steps levels.now) blocks.now levels.now }
     requires depth { depth ≤ length blocks.now }
-    requires blocks { length blocks.now ≤ MOST_BLOCKS }
-    ensures value { result ≡ period_welfare blocks.now taken period (last_steps levels.now ++ as_steps period (drop depth blocks.now)) }
-    ensures size { IfSome result (IsWithin 161918380800000) }
+    requires blocks { length blocks.now ≤ most_blocks }
+    ensures value { result ≡ period_welfare blocks.now taken period
+        (last_steps levels.now ++ as_steps period (drop depth blocks.now)) }
+    ensures size { IfSome result (IsWithin greatest_period_bound) }
 {
     let hour = levels.hour(depth);
     let cleared = hour.clear(net_volume(blocks, taken, period))?;
@@ -95,13 +96,14 @@ fn period_bound<A: Allocator>(
 }
 
 impl<A: Allocator> Relaxed<A> {
-    /// How great the welfare of a selection can be that agrees with the decisions on the first `depth`
-    /// blocks, of which those in `taken` are accepted; in cents per MWh times tenths of a MW.
+    /// How great the welfare of a selection can be that agrees with the decisions on the first
+    /// `depth` blocks, of which those in `taken` are accepted; in cents per MWh times tenths of a MW.
     ///
-    /// It is the welfare of the decisions where each undecided block may be executed in part, in each of
-    /// its periods apart from the others: the sum over the periods of the greatest welfare with the
-    /// undecided blocks as orders, and the accepted buy blocks' limit times volume less the accepted
-    /// sell blocks'. `None` exactly where some period so relaxed has no execution that balances.
+    /// It is the welfare of the decisions where each undecided block may be executed in part, in each
+    /// of its periods apart from the others: the sum over the periods of the greatest welfare with
+    /// the undecided blocks as orders, and the accepted buy blocks' limit times volume less the
+    /// accepted sell blocks'. It may be below 0. `None` exactly where some period so relaxed has no
+    /// execution that balances. Nothing is promised where `taken` has a block past the decided ones.
     /// Takes no memory.
     pub fn bound(&self, taken: Selection, depth: usize) -> Option<i64>
         requires { depth ≤ length self.now.blocks }
@@ -111,7 +113,9 @@ impl<A: Allocator> Relaxed<A> {
         laws::sums();
         let mut total = 0;
         for (place, levels) in self.periods.iter().enumerate() {
-            total += period_bound(levels, &self.blocks, taken, depth, period_at(place))?;
+            let period = period_at(place);
+            let welfare = period_bound(levels, &self.blocks, taken, depth, period)?;
+            total += welfare;
         }
         Some(total)
     }

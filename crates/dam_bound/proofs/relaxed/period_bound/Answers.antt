@@ -1,15 +1,15 @@
 -- The hour at the depth has the period's steps, and behind them the undecided blocks.
-use Rattle.std.proofs.Common.{arith}
+use Rattle.std.proofs.Common.{arith, rules}
 use Rattle.std.proofs.lemmas.Int.{ints}
 use Rattle.dam_bound.proofs.Bounding.{cleared_period}
 use Rattle.dam_bound.proofs.relaxed.period_bound.Goals as goal
 
 pub hour-hour-requires : goal.hour-hour-requires
-hour-hour-requires g c = (_, c.requires.levels c.args.depth c.requires.depth)
+hour-hour-requires g c = (_, c.requires.levels _ (search rules))
 
 pub returns-clause-value : goal.returns-clause-value
 returns-clause-value g c =
-    let steps = c.hour-hour.ensures.value _ (c.requires.levels c.args.depth c.requires.depth) in
+    let steps = c.hour-hour.ensures.value _ (c.requires.levels _ (search rules)) in
     let few = c.hour-hour.ensures.steps.few in
     let small = c.in_ok-cleared.ensures.small in
     let net = c.net_volume.ensures.value in

@@ -2,6 +2,7 @@
 use Rattle.std.proofs.Common.{◌≡◌, ◌-◌, List, ap, subst, ◌∙◌, sym, arith}
 use Rattle.std.specs.List.{slice_get}
 use Rattle.std.specs.Option.{option_copied}
+use Rattle.dam_book.specs.Limits.{most_hourly}
 use Rattle.dam_blocks.specs.declared.problem.Block.{Block}
 use Rattle.dam_bound.specs.Levels.{AreLevels}
 use Rattle.dam_bound.proofs.Periods.{few_in_period, one_period}
@@ -10,7 +11,7 @@ use Rattle.dam_bound.proofs.relaxed.periods_of.Goals as goal
 pub of-requires-clause-steps : goal.of-requires-clause-steps
 of-requires-clause-steps g c =
     let at = sym c.steps.ensures.value ∙ ap option_copied c.unwrap-steps.ensures in
-    few_in_period c.args.problem.now.hours (c.period_at-period.result - 1) 4000 c.unwrap-steps.result.now c.steps.ensures.valid.few_hourly at
+    few_in_period c.args.problem.now.hours (c.period_at-period.result - 1) most_hourly c.unwrap-steps.result.now c.steps.ensures.valid.few_hourly at
 
 pub loop-place-preserved : goal.loop-place-preserved
 loop-place-preserved g c =
