@@ -1,0 +1,6 @@
+-- What a contract sees of an option.
+use Rattle.dam_line.specs.Line.{OptionTerms}
+use Rattle.dam_line.specs.declared.options.NumberOption.{NumberOption}
+
+abbrev pub terms_of : NumberOption → OptionTerms
+terms_of option = record { name = option.name.now; least = option.least; most = option.most; default = option.default }

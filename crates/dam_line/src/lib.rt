@@ -1,0 +1,13 @@
+//! The command line of `dam`: what the words behind the program's name ask for.
+//!
+//! `clap` reads the words. The program's command, as `clap` sees it, and the job that words ask for
+//! stand in `specs/`.
+#![tactic(auto)]
+
+mod command;
+mod line;
+mod options;
+#[cfg(test)]
+mod tests;
+
+pub use line::{Job, LineFault, read_line};
