@@ -94,12 +94,11 @@ read_number option text =
 abbrev pub number_given : OptionTerms → List Row → ℕ
 number_given option matches = unwrap_or (option_and_then (read_number option) (one_of option.name matches)) option.default
 
+abbrev pub plan_of : ℕ → ℕ → ℕ → PlanTerms
+plan_of workers cut nodes = record { workers = workers; cut = cut; nodes = nodes }
+
 abbrev pub plan_given : List Row → PlanTerms
-plan_given matches = record {
-  workers = number_given workers matches;
-  cut = number_given cut matches;
-  nodes = number_given nodes matches;
-}
+plan_given matches = plan_of (number_given workers matches) (number_given cut matches) (number_given nodes matches)
 
 -- the name of a subcommand
 abbrev pub IsCommand : Text → Type 0

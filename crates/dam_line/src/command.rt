@@ -2,7 +2,7 @@ ghost use Rattle.std.specs.Prelude.{◌≡◌, false, codes, decimal, IfOk};
 ghost use Rattle.clap.specs.declared.builder.command.Command.TheViews.{out-Command as fields_of};
 ghost use Rattle.clap.specs.Words.{app_of, new_app, rule_of, shape_of};
 ghost use Rattle.dam_line.specs.Options.{terms_of};
-ghost use Rattle.dam_line.specs.Line.{rule_for, with_plan, with_subcommands, clear, day, program};
+ghost use Rattle.dam_line.specs.Line.{clear, day, program, rule_for, with_plan, with_subcommands};
 
 use crate::options::{CUT, NODES, NumberOption, WORKERS};
 use clap::{Arg, ArgAction, Command, value_parser};
@@ -20,7 +20,7 @@ const USAGE: &str = "dam replay < JOURNAL
        dam day [OPTIONS] < JOURNAL";
 
 const JOURNAL_EXAMPLE: &str =
-    "A journal is a text of comma-separated values: a day, and then the commands of its participants.
+    "A journal is a text of comma-separated values: a day, and then its participants' commands.
 
   day,24,,,,,,,
   submit,NORD,WIND-8,hour,sell,1200,8:450,,
@@ -36,14 +36,14 @@ prints the prices of the day, and what becomes of each order.";
 const REPLAY_EXAMPLE: &str = "Example: dam replay < first-day.csv";
 
 const CLEAR_EXAMPLE: &str =
-    "No option changes the results: --workers and --cut change how long the search for them takes, and
---nodes when it gives up, with status 3.
+    "No option changes the results: --workers and --cut change how long the search for them takes,
+and --nodes when it gives up, with status 3.
 
 Example: dam clear --workers 4 --cut 6 < first-day.csv";
 
 const DAY_EXAMPLE: &str =
-    "No option changes the results: --workers and --cut change how long the search for them takes, and
---nodes when it gives up, with status 3.
+    "No option changes the results: --workers and --cut change how long the search for them takes,
+and --nodes when it gives up, with status 3.
 
 Example, where orders.csv is a journal without its last record, the close:
 

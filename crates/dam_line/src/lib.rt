@@ -5,6 +5,7 @@
 #![tactic(auto)]
 
 mod command;
+pub mod laws;
 mod line;
 mod options;
 #[cfg(test)]

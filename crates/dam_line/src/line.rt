@@ -2,7 +2,8 @@ ghost use Rattle.std.specs.Prelude.{◌≡◌, Some, map, IfOk, IfErr};
 ghost use Rattle.clap.specs.Words.{found_of, rows_of};
 ghost use Rattle.std.specs.Int.{IsInRange};
 ghost use Rattle.dam_line.specs.Options.{terms_of};
-ghost use Rattle.dam_line.specs.Line.{AsksFor, IsCommand, IsFaultOf, IsRefusal, is_help, job_of, number_given, plan_given};
+ghost use Rattle.dam_line.specs.Line.{AsksFor, IsCommand, IsFaultOf, IsRefusal};
+ghost use Rattle.dam_line.specs.Line.{is_help, job_of, number_given, plan_given};
 
 use crate::command::{CLEAR, DAY, REPLAY, program_command};
 use crate::options::{CUT, NODES, NumberOption, WORKERS};
@@ -29,8 +30,8 @@ pub enum Job {
 /// The text is `clap`'s, so no contract says what it is.
 #[derive(PartialEq, Eq, Debug, Drop, Error)]
 pub enum LineFault {
-    /// `clap` refuses the words. Where they ask for help, `help` is true and `text` is the help; else
-    /// `text` says what is wrong with them. It ends with a line feed.
+    /// `clap` refuses the words. Where they ask for help, `help` is true and `text` is the help;
+    /// else `text` says what is wrong with them. It ends with a line feed.
     #[error("{text}")]
     Refused { help: bool, text: String },
     /// A growth was refused.
@@ -38,8 +39,8 @@ pub enum LineFault {
     Memory,
 }
 
-/// The job that the words behind the program's name ask for. They are read by `clap`: an option is
-/// `--NAME NUMBER` or `--NAME=NUMBER`, behind the subcommand and in any order, once at most.
+/// The job that the words behind the program's name ask for, as `clap` reads them: a subcommand, and
+/// then its options in any order, each `--NAME NUMBER` or `--NAME=NUMBER`, once at most.
 pub fn read_line<'a, S: AsStr>(alloc: Global, words: &'a [S]) -> Result<Job, LineFault>
     ensures ok { IfOk result (AsksFor (map S.text words.entry.now)) }
     ensures refused { IfErr result (IsFaultOf (map S.text words.entry.now)) }

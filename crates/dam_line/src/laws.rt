@@ -1,0 +1,25 @@
+//! Laws of the command line, each the contract of a function that does nothing.
+ghost use Rattle.std.specs.Prelude.{◌≡◌, ◌∷◌, [], true, false, codes};
+ghost use Rattle.clap.specs.Words.{is_simple};
+ghost use Rattle.clap.specs.Faults.{is_simple_and_free};
+ghost use Rattle.dam_line.specs.Line.{AreRefused, AsksFor, plan_of, program};
+
+use crate::line::Job;
+
+/// The program's command is simple, and no option has a rule on another: of such a command `clap` says
+/// exactly what it makes of words.
+pub fn exactness()
+    ensures simple { is_simple program ≡ true }
+    ensures free { is_simple_and_free program ≡ true }
+{}
+
+/// Some words, and what they ask for.
+pub fn examples()
+    ensures replay { AsksFor (codes "replay" ∷ []) Job.Replay }
+    ensures defaults { AsksFor (codes "clear" ∷ []) (Job.Clear (plan_of 2 3 67108864)) }
+    ensures options { AsksFor (codes "day" ∷ codes "--cut" ∷ codes "0" ∷ codes "--workers=8" ∷ [])
+        (Job.Day (plan_of 8 0 67108864)) }
+    ensures help { AreRefused (codes "clear" ∷ codes "--help" ∷ []) true }
+    ensures unknown { AreRefused (codes "sell" ∷ []) false }
+    ensures nothing { AreRefused [] false }
+{}
