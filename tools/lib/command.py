@@ -103,15 +103,24 @@ def has(module):
     return importlib.util.find_spec(module) is not None
 
 
+def is_debians():
+    """Whether this is Debian's Python, which has Debian's packages."""
+    return os.path.realpath(sys.executable) == os.path.realpath(DEBIAN_PYTHON)
+
+
+def elsewhere(module):
+    """Whether Debian's Python is another one than this and has a module."""
+    if is_debians():
+        return False
+    try:
+        return subprocess.run([DEBIAN_PYTHON, "-c", f"import {module}"], stderr=subprocess.DEVNULL).returncode == 0
+    except OSError:
+        return False
+
+
 def python_with(module):
     """Starts the tool anew by Debian's Python, where this one lacks a module that that one has."""
-    if has(module) or os.path.realpath(sys.executable) == os.path.realpath(DEBIAN_PYTHON):
-        return
-    try:
-        found = subprocess.run([DEBIAN_PYTHON, "-c", f"import {module}"], stderr=subprocess.DEVNULL)
-    except OSError:
-        return
-    if found.returncode == 0:
+    if not has(module) and elsewhere(module):
         os.execv(DEBIAN_PYTHON, [DEBIAN_PYTHON, *sys.argv])
 
 

@@ -58,7 +58,7 @@ def journal_of(*lines):
     return "".join(f"{line}\n" for line in ["day,24,,,,,,,", *lines, "close,,,,,,,,"]).encode()
 
 
-def tool(name, *words, data=b"", python=sys.executable):
+def tool(name, *words, data=b"", python=(sys.executable,)):
     """A run of a tool: its status, output and errors."""
-    ran = subprocess.run([python, TOOLS / name, *map(str, words)], input=data, capture_output=True)
+    ran = subprocess.run([*python, TOOLS / name, *map(str, words)], input=data, capture_output=True)
     return ran.returncode, ran.stdout, ran.stderr.decode()

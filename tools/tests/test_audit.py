@@ -327,8 +327,14 @@ class CommandLine(unittest.TestCase):
         blocks = [f"submit,A,K{number},block,sell,1,1:1,," for number in range(24)]
         data = journal_of(*blocks)
         text = results_of(data, frozenset())
-        wanted = command.DONE if command.has("scipy") else command.UNDECIDED
+        wanted = command.DONE if command.has("scipy") or command.elsewhere("scipy") else command.NO_PACKAGE
         self.assertEqual(audit(data, text, "--best")[0], wanted)
+
+    def test_too_little_time(self):
+        if not command.has("scipy"):
+            self.skipTest("scipy is missing (Debian's python3-scipy)")
+        status, out, err = audit(AUCTION.read_bytes(), printed(AUCTION), "--best", "--by", "highs", "--seconds", "0")
+        self.assertEqual((status, out, "HiGHS has still others to offer" in err), (command.UNDECIDED, b"", True))
 
     def test_quiet_and_help(self):
         self.assertEqual(audit(AUCTION.read_bytes(), printed(AUCTION), "--quiet"), (0, b"", ""))

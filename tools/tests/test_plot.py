@@ -1,5 +1,6 @@
 """The pictures: that each is drawn, says what it should, and can be told apart without colours."""
 
+import sys
 import tempfile
 import unittest
 from pathlib import Path
@@ -39,6 +40,22 @@ class Decisions(unittest.TestCase):
         self.assertEqual([decision.kind for decision in found], [decisions.REJECTED, decisions.REJECTED, decisions.PARADOX])
         self.assertEqual(found[1].why, "its parent K1 is rejected")
         self.assertIn("with it period 1 wouldn't balance", found[2].why)
+
+
+class Missing(unittest.TestCase):
+    @unittest.skipUnless(command.is_debians(), "this isn't Debian's Python")
+    def test_a_missing_package_is_named(self):
+        without = sys.executable, "-S"  # leaves out Debian's packages
+        for name in ("plot", "report"):
+            status, out, err = tool(name, AUCTION, python=without)
+            self.assertEqual((status, out), (command.NO_PACKAGE, b""))
+            self.assertEqual(err, f"{name}: it needs matplotlib, which Debian has in the package python3-matplotlib\n")
+        blocks = [f"submit,A,K{number},block,sell,1,1:1,," for number in range(24)]
+        day = journal_of(*blocks)
+        text = day + b"results\n" + results_of(day, frozenset())
+        status, out, err = tool("audit", "--best", "-", data=text, python=without)
+        self.assertEqual((status, out), (command.NO_PACKAGE, b""))
+        self.assertEqual(err, "audit: it needs scipy, which Debian has in the package python3-scipy\n")
 
 
 @unittest.skipUnless(command.has("matplotlib"), "matplotlib is missing (Debian's python3-matplotlib)")
