@@ -12,6 +12,8 @@ mod incumbent;
 pub mod laws;
 mod piece;
 mod plan;
+#[cfg(test)]
+mod tests;
 mod turnstile;
 mod workers;
 
