@@ -1,7 +1,12 @@
 -- A text and its front that is one byte longer than a journal may be: where one of them is short enough, they are equal.
-use Rattle.std.proofs.Common.{◌≡◌, ◌≤◌, ℕ, List, length, take, subst, sym, arith}
+use Rattle.std.proofs.Common.{◌≡◌, ◌≤◌, ℕ, true, min, List, length, take, refl, subst, sym, arith}
 use Rattle.std.proofs.lemmas.List.{take_all, length-take}
-use Rattle.dam_book.specs.Book.{BookState}
+use Rattle.dam_book.specs.Book.{BookState, run}
+use Rattle.dam_blocks.specs.Problem.{problem_of}
+use Rattle.dam_search.specs.Plan.{PlanTerms}
+use Rattle.dam_search.specs.Search.{IsUnfinished}
+use Rattle.dam_search.specs.declared.fault.SearchFault.{SearchFault}
+use Rattle.dam_search.specs.declared.fault.SearchFault.TheVariants.{Memory as NoSpace, Collected as IsFaulty, Unfinished as IsCut}
 use Rattle.dam_book.specs.declared.command.Command.{Command}
 use Rattle.dam_results.specs.Limits.{most_bytes}
 use Rattle.dam_results.specs.declared.journal.JournalFault.{JournalFault}
@@ -10,8 +15,9 @@ use Rattle.dam_results.specs.declared.journal.JournalFault.TheVariants.{Memory a
 use Rattle.dam_results.specs.Journal.{IsMadeFrom, ReadsAs}
 use Rattle.dam_results.specs.Faults.{IsFaultOf}
 use Rattle.dam_cli.specs.declared.fault.RunFault.{RunFault}
-use Rattle.dam_cli.specs.declared.fault.RunFault.TheVariants.{Read, Input, StillOpen, Memory, Write}
+use Rattle.dam_cli.specs.declared.fault.RunFault.TheVariants.{Read, Input, TooManyCommands, CloseGiven, TooManyParticipants, StillOpen, Unfinished, Collected, Memory, Write}
 use Rattle.dam_cli.specs.Engine.{most_read, IsJournal, IsTextFault, IsFaultOn}
+use Rattle.dam_cli.specs.Fault.{search_fault_of}
 use Rattle.dam_cli.specs.Clear.{AreResultsTo, IsClosedJournal, IsBookFault, IsFaultOnBook, IsClearTextFault, IsClearFault}
 
 front-of_short : (given : List ℕ) → length given ≤ most_bytes → take most_read given ≡ given
@@ -40,23 +46,60 @@ pub fault-on_given : (given : List ℕ) (fault : RunFault) → IsTextFault (take
 fault-on_given given Read is = tt
 fault-on_given given (Input fault) is = (fault-given given fault is.0, is.1)
 fault-on_given given StillOpen is = absurd is
+fault-on_given given TooManyCommands is = absurd is
+fault-on_given given (CloseGiven at) is = absurd is
+fault-on_given given (TooManyParticipants at) is = absurd is
+fault-on_given given (Unfinished piece visited) is = absurd is
+fault-on_given given (Collected piece) is = absurd is
 fault-on_given given Memory is = tt
 fault-on_given given Write is = absurd is
 
-pub clear_fault-given : (given : List ℕ) (fault : RunFault) → IsClearTextFault (take most_read given) fault → IsClearFault given fault
-clear_fault-given given Read is = tt
-clear_fault-given given (Input fault) is = (fault-given given fault is.0, is.1)
-clear_fault-given given StillOpen is = (is.0, is.1, reads-given given is.0 is.1 is.2, is.3)
-clear_fault-given given Memory is = tt
-clear_fault-given given Write is = absurd is
+pub clear_fault-given : (plan : PlanTerms) (given : List ℕ) (fault : RunFault) → IsClearTextFault plan (take most_read given) fault → IsClearFault plan given fault
+clear_fault-given plan given Read is = tt
+clear_fault-given plan given (Input fault) is = (fault-given given fault is.0, is.1)
+clear_fault-given plan given TooManyCommands is = absurd is
+clear_fault-given plan given (CloseGiven at) is = absurd is
+clear_fault-given plan given (TooManyParticipants at) is = absurd is
+clear_fault-given plan given StillOpen is = (is.0, is.1, reads-given given is.0 is.1 is.2, is.3)
+clear_fault-given plan given (Unfinished piece visited) is = (is.0, is.1, reads-given given is.0 is.1 is.2, is.3)
+clear_fault-given plan given (Collected piece) is = (is.0, is.1, reads-given given is.0 is.1 is.2, is.3)
+clear_fault-given plan given Memory is = tt
+clear_fault-given plan given Write is = absurd is
 
 -- what a book is answered, a run answers that makes it
-pub book_fault-run : (book : BookState) (fault : RunFault) → IsBookFault book fault → IsFaultOnBook book fault
-book_fault-run book Read is = tt
-book_fault-run book (Input fault) is = is
-book_fault-run book StillOpen is = is
-book_fault-run book Memory is = tt
-book_fault-run book Write is = absurd is
+pub book_fault-run : (plan : PlanTerms) (book : BookState) (fault : RunFault) → IsBookFault plan book fault → IsFaultOnBook plan book fault
+book_fault-run plan book Read is = tt
+book_fault-run plan book (Input fault) is = is
+book_fault-run plan book TooManyCommands is = absurd is
+book_fault-run plan book (CloseGiven at) is = absurd is
+book_fault-run plan book (TooManyParticipants at) is = absurd is
+book_fault-run plan book StillOpen is = is
+book_fault-run plan book (Unfinished piece visited) is = is
+book_fault-run plan book (Collected piece) is = is
+book_fault-run plan book Memory is = tt
+book_fault-run plan book Write is = absurd is
+
+-- what the book of a text is answered, the text is answered
+pub book_fault-text : (plan : PlanTerms) (text : List ℕ) (periods : ℕ) (commands : List Command) (fault : RunFault) → ReadsAs text periods commands → IsBookFault plan (run periods commands) fault
+    → IsClearTextFault plan text fault
+book_fault-text plan text periods commands Read reads is = absurd is
+book_fault-text plan text periods commands (Input fault) reads is = absurd is
+book_fault-text plan text periods commands TooManyCommands reads is = absurd is
+book_fault-text plan text periods commands (CloseGiven at) reads is = absurd is
+book_fault-text plan text periods commands (TooManyParticipants at) reads is = absurd is
+book_fault-text plan text periods commands StillOpen reads is = (periods, commands, reads, is)
+book_fault-text plan text periods commands (Unfinished piece visited) reads is = (periods, commands, reads, is)
+book_fault-text plan text periods commands (Collected piece) reads is = (periods, commands, reads, is)
+book_fault-text plan text periods commands Memory reads is = tt
+book_fault-text plan text periods commands Write reads is = absurd is
+
+-- what the search of a closed book's problem answers, the book is answered
+pub search_fault-book : (plan : PlanTerms) (book : BookState) (fault : SearchFault) → book.closed ≡ true
+    → ((piece visited : ℕ) → fault ≡ IsCut piece visited → IsUnfinished (problem_of book) (min plan.cut (length (problem_of book).blocks)) plan.nodes piece visited)
+    → IsBookFault plan book (search_fault_of fault)
+search_fault-book plan book NoSpace closed cut = tt
+search_fault-book plan book (IsFaulty piece) closed cut = closed
+search_fault-book plan book (IsCut piece visited) closed cut = record { closed = closed; unfinished = cut piece visited refl }
 
 -- a text for whose front something is printed is a journal
 pub printed-journal : (Prints : ℕ → List Command → List ℕ → Type 0) (printed given : List ℕ) → IsMadeFrom Prints (take most_read given) printed → IsJournal given

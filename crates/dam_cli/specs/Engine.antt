@@ -7,7 +7,7 @@ use Rattle.dam_results.specs.Limits.{most_bytes}
 use Rattle.dam_results.specs.Journal.{ReadsAs}
 use Rattle.dam_results.specs.Faults.{IsFaultOf}
 use Rattle.dam_cli.specs.declared.fault.RunFault.{RunFault}
-use Rattle.dam_cli.specs.declared.fault.RunFault.TheVariants.{Read, Input, StillOpen, Memory, Write}
+use Rattle.dam_cli.specs.declared.fault.RunFault.TheVariants.{Read, Input, Memory, Write}
 
 -- how many bytes are read at most: one more than a journal may have, which shows that it has too many
 abbrev pub most_read : ℕ
@@ -24,18 +24,15 @@ Writes old new IsPrinted = (printed : List ℕ) × IsPrinted printed × Appends 
 -- memory ran out, or the reader or the writer failed
 abbrev pub IsMachineFault : RunFault → Type 0
 IsMachineFault Read = Unit {0}
-IsMachineFault (Input fault) = ⊥
-IsMachineFault StillOpen = ⊥
 IsMachineFault Memory = Unit {0}
 IsMachineFault Write = Unit {0}
+IsMachineFault fault = ⊥
 
 -- what a text can be answered that was read: its first fault, or that memory ran out
 abbrev pub IsTextFault : List ℕ → RunFault → Type 0
-IsTextFault text Read = ⊥
 IsTextFault text (Input fault) = IsFaultOf text fault × (fault ≢ NoMemory)
-IsTextFault text StillOpen = ⊥
 IsTextFault text Memory = Unit {0}
-IsTextFault text Write = ⊥
+IsTextFault text fault = ⊥
 
 -- what a run over a text can answer: what its text can be answered, that the reader failed, or, where the text is a journal, that the writer did
 abbrev pub IsFaultOn : List ℕ → RunFault → Type 0

@@ -5,8 +5,10 @@ use Rattle.dam_results.specs.declared.journal.JournalFault.TheVariants.{TooLong,
 use Rattle.dam_results.specs.declared.journal.JournalFault.TheVariants.{Memory as NoMemory}
 use Rattle.dam_blocks.specs.declared.problem.ProblemFault.{ProblemFault}
 use Rattle.dam_blocks.specs.declared.problem.ProblemFault.TheVariants.{StillOpen as OpenBook, Memory as NoRoom}
+use Rattle.dam_search.specs.declared.fault.SearchFault.{SearchFault}
+use Rattle.dam_search.specs.declared.fault.SearchFault.TheVariants.{Memory as NoSpace, Collected as IsFaulty, Unfinished as IsCut}
 use Rattle.dam_cli.specs.declared.fault.RunFault.{RunFault}
-use Rattle.dam_cli.specs.declared.fault.RunFault.TheVariants.{Read, Input, StillOpen, Memory, Write}
+use Rattle.dam_cli.specs.declared.fault.RunFault.TheVariants.{Read, Input, TooManyCommands, CloseGiven, TooManyParticipants, StillOpen, Unfinished, Collected, Memory, Write}
 
 -- what is printed of a fault of the input
 abbrev pub input_text : JournalFault → List ℕ
@@ -22,7 +24,12 @@ input_text NoMemory = codes "memory"
 abbrev pub fault_text : RunFault → List ℕ
 fault_text Read = codes "device: read"
 fault_text (Input fault) = input_text fault
+fault_text TooManyCommands = codes "input: TooManyCommands"
+fault_text (CloseGiven at) = codes "input: CloseGiven in record " ++ decimal at
+fault_text (TooManyParticipants at) = codes "input: TooManyParticipants in record " ++ decimal at
 fault_text StillOpen = codes "input: StillOpen"
+fault_text (Unfinished piece visited) = codes "unfinished: piece " ++ (decimal piece ++ (codes " after " ++ (decimal visited ++ codes " nodes")))
+fault_text (Collected piece) = codes "mismatch: Collected " ++ decimal piece
 fault_text Memory = codes "memory"
 fault_text Write = codes "device: write"
 
@@ -36,11 +43,16 @@ input_status (FieldCount at) = 1
 input_status (BadField at field) = 1
 input_status NoMemory = 4
 
--- the status that the program ends with at a fault
+-- the status that the program ends with at a fault: 1 and 4 as above, 3 where the search didn't finish, 5 where parts of a run don't fit together
 abbrev pub fault_status : RunFault → ℕ
 fault_status Read = 4
 fault_status (Input fault) = input_status fault
+fault_status TooManyCommands = 1
+fault_status (CloseGiven at) = 1
+fault_status (TooManyParticipants at) = 1
 fault_status StillOpen = 1
+fault_status (Unfinished piece visited) = 3
+fault_status (Collected piece) = 5
 fault_status Memory = 4
 fault_status Write = 4
 
@@ -58,3 +70,9 @@ run_fault_of NoMemory = Memory
 abbrev pub problem_fault_of : ProblemFault → RunFault
 problem_fault_of OpenBook = StillOpen
 problem_fault_of NoRoom = Memory
+
+-- the fault of a run whose search has that fault
+abbrev pub search_fault_of : SearchFault → RunFault
+search_fault_of NoSpace = Memory
+search_fault_of (IsFaulty piece) = Collected piece
+search_fault_of (IsCut piece visited) = Unfinished piece visited

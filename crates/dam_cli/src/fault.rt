@@ -3,6 +3,7 @@ ghost use Rattle.dam_cli.specs.Fault.{fault_status, fault_text, run_fault_of};
 
 use dam_blocks::ProblemFault;
 use dam_results::JournalFault;
+use dam_search::SearchFault;
 use std::alloc::{AllocError, Global};
 use std::error::Error;
 use std::fmt;
@@ -12,10 +13,21 @@ use std::fmt;
 pub enum RunFault {
     /// The reader failed.
     Read,
-    /// What was read is no journal. Want of memory is answered as `Memory` of this type.
+    /// What was read is no journal. Where memory ran out, the answer is `Memory` of this type.
     Input(JournalFault),
+    /// The journal has more commands than a day's participants may give.
+    TooManyCommands,
+    /// The record of this number, the first such, is a close, which no participant may give.
+    CloseGiven(usize),
+    /// The record of this number brings one participant too many.
+    TooManyParticipants(usize),
     /// The journal's commands leave the book open, so there is nothing to clear.
     StillOpen,
+    /// The search visited as many nodes of this piece, the least such, as the plan allows, and needed
+    /// another.
+    Unfinished { piece: u32, visited: u32 },
+    /// The answers of the search's workers lack this piece or repeat it. No run is known to meet it.
+    Collected { piece: u32 },
     /// Memory ran out.
     Memory,
     /// The writer failed; a part of the text, or all of it, may have been written.
@@ -44,7 +56,16 @@ impl fmt::Display for RunFault {
             RunFault::Input(JournalFault::BadField(record, field)) => {
                 write!(f, "input: BadField in record {record} field {field}")
             }
+            RunFault::TooManyCommands => f.write_str("input: TooManyCommands"),
+            RunFault::CloseGiven(record) => write!(f, "input: CloseGiven in record {record}"),
+            RunFault::TooManyParticipants(record) => {
+                write!(f, "input: TooManyParticipants in record {record}")
+            }
             RunFault::StillOpen => f.write_str("input: StillOpen"),
+            RunFault::Unfinished { piece, visited } => {
+                write!(f, "unfinished: piece {piece} after {visited} nodes")
+            }
+            RunFault::Collected { piece } => write!(f, "mismatch: Collected {piece}"),
             RunFault::Input(JournalFault::Memory) | RunFault::Memory => f.write_str("memory"),
             RunFault::Write => f.write_str("device: write"),
         }
@@ -81,6 +102,21 @@ impl From<ProblemFault> for RunFault {
     }
 }
 
+impl From<SearchFault> for RunFault {
+    ghost use Rattle.std.specs.Prelude.{◌≡◌};
+    ghost use Rattle.dam_cli.specs.Fault.{search_fault_of};
+
+    ghost from_gives = { λ fault e. e ≡ search_fault_of fault };
+
+    fn from(fault: SearchFault) -> RunFault {
+        match fault {
+            SearchFault::Memory => RunFault::Memory,
+            SearchFault::Collected { piece } => RunFault::Collected { piece },
+            SearchFault::Unfinished { piece, visited } => RunFault::Unfinished { piece, visited },
+        }
+    }
+}
+
 impl From<AllocError> for RunFault {
     ghost use Rattle.std.specs.Prelude.{◌≡◌};
     ghost use Rattle.dam_cli.specs.declared.fault.RunFault.TheVariants.{Memory};
@@ -92,14 +128,21 @@ impl From<AllocError> for RunFault {
     }
 }
 
-/// The status that the program ends with: 1 for a fault of the input, 4 for one of the machine.
+/// The status that the program ends with: 1 for a fault of the input, 3 for a search that didn't finish, 4
+/// for a fault of the machine, 5 for parts of a run that don't fit together.
 pub fn status(fault: &RunFault) -> u8
     ensures { result ≡ fault_status fault.now }
 {
     match fault {
         RunFault::Input(JournalFault::Memory) => 4,
-        RunFault::Input(_) | RunFault::StillOpen => 1,
+        RunFault::Input(_)
+        | RunFault::TooManyCommands
+        | RunFault::CloseGiven(_)
+        | RunFault::TooManyParticipants(_)
+        | RunFault::StillOpen => 1,
+        RunFault::Unfinished { .. } => 3,
         RunFault::Read | RunFault::Memory | RunFault::Write => 4,
+        RunFault::Collected { .. } => 5,
     }
 }
 

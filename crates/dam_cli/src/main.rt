@@ -12,6 +12,7 @@ mod replay;
 mod tests;
 
 use clear::run_clear;
+use dam_search::{FreeTurn, MOST_NODES, Plan};
 use fault::{RunFault, fault_line, status};
 use replay::run_replay;
 use std::env;
@@ -40,7 +41,15 @@ fn main(rt: HostRuntime) -> ExitCode {
     let Some(job) = job_of(words) else {
         return refuse_line(&rt);
     };
-    match carry_out(&rt, job) {
+    let (mut input, mut output) = (rt.stdin(), rt.stdout());
+    let done = match job {
+        Job::Replay => run_replay(rt.alloc(), &mut input, &mut output),
+        Job::Clear => {
+            let plan = Plan::new(2, 3, MOST_NODES).unwrap();
+            run_clear(&rt, rt.alloc(), &mut input, &mut output, plan, &FreeTurn)
+        }
+    };
+    match done {
         Ok(()) => ExitCode::SUCCESS,
         Err(fault) => report(&rt, &fault),
     }
@@ -57,14 +66,6 @@ fn job_of(mut words: Args) -> Option<Job> {
     match words.next() {
         Some(_) => None,
         None => Some(job),
-    }
-}
-
-/// Does the job from standard input to standard output.
-fn carry_out(rt: &HostRuntime, job: Job) -> Result<(), RunFault> {
-    match job {
-        Job::Replay => run_replay(rt.alloc(), &mut rt.stdin(), &mut rt.stdout()),
-        Job::Clear => run_clear(rt.alloc(), &mut rt.stdin(), &mut rt.stdout()),
     }
 }
 

@@ -143,7 +143,31 @@ fn each_fault_has_its_line_and_status(rt: HostRuntime) -> Result<(), Fail> {
             1,
         ),
         (RunFault::Input(JournalFault::Memory), "memory\n", 4),
+        (RunFault::TooManyCommands, "input: TooManyCommands\n", 1),
+        (
+            RunFault::CloseGiven(2),
+            "input: CloseGiven in record 2\n",
+            1,
+        ),
+        (
+            RunFault::TooManyParticipants(10),
+            "input: TooManyParticipants in record 10\n",
+            1,
+        ),
         (RunFault::StillOpen, "input: StillOpen\n", 1),
+        (
+            RunFault::Unfinished {
+                piece: 0,
+                visited: 1,
+            },
+            "unfinished: piece 0 after 1 nodes\n",
+            3,
+        ),
+        (
+            RunFault::Collected { piece: 7 },
+            "mismatch: Collected 7\n",
+            5,
+        ),
         (RunFault::Memory, "memory\n", 4),
         (RunFault::Write, "device: write\n", 4),
     ];

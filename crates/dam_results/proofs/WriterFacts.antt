@@ -10,7 +10,7 @@ use Rattle.csv.specs.declared.writer.Writer.{Writer}
 use Rattle.dam_book.specs.declared.command.Command.{Command}
 use Rattle.dam_book.specs.declared.command.Entry.{Entry}
 use Rattle.dam_book.specs.Book.{is_day, commands_of}
-use Rattle.dam_results.specs.Limits.{most_records}
+use Rattle.dam_book.specs.Limits.{most_entries}
 use Rattle.dam_results.specs.Records.{Fields, day_row, row_of}
 use Rattle.dam_results.specs.Journal.{IsCommand, ReadsAs}
 use Rattle.dam_results.specs.Written.{row_line, command_line, written, journal_text}
@@ -83,7 +83,7 @@ wrote_more before after periods entries i e within here h p =
     }
 
 -- what the writer gives at the end reads as the day and the commands
-pub wrote_all : {A : Type 0} (out : Writer (Vec ℕ A)) (text : Vec ℕ A) (periods : ℕ) (entries : List Entry) (i : ℕ) → length entries ≤ i → is_day periods ≡ true → length entries < most_records
+pub wrote_all : {A : Type 0} (out : Writer (Vec ℕ A)) (text : Vec ℕ A) (periods : ℕ) (entries : List Entry) (i : ℕ) → length entries ≤ i → is_day periods ≡ true → length entries ≤ most_entries
     → WroteEntries out periods (take i entries) → Keeps (text_written (λ (v : Vec ℕ A). Some v.items) out) (Some text.items) → ReadsAs text.items periods (commands_of entries)
 wrote_all out text periods entries i over day few h keeps =
     let all : WroteEntries out periods entries = rw (take_all i entries over) at h in

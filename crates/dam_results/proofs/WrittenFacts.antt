@@ -8,7 +8,8 @@ use Rattle.csv.specs.Writing.{default_writer, needs_byte}
 use Rattle.dam_book.specs.Book.{is_day, commands_of}
 use Rattle.dam_book.specs.declared.command.Command.{Command}
 use Rattle.dam_book.specs.declared.command.Entry.{Entry}
-use Rattle.dam_results.specs.Limits.{most_bytes, most_records}
+use Rattle.dam_book.specs.Limits.{most_entries}
+use Rattle.dam_results.specs.Limits.{most_bytes}
 use Rattle.dam_results.specs.Records.{Fields, records_of, day_row, row_of}
 use Rattle.dam_results.specs.Journal.{IsCommand, ReadsAs, first_high}
 use Rattle.dam_results.specs.Spelling.{IsLineEnd, LineFeed, CarriageReturn, Both, IsSpelledField, Bare, Quoted, IsSpelledRow, One, More, IsSpelled, Nothing, EmptyLine, Record, LastRecord}
@@ -111,7 +112,7 @@ pub first_high-low : (x : List ℕ) → IsLow x → first_high x ≡ None
 first_high-low x h = rw (all_low x h, not_less (length x)) refl
 
 -- a text that spells a journal's records reads as that journal
-pub reads_spelled : (periods : ℕ) (commands : List Command) (text : List ℕ) → is_day periods ≡ true → AllByRecursion IsCommand commands → length commands < most_records
+pub reads_spelled : (periods : ℕ) (commands : List Command) (text : List ℕ) → is_day periods ≡ true → AllByRecursion IsCommand commands → length commands ≤ most_entries
     → length text ≤ most_bytes → IsSpelled (day_row periods ∷ map row_of commands) text → ReadsAs text periods commands
 reads_spelled periods commands text day valid few short spelled =
     let rows : List Fields = day_row periods ∷ map row_of commands in
@@ -178,16 +179,16 @@ short_lines (c ∷ cs) h =
     let more = short_lines cs h.1 in
     omega (arith, length-append (command_line c) (flat_map command_line cs))
 
-short_written : (periods : ℕ) (commands : List Command) → is_day periods ≡ true → AllByRecursion IsCommand commands → length commands < most_records → length (written periods commands) ≤ most_bytes
+short_written : (periods : ℕ) (commands : List Command) → is_day periods ≡ true → AllByRecursion IsCommand commands → length commands ≤ most_entries → length (written periods commands) ≤ most_bytes
 short_written periods commands day valid few =
     let first = short_line (day_row periods) (day_fields periods day) in
     let more = short_lines commands valid in
     omega (arith, length-append (row_line (day_row periods)) (flat_map command_line commands))
 
-pub reads_written : (periods : ℕ) (commands : List Command) → is_day periods ≡ true → AllByRecursion IsCommand commands → length commands < most_records → ReadsAs (written periods commands) periods commands
+pub reads_written : (periods : ℕ) (commands : List Command) → is_day periods ≡ true → AllByRecursion IsCommand commands → length commands ≤ most_entries → ReadsAs (written periods commands) periods commands
 reads_written periods commands day valid few =
     reads_spelled periods commands (written periods commands) day valid few (short_written periods commands day valid few) (spelled_written periods commands day valid)
 
-pub reads_journal_text : (periods : ℕ) (entries : List Entry) → is_day periods ≡ true → AllByRecursion IsCommand (commands_of entries) → length entries < most_records → ReadsAs (journal_text periods entries) periods (commands_of entries)
+pub reads_journal_text : (periods : ℕ) (entries : List Entry) → is_day periods ≡ true → AllByRecursion IsCommand (commands_of entries) → length entries ≤ most_entries → ReadsAs (journal_text periods entries) periods (commands_of entries)
 reads_journal_text periods entries day valid few =
     reads_written periods (commands_of entries) day valid (let m = length-map entries (λ (e : Entry). e.command) in omega arith)

@@ -1,10 +1,11 @@
 -- The limits on a journal's text.
-use Rattle.std.specs.Prelude.{ℕ}
+use Rattle.std.specs.Prelude.{ℕ, ◌+◌}
+use Rattle.dam_book.specs.Limits.{most_entries}
 
--- the most bytes of a text
+-- bytes of a text
 abbrev pub most_bytes : ℕ
 most_bytes = 4194304
 
--- the most records of a text: the day's, and one for each entry that a journal may have
+-- records of a text: the day's, and one for each entry of a journal
 abbrev pub most_records : ℕ
-most_records = 10001
+most_records = most_entries + 1

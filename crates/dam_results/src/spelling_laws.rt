@@ -1,11 +1,12 @@
 //! Laws of written journals and of their other spellings, each the contract of a function that does
 //! nothing.
-ghost use Rattle.std.specs.Prelude.{◌≡◌, ◌<◌, ◌≤◌, ℕ, List, ◌∷◌, true, length, map};
+ghost use Rattle.std.specs.Prelude.{◌≡◌, ◌≤◌, ℕ, List, ◌∷◌, true, length, map};
 ghost use Rattle.std.specs.List.{AllByRecursion};
 ghost use Rattle.dam_book.specs.Book.{is_day, commands_of};
 ghost use Rattle.dam_book.specs.declared.command.Command.{Command};
 ghost use Rattle.dam_book.specs.declared.command.Entry.{Entry};
-ghost use Rattle.dam_results.specs.Limits.{most_bytes, most_records};
+ghost use Rattle.dam_book.specs.Limits.{most_entries};
+ghost use Rattle.dam_results.specs.Limits.{most_bytes};
 ghost use Rattle.dam_results.specs.Records.{day_row, row_of};
 ghost use Rattle.dam_results.specs.Journal.{IsCommand, ReadsAs};
 ghost use Rattle.dam_results.specs.Spelling.{IsSpelled};
@@ -17,7 +18,7 @@ ghost use Rattle.dam_results.specs.Written.{journal_text};
 #[tactic(auto, using(crate::proofs::WrittenFacts::reads_spelled))]
 pub fn spellings_read_alike()
     ensures { (periods : ℕ) (commands : List Command) (text : List ℕ)
-        → is_day periods ≡ true → AllByRecursion IsCommand commands → length commands < most_records
+        → is_day periods ≡ true → AllByRecursion IsCommand commands → length commands ≤ most_entries
         → length text ≤ most_bytes → IsSpelled (day_row periods ∷ map row_of commands) text
         → ReadsAs text periods commands }
 {}
@@ -37,6 +38,6 @@ pub fn written_journals_are_spelled()
 pub fn written_journals_read()
     ensures { (periods : ℕ) (entries : List Entry)
         → is_day periods ≡ true → AllByRecursion IsCommand (commands_of entries)
-        → length entries < most_records
+        → length entries ≤ most_entries
         → ReadsAs (journal_text periods entries) periods (commands_of entries) }
 {}

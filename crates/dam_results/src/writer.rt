@@ -1,4 +1,4 @@
-ghost use Rattle.std.specs.Prelude.{◌≡◌, ◌<◌, ◌++◌, ◌∷◌, [], ℕ, List, true, length, map, IfOk, OnOk};
+ghost use Rattle.std.specs.Prelude.{◌≡◌, ◌≤◌, ◌++◌, ◌∷◌, [], ℕ, List, true, length, map, IfOk, OnOk};
 ghost use Rattle.std.specs.Option.{option_copied};
 ghost use Rattle.csv.specs.Writing.{default_writer, row_text};
 ghost use Rattle.dam_book.specs.Price.{IsPrice};
@@ -6,7 +6,7 @@ ghost use Rattle.dam_book.specs.Volumes.{IsVolumes};
 ghost use Rattle.dam_book.specs.Terms.{IsHourOrder};
 ghost use Rattle.dam_book.specs.Fields.{price_text, volumes_text};
 ghost use Rattle.dam_book.specs.Book.{is_day, commands_of};
-ghost use Rattle.dam_results.specs.Limits.{most_records};
+ghost use Rattle.dam_book.specs.Limits.{most_entries};
 ghost use Rattle.dam_results.specs.Records.{optional_text, side_word, day_row};
 ghost use Rattle.dam_results.specs.Journal.{ReadsAs};
 ghost use Rattle.dam_results.specs.Written.{row_line};
@@ -191,7 +191,7 @@ fn put_command(
 /// It fails only where memory runs out.
 pub fn journal_text(alloc: Global, periods: u8, entries: &[Entry]) -> Result<Vec<u8>, AllocError>
     requires day { is_day periods ≡ true }
-    requires few { length entries.now < most_records }
+    requires few { length entries.now ≤ most_entries }
     ensures text { IfOk result (λ text. text.items ≡ Written.journal_text periods entries.now) }
     ensures reads { IfOk result (λ text. ReadsAs text.items periods (commands_of entries.now)) }
 {

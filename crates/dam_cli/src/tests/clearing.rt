@@ -1,6 +1,10 @@
 use super::{Breakage, Broken, Dripping, Holding};
 use crate::clear::run_clear;
 use crate::fault::RunFault;
+use dam_search::{FreeTurn, MOST_NODES, Plan};
+use std::alloc::Global;
+use std::io::{Read, Write};
+use std::thread::Threads;
 
 const OPEN_DAY: &[u8] = b"day,24,,,,,,,\n";
 
@@ -78,11 +82,22 @@ hour,A,S2,10
 block,A,K1,accepted,20000
 ";
 
+/// A run of the engine by the plan that the program takes where it is told none.
+fn cleared<H: Threads + Sync, R: Read, W: Write>(
+    rt: &H,
+    alloc: Global,
+    reader: &mut R,
+    writer: &mut W,
+) -> Result<(), RunFault> {
+    let plan = Plan::new(2, 3, MOST_NODES).unwrap();
+    run_clear(rt, alloc, reader, writer, plan, &FreeTurn)
+}
+
 #[test]
 fn an_open_book_is_not_cleared(rt: HostRuntime) {
     let mut reader = OPEN_DAY;
     let mut written = Vec::new(rt.alloc());
-    let result = run_clear(rt.alloc(), &mut reader, &mut written);
+    let result = cleared(&rt, rt.alloc(), &mut reader, &mut written);
     assert_eq!(rt; result, Err(RunFault::StillOpen));
     assert!(rt; written.is_empty());
 }
@@ -91,7 +106,7 @@ fn an_open_book_is_not_cleared(rt: HostRuntime) {
 fn clears_an_empty_day(rt: HostRuntime) {
     let mut reader = EMPTY_DAY;
     let mut written = Vec::new(rt.alloc());
-    assert_eq!(rt; run_clear(rt.alloc(), &mut reader, &mut written), Ok(()));
+    assert_eq!(rt; cleared(&rt, rt.alloc(), &mut reader, &mut written), Ok(()));
     assert_eq!(rt; written.as_slice(), EMPTY_RESULTS);
 }
 
@@ -99,7 +114,7 @@ fn clears_an_empty_day(rt: HostRuntime) {
 fn results_are_flushed(rt: HostRuntime) {
     let mut reader = EMPTY_DAY;
     let mut writer = Holding::new(rt.alloc());
-    assert_eq!(rt; run_clear(rt.alloc(), &mut reader, &mut writer), Ok(()));
+    assert_eq!(rt; cleared(&rt, rt.alloc(), &mut reader, &mut writer), Ok(()));
     assert_eq!(rt; writer.passed_on.as_slice(), EMPTY_RESULTS);
 }
 
@@ -107,7 +122,7 @@ fn results_are_flushed(rt: HostRuntime) {
 fn clears_a_day_with_a_block(rt: HostRuntime) {
     let mut reader = Dripping::new(BLOCK_DAY, 1);
     let mut written = Vec::new(rt.alloc());
-    assert_eq!(rt; run_clear(rt.alloc(), &mut reader, &mut written), Ok(()));
+    assert_eq!(rt; cleared(&rt, rt.alloc(), &mut reader, &mut written), Ok(()));
     assert_eq!(rt; written.as_slice(), BLOCK_RESULTS);
     assert_eq!(rt; reader.asked, BLOCK_DAY.len() + 1);
 }
@@ -118,7 +133,7 @@ fn a_failed_read_ends_a_clearing(rt: HostRuntime) {
         let mut reader = Dripping::new(EMPTY_DAY, 1);
         reader.failing = failing;
         let mut written = Vec::new(rt.alloc());
-        let result = run_clear(rt.alloc(), &mut reader, &mut written);
+        let result = cleared(&rt, rt.alloc(), &mut reader, &mut written);
         assert_eq!(rt; result, Err(RunFault::Read), "at ask {failing}");
         assert!(rt; written.is_empty());
         assert_eq!(rt; reader.asked, failing);
@@ -133,7 +148,7 @@ fn a_failed_write_of_results_is_answered(rt: HostRuntime) {
         Breakage::LosesAtFlush,
     ] {
         let mut reader = EMPTY_DAY;
-        let result = run_clear(rt.alloc(), &mut reader, &mut Broken(breakage));
+        let result = cleared(&rt, rt.alloc(), &mut reader, &mut Broken(breakage));
         assert_eq!(rt; result, Err(RunFault::Write));
     }
 }

@@ -10,13 +10,13 @@ pub returns-in_err-results-clause-fault : goal.returns-in_err-results-clause-fau
 returns-in_err-results-clause-fault g c =
     let p = err_from_is_err_and c.from_residual-in_err-results.result c.from_residual-in_err-results.ensures.1 in
     let fault = rw c.as_slice.ensures.value at c.in_err-results.ensures.fault in
-    rw (p.1, p.2) (known-fault IsClearTextFault IsClearFault _ _ _ clear_fault-given c.in_ok-text.ensures.text fault)
+    rw (p.1, p.2) (known-fault (IsClearTextFault c.args.plan) (IsClearFault c.args.plan) _ _ _ (clear_fault-given c.args.plan) c.in_ok-text.ensures.text fault)
 
 pub returns-in_err-results-clause-exact : goal.returns-in_err-results-clause-exact
 returns-in_err-results-clause-exact g c = λ periods commands.
     let p = err_from_is_err_and c.from_residual-in_err-results.result c.from_residual-in_err-results.ensures.1 in
     let failed = rw c.as_slice.ensures.value at c.in_err-results.ensures.exact periods commands in
-    rw (p.1, p.2) (known-failed (IsBookFault (run periods commands)) (IsFaultOnBook (run periods commands)) _ _ _ periods commands (book_fault-run (run periods commands)) c.in_ok-text.ensures.text failed)
+    rw (p.1, p.2) (known-failed (IsBookFault c.args.plan (run periods commands)) (IsFaultOnBook c.args.plan (run periods commands)) _ _ _ periods commands (book_fault-run c.args.plan (run periods commands)) c.in_ok-text.ensures.text failed)
 
 pub returns-clause-done : goal.returns-clause-done
 returns-clause-done g c =
@@ -26,10 +26,10 @@ returns-clause-done g c =
 pub returns-clause-fault : goal.returns-clause-fault
 returns-clause-fault g c =
     let done = rw c.as_slice.ensures.value at c.in_ok-results.ensures.done in
-    known-write (λ text. AreResultsTo text c.in_ok-results.results.items) IsClearFault _ _ _ (results-closed c.in_ok-results.results.items) c.in_ok-text.ensures.text c.write_text.ensures.fault done
+    known-write (λ text. AreResultsTo text c.in_ok-results.results.items) (IsClearFault c.args.plan) _ _ _ (results-closed c.in_ok-results.results.items) c.in_ok-text.ensures.text c.write_text.ensures.fault done
 
 pub returns-clause-exact : goal.returns-clause-exact
 returns-clause-exact g c = λ periods commands.
     let exact = rw c.as_slice.ensures.value at c.in_ok-results.ensures.exact periods commands in
-    known-exact (AreResults periods commands _) _ (IsFaultOnBook (run periods commands)) _ _ _ periods commands c.in_ok-text.ensures.text
+    known-exact (AreResults periods commands _) _ (IsFaultOnBook c.args.plan (run periods commands)) _ _ _ periods commands c.in_ok-text.ensures.text
     (writes (AreResults periods commands) _ _ _ _ _ c.as_slice-2.ensures.value c.write_text.ensures.done) (λ is. is.closed) c.write_text.ensures.fault exact
