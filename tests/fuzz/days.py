@@ -67,10 +67,13 @@ class Draft:
         self.hourly = rng.randint(5, 16)
 
     def name(self, prefix):
-        """A new name, or now and then one that may be taken."""
+        """A name that may be taken, now and then by the participant itself."""
         if self.named and self.rng.random() < 0.04:
             return self.rng.choice(self.named)
-        return self.rng.choice(self.participants), f"{prefix}{len(self.lines)}"
+        who = self.rng.choice(self.participants)
+        # A number of the participant's own: others have orders of the same names.
+        number = 1 + sum(owner == who for owner, _ in self.named)
+        return who, f"{prefix}{number}"
 
     def late(self):
         """A period that the day may not have."""
@@ -141,10 +144,10 @@ def mixed(draft, hourly, blocks):
 def full(draft):
     """A book at its limits, or a journal at its limit of records: for replays alone."""
     rng = draft.rng
-    kind = rng.randrange(3)
+    kind = rng.randrange(6)
     if kind == 0:
         mixed(draft, rng.randint(3_990, 4_100), rng.randint(0, 30))
-    elif kind == 1:
+    elif kind > 1:
         mixed(draft, rng.randint(0, 5), rng.randint(22, 40))
     else:
         draft.lines += ["close,,,,,,,,"] * rng.randint(9_995, 10_005)
@@ -153,7 +156,7 @@ def full(draft):
 def lines(rng, most_blocks, closing=True):
     """The lines of a random day."""
     draft = Draft(rng)
-    if rng.random() < 0.001:
+    if rng.random() < 0.004:
         full(draft)
     else:
         mixed(draft, draft.hourly, rng.choice([0, 1, 1, 2, 2, 3, 4, 5, most_blocks]))

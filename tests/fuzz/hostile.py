@@ -1,6 +1,12 @@
 """Broken texts: journals that were cut, doubled, quoted, shuffled or changed in single bytes and fields, and plain noise."""
 
+import re
+
+from lib import rules
+
 SPECIAL = [b",", b'"', b"\r", b"\n", b"\r\n", b";", b":", b"-", b"+", b"0", b" ", b"\t", b"\x00", b"\x7f", b"\x80", b"\xff"]  # fmt: skip
+NUMBER = re.compile(rb"-?[0-9]+")
+LIMITS = [rules.LEAST_PRICE, rules.GREATEST_PRICE, rules.GREATEST_VOLUME, *rules.DAYS, rules.GREATEST_PERIOD, 0]
 FIELDS = [
     b"", b"-0", b"+1", b"007", b"00", b"0", b"-", b"1", b"26", b"400000", b"400001", b"-50000", b"-50001", b"99999999999999999999",
     b"9" * 5_000, b"1:1;1:1", b"2:1;1:1", b"1:1;", b";1:1", b"1:", b":1", b"1:0", b"0:1", b"26:1", b"25:99999", b"1:100000", b"1:1:1",
@@ -77,6 +83,17 @@ def oddly_quoted(rng, field):
     return rng.choice([b'"' + field, field + b'"', inside, b'"' + field + b'""', b'""' + field])
 
 
+def number(rng, text):
+    """Writes one of the numbers otherwise: another number, or none."""
+    found = list(NUMBER.finditer(text))
+    if not found:
+        return text
+    place, limit = rng.choice(found), rng.choice(LIMITS)
+    near = str(limit + rng.choice([-1, 0, 1])).encode()
+    forms = [near, near, b"-" + place[0], b"+" + place[0], b"0" + place[0], place[0] + b"0", b"-0", b"", b" " + place[0]]
+    return text[: place.start()] + rng.choice(forms) + text[place.end() :]
+
+
 def quote_all(rng, text):
     """Quotes whole fields here and there: the text means the same."""
     lines = []
@@ -100,13 +117,22 @@ def line_end(rng, line):
 CHANGES = [
     cut, cut_front, insert, insert, drop, change, change, double, quote_all, shuffle, on_lines(line_end),
     on_fields(lambda rng, field: rng.choice(FIELDS)), on_fields(lambda rng, field: rng.choice(FIELDS)),
-    on_fields(quoted), on_fields(oddly_quoted), on_fields(insert), on_fields(drop),
+    number, number, on_fields(quoted), on_fields(oddly_quoted), on_fields(insert), on_fields(drop),
 ]  # fmt: skip
 
 
 def noise(rng):
     alphabet = rng.choice([b'day,24"\r\n', b"0123456789:;-,\n", bytes(range(256)), b'",\n'])
     return bytes(rng.choice(alphabet) for _ in range(rng.randint(0, 200)))
+
+
+def long(rng, text):
+    """A text of about as many bytes as may be read, with a long field in it or with line ends behind it."""
+    missing = rules.MOST_BYTES + rng.choice([-1, 0, 1]) - len(text)
+    if rng.random() < 0.3:
+        at = rng.randint(0, len(text))
+        return text[:at] + b"A" * missing + text[at:]
+    return text + rng.choice([b"\n", b"\r"]) * missing
 
 
 def broken(rng, text):
