@@ -30,7 +30,7 @@ class Fuzz(unittest.TestCase):
         self.assertEqual(self.fuzz("--count", "12", "--commands", "day"), (0, "12 passed, 0 failed\n", []))
 
     def test_a_wrong_price_is_found_and_made_small(self):
-        status, out, kept = self.fuzz("--count", "2", "--seed", "a", "--commands", "clear", defect="price")
+        status, out, kept = self.fuzz("--count", "6", "--seed", "a", "--commands", "clear", defect="price")
         self.assertEqual((status, "stdout differs" in out), (1, True))
         self.assertTrue(all(re.fullmatch(rb"day,2[345],,,,,,,\nclose,,,,,,,,\n?", case) for case in kept), kept)
         self.assertGreater(len(kept), 0)
