@@ -3,11 +3,12 @@
 import subprocess
 from typing import NamedTuple
 
-from lib import best, book, check, journal, results, selection
+from lib import best, book, check, journal, results, rules, selection
 
 # A program that tries all selections takes twice the time with each block.
 MOST_BLOCKS = 10
 SECONDS = 60
+COMMAND_LINE = 2  # the program's status
 
 
 class Printed(NamedTuple):
@@ -23,6 +24,11 @@ def printed(program, words, data):
     except subprocess.TimeoutExpired:
         return Printed(-1, b"", f"no answer in {SECONDS} seconds\n".encode())
     return Printed(ran.returncode, ran.stdout, ran.stderr)
+
+
+def takes(program, words):
+    """Whether the program has such a command: it finds no journal in an empty input, and no fault in the words."""
+    return printed(program, words, b"").status != COMMAND_LINE
 
 
 def refused(line):
@@ -59,19 +65,16 @@ def wanted_results(read):
 
 def day_faults(read):
     """The fault of `dam day` on a journal; None where it has none."""
-    if len(read.commands) > MOST_DAY_COMMANDS:
+    if len(read.commands) > rules.MOST_DAY_COMMANDS:
         return "input: TooManyCommands"
     participants = set()
     for record, command in enumerate(read.commands, 2):
         if isinstance(command, journal.Close):
             return f"input: CloseGiven in record {record}"
         participants.add(command.who)
-        if len(participants) > MOST_DAY_PARTICIPANTS:
+        if len(participants) > rules.MOST_DAY_PARTICIPANTS:
             return f"input: TooManyParticipants in record {record}"
     return None
-
-
-MOST_DAY_COMMANDS, MOST_DAY_PARTICIPANTS = 9_999, 8
 
 
 def day_differences(data, got):

@@ -12,6 +12,7 @@ GREATEST_VOLUME = 99_999  # tenths of a MW, of one order in one period
 
 MOST_HOURLY, MOST_BLOCKS = 4_000, 24  # orders in a book
 MOST_BYTES, MOST_RECORDS = 4_194_304, 10_001  # of a journal
+MOST_DAY_COMMANDS, MOST_DAY_PARTICIPANTS = 9_999, 8  # of what `dam day` reads
 
 
 def rescuers(place, blocks):
