@@ -1,0 +1,5 @@
+pub mod Histories
+pub mod Receipts
+pub mod Numbers
+pub mod Tallies
+pub mod Accounts

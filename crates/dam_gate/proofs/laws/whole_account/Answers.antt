@@ -1,0 +1,17 @@
+use Rattle.std.proofs.Common.{sym, subst}
+use Rattle.dam_book.specs.Book.{empty_book}
+use Rattle.dam_gate.specs.Journal.{JournalState, IsJournal}
+use Rattle.dam_gate.proofs.Accounts.{each_once, in_order}
+use Rattle.dam_gate.proofs.laws.whole_account.Goals as goal
+
+pub returns : goal.returns
+returns g c =
+    let j : JournalState = c.args.settled.now in
+    let is : IsJournal j = subst IsJournal c.journal.ensures c.entries-journal.ensures.valid in
+    record {
+      replies = sym (c.histories_are_runs.ensures.entries j.book.periods j.entries is.legal);
+      book = sym is.book_is;
+      closed = c.requires.closed;
+      each_once = each_once 1 (empty_book j.book.periods) j.entries _ is.legal c.requires.received;
+      in_order = in_order (empty_book j.book.periods) j.entries c.args.passes.now is.legal c.requires.received c.are_passes.ensures;
+    }

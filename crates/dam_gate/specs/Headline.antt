@@ -1,0 +1,23 @@
+-- What a settled gate shows.
+use Rattle.std.specs.Prelude.{◌≡◌, ◌⊎◌, true, List, [], ◌∷◌, All}
+use Rattle.std.specs.List.Sorted.{IsPermutation}
+use Rattle.dam_book.specs.Book.{run, commands_of, entries_of}
+use Rattle.dam_book.specs.declared.command.Entry.{Entry}
+use Rattle.dam_gate.specs.Journal.{JournalState}
+use Rattle.dam_gate.specs.Pass.{PassState}
+use Rattle.dam_gate.specs.Settled.{receipts_of}
+
+-- these are some of the entries, in the order of the entries
+abbrev pub AreSomeOf : List Entry → List Entry → Type 0
+AreSomeOf [] es = Unit {0}
+AreSomeOf (r ∷ rs) [] = ⊥
+AreSomeOf (r ∷ rs) (e ∷ es) = ((r ≡ e) × AreSomeOf rs es) ⊎ AreSomeOf (r ∷ rs) es
+
+-- the journal's commands, run one by one from the empty book, give exactly the recorded replies and the book held, and
+-- the receipts are its entries, each once, in each holder's order
+pub record IsWholeAccount (j : JournalState) (passes : List PassState) : Type 0 where
+  pub replies : entries_of j.book.periods (commands_of j.entries) ≡ j.entries
+  pub book : run j.book.periods (commands_of j.entries) ≡ j.book
+  pub closed : j.book.closed ≡ true
+  pub each_once : IsPermutation (receipts_of passes) j.entries
+  pub in_order : All (λ (p : PassState). AreSomeOf p.receipts j.entries) passes

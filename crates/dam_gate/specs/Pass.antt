@@ -1,0 +1,49 @@
+-- A pass: who holds it, how many entries of the journal it has seen, and the entries that its calls were answered with.
+use Rattle.std.specs.Prelude.{ℕ, ◌<◌, ◌≤◌, Bool, true, false, List, [], ◌∷◌, ◌++◌, Option, None, Some}
+use Rattle.dam_book.specs.Name.{same_text}
+use Rattle.dam_book.specs.declared.command.Command.{Command}
+use Rattle.dam_book.specs.declared.command.Command.TheVariants.{Submit, Amend, Cancel, Close}
+use Rattle.dam_book.specs.declared.command.Entry.{Entry}
+
+-- the operator's pass has no participant
+pub record PassState : Type 0 where
+  pub holder : Option (List ℕ)
+  pub seen : ℕ
+  pub receipts : List Entry
+
+-- the numbers are above `low`, each above the one before it, and none is above `seen`
+abbrev pub AreInOrder : ℕ → ℕ → List Entry → Type 0
+AreInOrder low seen [] = low ≤ seen
+AreInOrder low seen (e ∷ es) = (low < e.number) × AreInOrder e.number seen es
+
+abbrev pub IsPass : PassState → Type 0
+IsPass p = AreInOrder 0 p.seen p.receipts
+
+abbrev pub new_pass : Option (List ℕ) → PassState
+new_pass holder = record { holder = holder; seen = 0; receipts = [] }
+
+-- the pass behind a call that was answered with the entry
+abbrev pub with_receipt : PassState → Entry → PassState
+with_receipt p e = record { holder = p.holder; seen = e.number; receipts = p.receipts ++ e ∷ [] }
+
+-- the pass behind a look at so many entries
+abbrev pub having_seen : PassState → ℕ → PassState
+having_seen p seen = record { holder = p.holder; seen = seen; receipts = p.receipts }
+
+-- whether this participant gave the command; nobody but the operator closes
+abbrev pub is_from : List ℕ → Command → Bool
+is_from who (Submit giver name order) = same_text who giver
+is_from who (Amend giver name price volumes) = same_text who giver
+is_from who (Cancel giver name) = same_text who giver
+is_from who Close = false
+
+abbrev pub is_close : Command → Bool
+is_close (Submit who name order) = false
+is_close (Amend who name price volumes) = false
+is_close (Cancel who name) = false
+is_close Close = true
+
+-- whether the command is for the holder of a pass to give: a participant's own commands, or the operator's close
+abbrev pub is_own : Option (List ℕ) → Command → Bool
+is_own None c = is_close c
+is_own (Some who) c = is_from who c

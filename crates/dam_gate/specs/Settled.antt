@@ -1,0 +1,64 @@
+-- Settlement: whether the receipts of the passes are the entries of the journal.
+use Rattle.std.specs.Prelude.{◌≡◌, ◌≢◌, ℕ, ◌<◌, ◌≤◌, ◌==◌, true, false, List, [], length}
+use Rattle.std.specs.List.{filter, flat_map}
+use Rattle.dam_book.specs.declared.command.Entry.{Entry}
+use Rattle.dam_gate.specs.declared.settlement.Mismatch.{Mismatch}
+use Rattle.dam_gate.specs.declared.settlement.Mismatch.TheVariants.{StillOpen, Missing, Doubled, Differs, Extra, Memory}
+use Rattle.dam_gate.specs.Journal.{JournalState}
+use Rattle.dam_gate.specs.Pass.{PassState}
+
+-- the receipts of all passes, one pass after another
+abbrev pub receipts_of : List PassState → List Entry
+receipts_of passes = flat_map (λ (p : PassState). p.receipts) passes
+
+-- those of this number
+abbrev pub numbered : ℕ → List Entry → List Entry
+numbered n es = filter (λ (e : Entry). e.number == n) es
+
+-- of each number these are the very receipts that there are entries
+abbrev pub AreReceipts : List Entry → List Entry → Type 0
+AreReceipts es rs = (n : ℕ) → numbered n rs ≡ numbered n es
+
+-- the book is closed, and of each number the passes have the very receipts that the journal has entries: one of each
+-- entry's number, equal to the entry, and none of any other number
+pub record IsSettled (j : JournalState) (passes : List PassState) : Type 0 where
+  pub closed : j.book.closed ≡ true
+  pub received : AreReceipts j.entries (receipts_of passes)
+
+-- What can be wrong with a number, by the entries and the receipts of it.
+
+-- an entry has no receipt
+abbrev pub IsMissing : List Entry → List Entry → Type 0
+IsMissing es rs = (length es ≡ 1) × (rs ≡ [])
+
+-- an entry has two receipts or more
+abbrev pub IsDoubled : List Entry → List Entry → Type 0
+IsDoubled es rs = (length es ≡ 1) × (2 ≤ length rs)
+
+-- an entry has one receipt, and that is another
+abbrev pub IsDifferent : List Entry → List Entry → Type 0
+IsDifferent es rs = (length es ≡ 1) × (length rs ≡ 1) × (rs ≢ es)
+
+-- there is a receipt and no entry
+abbrev pub IsExtra : List Entry → List Entry → Type 0
+IsExtra es rs = (es ≡ []) × (0 < length rs)
+
+-- this number is wrong in this way, and of each lesser one the receipts are the entries
+pub record IsLeastFault (IsWrong : List Entry → List Entry → Type 0) (es rs : List Entry) (n : ℕ) : Type 0 where
+  pub wrong : IsWrong (numbered n es) (numbered n rs)
+  pub least : (m : ℕ) → m < n → numbered m rs ≡ numbered m es
+
+-- what is wrong with these receipts of these entries
+abbrev pub IsFaultOf : List Entry → List Entry → Mismatch → Type 0
+IsFaultOf es rs StillOpen = ⊥
+IsFaultOf es rs (Missing n) = IsLeastFault IsMissing es rs n
+IsFaultOf es rs (Doubled n) = IsLeastFault IsDoubled es rs n
+IsFaultOf es rs (Differs n) = IsLeastFault IsDifferent es rs n
+IsFaultOf es rs (Extra n) = IsLeastFault IsExtra es rs n
+IsFaultOf es rs Memory = ⊥
+
+-- why a journal and passes are not found settled: the book is open, or the least faulty number is faulty so, or memory ran out
+abbrev pub IsMismatch : JournalState → List PassState → Mismatch → Type 0
+IsMismatch j passes StillOpen = j.book.closed ≡ false
+IsMismatch j passes Memory = j.book.closed ≡ true
+IsMismatch j passes fault = (j.book.closed ≡ true) × IsFaultOf j.entries (receipts_of passes) fault

@@ -1,0 +1,30 @@
+//! What a settled gate shows, as the contract of a function that does nothing but cite the laws that it rests on.
+ghost use Rattle.std.specs.Prelude.{All};
+ghost use Rattle.dam_gate.specs.Pass.{IsPass};
+ghost use Rattle.dam_gate.specs.Settled.{IsSettled};
+ghost use Rattle.dam_gate.specs.Headline.{IsWholeAccount};
+
+use crate::pass::Pass;
+use crate::settlement::Settled;
+use dam_book::laws::histories_are_runs;
+use std::alloc::Allocator;
+
+/// Once a gate is settled, its journal's commands, run one by one from the empty book, give exactly the recorded replies
+/// and the book held, and the participants' receipts are its entries, each once, in each holder's order.
+pub fn whole_account<A: Allocator + Copy>(settled: &Settled<A>, passes: &[Pass])
+    requires { IsSettled settled.now passes.now }
+    ensures { IsWholeAccount settled.now passes.now }
+{
+    let _journal = settled.journal().entries();
+    are_passes(passes);
+    histories_are_runs();
+}
+
+// What every pass keeps holds of these.
+fn are_passes(passes: &[Pass])
+    ensures { All IsPass passes.now }
+{
+    for pass in passes {
+        let _receipts = pass.receipts();
+    }
+}

@@ -1,0 +1,108 @@
+ghost use Rattle.std.specs.Prelude.{◌≡◌, IfOk, IfErr, OnOk, MatchOption};
+ghost use Rattle.dam_gate.specs.Settled.{AreReceipts, IsFaultOf, IsMismatch, IsSettled, receipts_of};
+
+use crate::keeper::Journal;
+use crate::pass::Pass;
+use crate::tally::Tally;
+use std::alloc::{AllocError, Allocator, Global};
+use std::marker::Model;
+use thiserror::Error;
+
+/// Why a journal and passes are not found settled: that the book is open, or else the least faulty number over all
+/// receipts, with what is wrong with it.
+#[derive(Clone, Copy, PartialEq, Eq, Debug, Error)]
+pub enum Mismatch {
+    /// The book isn't closed.
+    #[error("the book is still open")]
+    StillOpen,
+    /// The entry of this number has no receipt.
+    #[error("entry {0} has no receipt")]
+    Missing(u32),
+    /// The entry of this number has two receipts or more.
+    #[error("entry {0} has more than one receipt")]
+    Doubled(u32),
+    /// The entry of this number has one receipt, which isn't equal to it.
+    #[error("the receipt of entry {0} differs from it")]
+    Differs(u32),
+    /// There is a receipt of this number, and no entry.
+    #[error("there is a receipt {0}, and no such entry")]
+    Extra(u32),
+    /// Memory ran out.
+    #[error("out of memory")]
+    Memory,
+}
+
+/// A journal whose entries are the receipts of the passes, each once.
+///
+/// A contract sees the entries and the book.
+#[derive(Debug, Drop)]
+pub struct Settled<A: Allocator = Global> {
+    journal: Journal<A>,
+}
+
+impl<A: Allocator> Model for Settled<A> {
+    ghost use Rattle.dam_gate.specs.Journal.{JournalState};
+
+    ghost Value = { JournalState };
+
+    ghost view = { λ s. s.journal };
+}
+
+impl<A: Allocator> Settled<A> {
+    /// The journal that was given.
+    pub fn journal(&self) -> &Journal<A>
+        ensures { result.now ≡ self.now }
+    {
+        &self.journal
+    }
+}
+
+/// A journal that isn't settled with the passes, given back.
+#[derive(Debug, Drop)]
+pub struct Unsettled<A: Allocator = Global> {
+    pub why: Mismatch,
+    pub journal: Journal<A>,
+}
+
+/// Compares the receipts of the passes with the entries of a closed journal: each entry needs just one receipt, equal to
+/// it, and no receipt may have another number.
+///
+/// It goes once over the receipts and once over the entries, and takes a byte of memory for each entry.
+pub fn settle<A: Allocator + Copy, B: Allocator>(
+    alloc: B,
+    journal: Journal<A>,
+    passes: &[Pass],
+) -> Result<Settled<A>, Unsettled<A>>
+    ensures journal { IfOk result (λ settled. settled ≡ journal) }
+    ensures settled { IfOk result (λ settled. IsSettled settled passes.now) }
+    ensures back { IfErr result (λ unsettled. unsettled.journal ≡ journal) }
+    ensures why { IfErr result (λ unsettled. IsMismatch journal passes.now unsettled.why) }
+    ensures exact { IsSettled journal passes.now → IfErr result (λ unsettled. unsettled.why ≡ Mismatch.Memory) }
+{
+    if !journal.book().is_closed() {
+        return Err(Unsettled {
+            why: Mismatch::StillOpen,
+            journal,
+        });
+    }
+    match compare(alloc, &journal, passes) {
+        Ok(None) => Ok(Settled { journal }),
+        Ok(Some(why)) => Err(Unsettled { why, journal }),
+        Err(_) => Err(Unsettled {
+            why: Mismatch::Memory,
+            journal,
+        }),
+    }
+}
+
+/// The least faulty number of the receipts, with what is wrong with it.
+fn compare<A: Allocator + Copy, B: Allocator>(
+    alloc: B,
+    journal: &Journal<A>,
+    passes: &[Pass],
+) -> Result<Option<Mismatch>, AllocError>
+    ensures { IfOk result (λ why. MatchOption why (AreReceipts journal.now.entries (receipts_of passes.now)) (IsFaultOf journal.now.entries (receipts_of passes.now))) }
+{
+    let tally = Tally::of(alloc, journal.entries(), passes)?;
+    Ok(tally.fault(journal.entries()))
+}

@@ -1,0 +1,146 @@
+ghost use Rattle.std.specs.Prelude.{◌≡◌, ◌≢◌, ◌<◌, ◌≤◌, ◌^◌, ◌++◌, ◌∷◌, [], ℕ, List, length, IfOk, MatchBool, MatchOption};
+ghost use Rattle.dam_book.specs.Book.{IsLegalHistory};
+ghost use Rattle.dam_book.specs.declared.command.Entry.{Entry};
+ghost use Rattle.dam_book.specs.Limits.{most_entries};
+ghost use Rattle.dam_gate.specs.Pass.{AreInOrder};
+ghost use Rattle.dam_gate.specs.Settled.{AreReceipts, IsFaultOf, receipts_of};
+ghost use Rattle.dam_gate.specs.Tally.{IsTally, first_fault, found_with, lesser};
+
+use crate::pass::Pass;
+use crate::settlement::Mismatch;
+use dam_book::Entry;
+use dam_book::laws::equality;
+use std::alloc::{AllocError, Allocator};
+
+/// What the receipts of an entry's number are so far.
+#[derive(Clone, Copy, PartialEq, Eq, Debug)]
+pub(crate) enum Found {
+    Nothing,
+    /// One receipt, equal to the entry.
+    Same,
+    /// One receipt, unequal to the entry.
+    Other,
+    Several,
+}
+
+impl Found {
+    /// What is found with one receipt more, which is the entry or isn't.
+    fn with(self, same: bool) -> Found
+        ensures { result ≡ found_with self same }
+    {
+        match (self, same) {
+            (Found::Nothing, true) => Found::Same,
+            (Found::Nothing, false) => Found::Other,
+            (Found::Same | Found::Other | Found::Several, _) => Found::Several,
+        }
+    }
+}
+
+/// A count of receipts beside the entries that they should be.
+#[derive(Drop)]
+pub(crate) struct Tally<A: Allocator> {
+    // by the place of the entry
+    found: Vec<Found, A>,
+    // the least number of a receipt that no entry has
+    extra: Option<u32>,
+}
+
+fn is_same(receipt: &Entry, entry: &Entry) -> bool
+    ensures { MatchBool result (receipt.now ≡ entry.now) (receipt.now ≢ entry.now) }
+{
+    equality();
+    *receipt == *entry
+}
+
+fn lesser(extra: Option<u32>, number: u32) -> Option<u32>
+    ensures { result ≡ lesser extra number }
+{
+    match extra {
+        None => Some(number),
+        Some(least) => Some(least.min(number)),
+    }
+}
+
+impl<A: Allocator> Tally<A> {
+    /// The tally of no receipts.
+    fn new(alloc: A, entries: &[Entry]) -> Result<Tally<A>, AllocError>
+        ensures as_long { IfOk result (λ tally. length tally.found.items ≡ length entries.now) }
+        ensures tally { IfOk result (λ tally. IsTally entries.now tally.found.items tally.extra []) }
+    {
+        let mut found = Vec::with_capacity(alloc, entries.len())?;
+        for _ in entries {
+            found.push(Found::Nothing)?;
+        }
+        Ok(Tally { found, extra: None })
+    }
+
+    /// Counts one receipt.
+    fn count(&mut self, entries: &[Entry], receipt: &Entry)
+        requires positive { 0 < receipt.now.number }
+        requires as_long { length self.old.found.items ≡ length entries.now }
+        ensures as_long { length self.new.found.items ≡ length entries.now }
+        ensures tally { (before : List Entry) → IsTally entries.now self.old.found.items self.old.extra before → IsTally entries.now self.new.found.items self.new.extra (before ++ receipt.now ∷ []) }
+    {
+        let place = receipt.number as usize - 1;
+        match entries.get(place) {
+            Some(entry) => self.found[place] = self.found[place].with(is_same(receipt, entry)),
+            None => self.extra = lesser(self.extra, receipt.number),
+        }
+    }
+
+    /// Counts the receipts of one pass.
+    fn count_pass(&mut self, entries: &[Entry], receipts: &[Entry])
+        requires positive { (seen : ℕ) × AreInOrder 0 seen receipts.now }
+        requires as_long { length self.old.found.items ≡ length entries.now }
+        ensures as_long { length self.new.found.items ≡ length entries.now }
+        ensures tally { (before : List Entry) → IsTally entries.now self.old.found.items self.old.extra before → IsTally entries.now self.new.found.items self.new.extra (before ++ receipts.now) }
+    {
+        for receipt in receipts {
+            self.count(entries, receipt);
+        }
+    }
+
+    /// The tally of the receipts of all passes.
+    pub(crate) fn of(alloc: A, entries: &[Entry], passes: &[Pass]) -> Result<Tally<A>, AllocError>
+        ensures as_long { IfOk result (λ tally. length tally.found.items ≡ length entries.now) }
+        ensures tally { IfOk result (λ tally. IsTally entries.now tally.found.items tally.extra (receipts_of passes.now)) }
+    {
+        let mut tally = Tally::new(alloc, entries)?;
+        for pass in passes {
+            tally.count_pass(entries, pass.receipts());
+        }
+        Ok(tally)
+    }
+
+    /// The least number whose receipts aren't its entry, with what is wrong with it.
+    pub(crate) fn fault(&self, entries: &[Entry]) -> Option<Mismatch>
+        requires legal { (periods : ℕ) × IsLegalHistory periods entries.now }
+        requires few { length self.now.found.items ≤ most_entries }
+        ensures { (receipts : List Entry) → IsTally entries.now self.now.found.items self.now.extra receipts → MatchOption result (AreReceipts entries.now receipts) (IsFaultOf entries.now receipts) }
+    {
+        if let Some(fault) = first_fault(&self.found) {
+            return Some(fault);
+        }
+        match self.extra {
+            None => None,
+            Some(number) => Some(Mismatch::Extra(number)),
+        }
+    }
+}
+
+fn first_fault(found: &[Found]) -> Option<Mismatch>
+    requires { length found.now < 2 ^ 32 }
+    ensures { result ≡ first_fault 1 found.now }
+{
+    let mut number = 0;
+    for mark in found {
+        number += 1;
+        match mark {
+            Found::Nothing => return Some(Mismatch::Missing(number)),
+            Found::Same => {}
+            Found::Other => return Some(Mismatch::Differs(number)),
+            Found::Several => return Some(Mismatch::Doubled(number)),
+        }
+    }
+    None
+}
