@@ -79,20 +79,6 @@ book_fault-run plan book (Collected piece) is = is
 book_fault-run plan book Memory is = tt
 book_fault-run plan book Write is = absurd is
 
--- what the book of a text is answered, the text is answered
-pub book_fault-text : (plan : PlanTerms) (text : List ℕ) (periods : ℕ) (commands : List Command) (fault : RunFault) → ReadsAs text periods commands → IsBookFault plan (run periods commands) fault
-    → IsClearTextFault plan text fault
-book_fault-text plan text periods commands Read reads is = absurd is
-book_fault-text plan text periods commands (Input fault) reads is = absurd is
-book_fault-text plan text periods commands TooManyCommands reads is = absurd is
-book_fault-text plan text periods commands (CloseGiven at) reads is = absurd is
-book_fault-text plan text periods commands (TooManyParticipants at) reads is = absurd is
-book_fault-text plan text periods commands StillOpen reads is = (periods, commands, reads, is)
-book_fault-text plan text periods commands (Unfinished piece visited) reads is = (periods, commands, reads, is)
-book_fault-text plan text periods commands (Collected piece) reads is = (periods, commands, reads, is)
-book_fault-text plan text periods commands Memory reads is = tt
-book_fault-text plan text periods commands Write reads is = absurd is
-
 -- what the search of a closed book's problem answers, the book is answered
 pub search_fault-book : (plan : PlanTerms) (book : BookState) (fault : SearchFault) → book.closed ≡ true
     → ((piece visited : ℕ) → fault ≡ IsCut piece visited → IsUnfinished (problem_of book) (min plan.cut (length (problem_of book).blocks)) plan.nodes piece visited)

@@ -10,7 +10,7 @@ use Rattle.csv.specs.declared.parser.State.TheVariants as st
 use Rattle.csv.proofs.ReadFacts.{rows-end, rows-more}
 use Rattle.dam_results.specs.Records.{Fields, records_of}
 use Rattle.dam_results.specs.Journal.{first_high}
-use Rattle.dam_results.specs.Reader.{RecordReader, IsOpen, rows_left, rows_from, unread}
+use Rattle.dam_results.specs.inside.Reader.{RecordReader, IsOpen, rows_left, rows_from, unread}
 use Rattle.dam_results.proofs.Machine.{IsAfter, next_record-after, next_record-shorter}
 
 abbrev given : Bor (List ℕ) → Option (List ℕ)

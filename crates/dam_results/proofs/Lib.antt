@@ -3,12 +3,12 @@ pub mod Fields
 pub mod Left
 pub mod Rules
 pub mod Faults
-pub mod Written
+pub mod RecordsDiffer
 pub mod Sound
 pub mod FirstFault
 pub mod Spelled
 pub mod FieldBytes
 pub mod WrittenFacts
 pub mod WriterFacts
-pub mod Publishing
-pub mod Publication
+pub mod ClearingSteps
+pub mod PublishedOnce

@@ -44,10 +44,6 @@ pub unknown_kind : (kind : List ℕ) (others : Fields) → bytes_eq kind (codes 
     → IsLeastBroken (command_rules (kind ∷ others)) (kind ∷ others) 1
 unknown_kind kind others a b c d = rw (a, b, c, d) (λ e. absurd (let g = rw (a, b, c, d) at e in cc))
 
--- a fourth field of a submit that is no form of an order breaks its rule
-pub unknown_form : (form : List ℕ) (others : Fields) → bytes_eq form (codes "hour") ≡ false → bytes_eq form (codes "block") ≡ false → IsLeastBroken (form_rules form) (form ∷ others) 1
-unknown_form form others a b = rw (a, b) (λ e. absurd (let g = rw (a, b) at e in cc))
-
 -- the rules of a submit of each form
 pub hour_broken : (row : Fields) (n : ℕ) → form_field row ≡ codes "hour" → IsLeastBroken (submit_of hour_rules) row n → IsLeastBroken (submit_rules row) row n
 hour_broken row n e h = let P : List ℕ → Type 0 = λ form. IsLeastBroken (submit_of (form_rules form)) row n in subst P (sym e) h

@@ -14,7 +14,7 @@ use Rattle.dam_book.specs.Limits.{most_entries}
 use Rattle.dam_results.specs.Records.{Fields, day_row, row_of}
 use Rattle.dam_results.specs.Journal.{IsCommand, ReadsAs}
 use Rattle.dam_results.specs.Written.{row_line, command_line, written, journal_text}
-use Rattle.dam_results.specs.Writer.{Wrote, PutsCommand}
+use Rattle.dam_results.specs.inside.Writer.{Wrote, PutsCommand}
 use Rattle.dam_results.proofs.FieldBytes.{AreFields, limits, command_fields}
 use Rattle.dam_results.proofs.Spelled.{IsPlain, ArePlain}
 use Rattle.dam_results.proofs.WrittenFacts.{plain_fields, reads_journal_text}

@@ -1,5 +1,5 @@
 -- The written journal, and every text that spells its records, reads as its periods and commands.
-use Rattle.std.proofs.Common.{◌≡◌, ℕ, ◌+◌, ◌*◌, ◌<◌, ◌≤◌, nat_lt, ltb, true, false, List, [], ◌∷◌, ◌++◌, length, map, None, refl, sym, ap, subst, arith, length-append, append_assoc}
+use Rattle.std.proofs.Common.{◌≡◌, ℕ, ◌+◌, ◌*◌, ◌≤◌, nat_lt, ltb, true, false, List, [], ◌∷◌, ◌++◌, length, map, None, refl, sym, ap, subst, arith, length-append, append_assoc}
 use Rattle.std.specs.List.{AllByRecursion, list_any, flat_map, join_with_byte, position_or_len}
 use Rattle.std.proofs.lemmas.Bool.Decides.{nat_tests}
 use Rattle.std.proofs.lemmas.List.{length-map}

@@ -1,14 +1,11 @@
 pub mod Limits
 pub mod Records
-pub mod Row
 pub mod Rules
 pub mod Journal
 pub mod Faults
-pub mod Reader
 pub mod Replies
 pub mod Run
 pub mod Spelling
 pub mod Written
-pub mod Writer
 pub mod Published
-pub mod Cleared
+pub mod inside

@@ -2,7 +2,7 @@
 
 ghost use Rattle.std.specs.Prelude.{◌≡◌, ◌+◌, ◌-◌, ◌<◌, pos, map, IfOk};
 ghost use Rattle.dam_blocks.specs.Eligible.{IsEligible};
-ghost use Rattle.dam_results.specs.Cleared.{IsBalancedIn, IsCleared, AreCleared, volume_at};
+ghost use Rattle.dam_results.specs.inside.Cleared.{IsBalancedIn, IsCleared, AreCleared, volume_at};
 
 use crate::published::PeriodResult;
 use dam_blocks::{Best, MOST_PERIODS, Problem, Selection, bought_volume, net_volume};
@@ -48,7 +48,7 @@ fn clear_period<A: Allocator, B: Allocator>(
     ensures { IfOk result (λ r. IsCleared problem.now selection period r.0 r.1.items) }
 {
     let hour = problem.hour(period).unwrap();
-    let _few = hour.len();
+    let _few = hour.len(); // for the proof: a period has few orders
     let blocks = problem.blocks();
     let net = net_volume(blocks, selection, period);
     let Some(cleared) = hour.clear(net) else {

@@ -8,7 +8,7 @@ ghost use Rattle.dam_results.specs.Records.{records_of, kind_field, day_row, row
 ghost use Rattle.dam_results.specs.Journal.{AreRecords, IsCommand, IsMadeFrom, ReadsAs};
 ghost use Rattle.dam_results.specs.Journal;
 ghost use Rattle.dam_results.specs.Faults.{IsFaultOf, IsFaultOfRecords, IsRecordFault};
-ghost use Rattle.dam_results.specs.Reader.{IsOpen, rows_left};
+ghost use Rattle.dam_results.specs.inside.Reader.{IsOpen, rows_left};
 
 use crate::from_journal::FromJournal;
 use crate::laws;

@@ -1,4 +1,18 @@
-//! The texts that the auction reads and prints, and what is published of a selection.
+//! The texts that the auction reads and prints, and what is published of a selection of blocks.
+//!
+//! A journal's text is read into its commands (`read_journal`), its book (`book_of_text`) or the replies to
+//! its commands (`replay_text`), each with the first fault where the text is no journal. `results` finds
+//! what is published of an eligible selection; `results_text`, `replies_text` and `journal_text` write.
+//!
+//! ```
+//! let book = book_of_text(alloc, text)?;
+//! let problem = Problem::of_book(alloc, &book)?;
+//! let published = results(alloc, &problem, best_of_all(&problem))?;
+//! let text = results_text(alloc, &published)?;
+//! ```
+//!
+//! The crate knows nothing of how the best selection is found, nor of readers, writers and the command
+//! line.
 #![tactic(auto)]
 
 mod clearing;

@@ -3,7 +3,7 @@
 ghost use Rattle.std.specs.Prelude.{◌<◌, ◌≤◌, map, length, IfOk};
 ghost use Rattle.dam_blocks.specs.Problem.{StandsAt};
 ghost use Rattle.dam_results.specs.Published.{HasSurplus, IsRowResult, AreRowResults};
-ghost use Rattle.dam_results.specs.Cleared.{AreCleared};
+ghost use Rattle.dam_results.specs.inside.Cleared.{AreCleared};
 
 use crate::clearing::Clearing;
 use crate::published::RowResult;
@@ -34,7 +34,7 @@ fn outcome_of<A: Allocator, B: Allocator>(
         (map (λ v. v.items) clearing.now.executions.items) }
     ensures { IsRowResult problem.now selection clearing.now.prices.items row.now result }
 {
-    let _limits = problem.periods();
+    let _limits = problem.periods(); // for the proof: the day's number of periods
     let (who, name) = (row.who.copy(), row.name.copy());
     match row.at {
         Place::Hour(period, place) => {

@@ -7,7 +7,7 @@ ghost use Rattle.dam_book.specs.Order.{IsOrder};
 ghost use Rattle.dam_book.specs.Fields.{volumes_text};
 ghost use Rattle.dam_book.specs.Book.{is_day};
 ghost use Rattle.dam_results.specs.Records.{day_row, row_of, order_fields, optional_text, side_word};
-ghost use Rattle.dam_results.specs.Row.{fields_in, ReadsCommand, ReadsOrder};
+ghost use Rattle.dam_results.specs.inside.Row.{fields_in, ReadsCommand, ReadsOrder};
 ghost use Rattle.dam_results.specs.Rules.{OneOf, Periods, OneVolume, NameOrEmpty, Keeps, IsLeastBroken, day_rules, hour_rules, block_rules, submit_of, submit_rules, amend_rules, cancel_rules, close_rules, command_rules};
 ghost use Rattle.dam_results.specs.Journal.{IsCommand};
 
@@ -128,7 +128,7 @@ fn read_block(row: &Row) -> Result<Order, usize>
     let parent = read_name_or_empty(row.parent).ok_or(8usize)?;
     let group = read_name_or_empty(row.group).ok_or(9usize)?;
     let block = BlockOrder::new(side, price, volumes, parent, group);
-    let _valid = block.price();
+    let _valid = block.price(); // for the proof: a block order is within its limits
     Ok(Order::Block(block))
 }
 

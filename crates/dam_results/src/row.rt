@@ -1,6 +1,6 @@
 ghost use Rattle.std.specs.Prelude.{◌≡◌, ◌≢◌, length, MatchOption};
 ghost use Rattle.csv.specs.Records.{fields_of};
-ghost use Rattle.dam_results.specs.Row.{fields_in};
+ghost use Rattle.dam_results.specs.inside.Row.{fields_in};
 
 use csv::ByteRecord;
 

@@ -11,7 +11,7 @@ ghost use Rattle.dam_results.specs.Records.{optional_text, side_word, day_row};
 ghost use Rattle.dam_results.specs.Journal.{ReadsAs};
 ghost use Rattle.dam_results.specs.Written.{row_line};
 ghost use Rattle.dam_results.specs.Written;
-ghost use Rattle.dam_results.specs.Writer.{Wrote, PutsCommand};
+ghost use Rattle.dam_results.specs.inside.Writer.{Wrote, PutsCommand};
 
 use csv::{Writer, WriterBuilder};
 use dam_book::{
@@ -33,7 +33,7 @@ fn side_field<'a>(side: Side) -> &'a [u8]
 fn price_field(alloc: Global, price: Price) -> Result<Vec<u8>, AllocError>
     ensures { IfOk result (λ field. IsPrice price × (field.items ≡ price_text price)) }
 {
-    let _in_range = price.get();
+    let _in_range = price.get(); // for the proof: a price is within its limits
     let mut field = Vec::new(alloc);
     write_price(&mut field, price)?;
     Ok(field)
@@ -43,7 +43,7 @@ fn volumes_field(alloc: Global, volumes: &Volumes) -> Result<Vec<u8>, AllocError
     ensures { IfOk result (λ field.
         IsVolumes volumes.now × (field.items ≡ volumes_text volumes.now)) }
 {
-    let _valid = volumes.pairs();
+    let _valid = volumes.pairs(); // for the proof: volumes are within their limits
     let mut field = Vec::new(alloc);
     write_volumes(&mut field, volumes)?;
     Ok(field)

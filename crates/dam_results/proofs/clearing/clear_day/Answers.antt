@@ -1,7 +1,7 @@
 -- A period more.
 use Rattle.std.proofs.Common.{map, ap, ◌∙◌, arith, ◌∷◌, []}
 use Rattle.std.proofs.lemmas.List.{map-append}
-use Rattle.dam_results.proofs.Publishing.{balanced_in, cleared_more}
+use Rattle.dam_results.proofs.ClearingSteps.{balanced_in, cleared_more}
 use Rattle.dam_results.proofs.clearing.clear_day.Goals as goal
 
 pub clear_period-requires : goal.clear_period-requires

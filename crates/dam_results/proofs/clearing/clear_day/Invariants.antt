@@ -1,6 +1,6 @@
 -- The periods so far are cleared.
 use Rattle.std.proofs.Common.{take, map}
-use Rattle.dam_results.specs.Cleared.{AreCleared}
+use Rattle.dam_results.specs.inside.Cleared.{AreCleared}
 use Rattle.dam_results.proofs.clearing.clear_day.Given as goal
 
 abbrev pub invariant-loop-place : goal.invariant-loop-place

@@ -3,7 +3,7 @@ use Rattle.std.proofs.Common.{List, ap, ◌∙◌, arith, rules}
 use Rattle.std.proofs.lemmas.Int.{ints}
 use Rattle.dam_blocks.specs.declared.problem.Block.{Block}
 use Rattle.dam_blocks.specs.Selection.{net_volume, bought_volume}
-use Rattle.dam_results.proofs.Publishing.{period_cleared}
+use Rattle.dam_results.proofs.ClearingSteps.{period_cleared}
 use Rattle.dam_results.proofs.clearing.clear_period.Goals as goal
 
 pub returns : goal.returns

@@ -1,7 +1,7 @@
 -- The commands read so far are those of the records that the reader gave, and it has the others left.
 use Rattle.std.proofs.Common.{◌≤◌, ◌+◌}
 use Rattle.dam_results.specs.Limits.{most_records}
-use Rattle.dam_results.specs.Reader.{IsOpen, rows_left}
+use Rattle.dam_results.specs.inside.Reader.{IsOpen, rows_left}
 use Rattle.dam_results.proofs.Faults.{ReadsInto}
 use Rattle.dam_results.proofs.journal.read_commands.Given as goal
 

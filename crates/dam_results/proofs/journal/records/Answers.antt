@@ -1,6 +1,6 @@
 use Rattle.std.proofs.Common.{◌≡◌, Some, refl, ◌∙◌, inr}
 use Rattle.csv.specs.Reading.{strip_bom}
-use Rattle.dam_results.specs.Reader.{unread}
+use Rattle.dam_results.specs.inside.Reader.{unread}
 use Rattle.dam_results.proofs.Left.{rows_left-start}
 use Rattle.dam_results.proofs.journal.records.Goals as goal
 

@@ -1,5 +1,5 @@
 use Rattle.dam_results.specs.Records.{records_of}
-use Rattle.dam_results.proofs.Written.{AreRecords-one}
+use Rattle.dam_results.proofs.RecordsDiffer.{AreRecords-one}
 use Rattle.dam_results.proofs.laws.text_is_one_journal.Goals as goal
 
 pub returns : goal.returns

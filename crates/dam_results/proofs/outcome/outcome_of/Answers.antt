@@ -1,6 +1,6 @@
 -- The order stands at its place, which has a volume or a block.
 use Rattle.std.proofs.Common.{length, ap, arith}
-use Rattle.dam_results.proofs.Publishing.{executed_at, block_at, few_prices}
+use Rattle.dam_results.proofs.ClearingSteps.{executed_at, block_at, few_prices}
 use Rattle.dam_results.proofs.outcome.outcome_of.Goals as goal
 
 pub unreachable-requires : goal.unreachable-requires

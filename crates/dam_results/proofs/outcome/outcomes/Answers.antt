@@ -3,7 +3,7 @@ use Rattle.std.proofs.Common.{◌≡◌, Some, List, refl, subst}
 use Rattle.std.specs.List.{slice_get}
 use Rattle.std.proofs.lemmas.Option.{slice_get_read}
 use Rattle.dam_blocks.specs.declared.problem.ProblemRow.{ProblemRow}
-use Rattle.dam_results.proofs.Publishing.{rows_more}
+use Rattle.dam_results.proofs.ClearingSteps.{rows_more}
 use Rattle.dam_results.proofs.outcome.outcomes.Goals as goal
 
 pub outcome_of-requires-clause-place : goal.outcome_of-requires-clause-place

@@ -1,5 +1,5 @@
 -- The law of one period says that its price and its best execution are the only ones.
-use Rattle.dam_results.proofs.Publication.{published-one}
+use Rattle.dam_results.proofs.PublishedOnce.{published-one}
 use Rattle.dam_results.proofs.publishing_laws.selections_are_published_alike.Goals as goal
 
 pub returns : goal.returns

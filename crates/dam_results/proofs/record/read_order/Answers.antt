@@ -1,7 +1,7 @@
 -- The rules of a submit are those of its form.
 use Rattle.std.proofs.Common.{◌≡◌, ℕ, codes, arith}
 use Rattle.std.proofs.lemmas.Grind.{common_steps}
-use Rattle.dam_results.specs.Row.{fields_in}
+use Rattle.dam_results.specs.inside.Row.{fields_in}
 use Rattle.dam_results.proofs.Rules.{hour_broken, block_broken, other_fault}
 use Rattle.dam_results.proofs.record.read_order.Goals as goal
 

@@ -3,7 +3,7 @@ use Rattle.std.proofs.Common.{◌≡◌, ℕ, zero, suc, ◌+◌, ◌-◌, ◌<�
 use Rattle.std.specs.List.{slice_get}
 use Rattle.std.specs.Option.{option_and_then, MatchOption}
 use Rattle.std.proofs.lemmas.Int.{ints}
-use Rattle.std.proofs.lemmas.List.{take_more, take_all, length-take, length-map, map-append}
+use Rattle.std.proofs.lemmas.List.{take_more, length-take, length-map, map-append}
 use Rattle.std.proofs.lemmas.Option.{slice_get_within, slice_get-get_or, get_or_from_slice_get, none-some, same_Some}
 use Rattle.dam_book.specs.Book.{is_day}
 use Rattle.dam_hour.specs.Execution.{IsExecution, IsBalanced}
@@ -20,7 +20,7 @@ use Rattle.dam_blocks.specs.Eligible.{IsClearingPrice, ArePrices, IsEligible}
 use Rattle.dam_results.specs.declared.published.PeriodResult.{PeriodResult}
 use Rattle.dam_results.specs.declared.published.RowResult.{RowResult}
 use Rattle.dam_results.specs.Published.{IsPeriodResult, ArePeriodResults, prices_of, IsExecuted, IsRowResult, AreRowResults}
-use Rattle.dam_results.specs.Cleared.{IsBalancedIn, IsCleared, AreBest, AreCleared, volume_at}
+use Rattle.dam_results.specs.inside.Cleared.{IsBalancedIn, IsCleared, AreBest, AreCleared, volume_at}
 use Rattle.dam_results.proofs.Rules.{cases_day}
 
 take_at : {X : Type 0} (xs : List X) (i : ℕ) (x : X) → slice_get xs i ≡ Some x → take (i + 1) xs ≡ take i xs ++ x ∷ []
@@ -107,11 +107,6 @@ cleared_more problem sel place t periods periods' prices prices' executions exec
           (subst (λ (rs : List (List ℕ)). AreBest problem.blocks sel 1 (take place problem.hours ++ one.hour ∷ []) rs) (sym xs)
           (best_push problem.blocks sel 1 t (take place problem.hours) executions one.hour executed number so_far.are_best one.best));
     }
-
-pub all_cleared : (blocks : List Block) (sel : List Bool) (hours : List (List Step)) (place : ℕ) (periods : List PeriodResult) (prices : List ℤ) (executions : List (List ℕ))
-    → length hours ≤ place → AreCleared blocks sel (take place hours) periods prices executions → AreCleared blocks sel hours periods prices executions
-all_cleared blocks sel hours place periods prices executions all so_far =
-    subst (λ (hs : List (List Step)). AreCleared blocks sel hs periods prices executions) (take_all place hours all) so_far
 
 -- ---- what is known of a cleared day
 long_as : (ss : List Step) (xs : List ℕ) → IsExecution ss xs → length xs ≡ length ss
