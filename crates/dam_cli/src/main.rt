@@ -12,42 +12,29 @@ mod replay;
 mod tests;
 
 use clear::run_clear;
-use dam_search::{FreeTurn, MOST_NODES, Plan};
+use dam_line::{Job, LineFault, read_line};
+use dam_search::FreeTurn;
 use fault::{RunFault, fault_line, status};
+use output::write_text;
 use replay::run_replay;
+use std::alloc::Global;
 use std::env;
-use std::env::Args;
 use std::io::{ErrorKind, Write};
 use std::process::ExitCode;
 
-/// The status of a command line that asks for nothing there is.
+/// The status of a command line that is refused.
 const REFUSED_LINE: u8 = 2;
 
-/// What a command line asks for.
-#[derive(Clone, Copy)]
-enum Job {
-    Replay,
-    Clear,
-}
-
 fn main(rt: HostRuntime) -> ExitCode {
-    let words = match env::args(&rt) {
-        Ok(words) => words,
-        Err(error) if error.kind() == ErrorKind::OutOfMemory => {
-            return report(&rt, &RunFault::Memory);
-        }
-        Err(_) => return refuse_line(&rt),
-    };
-    let Some(job) = job_of(words) else {
-        return refuse_line(&rt);
+    let job = match job(&rt) {
+        Ok(job) => job,
+        Err(fault) => return answer(&rt, &fault),
     };
     let (mut input, mut output) = (rt.stdin(), rt.stdout());
     let done = match job {
         Job::Replay => run_replay(rt.alloc(), &mut input, &mut output),
-        Job::Clear => {
-            let plan = Plan::new(2, 3, MOST_NODES).unwrap();
-            run_clear(&rt, rt.alloc(), &mut input, &mut output, plan, &FreeTurn)
-        }
+        Job::Clear(plan) => run_clear(&rt, rt.alloc(), &mut input, &mut output, plan, &FreeTurn),
+        Job::Day(_plan) => return refuse(&rt, "error: `dam day` isn't there yet\n"),
     };
     match done {
         Ok(()) => ExitCode::SUCCESS,
@@ -55,17 +42,26 @@ fn main(rt: HostRuntime) -> ExitCode {
     }
 }
 
-/// The job that the words name, of which the first is the program's name.
-fn job_of(mut words: Args) -> Option<Job> {
-    let _program = words.next();
-    let job = match words.next()?.as_str() {
-        "replay" => Job::Replay,
-        "clear" => Job::Clear,
-        _ => return None,
+/// The job that the program's words ask for, of which the first is its name.
+fn job(rt: &HostRuntime) -> Result<Job, LineFault> {
+    let alloc = rt.alloc();
+    let mut words = match env::args(rt) {
+        Ok(words) => words,
+        Err(error) if error.kind() == ErrorKind::OutOfMemory => return Err(LineFault::Memory),
+        Err(_) => return Err(not_text(alloc)),
     };
-    match words.next() {
-        Some(_) => None,
-        None => Some(job),
+    let _program = words.next();
+    let Ok(words) = words.collect::<Vec<String>>(alloc) else {
+        return Err(LineFault::Memory);
+    };
+    read_line(alloc, words.as_slice())
+}
+
+/// The fault of words that aren't UTF-8.
+fn not_text(alloc: Global) -> LineFault {
+    match String::from_str(alloc, "error: a word isn't UTF-8\n") {
+        Ok(text) => LineFault::Refused { help: false, text },
+        Err(_) => LineFault::Memory,
     }
 }
 
@@ -77,7 +73,22 @@ fn report(rt: &HostRuntime, fault: &RunFault) -> ExitCode {
     ExitCode::from(status(fault))
 }
 
-fn refuse_line(rt: &HostRuntime) -> ExitCode {
-    let _ = eprintln!(rt; "command line\nusage: dam replay|clear < JOURNAL");
+/// Answers words that ask for no job: with the help where they ask for that.
+fn answer(rt: &HostRuntime, fault: &LineFault) -> ExitCode {
+    match fault {
+        LineFault::Refused { help: true, text } => {
+            match write_text(&mut rt.stdout(), text.as_bytes()) {
+                Ok(()) => ExitCode::SUCCESS,
+                Err(fault) => report(rt, &fault),
+            }
+        }
+        LineFault::Refused { help: false, text } => refuse(rt, text.as_str()),
+        LineFault::Memory => report(rt, &RunFault::Memory),
+    }
+}
+
+/// Prints why the words are refused.
+fn refuse(rt: &HostRuntime, text: &str) -> ExitCode {
+    let _ = eprint!(rt; "command line\n{text}");
     ExitCode::from(REFUSED_LINE)
 }
