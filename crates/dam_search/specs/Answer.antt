@@ -12,10 +12,12 @@ abbrev pub IsSoundAnswer : ProblemState → ℕ → PieceAnswer → Type 0
 IsSoundAnswer problem depth a = IsSound problem (choice depth a.piece) a.best a.read a.done
 
 -- sound answers, all of them done, and one about each piece of a cutting of this depth
-pub record AreAnswered (problem : ProblemState) (depth : ℕ) (answers : List PieceAnswer) : Type 0 where
+pub record AreAnswered (problem : ProblemState) (depth : ℕ) (answers : List PieceAnswer)
+    : Type 0 where
   pub sound : All (λ (a : PieceAnswer). IsSoundAnswer problem depth a) answers
   pub done : All (λ (a : PieceAnswer). a.done ≡ true) answers
-  pub each : (piece : ℕ) → piece < 2 ^ depth → (a : PieceAnswer) × Contains answers a × (a.piece ≡ piece)
+  pub each : (piece : ℕ) → piece < 2 ^ depth
+      → (a : PieceAnswer) × Contains answers a × (a.piece ≡ piece)
 
 -- some eligible selection has at least this welfare
 pub record IsReached (problem : ProblemState) (value : ℕ) : Type 0 where

@@ -8,14 +8,17 @@ use Rattle.dam_search.specs.declared.answer.PieceAnswer.{PieceAnswer}
 use Rattle.dam_search.specs.Piece.{IsSpent, all_nodes, live_nodes}
 use Rattle.dam_search.specs.Answer.{IsSoundAnswer, IsReached, IsHighest}
 
--- a worker's answer about a piece of the cutting: it is sound, read no more than some eligible selection has, and kept to the limit
+-- a worker's answer about a piece of the cutting: it is sound, read no more than some eligible
+-- selection has, and kept to the limit
 pub record IsWorked (problem : ProblemState) (depth nodes : ℕ) (a : PieceAnswer) : Type 0 where
   pub in_cutting : a.piece < 2 ^ depth
   pub sound : IsSoundAnswer problem depth a
   pub reached : IsReached problem a.read
-  pub spent : IsSpent problem (choice depth a.piece) (length problem.blocks - depth) 0 nodes a.visited a.done
+  pub spent : IsSpent problem (choice depth a.piece) (length problem.blocks - depth) 0 nodes
+      a.visited a.done
 
--- the piece of the cutting visited as many nodes as it may, and could have had to visit more, by either bound
+-- a piece of the cutting that visited as many nodes as it may, which is less than either bound on
+-- those that it can need
 pub record IsUnfinished (problem : ProblemState) (depth nodes piece visited : ℕ) : Type 0 where
   pub in_cutting : piece < 2 ^ depth
   pub limit_met : visited ≡ nodes
@@ -39,7 +42,9 @@ is_lesser a (Some u) = not a.done && nat_lt a.piece u.piece
 -- the answer about the least piece of those that aren't done
 abbrev pub IsLeastUnfinished : List PieceAnswer → Option PieceAnswer → Type 0
 IsLeastUnfinished answers None = All (λ (a : PieceAnswer). a.done ≡ true) answers
-IsLeastUnfinished answers (Some u) = Contains answers u × (u.done ≡ false) × All (λ (a : PieceAnswer). a.done ≡ false → u.piece ≤ a.piece) answers
+IsLeastUnfinished answers (Some u) =
+    Contains answers u × (u.done ≡ false)
+    × All (λ (a : PieceAnswer). a.done ≡ false → u.piece ≤ a.piece) answers
 
 -- what was found is as long as a selection is
 abbrev pub IsLong : Option Best → Type 0

@@ -12,4 +12,5 @@ pub record IsReady (count : ℕ) (s : Share) : Type 0 where
 
 -- every share holds workers' answers about pieces of the cutting
 abbrev pub AreWorked : ProblemState → ℕ → ℕ → List Share → Type 0
-AreWorked problem depth nodes shares = All (λ (s : Share). All (λ (a : PieceAnswer). IsWorked problem depth nodes a) s.answers.items) shares
+AreWorked problem depth nodes shares =
+    All (λ (s : Share). All (λ (a : PieceAnswer). IsWorked problem depth nodes a) s.answers.items) shares
