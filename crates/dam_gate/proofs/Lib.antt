@@ -3,3 +3,4 @@ pub mod Receipts
 pub mod Numbers
 pub mod Tallies
 pub mod Accounts
+pub mod Days

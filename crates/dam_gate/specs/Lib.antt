@@ -5,3 +5,4 @@ pub mod Gate
 pub mod Settled
 pub mod Tally
 pub mod Headline
+pub mod Day

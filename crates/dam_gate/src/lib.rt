@@ -2,6 +2,7 @@
 //! settlement shows that what each participant was answered is what the journal has.
 #![tactic(auto)]
 
+mod day;
 mod gate;
 mod keeper;
 pub mod laws;
@@ -10,9 +11,10 @@ mod pass;
 mod settlement;
 mod tally;
 
+pub use day::{DayFault, run_commands};
 pub use gate::{Gate, GateFault, PassFault};
 pub use keeper::{Journal, Keeper, KeeperFault};
-pub use limits::MOST_PASSES;
+pub use limits::{MOST_PARTICIPANTS, MOST_PASSES};
 pub use pass::{Look, Pass};
 pub use settlement::{Mismatch, Settled, Unsettled, settle};
 

@@ -1,2 +1,5 @@
 /// The greatest number of passes of one gate, the operator's among them.
 pub const MOST_PASSES: u8 = 9;
+
+/// The greatest number of participants in a day of given commands.
+pub const MOST_PARTICIPANTS: usize = 8;

@@ -228,3 +228,42 @@ fn full_journal(rt: HostRuntime) -> Result<(), Fail> {
     );
     Ok(())
 }
+
+#[test]
+fn days(rt: HostRuntime) -> Result<(), Fail> {
+    let offer = submit(b"B", b"S1", Side::Sell, 3000)?;
+    let bid = submit(b"A", b"B1", Side::Buy, 5000)?;
+    let again = submit(b"A", b"B1", Side::Buy, 6000)?;
+    let given = [bid, offer, again];
+    let settled = run_commands(&rt, rt.alloc(), 24, &given)?;
+    let entries = settled.journal().entries();
+    assert!(rt; settled.journal().periods() == 24 && entries.len() == 4);
+    let mut of_a = 0;
+    for entry in entries {
+        match &entry.command {
+            Command::Submit { who, .. } if *who == participant(b"A")? => {
+                assert!(rt; entry.command == given[if of_a == 0 { 0 } else { 2 }]);
+                of_a = if of_a == 0 { 1 } else { 2 };
+            }
+            Command::Submit { .. } => assert!(rt; entry.command == given[1]),
+            _ => assert!(rt; entry.number == 4 && entry.command == Command::Close),
+        }
+    }
+    assert!(rt; of_a == 2 && settled.journal().book().len() == 2);
+    Ok(())
+}
+
+#[test]
+fn days_refused(rt: HostRuntime) -> Result<(), Fail> {
+    let closed = run_commands(&rt, rt.alloc(), 24, &[cancel(b"A", b"S1")?, Command::Close]);
+    assert_eq!(rt; closed.err(), Some(DayFault::CloseGiven(1)));
+    let mut given = Vec::new(rt.alloc());
+    for code in [b"A", b"B", b"C", b"D", b"E", b"F", b"G", b"H", b"I"] {
+        given.push(cancel(code.as_slice(), b"S1")?)?;
+    }
+    let nine = run_commands(&rt, rt.alloc(), 24, &given);
+    assert_eq!(rt; nine.err(), Some(DayFault::TooManyParticipants(8)));
+    let none = run_commands(&rt, rt.alloc(), 23, &[])?;
+    assert!(rt; none.journal().entries().len() == 1 && none.journal().book().is_closed());
+    Ok(())
+}

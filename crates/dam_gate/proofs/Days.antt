@@ -1,0 +1,454 @@
+-- A settled gate through which each participant entered its own commands in their order holds a day run.
+use Rattle.std.proofs.Common.{◌-◌, nat_lt, All, ◌≡◌, ◌≢◌, ℕ, zero, suc, ◌+◌, ◌<◌, ◌≤◌, ◌==◌, ◌⊎◌, inl, inr, Bool, true, false, cond, if◌then◌else◌, ◌||◌, List, [], ◌∷◌, ◌++◌, length, get_or, map, take, drop, Option, Some, None, refl, sym, ap, ap₂, subst, ◌∙◌, append-nil, length-append, arith}
+use Rattle.std.specs.List.{filter}
+use Rattle.std.specs.Bool.{Decides}
+use Rattle.std.proofs.lemmas.Bool.{eqb-true, eqb-false, cases_lt, le-ltb, or_parts}
+use Rattle.std.proofs.lemmas.Bool.Decides.{Decides-eqb}
+use Rattle.std.proofs.lemmas.List.{length-map, take-append-drop}
+use Rattle.std.proofs.lemmas.List.Elements.{filter-append}
+use Rattle.std.proofs.lemmas.Slice.Eq.{slice_eq-Decides}
+use Rattle.dam_book.specs.Name.{same_text}
+use Rattle.dam_book.specs.declared.command.Command.{Command}
+use Rattle.dam_book.specs.declared.command.Command.TheVariants.{Submit, Amend, Cancel, Close}
+use Rattle.dam_book.specs.declared.command.Entry.{Entry}
+use Rattle.dam_book.specs.Book.{BookState, empty_book, book_after, commands_of, IsLegalFrom, IsLegalHistory}
+use Rattle.dam_gate.specs.Pass.{PassState, IsPass, AreInOrder, new_pass, is_own, is_from, is_close}
+use Rattle.dam_gate.specs.Settled.{numbered, receipts_of, AreReceipts}
+use Rattle.dam_gate.specs.Day.{commands_by, own_commands, is_one_of, AreApart, AreGivers, AreServed, HasEntered, IsDayFault, refused, giver, with_giver, refused_at, refused_from, IsDayRun}
+use Rattle.dam_gate.specs.declared.day.DayFault.{DayFault}
+use Rattle.dam_gate.specs.declared.day.DayFault.TheVariants.{TooManyCommands, CloseGiven, TooManyParticipants, NotSettled, Memory}
+use Rattle.dam_gate.specs.declared.settlement.Mismatch.{Mismatch}
+use Rattle.dam_book.specs.Limits.{most_entries}
+use Rattle.dam_gate.specs.Limits.{most_participants}
+use Rattle.std.proofs.lemmas.Grind.{flat_map-append}
+use Rattle.std.proofs.lemmas.List.Folds.{list_any-append}
+use Rattle.dam_gate.proofs.Numbers.{numbered-head, numbered-behind}
+
+-- ---- texts
+
+text-Decides : (xs ys : List ℕ) → Decides (same_text xs ys) (xs ≡ ys)
+text-Decides xs ys = slice_eq-Decides Decides-eqb xs ys (same_text xs ys) refl
+
+-- a command is from one participant only
+from-one : (who other : List ℕ) (c : Command) → is_from who c ≡ true → is_from other c ≡ same_text other who
+from-one who other (Submit giver name order) from = ap (same_text other) (sym ((text-Decides who giver).0 from))
+from-one who other (Amend giver name price volumes) from = ap (same_text other) (sym ((text-Decides who giver).0 from))
+from-one who other (Cancel giver name) from = ap (same_text other) (sym ((text-Decides who giver).0 from))
+from-one who other Close from = absurd (cc)
+
+from-not_close : (who : List ℕ) (c : Command) → is_from who c ≡ true → is_close c ≡ false
+from-not_close who (Submit giver name order) from = refl
+from-not_close who (Amend giver name price volumes) from = refl
+from-not_close who (Cancel giver name) from = refl
+from-not_close who Close from = absurd (cc)
+
+-- ---- filters
+
+filter-yes : {X : Type 0} (p : X → Bool) (x : X) (xs : List X) → p x ≡ true → filter p (x ∷ xs) ≡ x ∷ filter p xs
+filter-yes p x xs is = ap (λ (b : Bool). cond b (x ∷ filter p xs) (filter p xs)) is
+
+filter-no : {X : Type 0} (p : X → Bool) (x : X) (xs : List X) → p x ≡ false → filter p (x ∷ xs) ≡ filter p xs
+filter-no p x xs is = ap (λ (b : Bool). cond b (x ∷ filter p xs) (filter p xs)) is
+
+both-step : {X : Type 0} (p q : X → Bool) (x : X) (xs : List X) (s t : Bool) → filter p (filter q xs) ≡ filter q (filter p xs) → p x ≡ s → q x ≡ t
+    → filter p (filter q (x ∷ xs)) ≡ filter q (filter p (x ∷ xs))
+both-step p q x xs true true ih a b =
+    ap (filter p) (filter-yes q x xs b) ∙ filter-yes p x (filter q xs) a ∙ ap (λ (ys : List _). x ∷ ys) ih ∙ sym (filter-yes q x (filter p xs) b) ∙ sym (ap (filter q) (filter-yes p x xs a))
+both-step p q x xs true false ih a b =
+    ap (filter p) (filter-no q x xs b) ∙ ih ∙ sym (filter-no q x (filter p xs) b) ∙ sym (ap (filter q) (filter-yes p x xs a))
+both-step p q x xs false true ih a b = ap (filter p) (filter-yes q x xs b) ∙ filter-no p x (filter q xs) a ∙ ih ∙ sym (ap (filter q) (filter-no p x xs a))
+both-step p q x xs false false ih a b = ap (filter p) (filter-no q x xs b) ∙ ih ∙ sym (ap (filter q) (filter-no p x xs a))
+
+both-filters : {X : Type 0} (p q : X → Bool) (xs : List X) → filter p (filter q xs) ≡ filter q (filter p xs)
+both-filters p q [] = refl
+both-filters p q (x ∷ xs) = both-step p q x xs (p x) (q x) (both-filters p q xs) refl refl
+
+-- whether the entry's command passes
+abbrev pub of_command : (Command → Bool) → Entry → Bool
+of_command p e = p e.command
+
+commands-step : (p : Command → Bool) (e : Entry) (es : List Entry) (t : Bool) → commands_of (filter (of_command p) es) ≡ filter p (commands_of es) → p e.command ≡ t
+    → commands_of (filter (of_command p) (e ∷ es)) ≡ filter p (commands_of (e ∷ es))
+commands-step p e es true ih is =
+    ap commands_of (filter-yes (of_command p) e es is) ∙ ap (λ (cs : List Command). e.command ∷ cs) ih ∙ sym (filter-yes p e.command (commands_of es) is)
+commands-step p e es false ih is = ap commands_of (filter-no (of_command p) e es is) ∙ ih ∙ sym (filter-no p e.command (commands_of es) is)
+
+commands-filter : (p : Command → Bool) (es : List Entry) → commands_of (filter (of_command p) es) ≡ filter p (commands_of es)
+commands-filter p [] = refl
+commands-filter p (e ∷ es) = commands-step p e es (p e.command) (commands-filter p es) refl
+
+no_commands : (es : List Entry) → commands_of es ≡ [] → es ≡ []
+no_commands [] none = refl
+no_commands (e ∷ es) none = absurd (cc)
+
+-- ---- entries in order
+
+order-lower : (low less seen : ℕ) (es : List Entry) → less ≤ low → AreInOrder low seen es → AreInOrder less seen es
+order-lower low less seen [] below ordered = omega (arith, below, ordered)
+order-lower low less seen (e ∷ es) below ordered = (omega (arith, below, ordered.0), ordered.1)
+
+order-step : (p : Entry → Bool) (low seen : ℕ) (e : Entry) (es : List Entry) (t : Bool) → low < e.number → AreInOrder e.number seen (filter p es) → p e ≡ t
+    → AreInOrder low seen (filter p (e ∷ es))
+order-step p low seen e es true above rest is = subst (AreInOrder low seen) (sym (filter-yes p e es is)) (above, rest)
+order-step p low seen e es false above rest is =
+    subst (AreInOrder low seen) (sym (filter-no p e es is)) (order-lower e.number low seen (filter p es) (omega (arith, above)) rest)
+
+order-filter : (p : Entry → Bool) (low seen : ℕ) (es : List Entry) → AreInOrder low seen es → AreInOrder low seen (filter p es)
+order-filter p low seen [] ordered = ordered
+order-filter p low seen (e ∷ es) ordered = order-step p low seen e es (p e) ordered.0 (order-filter p e.number seen es ordered.1) refl
+
+legal-order : (low : ℕ) (b : BookState) (es : List Entry) → IsLegalFrom (suc low) b es → AreInOrder low (low + length es) es
+legal-order low b [] legal = omega arith
+legal-order low b (e ∷ es) legal =
+    let own : suc low ≡ e.number = sym legal.0 in
+    let last : suc low + length es ≡ low + suc (length es) = omega arith in (
+      omega (arith, own),
+      subst (λ (n : ℕ). AreInOrder n (low + suc (length es)) es) own
+          (subst (λ (n : ℕ). AreInOrder (suc low) n es) last (legal-order (suc low) (book_after b e.command) es legal.2)),
+    )
+
+none_in_order : (m low seen : ℕ) (es : List Entry) → m ≤ low → AreInOrder low seen es → numbered m es ≡ []
+none_in_order m low seen [] below ordered = refl
+none_in_order m low seen (e ∷ es) below ordered =
+    numbered-behind m e es (λ same. omega (arith, same, below, ordered.0)) ∙ none_in_order m e.number seen es (omega (arith, below, ordered.0)) ordered.1
+
+same-tails : (m last first : ℕ) (x y : Entry) (xs ys : List Entry) → x ≡ y → AreInOrder x.number last xs → AreInOrder y.number first ys
+    → numbered m (x ∷ xs) ≡ numbered m (y ∷ ys) → (x.number ≡ m) ⊎ (x.number ≢ m) → numbered m xs ≡ numbered m ys
+same-tails m last first x y xs ys head a b same (inl own) =
+    none_in_order m x.number last xs (omega (arith, own)) a
+    ∙ sym (none_in_order m y.number first ys (let n = ap (λ (e : Entry). e.number) head in omega (arith, own, n)) b)
+same-tails m last first x y xs ys head a b same (inr other) =
+    sym (numbered-behind m x xs other) ∙ same ∙ numbered-behind m y ys (λ own. other (ap (λ (e : Entry). e.number) head ∙ own))
+
+is_number : (n m : ℕ) → (n ≡ m) ⊎ (n ≢ m)
+is_number n m = elim (n == m) as (λ (t : Bool). n == m ≡ t → (n ≡ m) ⊎ (n ≢ m)) [ true ↦ λ e. inl (eqb-true n m e) | false ↦ λ e. inr (eqb-false n m e) ] refl
+
+-- the one of the lesser number would be missing in the other list
+heads-apart : (last : ℕ) (x y : Entry) (xs ys : List Entry) → numbered x.number (x ∷ xs) ≡ numbered x.number (y ∷ ys) → AreInOrder y.number last ys → x.number < y.number → ⊥
+heads-apart last x y xs ys same ordered less =
+    let none : numbered x.number (y ∷ ys) ≡ [] =
+    numbered-behind x.number y ys (λ e. omega (arith, e, less)) ∙ none_in_order x.number y.number last ys (omega (arith, less)) ordered in
+    let some : x ∷ numbered x.number xs ≡ [] = sym (numbered-head x.number x xs refl) ∙ same ∙ none in
+    cc
+
+heads-equal : (x y : Entry) (xs ys : List Entry) → x.number ≡ y.number → numbered x.number (x ∷ xs) ≡ numbered x.number (y ∷ ys) → x ≡ y
+heads-equal x y xs ys number same =
+    let both : x ∷ numbered x.number xs ≡ y ∷ numbered x.number ys = sym (numbered-head x.number x xs refl) ∙ same ∙ numbered-head x.number y ys (sym number) in
+    cc
+
+heads : (last first : ℕ) (x y : Entry) (xs ys : List Entry) → AreInOrder x.number last xs → AreInOrder y.number first ys
+    → ((m : ℕ) → numbered m (x ∷ xs) ≡ numbered m (y ∷ ys)) → (x.number < y.number) ⊎ (y.number ≤ x.number) → (y.number < x.number) ⊎ (x.number ≤ y.number) → x ≡ y
+heads last first x y xs ys a b same (inl less) other = absurd (heads-apart first x y xs ys (same x.number) b less)
+heads last first x y xs ys a b same (inr more) (inl less) = absurd (heads-apart last y x ys xs (sym (same y.number)) a less)
+heads last first x y xs ys a b same (inr more) (inr no_more) = heads-equal x y xs ys (omega (arith, more, no_more)) (same x.number)
+
+same_ordered : (low last less first : ℕ) (xs ys : List Entry) → AreInOrder low last xs → AreInOrder less first ys → ((m : ℕ) → numbered m xs ≡ numbered m ys) → xs ≡ ys
+same_ordered low last less first [] [] a b same = refl
+same_ordered low last less first [] (y ∷ ys) a b same =
+    let none : [] ≡ y ∷ numbered y.number ys = same y.number ∙ numbered-head y.number y ys refl in absurd (cc)
+same_ordered low last less first (x ∷ xs) [] a b same =
+    let none : [] ≡ x ∷ numbered x.number xs = sym (same x.number) ∙ numbered-head x.number x xs refl in absurd (cc)
+same_ordered low last less first (x ∷ xs) (y ∷ ys) a b same =
+    let head = heads last first x y xs ys a.1 b.1 same (cases_lt x.number y.number) (cases_lt y.number x.number) in
+    ap₂ (λ (e : Entry) (es : List Entry). e ∷ es) head
+    (same_ordered x.number last y.number first xs ys a.1 b.1 (λ m. same-tails m last first x y xs ys head a.1 b.1 (same m) (is_number x.number m)))
+
+-- what passes of the receipts, in order, is what passes of the entries
+same_passing : (p : Entry → Bool) (periods seen : ℕ) (es rs : List Entry) → IsLegalHistory periods es → AreReceipts es rs → AreInOrder 0 seen (filter p rs) → filter p rs ≡ filter p es
+same_passing p periods seen es rs legal are ordered =
+    same_ordered 0 seen 0 (length es) (filter p rs) (filter p es) ordered
+    (subst (λ (n : ℕ). AreInOrder 0 n (filter p es)) (let e : 0 + length es ≡ length es = omega arith in e) (order-filter p 0 (0 + length es) es (legal-order 0 (empty_book periods) es legal)))
+    (λ m. both-filters (λ (e : Entry). e.number == m) p rs ∙ ap (filter p) (are m) ∙ both-filters p (λ (e : Entry). e.number == m) es)
+
+-- ---- the shares of the participants
+
+-- of one's own commands all are one's own, and none another's
+own-step : (who other : List ℕ) (c : Command) (cs : List Command) (t : Bool) → filter (is_from other) (filter (is_from who) cs) ≡ cond (same_text other who) (filter (is_from who) cs) []
+    → is_from who c ≡ t → filter (is_from other) (filter (is_from who) (c ∷ cs)) ≡ cond (same_text other who) (filter (is_from who) (c ∷ cs)) []
+own-step who other c cs true ih is =
+    ap (filter (is_from other)) (filter-yes (is_from who) c cs is)
+    ∙ go (same_text other who) (filter (is_from who) cs) ih (from-one who other c is)
+    ∙ ap (λ (ds : List Command). cond (same_text other who) ds []) (sym (filter-yes (is_from who) c cs is))
+  where
+    go : (b : Bool) (ds : List Command) → filter (is_from other) ds ≡ cond b ds [] → is_from other c ≡ b → filter (is_from other) (c ∷ ds) ≡ cond b (c ∷ ds) []
+    go true ds rest from = filter-yes (is_from other) c ds from ∙ ap (λ (xs : List Command). c ∷ xs) rest
+    go false ds rest from = filter-no (is_from other) c ds from ∙ rest
+own-step who other c cs false ih is =
+    ap (filter (is_from other)) (filter-no (is_from who) c cs is) ∙ ih ∙ ap (λ (ds : List Command). cond (same_text other who) ds []) (sym (filter-no (is_from who) c cs is))
+
+nothing_left : (b : Bool) (cs : List Command) → cs ≡ [] → cs ≡ cond b cs []
+nothing_left true cs none = refl
+nothing_left false cs none = none
+
+own_again : (who other : List ℕ) (cs : List Command) → commands_by other (commands_by who cs) ≡ cond (same_text other who) (commands_by who cs) []
+own_again who other [] = nothing_left (same_text other who) [] refl
+own_again who other (c ∷ cs) = own-step who other c cs (is_from who c) (own_again who other cs) refl
+
+no_close-step : (who : List ℕ) (c : Command) (cs : List Command) (t : Bool) → filter is_close (filter (is_from who) cs) ≡ [] → is_from who c ≡ t
+    → filter is_close (filter (is_from who) (c ∷ cs)) ≡ []
+no_close-step who c cs true ih is =
+    ap (filter is_close) (filter-yes (is_from who) c cs is) ∙ filter-no is_close c (filter (is_from who) cs) (from-not_close who c is) ∙ ih
+no_close-step who c cs false ih is = ap (filter is_close) (filter-no (is_from who) c cs is) ∙ ih
+
+no_close : (who : List ℕ) (cs : List Command) → filter is_close (commands_by who cs) ≡ []
+no_close who [] = refl
+no_close who (c ∷ cs) = no_close-step who c cs (is_from who c) (no_close who cs) refl
+
+-- ---- who gives the commands
+
+text-apart : (a b : List ℕ) → same_text a b ≡ false → same_text b a ≡ false
+text-apart a b apart = go (same_text b a) refl
+  where
+    go : (t : Bool) → same_text b a ≡ t → t ≡ false
+    go true is = let one : true ≡ false = sym ((text-Decides a b).1 (sym ((text-Decides b a).0 is))) ∙ apart in absurd (cc)
+    go false is = refl
+
+from-giver : (other who : List ℕ) (c : Command) → giver c ≡ Some who → is_from other c ≡ same_text other who
+from-giver other who (Submit w name order) is = let same : w ≡ who = cc in ap (same_text other) same
+from-giver other who (Amend w name price volumes) is = let same : w ≡ who = cc in ap (same_text other) same
+from-giver other who (Cancel w name) is = let same : w ≡ who = cc in ap (same_text other) same
+from-giver other who Close is = absurd (cc)
+
+apart-more : (whos : List (List ℕ)) (who : List ℕ) → AreApart whos → is_one_of whos who ≡ false → AreApart (whos ++ who ∷ [])
+apart-more [] who apart other = (refl, tt)
+apart-more (w ∷ whos) who apart other =
+    let parts = or_parts (same_text who w) (is_one_of whos who) other in
+    (list_any-append (same_text w) whos (who ∷ []) ∙ ap₂ (λ (a b : Bool). a || (b || false)) apart.0 (text-apart who w parts.0), apart-more whos who apart.1 parts.1)
+
+by-none : (other : List ℕ) (front : List Command) (c : Command) → commands_by other front ≡ [] → is_from other c ≡ false → commands_by other (front ++ c ∷ []) ≡ []
+by-none other front c none not_from =
+    filter-append (is_from other) front (c ∷ []) ∙ ap₂ (λ (cs : List Command) (b : Bool). cs ++ cond b (c ∷ []) []) none not_from
+
+known-giver : (whos : List (List ℕ)) (who other : List ℕ) → is_one_of whos who ≡ true → is_one_of whos other ≡ false → same_text other who ≡ false
+known-giver whos who other known unknown = go (same_text other who) refl
+  where
+    go : (t : Bool) → same_text other who ≡ t → t ≡ false
+    go true is = let one : true ≡ false = sym known ∙ ap (is_one_of whos) (sym ((text-Decides other who).0 is)) ∙ unknown in absurd (cc)
+    go false is = refl
+
+givers-step : (whos : List (List ℕ)) (who : List ℕ) (c : Command) (front : List Command) (t : Bool) → is_one_of whos who ≡ t → giver c ≡ Some who → AreGivers whos front
+    → AreGivers (if t then whos else whos ++ who ∷ []) (front ++ c ∷ [])
+givers-step whos who c front true known gives are =
+    record {
+      apart = are.apart;
+      all = λ other unknown. by-none other front c (are.all other unknown) (from-giver other who c gives ∙ known-giver whos who other known unknown);
+    }
+givers-step whos who c front false new gives are =
+    record {
+      apart = apart-more whos who are.apart new;
+      all = λ other unknown.
+          let parts = or_parts (is_one_of whos other) (same_text other who || false) (sym (list_any-append (same_text other) whos (who ∷ [])) ∙ unknown) in
+          let apart = or_parts (same_text other who) false parts.1 in
+          by-none other front c (are.all other parts.0) (from-giver other who c gives ∙ apart.0);
+    }
+
+pub givers-more : (whos : List (List ℕ)) (who : List ℕ) (c : Command) (front : List Command) → giver c ≡ Some who → AreGivers whos front → AreGivers (with_giver whos who) (front ++ c ∷ [])
+givers-more whos who c front gives are = givers-step whos who c front (is_one_of whos who) refl gives are
+
+pub left-more : (i : ℕ) (whos : List (List ℕ)) (who : List ℕ) (c : Command) (cs rest : List Command) (end : Option DayFault) → giver c ≡ Some who → length (with_giver whos who) ≤ most_participants
+    → cs ≡ c ∷ rest → refused_from i whos cs ≡ end → refused_from (i + 1) (with_giver whos who) rest ≡ end
+left-more i whos who c cs rest end gives few next kept =
+    let behind = λ (more : List (List ℕ)). refused_from (i + 1) more rest in
+    sym (ap (λ (b : Bool). if b then Some (TooManyParticipants i) else behind (with_giver whos who)) (le-ltb most_participants (length (with_giver whos who)) few))
+    ∙ sym (ap (λ (g : Option (List ℕ)). refused_at i whos g behind) gives) ∙ ap (refused_from i whos) (sym next) ∙ kept
+
+-- ---- the shares of the participants in the journal
+
+-- what of the receipts is from a participant
+pub record Share (given : List Command) (other : List ℕ) (one : Bool) (rs : List Entry) : Type 0 where
+  pub last : ℕ
+  pub in_order : AreInOrder 0 last (filter (of_command (is_from other)) rs)
+  pub commands : commands_of (filter (of_command (is_from other)) rs) ≡ cond one (commands_by other given) []
+
+share-step : (given : List Command) (other who : List ℕ) (whos : List (List ℕ)) (p : PassState) (rest : List Entry) (t : Bool) → is_one_of whos who ≡ false → IsPass p
+    → commands_of (filter (of_command (is_from other)) p.receipts) ≡ cond t (commands_by who given) [] → same_text other who ≡ t → Share given other (is_one_of whos other) rest
+    → Share given other (t || is_one_of whos other) (p.receipts ++ rest)
+share-step given other who whos p rest true apart pass mine is share =
+    let same : other ≡ who = (text-Decides other who).0 is in
+    let P = of_command (is_from other) in
+    let gone : filter P rest ≡ [] =
+    no_commands (filter P rest) (share.commands ∙ ap (λ (b : Bool). cond b (commands_by other given) []) (ap (is_one_of whos) same ∙ apart)) in
+    let whole : filter P (p.receipts ++ rest) ≡ filter P p.receipts =
+    filter-append P p.receipts rest ∙ ap (λ (es : List Entry). filter P p.receipts ++ es) gone ∙ append-nil (filter P p.receipts) in
+    record {
+      last = p.seen;
+      in_order = subst (AreInOrder 0 p.seen) (sym whole) (order-filter P 0 p.seen p.receipts pass);
+      commands = ap commands_of whole ∙ mine ∙ ap (λ (w : List ℕ). commands_by w given) (sym same);
+    }
+share-step given other who whos p rest false apart pass mine is share =
+    let P = of_command (is_from other) in
+    let gone : filter P p.receipts ≡ [] = no_commands (filter P p.receipts) mine in
+    let whole : filter P (p.receipts ++ rest) ≡ filter P rest = filter-append P p.receipts rest ∙ ap (λ (es : List Entry). es ++ filter P rest) gone in
+    record {
+      last = share.last;
+      in_order = subst (AreInOrder 0 share.last) (sym whole) share.in_order;
+      commands = ap commands_of whole ∙ share.commands;
+    }
+
+shares : (given : List Command) (other : List ℕ) (whos : List (List ℕ)) (ps : List PassState) → AreApart whos → AreServed given whos ps → Share given other (is_one_of whos other) (receipts_of ps)
+shares given other [] [] apart served = record { last = 0; in_order = omega arith; commands = refl }
+shares given other (who ∷ whos) (p ∷ ps) apart served =
+    share-step given other who whos p (receipts_of ps) (same_text other who) apart.0 served.1
+    (commands-filter (is_from other) p.receipts ∙ ap (filter (is_from other)) served.0 ∙ own_again who other given) refl
+    (shares given other whos ps apart.1 served.2)
+shares given other [] (p ∷ ps) apart served = absurd served
+shares given other (who ∷ whos) [] apart served = absurd served
+
+no_closes : (given : List Command) (whos : List (List ℕ)) (ps : List PassState) → AreServed given whos ps → filter (of_command is_close) (receipts_of ps) ≡ []
+no_closes given [] [] served = refl
+no_closes given (who ∷ whos) (p ∷ ps) served =
+    let Q = of_command is_close in
+    let mine : filter Q p.receipts ≡ [] =
+    no_commands (filter Q p.receipts) (commands-filter is_close p.receipts ∙ ap (filter is_close) served.0 ∙ no_close who given) in
+    filter-append Q p.receipts (receipts_of ps) ∙ ap₂ (λ (a b : List Entry). a ++ b) mine (no_closes given whos ps served.2)
+no_closes given [] (p ∷ ps) served = absurd served
+no_closes given (who ∷ whos) [] served = absurd served
+
+-- ---- the day
+
+known-or-none : (given : List Command) (who : List ℕ) (t : Bool) → (t ≡ false → commands_by who given ≡ []) → cond t (commands_by who given) [] ≡ commands_by who given
+known-or-none given who true none = refl
+known-or-none given who false none = sym (none refl)
+
+nothing_before : (xs : List Command) (c : Command) → xs ++ c ∷ [] ≡ c ∷ [] → xs ≡ []
+nothing_before [] c one = refl
+nothing_before (x ∷ xs) c one = absurd (omega (arith, ap (λ (ys : List Command). length ys) one, length-append xs (c ∷ [])))
+
+-- what the operator's pass adds
+with_operator : (p : Command → Bool) (ps : List PassState) (op : PassState) → filter (of_command p) (receipts_of (ps ++ op ∷ [])) ≡ filter (of_command p) (receipts_of ps) ++ filter (of_command p) op.receipts
+with_operator p ps op =
+    ap (filter (of_command p)) (flat_map-append (λ (q : PassState). q.receipts) ps (op ∷ []) ∙ ap (λ (es : List Entry). receipts_of ps ++ es) (append-nil op.receipts))
+    ∙ filter-append (of_command p) (receipts_of ps) op.receipts
+
+closed-by : (given : List Command) (whos : List (List ℕ)) (ps : List PassState) (op : PassState) → AreServed given whos ps
+    → filter (of_command is_close) (receipts_of (ps ++ op ∷ [])) ≡ filter (of_command is_close) op.receipts
+closed-by given whos ps op served =
+    with_operator is_close ps op ∙ ap (λ (xs : List Entry). xs ++ filter (of_command is_close) op.receipts) (no_closes given whos ps served)
+
+one-close : (periods : ℕ) (given : List Command) (whos : List (List ℕ)) (es : List Entry) (ps : List PassState) (op : PassState) (before : List Command)
+    → IsLegalHistory periods es → AreReceipts es (receipts_of (ps ++ op ∷ [])) → AreServed given whos ps
+    → commands_of op.receipts ≡ Close ∷ [] → IsPass op → commands_of es ≡ before ++ Close ∷ [] → filter is_close before ≡ []
+one-close periods given whos es ps op before legal are served closes pass last =
+    let Q = of_command is_close in
+    let rs = receipts_of (ps ++ op ∷ []) in
+    let closed = closed-by given whos ps op served in
+    let ordered : AreInOrder 0 op.seen (filter Q rs) = subst (AreInOrder 0 op.seen) (sym closed) (order-filter Q 0 op.seen op.receipts pass) in
+    let of_journal : commands_of (filter Q es) ≡ filter is_close before ++ Close ∷ [] =
+    commands-filter is_close es ∙ ap (filter is_close) last ∙ filter-append is_close before (Close ∷ []) in
+    let of_receipts : commands_of (filter Q rs) ≡ Close ∷ [] = ap commands_of closed ∙ commands-filter is_close op.receipts ∙ ap (filter is_close) closes in
+    nothing_before (filter is_close before) Close (sym of_journal ∙ ap commands_of (sym (same_passing Q periods op.seen es rs legal are ordered)) ∙ of_receipts)
+
+own-order : (periods : ℕ) (given : List Command) (whos : List (List ℕ)) (es : List Entry) (ps : List PassState) (op : PassState) (who : List ℕ)
+    → IsLegalHistory periods es → AreReceipts es (receipts_of (ps ++ op ∷ [])) → AreGivers whos given → AreServed given whos ps
+    → commands_of op.receipts ≡ Close ∷ [] → commands_by who (commands_of es) ≡ commands_by who given
+own-order periods given whos es ps op who legal are givers served closes =
+    let P = of_command (is_from who) in
+    let rs = receipts_of (ps ++ op ∷ []) in
+    let share = shares given who whos ps givers.apart served in
+    let none : filter P op.receipts ≡ [] = no_commands (filter P op.receipts) (commands-filter (is_from who) op.receipts ∙ ap (filter (is_from who)) closes) in
+    let whole : filter P rs ≡ filter P (receipts_of ps) =
+    with_operator (is_from who) ps op ∙ ap (λ (xs : List Entry). filter P (receipts_of ps) ++ xs) none ∙ append-nil (filter P (receipts_of ps)) in
+    let ordered : AreInOrder 0 share.last (filter P rs) = subst (AreInOrder 0 share.last) (sym whole) share.in_order in
+    sym (commands-filter (is_from who) es) ∙ ap commands_of (sym (same_passing P periods share.last es rs legal are ordered))
+    ∙ ap commands_of whole ∙ share.commands ∙ known-or-none given who (is_one_of whos who) (givers.all who)
+
+pub day_run : (periods : ℕ) (given : List Command) (whos : List (List ℕ)) (es : List Entry) (ps : List PassState) (op : PassState) (before : List Command)
+    → IsLegalHistory periods es → AreReceipts es (receipts_of (ps ++ op ∷ [])) → AreGivers whos given → AreServed given whos ps
+    → commands_of op.receipts ≡ Close ∷ [] → IsPass op → commands_of es ≡ before ++ Close ∷ [] → IsDayRun periods given es
+day_run periods given whos es ps op before legal are givers served closes pass last =
+    record {
+      legal = legal;
+      before = before;
+      close_last = last;
+      close_once = one-close periods given whos es ps op before legal are served closes pass last;
+      own_order = λ who. own-order periods given whos es ps op who legal are givers served closes;
+    }
+
+-- ---- what the code keeps
+
+pub own-split : (holder : Option (List ℕ)) (cs : List Command) (i : ℕ) → own_commands holder cs ≡ own_commands holder (take i cs) ++ own_commands holder (drop i cs)
+own-split holder cs i = ap (own_commands holder) (sym (take-append-drop i cs)) ∙ filter-append (is_own holder) (take i cs) (drop i cs)
+
+-- as many receipts as own commands are all of them
+none-left : (xs ys : List Command) → length xs ≡ length (xs ++ ys) → ys ≡ []
+none-left xs [] same = refl
+none-left xs (y ∷ ys) same = absurd (omega (arith, same, length-append xs (y ∷ ys)))
+
+all-entered : (own : List Command) (p : PassState) → HasEntered [] own p → length p.receipts ≡ length own → commands_of p.receipts ≡ own
+all-entered own p has as_long =
+    let count : length has.entered ≡ length (has.entered ++ has.left) =
+    ap (λ (cs : List Command). length cs) (sym has.receipts) ∙ length-map p.receipts (λ (e : Entry). e.command) ∙ as_long ∙ ap (λ (cs : List Command). length cs) has.own_is in
+    has.receipts ∙ sym (append-nil has.entered) ∙ ap (λ (cs : List Command). has.entered ++ cs) (sym (none-left has.entered has.left count)) ∙ sym has.own_is
+
+-- a participant's pass that entered all
+pub record IsEntered (given : List Command) (who : List ℕ) (p : PassState) : Type 0 where
+  pub holder : p.holder ≡ Some who
+  pub entered : HasEntered [] (own_commands (Some who) given) p
+  pub as_long : length p.receipts ≡ length (own_commands p.holder given)
+  pub pass : IsPass p
+
+served-from : (given : List Command) (whos : List (List ℕ)) (ps : List PassState) → length ps ≡ length whos
+    → ((i : ℕ) (d : PassState) (w : List ℕ) → i < length ps → IsEntered given (get_or whos i w) (get_or ps i d)) → AreServed given whos ps
+served-from given [] [] same are = tt
+served-from given (who ∷ whos) (p ∷ ps) same are =
+    let is = are 0 p who (omega arith) in
+    let as_long : length p.receipts ≡ length (own_commands (Some who) given) = is.as_long ∙ ap (λ (h : Option (List ℕ)). length (own_commands h given)) is.holder in (
+      all-entered (own_commands (Some who) given) p is.entered as_long,
+      is.pass,
+      served-from given whos ps (omega (arith, same)) (λ i d w within. are (suc i) d w (omega (arith, within))),
+    )
+served-from given [] (p ∷ ps) same are = absurd (omega (arith, same))
+served-from given (who ∷ whos) [] same are = absurd (omega (arith, same))
+
+new_at : (whos : List (List ℕ)) (i : ℕ) (d : PassState) (w : List ℕ) → i < length whos → get_or (map (λ (who : List ℕ). new_pass (Some who)) whos) i d ≡ new_pass (Some (get_or whos i w))
+new_at [] i d w within = absurd (omega (arith, within))
+new_at (who ∷ whos) zero d w within = refl
+new_at (who ∷ whos) (suc i) d w within = new_at whos i d w (omega (arith, within))
+
+pub served-all : (given : List Command) (whos : List (List ℕ)) (olds news : List PassState) → olds ≡ map (λ (who : List ℕ). new_pass (Some who)) whos → length news ≡ length olds
+    → ((i : ℕ) (d : PassState) → i < length olds → (get_or news i d).holder ≡ (get_or olds i d).holder)
+    → ((i : ℕ) (d : PassState) → i < length olds → HasEntered (commands_of (get_or olds i d).receipts) (own_commands (get_or olds i d).holder given) (get_or news i d))
+    → All (λ (p : PassState). IsPass p × (length p.receipts ≡ length (own_commands p.holder given))) news → AreServed given whos news
+served-all given whos olds news new_ones as_long holders entered all =
+    let many : length olds ≡ length whos = ap (λ (ps : List PassState). length ps) new_ones ∙ length-map whos (λ (who : List ℕ). new_pass (Some who)) in
+    served-from given whos news (as_long ∙ many)
+    (λ i d w within.
+    let inside : i < length olds = omega (arith, within, as_long) in
+    let at : get_or olds i d ≡ new_pass (Some (get_or whos i w)) =
+    ap (λ (ps : List PassState). get_or ps i d) new_ones ∙ new_at whos i d w (omega (arith, within, as_long, many)) in
+    record {
+      holder = holders i d inside ∙ ap (λ (p : PassState). p.holder) at;
+      entered = subst (λ (q : PassState). HasEntered (commands_of q.receipts) (own_commands q.holder given) (get_or news i d)) at (entered i d inside);
+      as_long = (all i d within).1;
+      pass = (all i d within).0;
+    })
+
+-- ---- the faults
+
+never-if : (b : Bool) (place : ℕ) (rest : Option DayFault) (why : Mismatch) → (rest ≡ Some (NotSettled why) → ⊥)
+    → (if b then Some (TooManyParticipants place) else rest) ≡ Some (NotSettled why) → ⊥
+never-if true place rest why never is = cc
+never-if false place rest why never is = never is
+
+never-at : (place : ℕ) (whos : List (List ℕ)) (g : Option (List ℕ)) (behind : List (List ℕ) → Option DayFault) (why : Mismatch)
+    → ((more : List (List ℕ)) → behind more ≡ Some (NotSettled why) → ⊥) → refused_at place whos g behind ≡ Some (NotSettled why) → ⊥
+never-at place whos None behind why never is = cc
+never-at place whos (Some who) behind why never is =
+    never-if (nat_lt most_participants (length (with_giver whos who))) place (behind (with_giver whos who)) why (never (with_giver whos who)) is
+
+never-settles : (place : ℕ) (whos : List (List ℕ)) (cs : List Command) (why : Mismatch) → refused_from place whos cs ≡ Some (NotSettled why) → ⊥
+never-settles place whos [] why is = cc
+never-settles place whos (c ∷ cs) why is =
+    never-at place whos (giver c) (λ more. refused_from (place + 1) more cs) why (λ more. never-settles (place + 1) more cs why) is
+
+-- where there are not too many commands, the first that is refused decides
+pub refused-few : (cs : List Command) → length cs < most_entries → refused cs ≡ refused_from 0 [] cs
+refused-few cs few = ap (λ (b : Bool). if b then Some TooManyCommands else refused_from 0 [] cs) (le-ltb (most_entries - 1) (length cs) (omega (arith, few)))
+
+pub refused-fault : (cs : List Command) (fault : DayFault) → length cs < most_entries → (fault ≡ Memory) ⊎ (refused_from 0 [] cs ≡ Some fault) → IsDayFault cs fault
+refused-fault cs fault few (inl none) = subst (IsDayFault cs) (sym none) tt
+refused-fault cs Memory few (inr is) = tt
+refused-fault cs (NotSettled why) few (inr is) = absurd (never-settles 0 [] cs why is)
+refused-fault cs TooManyCommands few (inr is) = refused-few cs few ∙ is
+refused-fault cs (CloseGiven place) few (inr is) = refused-few cs few ∙ is
+refused-fault cs (TooManyParticipants place) few (inr is) = refused-few cs few ∙ is

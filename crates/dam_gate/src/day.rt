@@ -1,0 +1,319 @@
+ghost use Rattle.std.specs.Option.{option_copied};
+ghost use Rattle.dam_book.specs.Limits.{most_entries};
+ghost use Rattle.dam_gate.specs.Limits.{most_participants};
+ghost use Rattle.std.specs.Prelude.{◌≡◌, ◌⊎◌, ◌≤◌, All, List, OnOk, ◌<◌, ◌++◌, ◌∷◌, [], ℕ, true, false, None, Some, length, map, slice_index_or, IfOk, IfErr, MatchResult};
+ghost use Rattle.dam_book.specs.Book.{is_day, commands_of};
+ghost use Rattle.dam_gate.specs.Journal.{IsJournal};
+ghost use Rattle.dam_gate.specs.Pass.{PassState, IsPass, new_pass};
+ghost use Rattle.dam_gate.specs.Settled.{IsSettled};
+ghost use Rattle.dam_gate.specs.Day.{AreGivers, AreServed, HasEntered, IsClosedDay, IsDayFault, IsDayRun, IsLateFault, refused, giver, is_one_of, own_commands, refused_at, refused_from, with_giver};
+
+use crate::gate::{Gate, GateFault, PassFault};
+use crate::keeper::Journal;
+use crate::limits::MOST_PARTICIPANTS;
+use crate::pass::Pass;
+use crate::settlement::{Mismatch, Settled, settle};
+use dam_book::{Command, MOST_ENTRIES, Participant};
+use std::alloc::{AllocError, AllocFailed, Global};
+use std::sync::Wait;
+use std::thread;
+use std::thread::Threads;
+use thiserror::Error;
+
+/// Why a day of given commands isn't run, in the order in which it is looked for. A place is counted from 0.
+#[derive(Clone, Copy, PartialEq, Eq, Debug, Error)]
+pub enum DayFault {
+    /// There are more commands than a journal has room for before its close.
+    #[error("too many commands")]
+    TooManyCommands,
+    /// The command at this place is a close, which only the operator gives.
+    #[error("command {0} is a close")]
+    CloseGiven(usize),
+    /// The command at this place brings one participant too many.
+    #[error("command {0} brings one participant too many")]
+    TooManyParticipants(usize),
+    /// The journal and the passes came out unsettled.
+    #[error("not settled: {0}")]
+    NotSettled(Mismatch),
+    /// Memory ran out, or a call or a pass was refused.
+    #[error("out of memory")]
+    Memory,
+}
+
+impl From<AllocError> for DayFault {
+    ghost use Rattle.std.specs.Prelude.{◌≡◌};
+    ghost use Rattle.dam_gate.specs.declared.day.DayFault.TheVariants.{Memory};
+
+    ghost from_gives = { λ _ fault. fault ≡ Memory };
+
+    fn from(_error: AllocError) -> DayFault {
+        DayFault::Memory
+    }
+}
+
+impl<T: Drop> From<AllocFailed<T>> for DayFault {
+    ghost use Rattle.std.specs.Prelude.{◌≡◌};
+    ghost use Rattle.dam_gate.specs.declared.day.DayFault.TheVariants.{Memory};
+
+    ghost from_gives = { λ _ fault. fault ≡ Memory };
+
+    fn from(_error: AllocFailed<T>) -> DayFault {
+        DayFault::Memory
+    }
+}
+
+impl From<PassFault> for DayFault {
+    ghost use Rattle.std.specs.Prelude.{◌≡◌};
+    ghost use Rattle.dam_gate.specs.declared.day.DayFault.TheVariants.{Memory};
+
+    ghost from_gives = { λ _ fault. fault ≡ Memory };
+
+    fn from(_fault: PassFault) -> DayFault {
+        DayFault::Memory
+    }
+}
+
+impl From<GateFault> for DayFault {
+    ghost use Rattle.std.specs.Prelude.{◌≡◌};
+    ghost use Rattle.dam_gate.specs.declared.day.DayFault.TheVariants.{Memory};
+
+    ghost from_gives = { λ _ fault. fault ≡ Memory };
+
+    fn from(_fault: GateFault) -> DayFault {
+        DayFault::Memory
+    }
+}
+
+/// Enters the holder's own commands in their order, up to the first that is refused.
+fn enter(rt: &impl Wait, gate: &Gate, pass: &mut Pass, commands: &[Command])
+    ensures holder { pass.new.holder ≡ pass.old.holder }
+    ensures entered { HasEntered (commands_of pass.old.receipts) (own_commands pass.old.holder commands.now) pass.new }
+{
+    for given in commands {
+        if !pass.owns(given) {
+            continue;
+        }
+        let Ok(_entry) = gate.call(rt, pass, given.copy()) else {
+            return;
+        };
+    }
+}
+
+/// Has each participant enter its commands, on a thread of its own where one can be started.
+fn enter_all<R: Threads + Wait + Sync>(
+    rt: &R,
+    gate: &Gate,
+    passes: &mut [Pass],
+    commands: &[Command],
+)
+    ensures holder { (i : ℕ) (d : PassState) → i < length passes.old
+        → (slice_index_or passes.new i d).holder ≡ (slice_index_or passes.old i d).holder }
+    ensures entered { (i : ℕ) (d : PassState) → i < length passes.old
+        → HasEntered (commands_of (slice_index_or passes.old i d).receipts) (own_commands (slice_index_or passes.old i d).holder commands.now) (slice_index_or passes.new i d) }
+{
+    thread::for_each_mut(
+        rt,
+        passes,
+        MOST_PARTICIPANTS,
+        &|_, pass| enter(rt, gate, pass, commands),
+    );
+}
+
+fn count_own(pass: &Pass, commands: &[Command]) -> usize
+    ensures { result ≡ length (own_commands pass.now.holder commands.now) }
+{
+    let mut count = 0;
+    for command in commands {
+        if pass.owns(command) {
+            count += 1;
+        }
+    }
+    count
+}
+
+/// Whether no call was refused: each holder has as many receipts as commands of its own.
+fn have_all_entered(passes: &[Pass], commands: &[Command]) -> bool
+    ensures { result ≡ true → All (λ (p : PassState). IsPass p × (length p.receipts ≡ length (own_commands p.holder commands.now))) passes.now }
+{
+    for pass in passes {
+        if pass.receipts().len() != count_own(pass, commands) {
+            return false;
+        }
+    }
+    true
+}
+
+/// Who gives the command; a close is nobody's.
+fn giver(command: &Command) -> Option<&Participant>
+    ensures { option_copied result ≡ giver command.now }
+{
+    match command {
+        Command::Submit { who, .. } | Command::Amend { who, .. } | Command::Cancel { who, .. } => {
+            Some(who)
+        }
+        Command::Close => None,
+    }
+}
+
+fn is_one_of(whos: &[Participant], who: &Participant) -> bool
+    ensures { result ≡ is_one_of whos.now who.now }
+{
+    whos.iter().any(|other| *who == *other)
+}
+
+/// Takes the giver of the command at this place among the participants.
+fn take_giver(whos: &mut Vec<Participant>, command: &Command, place: usize) -> Result<(), DayFault>
+    requires { length whos.old.items ≤ most_participants }
+    ensures few { OnOk result (length whos.new.items ≤ most_participants) }
+    ensures giver { OnOk result ((who : List ℕ) × (giver command.now ≡ Some who) × (whos.new.items ≡ with_giver whos.old.items who)) }
+    ensures refused { IfErr result (λ fault. (fault ≡ DayFault.Memory) ⊎ ((behind : _) → refused_at place whos.old.items (giver command.now) behind ≡ Some fault)) }
+{
+    let Some(who) = giver(command) else {
+        return Err(DayFault::CloseGiven(place));
+    };
+    if is_one_of(whos, who) {
+        return Ok(());
+    }
+    if whos.len() >= MOST_PARTICIPANTS {
+        return Err(DayFault::TooManyParticipants(place));
+    }
+    whos.push(who.copy())?;
+    Ok(())
+}
+
+/// The participants who give the commands, by first occurrence.
+fn participants(alloc: Global, commands: &[Command]) -> Result<Vec<Participant>, DayFault>
+    ensures ok { IfOk result (λ whos. AreGivers whos.items commands.now) }
+    ensures given { OnOk result (refused_from 0 [] commands.now ≡ None) }
+    ensures refused { IfErr result (λ fault. (fault ≡ DayFault.Memory) ⊎ (refused_from 0 [] commands.now ≡ Some fault)) }
+{
+    let mut whos = Vec::new(alloc);
+    for (place, command) in commands.iter().enumerate() {
+        take_giver(&mut whos, command, place)?;
+    }
+    Ok(whos)
+}
+
+/// A pass for each participant.
+fn passes_for(
+    rt: &impl Wait,
+    alloc: Global,
+    gate: &Gate,
+    whos: &[Participant],
+) -> Result<Vec<Pass>, DayFault>
+    ensures ok { IfOk result (λ passes. passes.items ≡ map (λ who. new_pass (Some who)) whos.now) }
+    ensures err { IfErr result (λ fault. fault ≡ DayFault.Memory) }
+{
+    let mut passes = Vec::with_capacity(alloc, whos.len())?;
+    for who in whos {
+        passes.push(gate.pass(rt, who.copy())?)?;
+    }
+    Ok(passes)
+}
+
+/// The operator's pass, through which it has closed.
+fn close(rt: &impl Wait, gate: &Gate) -> Result<Pass, DayFault>
+    ensures ok { IfOk result (λ operator. commands_of operator.receipts ≡ Command.Close ∷ []) }
+    ensures pass { IfOk result IsPass }
+    ensures err { IfErr result (λ fault. fault ≡ DayFault.Memory) }
+{
+    let mut operator = gate.operator(rt)?;
+    let _entry = gate.call(rt, &mut operator, Command::Close)?;
+    let _receipts = operator.receipts();
+    Ok(operator)
+}
+
+/// The passes through which all commands were entered, one for each participant.
+fn enter_day<R: Threads + Wait + Sync>(
+    rt: &R,
+    alloc: Global,
+    gate: &Gate,
+    whos: &[Participant],
+    commands: &[Command],
+) -> Result<Vec<Pass>, DayFault>
+    ensures ok { IfOk result (λ passes. AreServed commands.now whos.now passes.items) }
+    ensures err { IfErr result (λ fault. fault ≡ DayFault.Memory) }
+{
+    let mut passes = passes_for(rt, alloc, gate, whos)?;
+    enter_all(rt, gate, &mut passes, commands);
+    if !have_all_entered(&passes, commands) {
+        return Err(DayFault::Memory);
+    }
+    Ok(passes)
+}
+
+/// Whether the journal is of such a day and ends with a close.
+fn is_closed_day(journal: &Journal, periods: u8) -> bool
+    ensures { result ≡ true → IsClosedDay periods journal.now }
+{
+    match journal.entries() {
+        [.., last] => { journal.periods() == periods && matches!(last.command, Command::Close) }
+        [] => false,
+    }
+}
+
+/// The day of participants who give all the commands, at a gate of its own.
+fn run_day<R: Threads + Wait + Sync>(
+    rt: &R,
+    alloc: Global,
+    periods: u8,
+    whos: &[Participant],
+    commands: &[Command],
+) -> Result<Settled, DayFault>
+    requires day { is_day periods ≡ true }
+    requires givers { AreGivers whos.now commands.now }
+    ensures periods { IfOk result (λ settled. settled.book.periods ≡ periods) }
+    ensures journal { IfOk result IsJournal }
+    ensures day { IfOk result (λ settled. IsDayRun periods commands.now settled.entries) }
+    ensures err { IfErr result IsLateFault }
+{
+    let Ok(gate) = Gate::begin(alloc, periods) else {
+        unreachable!();
+    };
+    let mut passes = enter_day(rt, alloc, &gate, whos, commands)?;
+    let operator = close(rt, &gate)?;
+    passes.push(operator)?;
+    let settled = settle_day(alloc, gate.finish(), &passes)?;
+    if !is_closed_day(settled.journal(), periods) {
+        return Err(DayFault::NotSettled(Mismatch::StillOpen));
+    }
+    Ok(settled)
+}
+
+/// The journal settled with the passes.
+fn settle_day(alloc: Global, journal: Journal, passes: &[Pass]) -> Result<Settled, DayFault>
+    ensures settled { IfOk result (λ settled. IsSettled settled passes.now) }
+    ensures err { IfErr result IsLateFault }
+{
+    match settle(alloc, journal, passes) {
+        Ok(settled) => Ok(settled),
+        Err(unsettled) => match unsettled.why {
+            Mismatch::Memory => Err(DayFault::Memory),
+            why => Err(DayFault::NotSettled(why)),
+        },
+    }
+}
+
+/// Runs a day of given commands: each participant enters its own, in their order, through a pass of its own and on a
+/// thread of its own where one can be started; then the operator closes, and the journal is settled.
+///
+/// `Memory` may come in place of any answer. A place is counted from 0.
+pub fn run_commands<R: Threads + Wait + Sync>(
+    rt: &R,
+    alloc: Global,
+    periods: u8,
+    commands: &[Command],
+) -> Result<Settled, DayFault>
+    requires { is_day periods ≡ true }
+    ensures periods { IfOk result (λ settled. settled.book.periods ≡ periods) }
+    ensures journal { IfOk result IsJournal }
+    ensures day { IfOk result (λ settled. IsDayRun periods commands.now settled.entries) }
+    ensures given { OnOk result (refused commands.now ≡ None) }
+    ensures fault { IfErr result (IsDayFault commands.now) }
+{
+    if commands.len() >= MOST_ENTRIES {
+        return Err(DayFault::TooManyCommands);
+    }
+    let whos = participants(alloc, commands)?;
+    run_day(rt, alloc, periods, &whos, commands)
+}
