@@ -16,4 +16,6 @@ mod growth;
 #[cfg(test)]
 mod plain;
 #[cfg(test)]
+mod plans;
+#[cfg(test)]
 mod support;
