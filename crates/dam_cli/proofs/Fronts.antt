@@ -15,7 +15,7 @@ use Rattle.dam_results.specs.declared.journal.JournalFault.TheVariants.{Memory a
 use Rattle.dam_results.specs.Journal.{IsMadeFrom, ReadsAs}
 use Rattle.dam_results.specs.Faults.{IsFaultOf}
 use Rattle.dam_cli.specs.declared.fault.RunFault.{RunFault}
-use Rattle.dam_cli.specs.declared.fault.RunFault.TheVariants.{Read, Input, TooManyCommands, CloseGiven, TooManyParticipants, StillOpen, Unfinished, Collected, Memory, Write}
+use Rattle.dam_cli.specs.declared.fault.RunFault.TheVariants.{Read, Input, TooManyCommands, CloseGiven, TooManyParticipants, StillOpen, Mismatch, Unfinished, Collected, Memory, Write}
 use Rattle.dam_cli.specs.Engine.{most_read, IsJournal, IsTextFault, IsFaultOn}
 use Rattle.dam_cli.specs.Fault.{search_fault_of}
 use Rattle.dam_cli.specs.Clear.{AreResultsTo, IsClosedJournal, IsBookFault, IsFaultOnBook, IsClearTextFault, IsClearFault}
@@ -49,6 +49,7 @@ fault-on_given given StillOpen is = absurd is
 fault-on_given given TooManyCommands is = absurd is
 fault-on_given given (CloseGiven at) is = absurd is
 fault-on_given given (TooManyParticipants at) is = absurd is
+fault-on_given given (Mismatch why) is = absurd is
 fault-on_given given (Unfinished piece visited) is = absurd is
 fault-on_given given (Collected piece) is = absurd is
 fault-on_given given Memory is = tt
@@ -61,6 +62,7 @@ clear_fault-given plan given TooManyCommands is = absurd is
 clear_fault-given plan given (CloseGiven at) is = absurd is
 clear_fault-given plan given (TooManyParticipants at) is = absurd is
 clear_fault-given plan given StillOpen is = (is.0, is.1, reads-given given is.0 is.1 is.2, is.3)
+clear_fault-given plan given (Mismatch why) is = absurd is
 clear_fault-given plan given (Unfinished piece visited) is = (is.0, is.1, reads-given given is.0 is.1 is.2, is.3)
 clear_fault-given plan given (Collected piece) is = (is.0, is.1, reads-given given is.0 is.1 is.2, is.3)
 clear_fault-given plan given Memory is = tt
@@ -74,6 +76,7 @@ book_fault-run plan book TooManyCommands is = absurd is
 book_fault-run plan book (CloseGiven at) is = absurd is
 book_fault-run plan book (TooManyParticipants at) is = absurd is
 book_fault-run plan book StillOpen is = is
+book_fault-run plan book (Mismatch why) is = absurd is
 book_fault-run plan book (Unfinished piece visited) is = is
 book_fault-run plan book (Collected piece) is = is
 book_fault-run plan book Memory is = tt

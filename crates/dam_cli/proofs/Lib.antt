@@ -2,3 +2,4 @@ pub mod Readings
 pub mod Fronts
 pub mod Runs
 pub mod Results
+pub mod DayFaults

@@ -5,10 +5,12 @@ use Rattle.dam_results.specs.declared.journal.JournalFault.TheVariants.{TooLong,
 use Rattle.dam_results.specs.declared.journal.JournalFault.TheVariants.{Memory as NoMemory}
 use Rattle.dam_blocks.specs.declared.problem.ProblemFault.{ProblemFault}
 use Rattle.dam_blocks.specs.declared.problem.ProblemFault.TheVariants.{StillOpen as OpenBook, Memory as NoRoom}
+use Rattle.dam_gate.specs.declared.settlement.Mismatch.{Mismatch as Unmatched}
+use Rattle.dam_gate.specs.declared.settlement.Mismatch.TheVariants.{StillOpen as OpenGate, Missing, Doubled, Differs, Extra, Memory as NoTally}
 use Rattle.dam_search.specs.declared.fault.SearchFault.{SearchFault}
 use Rattle.dam_search.specs.declared.fault.SearchFault.TheVariants.{Memory as NoSpace, Collected as IsFaulty, Unfinished as IsCut}
 use Rattle.dam_cli.specs.declared.fault.RunFault.{RunFault}
-use Rattle.dam_cli.specs.declared.fault.RunFault.TheVariants.{Read, Input, TooManyCommands, CloseGiven, TooManyParticipants, StillOpen, Unfinished, Collected, Memory, Write}
+use Rattle.dam_cli.specs.declared.fault.RunFault.TheVariants.{Read, Input, TooManyCommands, CloseGiven, TooManyParticipants, StillOpen, Mismatch, Unfinished, Collected, Memory, Write}
 
 -- what is printed of a fault of the input
 abbrev pub input_text : JournalFault → List ℕ
@@ -20,6 +22,15 @@ input_text (FieldCount at) = codes "input: FieldCount in record " ++ decimal at
 input_text (BadField at field) = codes "input: BadField in record " ++ (decimal at ++ (codes " field " ++ decimal field))
 input_text NoMemory = codes "memory"
 
+-- what is printed of a journal and receipts that don't fit together
+abbrev pub mismatch_text : Unmatched → List ℕ
+mismatch_text OpenGate = codes "mismatch: StillOpen"
+mismatch_text (Missing number) = codes "mismatch: Missing " ++ decimal number
+mismatch_text (Doubled number) = codes "mismatch: Doubled " ++ decimal number
+mismatch_text (Differs number) = codes "mismatch: Differs " ++ decimal number
+mismatch_text (Extra number) = codes "mismatch: Extra " ++ decimal number
+mismatch_text NoTally = codes "memory"
+
 -- what is printed of a fault
 abbrev pub fault_text : RunFault → List ℕ
 fault_text Read = codes "device: read"
@@ -28,6 +39,7 @@ fault_text TooManyCommands = codes "input: TooManyCommands"
 fault_text (CloseGiven at) = codes "input: CloseGiven in record " ++ decimal at
 fault_text (TooManyParticipants at) = codes "input: TooManyParticipants in record " ++ decimal at
 fault_text StillOpen = codes "input: StillOpen"
+fault_text (Mismatch why) = mismatch_text why
 fault_text (Unfinished piece visited) = codes "unfinished: piece " ++ (decimal piece ++ (codes " after " ++ (decimal visited ++ codes " nodes")))
 fault_text (Collected piece) = codes "mismatch: Collected " ++ decimal piece
 fault_text Memory = codes "memory"
@@ -43,6 +55,15 @@ input_status (FieldCount at) = 1
 input_status (BadField at field) = 1
 input_status NoMemory = 4
 
+-- 5 where a journal and receipts don't fit together, 4 where the machine is at fault
+abbrev pub mismatch_status : Unmatched → ℕ
+mismatch_status OpenGate = 5
+mismatch_status (Missing number) = 5
+mismatch_status (Doubled number) = 5
+mismatch_status (Differs number) = 5
+mismatch_status (Extra number) = 5
+mismatch_status NoTally = 4
+
 -- the status that the program ends with at a fault: 1 and 4 as above, 3 where the search didn't finish, 5 where parts of a run don't fit together
 abbrev pub fault_status : RunFault → ℕ
 fault_status Read = 4
@@ -51,6 +72,7 @@ fault_status TooManyCommands = 1
 fault_status (CloseGiven at) = 1
 fault_status (TooManyParticipants at) = 1
 fault_status StillOpen = 1
+fault_status (Mismatch why) = mismatch_status why
 fault_status (Unfinished piece visited) = 3
 fault_status (Collected piece) = 5
 fault_status Memory = 4

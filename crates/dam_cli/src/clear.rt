@@ -83,7 +83,7 @@ fn run_journal(alloc: Global, text: &[u8]) -> Result<Book, RunFault>
 
 /// The results text of a closed book. An open one is answered `StillOpen`, before any memory is asked
 /// for.
-fn clear_book<H: Threads + Sync, T: Turnstile + Sync>(
+pub fn clear_book<H: Threads + Sync, T: Turnstile + Sync>(
     rt: &H,
     alloc: Global,
     book: &Book,

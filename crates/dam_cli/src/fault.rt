@@ -2,6 +2,7 @@ ghost use Rattle.std.specs.Prelude.{◌≡◌, ◌++◌, codes, IfOk};
 ghost use Rattle.dam_cli.specs.Fault.{fault_status, fault_text, run_fault_of};
 
 use dam_blocks::ProblemFault;
+use dam_gate::Mismatch;
 use dam_results::JournalFault;
 use dam_search::SearchFault;
 use std::alloc::{AllocError, Global};
@@ -23,6 +24,9 @@ pub enum RunFault {
     TooManyParticipants(usize),
     /// The journal's commands leave the book open, so there is nothing to clear.
     StillOpen,
+    /// The journal of a day's gate and the receipts of its participants don't fit together. No run is known to
+    /// meet it. Where memory ran out, the answer is `Memory` of this type.
+    Mismatch(Mismatch),
     /// The search visited as many nodes of this piece, the least such, as the plan allows, and needed
     /// another.
     Unfinished { piece: u32, visited: u32 },
@@ -62,11 +66,24 @@ impl fmt::Display for RunFault {
                 write!(f, "input: TooManyParticipants in record {record}")
             }
             RunFault::StillOpen => f.write_str("input: StillOpen"),
+            RunFault::Mismatch(Mismatch::StillOpen) => f.write_str("mismatch: StillOpen"),
+            RunFault::Mismatch(Mismatch::Missing(number)) => {
+                write!(f, "mismatch: Missing {number}")
+            }
+            RunFault::Mismatch(Mismatch::Doubled(number)) => {
+                write!(f, "mismatch: Doubled {number}")
+            }
+            RunFault::Mismatch(Mismatch::Differs(number)) => {
+                write!(f, "mismatch: Differs {number}")
+            }
+            RunFault::Mismatch(Mismatch::Extra(number)) => write!(f, "mismatch: Extra {number}"),
             RunFault::Unfinished { piece, visited } => {
                 write!(f, "unfinished: piece {piece} after {visited} nodes")
             }
             RunFault::Collected { piece } => write!(f, "mismatch: Collected {piece}"),
-            RunFault::Input(JournalFault::Memory) | RunFault::Memory => f.write_str("memory"),
+            RunFault::Input(JournalFault::Memory)
+            | RunFault::Mismatch(Mismatch::Memory)
+            | RunFault::Memory => f.write_str("memory"),
             RunFault::Write => f.write_str("device: write"),
         }
     }
@@ -134,7 +151,7 @@ pub fn status(fault: &RunFault) -> u8
     ensures { result ≡ fault_status fault.now }
 {
     match fault {
-        RunFault::Input(JournalFault::Memory) => 4,
+        RunFault::Input(JournalFault::Memory) | RunFault::Mismatch(Mismatch::Memory) => 4,
         RunFault::Input(_)
         | RunFault::TooManyCommands
         | RunFault::CloseGiven(_)
@@ -142,7 +159,7 @@ pub fn status(fault: &RunFault) -> u8
         | RunFault::StillOpen => 1,
         RunFault::Unfinished { .. } => 3,
         RunFault::Read | RunFault::Memory | RunFault::Write => 4,
-        RunFault::Collected { .. } => 5,
+        RunFault::Mismatch(_) | RunFault::Collected { .. } => 5,
     }
 }
 

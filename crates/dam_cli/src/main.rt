@@ -1,8 +1,10 @@
 //! `dam`, a day-ahead auction of electricity, which reads a journal of commands from standard input:
-//! `dam replay` prints the reply of the order book to each, `dam clear` the results of the closed book.
+//! `dam replay` prints the reply of the order book to each, `dam clear` the results of the closed book, and `dam day`
+//! has the participants enter their commands side by side, and prints the journal of that day and its results.
 #![tactic(auto)]
 
 mod clear;
+mod day;
 mod fault;
 mod input;
 mod laws;
@@ -14,6 +16,7 @@ mod tests;
 use clear::run_clear;
 use dam_line::{Job, LineFault, read_line};
 use dam_search::FreeTurn;
+use day::run_day;
 use fault::{RunFault, fault_line, status};
 use output::write_text;
 use replay::run_replay;
@@ -34,7 +37,7 @@ fn main(rt: HostRuntime) -> ExitCode {
     let done = match job {
         Job::Replay => run_replay(rt.alloc(), &mut input, &mut output),
         Job::Clear(plan) => run_clear(&rt, rt.alloc(), &mut input, &mut output, plan, &FreeTurn),
-        Job::Day(_plan) => return refuse(&rt, "error: `dam day` isn't there yet\n"),
+        Job::Day(plan) => run_day(&rt, rt.alloc(), &mut input, &mut output, plan, &FreeTurn),
     };
     match done {
         Ok(()) => ExitCode::SUCCESS,

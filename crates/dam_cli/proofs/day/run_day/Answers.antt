@@ -1,0 +1,34 @@
+-- What is answered to the text that was read is answered to the given one.
+use Rattle.std.proofs.lemmas.Result.{err_from_is_err_and}
+use Rattle.dam_cli.specs.Day.{IsCommandsFault, IsDayText, IsDayTextFault, IsDayTextTo, IsFaultOnDay, IsRunDayFault}
+use Rattle.dam_cli.proofs.DayFaults.{commands_fault-run, day_fault-given, day_text-taken}
+use Rattle.dam_cli.proofs.Runs.{known-fault, known-failed, known-done, known-exact, known-write, writes}
+use Rattle.dam_cli.proofs.day.run_day.Goals as goal
+
+pub returns-in_err-day-clause-fault : goal.returns-in_err-day-clause-fault
+returns-in_err-day-clause-fault g c =
+    let p = err_from_is_err_and c.from_residual-in_err-day.result c.from_residual-in_err-day.ensures.1 in
+    let fault = rw c.as_slice.ensures.value at c.in_err-day.ensures.fault in
+    rw (p.1, p.2) (known-fault (IsDayTextFault c.args.plan) (IsRunDayFault c.args.plan) _ _ _ (day_fault-given c.args.plan) c.in_ok-text.ensures.text fault)
+
+pub returns-in_err-day-clause-exact : goal.returns-in_err-day-clause-exact
+returns-in_err-day-clause-exact g c = λ periods commands.
+    let p = err_from_is_err_and c.from_residual-in_err-day.result c.from_residual-in_err-day.ensures.1 in
+    let failed = rw c.as_slice.ensures.value at c.in_err-day.ensures.exact periods commands in
+    rw (p.1, p.2) (known-failed (IsCommandsFault c.args.plan periods commands) (IsFaultOnDay c.args.plan periods commands) _ _ _ periods commands (commands_fault-run c.args.plan periods commands) c.in_ok-text.ensures.text failed)
+
+pub returns-clause-done : goal.returns-clause-done
+returns-clause-done g c =
+    let done = rw c.as_slice.ensures.value at c.in_ok-day.ensures.done in
+    known-done IsDayText _ _ _ _ _ _ _ c.in_ok-text.ensures.text c.as_slice-2.ensures.value c.write_text.ensures.done done
+
+pub returns-clause-fault : goal.returns-clause-fault
+returns-clause-fault g c =
+    let done = rw c.as_slice.ensures.value at c.in_ok-day.ensures.done in
+    known-write (λ text. IsDayTextTo text c.in_ok-day.day.items) (IsRunDayFault c.args.plan) _ _ _ (day_text-taken c.args.plan c.in_ok-day.day.items) c.in_ok-text.ensures.text c.write_text.ensures.fault done
+
+pub returns-clause-exact : goal.returns-clause-exact
+returns-clause-exact g c = λ periods commands.
+    let exact = rw c.as_slice.ensures.value at c.in_ok-day.ensures.exact periods commands in
+    known-exact (IsDayText periods commands _) _ (IsFaultOnDay c.args.plan periods commands) _ _ _ periods commands c.in_ok-text.ensures.text
+    (writes (IsDayText periods commands) _ _ _ _ _ c.as_slice-2.ensures.value c.write_text.ensures.done) (λ is. is.taken) c.write_text.ensures.fault exact

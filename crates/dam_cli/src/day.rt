@@ -1,0 +1,133 @@
+ghost use Rattle.std.specs.Prelude.{◌≡◌, ◌≢◌, ℕ, List, None, true, IfOk, IfErr, IfSome, OnOk, MatchResult};
+ghost use Rattle.dam_book.specs.Book.{is_day};
+ghost use Rattle.dam_book.specs.declared.command.Command.{Command};
+ghost use Rattle.dam_gate.specs.Day.{IsDayRun, refused};
+ghost use Rattle.dam_gate.specs.Journal.{IsJournal};
+ghost use Rattle.dam_results.specs.Journal.{ReadsAs};
+ghost use Rattle.dam_cli.specs.Engine.{Writes};
+ghost use Rattle.dam_cli.specs.Clear.{IsBookFault, IsClearedAs};
+ghost use Rattle.dam_cli.specs.Day.{IsCommandsFault, IsDayText, IsDayTextFault, IsDayTextTo, IsEarlyFault, IsFaultOnDay, IsRunDayFault, with_results};
+
+use crate::clear::clear_book;
+use crate::fault::RunFault;
+use crate::input::read_input;
+use crate::output::write_text;
+use dam_book::Command;
+use dam_gate::{DayFault, Journal, Mismatch, Settled, run_commands};
+use dam_results::{journal_text, read_journal};
+use dam_search::{Plan, Turnstile};
+use std::alloc::Global;
+use std::io::{Read, Write};
+use std::sync::Wait;
+use std::thread::Threads;
+
+/// Reads a journal without a close, has each of its participants enter its commands at one gate, in their order and on
+/// a thread of its own where one can be started, closes the book, clears it, and writes the journal of that day, the line
+/// `results`, and the results.
+///
+/// Commands of two participants may come to the gate in any order, and so two runs may write two texts; the results are
+/// always those of the journal that is written. What is said of `run_clear` holds here too: the whole text is made
+/// before its first byte is written, and of readers and writers that don't tell their bytes nothing is said.
+pub fn run_day<H: Threads + Wait + Sync, R: Read, W: Write, T: Turnstile + Sync>(
+    rt: &H,
+    alloc: Global,
+    reader: &mut R,
+    writer: &mut W,
+    plan: Plan,
+    turnstile: &T,
+) -> Result<(), RunFault>
+    ensures done { OnOk result (IfSome (R.remaining reader.old) (λ given.
+        Writes (W.contents writer.old) (W.contents writer.new) (IsDayTextTo given))) }
+    ensures fault { IfErr result (λ fault.
+        IfSome (R.remaining reader.old) (λ given. IsRunDayFault plan given fault)) }
+    ensures unwritten { IfErr result (λ fault. fault ≢ RunFault.Write → writer.new ≡ writer.old) }
+    ensures exact { (periods : ℕ) (commands : List Command) → IfSome (R.remaining reader.old)
+        (λ given. ReadsAs given periods commands → MatchResult result
+        (λ _. Writes (W.contents writer.old) (W.contents writer.new) (IsDayText periods commands))
+        (IsFaultOnDay plan periods commands)) }
+{
+    let text = read_input(alloc, reader)?;
+    let day = day_text(rt, alloc, text.as_slice(), plan, turnstile)?;
+    write_text(writer, day.as_slice())
+}
+
+/// What is printed of a day of the commands of a journal's text.
+fn day_text<H: Threads + Wait + Sync, T: Turnstile + Sync>(
+    rt: &H,
+    alloc: Global,
+    text: &[u8],
+    plan: Plan,
+    turnstile: &T,
+) -> Result<Vec<u8>, RunFault>
+    ensures done { IfOk result (λ day. IsDayTextTo text.now day.items) }
+    ensures fault { IfErr result (IsDayTextFault plan text.now) }
+    ensures exact { (periods : ℕ) (commands : List Command) → ReadsAs text.now periods commands
+        → MatchResult result
+        (λ day. IsDayText periods commands day.items)
+        (IsCommandsFault plan periods commands) }
+{
+    let journal = read_journal(alloc, text)?;
+    let commands = journal.commands.as_slice();
+    day_of_commands(rt, alloc, journal.periods, commands, plan, turnstile)
+}
+
+/// What is printed of a day of the commands.
+fn day_of_commands<H: Threads + Wait + Sync, T: Turnstile + Sync>(
+    rt: &H,
+    alloc: Global,
+    periods: u8,
+    commands: &[Command],
+    plan: Plan,
+    turnstile: &T,
+) -> Result<Vec<u8>, RunFault>
+    requires { is_day periods ≡ true }
+    ensures done { IfOk result (λ day. IsDayText periods commands.now day.items) }
+    ensures fault { IfErr result (IsCommandsFault plan periods commands.now) }
+{
+    let settled = settled_day(rt, alloc, periods, commands)?;
+    print_day(rt, alloc, settled.journal(), plan, turnstile)
+}
+
+/// The settled journal of a day of the commands. A command's place is counted from 0, a record's number from 1, and the
+/// first record is the day.
+fn settled_day<H: Threads + Wait + Sync>(
+    rt: &H,
+    alloc: Global,
+    periods: u8,
+    commands: &[Command],
+) -> Result<Settled, RunFault>
+    requires { is_day periods ≡ true }
+    ensures periods { IfOk result (λ settled. settled.book.periods ≡ periods) }
+    ensures journal { IfOk result IsJournal }
+    ensures day { IfOk result (λ settled. IsDayRun periods commands.now settled.entries) }
+    ensures taken { OnOk result (refused commands.now ≡ None) }
+    ensures fault { IfErr result (IsEarlyFault commands.now) }
+{
+    match run_commands(rt, alloc, periods, commands) {
+        Ok(settled) => Ok(settled),
+        Err(DayFault::TooManyCommands) => Err(RunFault::TooManyCommands),
+        Err(DayFault::CloseGiven(place)) => Err(RunFault::CloseGiven(place + 2)),
+        Err(DayFault::TooManyParticipants(place)) => Err(RunFault::TooManyParticipants(place + 2)),
+        Err(DayFault::Memory | DayFault::NotSettled(Mismatch::Memory)) => Err(RunFault::Memory),
+        Err(DayFault::NotSettled(why)) => Err(RunFault::Mismatch(why)),
+    }
+}
+
+/// The written journal, the line `results`, and the results text of the journal's book.
+fn print_day<H: Threads + Sync, T: Turnstile + Sync>(
+    rt: &H,
+    alloc: Global,
+    journal: &Journal,
+    plan: Plan,
+    turnstile: &T,
+) -> Result<Vec<u8>, RunFault>
+    ensures done { IfOk result (λ text. (results : List ℕ) × IsClearedAs journal.now.book results
+        × (text.items ≡ with_results journal.now.book.periods journal.now.entries results)) }
+    ensures fault { IfErr result (IsBookFault plan journal.now.book) }
+{
+    let results = clear_book(rt, alloc, journal.book(), plan, turnstile)?;
+    let mut text = journal_text(alloc, journal.periods(), journal.entries())?;
+    text.extend_from_slice(b"results\n")?;
+    text.extend_from_slice(results.as_slice())?;
+    Ok(text)
+}
