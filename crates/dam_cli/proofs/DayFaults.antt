@@ -1,24 +1,24 @@
 -- The faults of a day: of a front and its text, of a book and its commands, and where the refused command stands.
-use Rattle.std.proofs.Common.{◌≡◌, ◌<◌, ◌≤◌, ◌+◌, ◌-◌, ℕ, suc, Bool, true, false, nat_lt, if◌then◌else◌, List, [], ◌∷◌, ◌++◌, length, take, Option, Some, None, Result, IfErr, subst, sym, ap, ◌∙◌, refl, arith}
+use Rattle.std.proofs.Common.{◌≡◌, ◌<◌, ◌≤◌, ◌+◌, ◌-◌, ℕ, Bool, true, false, nat_lt, if◌then◌else◌, List, [], ◌∷◌, ◌++◌, length, take, Option, Some, None, Result, IfErr, subst, sym, ap, ◌∙◌, refl, arith}
 use Rattle.std.proofs.lemmas.Bool.{ltb-false}
 use Rattle.std.proofs.lemmas.Result.{IfErr-weaker}
 use Rattle.dam_book.specs.Limits.{most_entries}
 use Rattle.dam_book.specs.Book.{BookState, book_after, commands_of, run, run_from}
 use Rattle.dam_book.specs.declared.command.Command.{Command}
-use Rattle.dam_book.specs.declared.command.Command.TheVariants.{Submit, Amend, Cancel, Close}
+use Rattle.dam_book.specs.declared.command.Command.TheVariants.{Close}
 use Rattle.dam_book.specs.declared.command.Entry.{Entry}
 use Rattle.dam_gate.specs.Limits.{most_participants}
 use Rattle.dam_gate.specs.Journal.{IsJournal, JournalState}
 use Rattle.dam_gate.specs.Day.{IsDayRun, giver, refused, refused_at, refused_from, with_giver}
 use Rattle.dam_gate.specs.declared.day.DayFault.{DayFault}
-use Rattle.dam_gate.specs.declared.day.DayFault.TheVariants.{TooManyCommands as ManyCommands, CloseGiven as CloseAt, TooManyParticipants as ManyAt, NotSettled, Memory as NoGate}
+use Rattle.dam_gate.specs.declared.day.DayFault.TheVariants.{TooManyCommands as ManyCommands, CloseGiven as CloseAt, TooManyParticipants as ManyAt}
 use Rattle.dam_search.specs.Plan.{PlanTerms}
 use Rattle.dam_results.specs.Journal.{IsMadeFrom}
 use Rattle.dam_cli.specs.declared.fault.RunFault.{RunFault}
 use Rattle.dam_cli.specs.declared.fault.RunFault.TheVariants.{Read, Input, TooManyCommands, CloseGiven, TooManyParticipants, StillOpen, Mismatch, Unfinished, Collected, Memory, Write}
 use Rattle.dam_cli.specs.Engine.{most_read}
 use Rattle.dam_cli.specs.Clear.{IsBookFault}
-use Rattle.dam_cli.specs.Day.{IsCommandsFault, IsDayText, IsDayTextFault, IsDayTextTo, IsEarlyFault, IsFaultOnDay, IsRunDayFault}
+use Rattle.dam_cli.specs.Day.{IsCommandsFault, IsDayTextFault, IsDayTextTo, IsEarlyFault, IsFaultOnDay, IsRunDayFault}
 use Rattle.dam_cli.proofs.Fronts.{fault-on_given, reads-given}
 
 -- the place of the command that the fault tells, if any, is below this one

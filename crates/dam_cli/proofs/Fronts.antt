@@ -1,7 +1,7 @@
 -- A text and its front that is one byte longer than a journal may be: where one of them is short enough, they are equal.
 use Rattle.std.proofs.Common.{◌≡◌, ◌≤◌, ℕ, true, min, List, length, take, refl, subst, sym, arith}
 use Rattle.std.proofs.lemmas.List.{take_all, length-take}
-use Rattle.dam_book.specs.Book.{BookState, run}
+use Rattle.dam_book.specs.Book.{BookState}
 use Rattle.dam_blocks.specs.Problem.{problem_of}
 use Rattle.dam_search.specs.Plan.{PlanTerms}
 use Rattle.dam_search.specs.Search.{IsUnfinished}

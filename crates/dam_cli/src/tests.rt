@@ -1,6 +1,7 @@
 use crate::fault::{RunFault, fault_line, status};
 use crate::input::MOST_READ;
 use crate::replay::run_replay;
+use dam_gate::Mismatch;
 use dam_results::JournalFault;
 use std::alloc::Global;
 use std::io;
@@ -156,6 +157,32 @@ fn each_fault_has_its_line_and_status(rt: HostRuntime) -> Result<(), Fail> {
         ),
         (RunFault::StillOpen, "input: StillOpen\n", 1),
         (
+            RunFault::Mismatch(Mismatch::StillOpen),
+            "mismatch: StillOpen\n",
+            5,
+        ),
+        (
+            RunFault::Mismatch(Mismatch::Missing(2)),
+            "mismatch: Missing 2\n",
+            5,
+        ),
+        (
+            RunFault::Mismatch(Mismatch::Doubled(1)),
+            "mismatch: Doubled 1\n",
+            5,
+        ),
+        (
+            RunFault::Mismatch(Mismatch::Differs(1)),
+            "mismatch: Differs 1\n",
+            5,
+        ),
+        (
+            RunFault::Mismatch(Mismatch::Extra(3)),
+            "mismatch: Extra 3\n",
+            5,
+        ),
+        (RunFault::Mismatch(Mismatch::Memory), "memory\n", 4),
+        (
             RunFault::Unfinished {
                 piece: 0,
                 visited: 1,
@@ -241,3 +268,4 @@ fn replies_are_flushed(rt: HostRuntime) {
 }
 
 mod clearing;
+mod days;

@@ -103,9 +103,7 @@ fn day_command<'a>(alloc: Global) -> Result<Command<'a>, AllocError>
     ensures local { IfOk result (λ c. (fields_of c).has_globals ≡ false) }
 {
     let command = Command::new(alloc, DAY)
-        .about(
-            "Not there yet: runs a day of participants on threads, and prints its journal and results",
-        )
+        .about("Runs a day of participants on threads, and prints its journal and results")
         .override_usage("dam day [OPTIONS] < JOURNAL")
         .after_help(DAY_EXAMPLE);
     with_plan(alloc, command)
