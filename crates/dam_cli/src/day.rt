@@ -21,13 +21,16 @@ use std::io::{Read, Write};
 use std::sync::Wait;
 use std::thread::Threads;
 
-/// Reads a journal without a close, has each of its participants enter its commands at one gate, in their order and on
-/// a thread of its own where one can be started, closes the book, clears it, and writes the journal of that day, the line
-/// `results`, and the results.
+/// Reads a journal without a close, has each of its participants enter its commands at one gate, in
+/// their order and on a thread of its own where one can be started, closes and clears the book, and
+/// writes the journal of that day, the line `results`, and the results.
 ///
-/// Commands of two participants may come to the gate in any order, and so two runs may write two texts; the results are
-/// always those of the journal that is written. What is said of `run_clear` holds here too: the whole text is made
-/// before its first byte is written, and of readers and writers that don't tell their bytes nothing is said.
+/// Commands of two participants may come to the gate in either order, and so two runs may write two
+/// texts; the results are always those of the journal that is written. The plan changes no results, but
+/// by its limit on nodes the search may end `Unfinished`.
+///
+/// The whole text is made before its first byte is written. What `run_clear` says of readers, writers
+/// and inputs that are too long holds here too.
 pub fn run_day<H: Threads + Wait + Sync, R: Read, W: Write, T: Turnstile + Sync>(
     rt: &H,
     alloc: Global,
@@ -88,8 +91,8 @@ fn day_of_commands<H: Threads + Wait + Sync, T: Turnstile + Sync>(
     print_day(rt, alloc, settled.journal(), plan, turnstile)
 }
 
-/// The settled journal of a day of the commands. A command's place is counted from 0, a record's number from 1, and the
-/// first record is the day.
+/// The settled journal of a day of the commands. A command's place is counted from 0, a record's number
+/// from 1, and the first record is the day.
 fn settled_day<H: Threads + Wait + Sync>(
     rt: &H,
     alloc: Global,

@@ -24,8 +24,8 @@ pub enum RunFault {
     TooManyParticipants(usize),
     /// The journal's commands leave the book open, so there is nothing to clear.
     StillOpen,
-    /// The journal of a day's gate and the receipts of its participants don't fit together. No run is known to
-    /// meet it. Where memory ran out, the answer is `Memory` of this type.
+    /// The journal of a day's gate and the receipts of its participants don't fit together. No run is
+    /// known to meet it. Where memory ran out, the answer is `Memory` of this type.
     Mismatch(Mismatch),
     /// The search visited as many nodes of this piece, the least such, as the plan allows, and needed
     /// another.

@@ -1,6 +1,7 @@
 //! `dam`, a day-ahead auction of electricity, which reads a journal of commands from standard input:
-//! `dam replay` prints the reply of the order book to each, `dam clear` the results of the closed book, and `dam day`
-//! has the participants enter their commands side by side, and prints the journal of that day and its results.
+//! `dam replay` prints the reply of the order book to each, `dam clear` the results of the closed book;
+//! `dam day` has the participants enter theirs side by side, and prints the journal of that day and its
+//! results.
 #![tactic(auto)]
 
 mod clear;
