@@ -1,8 +1,9 @@
 #!/usr/bin/env python3
-"""Prints a journal of 10,000 records: a day of 24 periods, hourly orders of 8 participants with cancels among
-them, and a close. Every run prints the same bytes."""
+"""make_journal.py [day]: prints a journal of 10,000 records: a day of 24 periods, hourly orders of 8 participants with cancels
+among them, and a close; with `day` one command more stands in place of the close. Every run prints the same bytes."""
 
 import random
+import sys
 
 RECORDS = 10_000
 PERIODS = 24
@@ -39,10 +40,12 @@ def commands(count, rng):
 
 def main():
     rng = random.Random(20_240_601)
+    is_open = sys.argv[1:] == ["day"]
     print(f"day,{PERIODS},,,,,,,")
-    for command in commands(RECORDS - 2, rng):
+    for command in commands(RECORDS - 1 if is_open else RECORDS - 2, rng):
         print(command)
-    print("close,,,,,,,,")
+    if not is_open:
+        print("close,,,,,,,,")
 
 
 main()

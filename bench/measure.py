@@ -1,6 +1,6 @@
 #!/usr/bin/env python3
-"""measure.py JOURNAL PROGRAM BASELINE: runs `dam replay` and the baseline by turns on a journal, checks that both print the
-same, and prints the median times of each, the peak memory, and the ratios. The memory is what time(1) says, where it is there."""
+"""measure.py [--same] JOURNAL NAME=WORDS..: runs programs by turns on a journal, and prints the median times of each, its peak
+memory, and its ratios to the last one. The memory is what time(1) says, where it is there. With --same all must print the same."""
 
 import os
 import statistics
@@ -37,26 +37,27 @@ def peak(words, journal):
 
 
 def main():
-    journal, program, baseline = sys.argv[1:]
-    contestants = {"dam replay": [program, "replay"], "baseline": [baseline]}
-    found = {name: [] for name in contestants}
+    same = sys.argv[1:2] == ["--same"]
+    journal, *named = sys.argv[2:] if same else sys.argv[1:]
+    programs = {name: words.split() for name, words in (each.split("=", 1) for each in named)}
+    found = {name: [] for name in programs}
     for _ in range(RUNS):
-        texts = []
-        for name, words in contestants.items():
+        texts = set()
+        for name, words in programs.items():
             text, numbers = run(words, journal)
-            texts.append(text)
+            texts.add(text)
             found[name].append(numbers)
-        if texts[0] != texts[1]:
-            sys.exit("the two programs print different texts")
-    rows = [
-        [*(statistics.median(column) for column in zip(*found[name])), peak(words, journal)]
-        for name, words in contestants.items()
-    ]
-    rows.append([mine / theirs for mine, theirs in zip(*rows)])
-    print(f"both print the same {len(texts[0]):,} bytes; times are medians of {RUNS} runs")
-    print(f"{'':12}{'wall ms':>10}{'cpu ms':>10}{'peak KiB':>10}")
-    for name, row in zip([*contestants, "ratio"], rows):
-        print(f"{name:12}{row[0]:10.2f}{row[1]:10.2f}{row[2]:10.{2 if name == 'ratio' else 0}f}")
+        if same and len(texts) > 1:
+            sys.exit("the programs print different texts")
+    rows = {
+        name: [*(statistics.median(column) for column in zip(*found[name])), peak(words, journal)]
+        for name, words in programs.items()
+    }
+    *_, last = rows.values()
+    print(f"{f'medians of {RUNS} runs':24}{'wall ms':>16}{'cpu ms':>16}{'peak KiB':>16}")
+    for name, row in rows.items():
+        shown = (f"{value:,.{digits}f} ({value / base:.1f}x)" for value, base, digits in zip(row, last, (1, 1, 0)))
+        print(f"{name:24}" + "".join(f"{field:>16}" for field in shown))
 
 
 main()

@@ -1,11 +1,16 @@
 //! What `dam replay` does, as a plain Rust program over std alone: the measure that `dam` is timed against.
 //!
-//! It reads the same journals, and prints the same replies and fault lines.
+//! It reads the same journals, and prints the same replies and fault lines. With the word `day` it does what `dam day` does before it
+//! clears: one thread a participant enters its commands round a `Mutex`, and the journal that they made is compared with what the
+//! threads were answered, and printed.
 
 use std::collections::HashMap;
+use std::env;
 use std::fmt::{self, Display, Write as _};
 use std::io::{self, Read, Write};
 use std::process::ExitCode;
+use std::sync::Mutex;
+use std::thread;
 
 const MOST_BYTES: usize = 4_194_304;
 const MOST_RECORDS: usize = 10_001;
@@ -18,8 +23,7 @@ enum Side {
     Sell,
 }
 
-#[derive(Clone, Copy)]
-#[allow(dead_code)] // a replay prints no order, but its book holds them
+#[derive(Clone, Copy, PartialEq, Eq)]
 struct HourOrder {
     side: Side,
     price: i32,
@@ -29,13 +33,37 @@ struct HourOrder {
 
 type Key = (String, String);
 
+#[derive(Clone, PartialEq, Eq)]
 enum Command {
     Submit(Key, HourOrder),
     Cancel(Key),
     Close,
 }
 
-#[derive(Clone, Copy)]
+impl Command {
+    fn participant(&self) -> Option<&str> {
+        match self {
+            Command::Submit((who, _), _) | Command::Cancel((who, _)) => Some(who),
+            Command::Close => None,
+        }
+    }
+}
+
+impl Display for Command {
+    fn fmt(&self, f: &mut fmt::Formatter<'_>) -> fmt::Result {
+        match self {
+            Command::Submit((who, name), order) => {
+                let side = if order.side == Side::Buy { "buy" } else { "sell" };
+                let HourOrder { price, period, volume, .. } = order;
+                writeln!(f, "submit,{who},{name},hour,{side},{price},{period}:{volume},,")
+            }
+            Command::Cancel((who, name)) => writeln!(f, "cancel,{who},{name},,,,,,"),
+            Command::Close => writeln!(f, "close,,,,,,,,"),
+        }
+    }
+}
+
+#[derive(Clone, Copy, PartialEq, Eq)]
 enum Reason {
     Closed,
     PeriodOutOfDay,
@@ -295,6 +323,72 @@ fn replies(periods: u8, commands: &[Command]) -> String {
     text
 }
 
+/// A command that came to the book, with the reply to it.
+#[derive(Clone, PartialEq, Eq)]
+struct Entry {
+    number: usize,
+    command: Command,
+    reply: Result<(), Reason>,
+}
+
+/// What lies under the lock.
+struct Gate {
+    book: Book,
+    entries: Vec<Entry>,
+}
+
+impl Gate {
+    fn call(&mut self, command: &Command) -> Entry {
+        let reply = self.book.apply(command);
+        let entry = Entry { number: self.entries.len() + 1, command: command.clone(), reply };
+        self.entries.push(entry.clone());
+        entry
+    }
+}
+
+fn participants(commands: &[Command]) -> Vec<&str> {
+    let mut found = Vec::new();
+    for who in commands.iter().filter_map(Command::participant) {
+        if !found.contains(&who) {
+            found.push(who);
+        }
+    }
+    found
+}
+
+/// The entries that each participant was answered with, all entering at once, and then the close.
+fn enter(gate: &Mutex<Gate>, commands: &[Command]) -> Vec<Entry> {
+    let own = |who| move |command: &&Command| command.participant() == Some(who);
+    let mut receipts: Vec<Entry> = thread::scope(|scope| {
+        let started: Vec<_> = participants(commands)
+            .into_iter()
+            .map(|who| {
+                scope.spawn(move || -> Vec<Entry> {
+                    let given = commands.iter().filter(own(who));
+                    given.map(|command| gate.lock().unwrap().call(command)).collect()
+                })
+            })
+            .collect();
+        started.into_iter().flat_map(|entered| entered.join().unwrap()).collect()
+    });
+    receipts.push(gate.lock().unwrap().call(&Command::Close));
+    receipts
+}
+
+/// The journal of a day, or nothing where an entry isn't what its participant was answered.
+fn journal(periods: u8, commands: &[Command]) -> Option<String> {
+    let gate = Mutex::new(Gate { book: Book::new(periods), entries: Vec::new() });
+    let receipts = enter(&gate, commands);
+    let entries = gate.into_inner().unwrap().entries;
+    let settled = receipts.len() == entries.len()
+        && receipts.iter().all(|receipt| entries[receipt.number - 1] == *receipt);
+    let mut text = format!("day,{periods},,,,,,,\n");
+    for entry in &entries {
+        write!(text, "{}", entry.command).ok()?;
+    }
+    settled.then_some(text)
+}
+
 fn main() -> ExitCode {
     let mut text = Vec::new();
     let limit = MOST_BYTES as u64 + 1;
@@ -302,15 +396,20 @@ fn main() -> ExitCode {
         eprintln!("device: read");
         return ExitCode::from(4);
     }
-    let replies = match read_journal(&text) {
-        Ok((periods, commands)) => replies(periods, &commands),
+    let printed = match read_journal(&text) {
+        Ok((periods, commands)) if env::args().nth(1).as_deref() == Some("day") => journal(periods, &commands),
+        Ok((periods, commands)) => Some(replies(periods, &commands)),
         Err(fault) => {
             eprintln!("{fault}");
             return ExitCode::from(1);
         }
     };
+    let Some(printed) = printed else {
+        eprintln!("mismatch");
+        return ExitCode::from(5);
+    };
     let mut out = io::stdout().lock();
-    if out.write_all(replies.as_bytes()).and_then(|()| out.flush()).is_err() {
+    if out.write_all(printed.as_bytes()).and_then(|()| out.flush()).is_err() {
         eprintln!("device: write");
         return ExitCode::from(4);
     }

@@ -1,4 +1,4 @@
-"""From a table of orders, a row each, to a journal: what spreadsheets and scripts have, read with errors that name row and
+"""From a table of orders, a row each, to a journal: what spreadsheets and scripts have, read with errors that name line and
 column."""
 
 import csv
@@ -15,8 +15,8 @@ MOST_ERRORS = 20
 
 REASONS = {
     "PeriodOutOfDay": "the day doesn't have that period",
-    "NameTaken": "the participant has an order of that name in a row above",
-    "UnknownParent": "the participant has no order of the parent's name in a row above",
+    "NameTaken": "the participant has an order of that name in a line above",
+    "UnknownParent": "the participant has no order of the parent's name in a line above",
     "ParentNotBlock": "the parent is no block",
     "HourlyFull": f"a book holds at most {rules.MOST_HOURLY} hourly orders",
     "BlocksFull": f"a book holds at most {rules.MOST_BLOCKS} blocks",
@@ -33,18 +33,23 @@ class Wrong(Exception):
 
 
 def rows_of(data):
-    """The rows of a table, parted by commas, semicolons or tabs, whichever the header has most of; and whether a comma may be
-    the decimal point."""
+    """The rows of a table, each with the number of its first line, parted by commas, semicolons or tabs, whichever the header has
+    most of; and whether a comma may be the decimal point."""
     try:
         table = data.decode("utf-8-sig")
     except UnicodeDecodeError as fault:
-        raise Wrong(f"the table isn't in UTF-8: byte {fault.start} can't be read") from None
+        line = data[: fault.start].count(b"\n") + 1
+        raise Wrong(f"line {line}: the table isn't in UTF-8: byte {fault.start} can't be read") from None
     first = table.splitlines()[0] if table.strip() else ""
     delimiter = max(",;\t", key=first.count)
+    reader = csv.reader(io.StringIO(table, newline=""), delimiter=delimiter, strict=True)
+    rows, line = [], 1
     try:
-        rows = list(csv.reader(io.StringIO(table, newline=""), delimiter=delimiter, strict=True))
+        for cells in reader:
+            rows.append((line, cells))
+            line = reader.line_num + 1
     except csv.Error as fault:
-        raise Wrong(f"the table can't be read: {fault}") from None
+        raise Wrong(f"line {line}: the table can't be read: {fault}") from None
     return rows, delimiter != ","
 
 
@@ -62,13 +67,13 @@ def columns_of(header):
     for at, cell in enumerate(header, 1):
         name = cell.strip().lower()
         if name not in known:
-            raise Wrong(f"row 1, column {at}: '{cell}' is no column; the columns are {', '.join(ORDER)}")
+            raise Wrong(f"line 1, column {at}: '{cell}' is no column; the columns are {', '.join(ORDER)}")
         if name in places:
-            raise Wrong(f"row 1, column {at}: the column '{name}' is there twice")
+            raise Wrong(f"line 1, column {at}: the column '{name}' is there twice")
         places[name] = at - 1
     missing = [name for name in ORDER if name not in places and name not in OPTIONAL]
     if missing:
-        raise Wrong(f"row 1: there is no column {', '.join(missing)}; the columns are {', '.join(ORDER)}")
+        raise Wrong(f"line 1: there is no column {', '.join(missing)}; the columns are {', '.join(ORDER)}")
     return places
 
 
@@ -192,11 +197,11 @@ def read_orders(data, periods, closing):
     """The journal of a table of orders for a day of so many periods, with a close or without; else all that is wrong, a line
     each."""
     rows, decimal_comma = rows_of(data)
-    if not rows or not trimmed(rows[0]):
-        raise Wrong(f"the table is empty: its first row should name the columns {', '.join(ORDER)}")
-    places = columns_of(trimmed(rows[0]))
+    if not rows or not trimmed(rows[0][1]):
+        raise Wrong(f"the table is empty: its first line should name the columns {', '.join(ORDER)}")
+    places = columns_of(trimmed(rows[0][1]))
     wrong, held, commands = [], book.Book(periods), []
-    for number, cells in enumerate(rows[1:], 2):
+    for number, cells in rows[1:]:
         if not any(cell.strip() for cell in cells):
             continue
         row = Row(trimmed(cells), places, decimal_comma)
@@ -207,7 +212,7 @@ def read_orders(data, periods, closing):
             if reason:
                 column = COLUMN_OF.get(reason)
                 row.wrong.append((f"column {column}: " if column else "") + f"{REASONS[reason]} ({reason})")
-        wrong += [f"row {number}, {line}" for line in row.wrong]
+        wrong += [f"line {number}, {line}" for line in row.wrong]
     if wrong:
         more = len(wrong) - MOST_ERRORS
         raise Wrong("\n".join(wrong[:MOST_ERRORS] + ([f"and {more} more"] if more > 0 else [])))

@@ -1,4 +1,4 @@
-"""The tables: that they add up, that the orders' table makes the same book again, and that errors name row and column."""
+"""The tables: that they add up, that the orders' table makes the same book again, and that errors name line and column."""
 
 import csv
 import io
@@ -98,7 +98,7 @@ class Orders(unittest.TestCase):
         self.assertEqual(self.made(HOUR.replace(",", "\t"), header=HEADER.replace(",", "\t")), made)
         self.assertEqual(self.made(HOUR + "\r", header="\ufeff" + HEADER.upper() + "\r"), made)
 
-    def test_errors_name_row_and_column(self):
+    def test_errors_name_line_and_column(self):
         for old, new, column, words in (
             ("NORD", "nord", "participant", "1 to 8 letters A to Z"),
             ("NORD", "", "participant", "1 to 8 letters A to Z"),
@@ -130,26 +130,31 @@ class Orders(unittest.TestCase):
             with self.subTest(new):
                 self.assertNotEqual(HOUR.replace(old, new), HOUR)
                 line = self.wrong(BLOCK, HOUR.replace(old, new))
-                self.assertTrue(line.startswith(f"row 3, column {column}: "), line)
+                self.assertTrue(line.startswith(f"line 3, column {column}: "), line)
                 self.assertIn(words, line)
 
     def test_what_the_book_would_refuse(self):
-        self.assertIn("row 3, column order: the participant has an order of that name", self.wrong(HOUR, HOUR))
+        self.assertIn("line 3, column order: the participant has an order of that name", self.wrong(HOUR, HOUR))
         line = self.wrong("A,K2,block,buy,1,1,5,K1,", "A,K1,block,buy,1,1,5,,")
-        self.assertTrue(line.startswith("row 2, column parent: the participant has no order of the parent's name"), line)
-        self.assertIn("row 3, column parent: the parent is no block", self.wrong(HOUR, "NORD,K,block,buy,1,1,5,WIND-8,"))
+        self.assertTrue(line.startswith("line 2, column parent: the participant has no order of the parent's name"), line)
+        self.assertIn("line 3, column parent: the parent is no block", self.wrong(HOUR, "NORD,K,block,buy,1,1,5,WIND-8,"))
         blocks = [f"A,K{number},block,buy,1,1,5,," for number in range(25)]
-        self.assertIn("row 26, a book holds at most 24 blocks (BlocksFull)", self.wrong(*blocks))
+        self.assertIn("line 26, a book holds at most 24 blocks (BlocksFull)", self.wrong(*blocks))
 
     def test_tables_that_are_none(self):
-        self.assertIn("row 1, column 3: 'typ' is no column", self.wrong(header=HEADER.replace("kind", "typ")))
+        self.assertIn("line 1, column 3: 'typ' is no column", self.wrong(header=HEADER.replace("kind", "typ")))
         self.assertIn("'side' is there twice", self.wrong(header=HEADER.replace("kind", "side")))
         self.assertIn("there is no column kind", self.wrong(header=HEADER.replace("kind,", "")))
         self.assertIn("the table is empty", self.wrong(header=""))
-        self.assertIn("row 2, it has 10 cells, and the header 9", self.wrong(BLOCK + ",1"))
+        self.assertIn("line 2, it has 10 cells, and the header 9", self.wrong(BLOCK + ",1"))
         with self.assertRaises(order_table.Wrong) as fault:
             order_table.read_orders(HEADER.encode() + b"\nN\xd8RD", 24, True)
-        self.assertIn("isn't in UTF-8", str(fault.exception))
+        self.assertIn("line 2: the table isn't in UTF-8", str(fault.exception))
+        self.assertIn("line 3: the table can't be read", self.wrong(BLOCK, HOUR + ',"x"y'))
+
+    def test_a_line_is_one_of_the_file(self):
+        line = self.wrong("", HOUR + ',"\n\n",', HOUR.replace("hour", "hourly"))
+        self.assertIn("line 6, column kind: ", line)
 
     def test_only_the_first_errors_are_told(self):
         lines = self.wrong(*["x"] * 100).split("\n")
@@ -171,7 +176,7 @@ class CommandLine(unittest.TestCase):
     def test_faults(self):
         status, out, err = tool("table", "--journal", "-", data=f"{HEADER}\n{HOUR},x\n".encode())
         self.assertEqual((status, out), (command.NO_INPUT, b""))
-        self.assertEqual(err, "table: standard input: row 2, it has 10 cells, and the header 9\n")
+        self.assertEqual(err, "table: standard input: line 2, it has 10 cells, and the header 9\n")
         self.assertEqual(tool("table", "--journal", AUCTION, AUCTION)[0], command.COMMAND_LINE)
         self.assertEqual(tool("table", "--rows", "blocks", AUCTION)[0], command.COMMAND_LINE)
         self.assertEqual(tool("table", AUCTION)[0], command.NO_INPUT)

@@ -1,7 +1,7 @@
 -- Every list of acceptances is just one of the numbered choices.
 use Rattle.std.proofs.Common.{◌≡◌, ℕ, zero, suc, ◌+◌, ◌-◌, ◌*◌, ◌%◌, ◌^◌, ◌<◌, ◌≤◌, ℤ, Bool, true, false, cond, nat_lt, inl, inr, List, [], ◌∷◌, ◌++◌, length, replicate, take, drop, append_assoc, length-append, ap, ap₂, ◌∙◌, sym, subst, refl, arith}
 use Rattle.std.proofs.lemmas.Bool.Decides.{nat_tests}
-use Rattle.std.proofs.lemmas.List.{get_or-drop, length-drop, length-take-le, take-append-drop, append-nil}
+use Rattle.std.proofs.lemmas.List.{get_or-drop, length-drop, length-take-le, take-append-drop}
 use Rattle.std.proofs.Math.ListN.{set}
 use Rattle.std.proofs.Math.Nat.{two-pow-succ, mod-eq_of_lt}
 use Rattle.std.proofs.lemmas.Nat.{pow_pos, pow_below}
@@ -113,11 +113,6 @@ pub record IsChosen (count number place rest : ℕ) (sel : List Bool) : Type 0 w
   pub is_padded : sel ≡ padded front
   pub whole : front ++ choice (count - place) rest ≡ choice count number
 
-pub nothing_chosen : (count number : ℕ) (sel : List Bool) → sel ≡ replicate most_blocks false → IsChosen count number 0 number sel
-nothing_chosen count number sel e =
-    let all : count - 0 ≡ count = omega arith in
-    record { front = []; long = refl; is_padded = e; whole = ap (λ (n : ℕ). choice n number) all }
-
 set_front : (front : List Bool) (n : ℕ) → set (front ++ replicate (suc n) false) (length front) true ≡ (front ++ true ∷ []) ++ replicate n false
 set_front [] n = refl
 set_front (x ∷ front) n = ap (λ (zs : List Bool). x ∷ zs) (set_front front n)
@@ -174,12 +169,6 @@ one_rejected count number place rest sel l few h c =
           ∙ ap (λ (xs : List Bool). c.front ++ xs) (sym (ap (λ (n : ℕ). choice n rest) (one_less count place l) ∙ choice-false (count - (place + 1)) rest h))
           ∙ c.whole;
     }
-
-pub all_chosen : (count number place rest : ℕ) (sel : List Bool) → count ≤ place → IsChosen count number place rest sel → sel ≡ padded (choice count number)
-all_chosen count number place rest sel l c =
-    let none : count - place ≡ 0 = omega (arith) in
-    let front : c.front ≡ choice count number = sym (append-nil c.front) ∙ ap (λ (n : ℕ). c.front ++ choice n rest) (sym none) ∙ c.whole in
-    c.is_padded ∙ ap padded front
 
 -- the number of choices as the code makes it
 pub power_is : (count : ℕ) → count ≤ most_blocks → (1 * 2 ^ count) % 4294967296 ≡ 2 ^ count

@@ -129,9 +129,6 @@ same_key-equal k l e =
 equal-same_key : (k l : Key) → k.0 ≡ l.0 → k.1 ≡ l.1 → same_key k l ≡ true
 equal-same_key k l e f = ap₂ (λ (a b : Bool). a && b) ((bytes_decides k.0 l.0).1 e) ((bytes_decides k.1 l.1).1 f)
 
-key_of : Block → Key
-key_of b = (b.who, b.name)
-
 not_none : (o : Option Order) → not (is_some o) ≡ true → o ≡ None
 not_none None e = refl
 not_none (Some x) e = absurd (cc)

@@ -6,7 +6,7 @@ use Rattle.dam_blocks.specs.declared.problem.Block.{Block}
 use Rattle.dam_blocks.specs.Problem.{ProblemState, IsParent, IsProblem}
 use Rattle.dam_blocks.specs.Selection.{accepts, padded, IsAllowed, IsAdmissible}
 use Rattle.dam_blocks.proofs.Choices.{accepts-replicate}
-use Rattle.dam_blocks.proofs.Admitting.{accepted_within}
+use Rattle.dam_blocks.proofs.AdmissionDecided.{accepted_within}
 
 -- what the front accepts the whole accepts ..
 whole_accepts : (xs ys : List Bool) (i : ℕ) → accepts xs i ≡ true → accepts (xs ++ ys) i ≡ true

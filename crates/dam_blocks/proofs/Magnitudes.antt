@@ -18,7 +18,7 @@ use Rattle.dam_blocks.specs.Problem.{ProblemState, hourly_orders, AreHours, AreB
 use Rattle.dam_blocks.specs.Selection.{volume_in, value_of, net_volume, block_value}
 use Rattle.dam_blocks.specs.Eligible.{period_welfare, welfare_from, selection_welfare}
 use Rattle.dam_blocks.specs.Magnitude.{IsWithin, greatest_block_value, greatest_selection_welfare}
-use Rattle.dam_blocks.proofs.Gains.{added_some, raised_some}
+use Rattle.dam_blocks.proofs.WelfareAtLeastZero.{added_some, raised_some}
 
 -- ---- the hourly orders
 price_times : (p : ℤ) (x : ℕ) → IsPrice p → x ≤ greatest_volume → (neg_ℤ (pos greatest_value) ≤ℤ (p *ℤ pos x)) × ((p *ℤ pos x) ≤ℤ pos greatest_value)

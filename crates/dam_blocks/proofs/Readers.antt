@@ -6,7 +6,7 @@ use Rattle.dam_hour.specs.declared.step.Step.{Step}
 use Rattle.dam_hour.specs.Execution.{IsHour}
 use Rattle.dam_blocks.specs.declared.problem.Block.{Block}
 use Rattle.dam_blocks.specs.Problem.{hourly_orders, AreHours, IsBlock, AreBlocks}
-use Rattle.dam_blocks.proofs.Clearing.{hour_at}
+use Rattle.dam_blocks.proofs.PeriodByPeriod.{hour_at}
 
 pub hour_is : (hours : List (List Step)) (i : ℕ) (hour : List Step) → slice_get hours i ≡ Some hour → AreHours hours → hourly_orders hours ≤ most_hourly → IsHour hour
 hour_is hours i hour e are few =

@@ -12,7 +12,7 @@ use Rattle.dam_blocks.specs.Problem.{ProblemState}
 use Rattle.dam_blocks.specs.Selection.{net_volume, IsAdmissible}
 use Rattle.dam_blocks.specs.Eligible.{IsClearingPrice, ArePrices, gain_at, HasNoLoss, selection_welfare, IsEligible}
 use Rattle.dam_blocks.specs.Score.{IsFirstUnbalanced, IsFirstLosing, IsVerdict}
-use Rattle.dam_blocks.proofs.Prices.{prices_unique}
+use Rattle.dam_blocks.proofs.PricesUnique.{prices_unique}
 
 pub eligible_from : (problem : ProblemState) (sel : List Bool) (prices : List ℤ) (hours : List (List Step)) (w : ℤ) → hours ≡ problem.hours
     → length sel ≡ most_blocks → IsAdmissible problem.blocks sel → ArePrices problem.blocks sel 1 problem.hours (take (length problem.hours) prices)

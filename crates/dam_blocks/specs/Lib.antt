@@ -4,4 +4,4 @@ pub mod Eligible
 pub mod Magnitude
 pub mod Score
 pub mod Result
-pub mod Making
+pub mod inside

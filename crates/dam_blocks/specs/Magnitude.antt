@@ -1,4 +1,5 @@
--- How large values, surpluses and welfares can be, in cents per MWh times tenths of a MW: sums and products of the auction's limits.
+-- How large values, surpluses and welfares can be, in cents per MWh times tenths of a MW: sums and
+-- products of the auction's limits.
 use Rattle.std.specs.Prelude.{ℕ, ◌+◌, ◌*◌, ℤ, pos, neg_ℤ, ◌≤ℤ◌}
 use Rattle.dam_book.specs.Limits.{greatest_volume, last_period, most_hourly, most_blocks}
 use Rattle.dam_hour.specs.Limits.{price_span, greatest_value}
@@ -20,6 +21,7 @@ greatest_gain = price_span * greatest_volume
 abbrev pub greatest_surplus : ℕ
 greatest_surplus = last_period * greatest_gain
 
--- the welfare of a selection: every hourly order once, and every block in every period of the longest day
+-- the welfare of a selection: every hourly order once, and every block in every period of the longest
+-- day
 abbrev pub greatest_selection_welfare : ℕ
 greatest_selection_welfare = (most_hourly + most_blocks * last_period) * greatest_value

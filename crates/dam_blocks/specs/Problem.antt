@@ -14,7 +14,8 @@ use Rattle.dam_blocks.specs.declared.problem.Place.{Place}
 use Rattle.dam_blocks.specs.declared.problem.Place.TheVariants.{Hour as AtHour, Block as AtBlock}
 use Rattle.dam_blocks.specs.declared.problem.ProblemRow.{ProblemRow}
 
--- the steps of each period of the day, the blocks, and the rows of the book with their places among these
+-- the steps of each period of the day, the blocks, and the rows of the book with their places among
+-- these
 pub record ProblemState : Type 0 where
   pub hours : List (List Step)
   pub blocks : List Block
@@ -22,7 +23,8 @@ pub record ProblemState : Type 0 where
 
 -- the order as a step, where it is an hourly order of this period
 abbrev pub step_in : ℕ → Order → Option Step
-step_in t (Hour o) = if o.period == t then Some (record { side = o.side; price = o.price; qty = o.qty }) else None
+step_in t (Hour o) =
+    if o.period == t then Some (record { side = o.side; price = o.price; qty = o.qty }) else None
 step_in t (BlockVariant o) = None
 
 -- the hourly orders of a period
@@ -51,11 +53,17 @@ place_behind front (BlockVariant o) = AtBlock (length (blocks_in front))
 -- the rows with the places of their orders, those of `front` standing before them
 abbrev pub rows_behind : List Row → List Row → List ProblemRow
 rows_behind front [] = []
-rows_behind front (r ∷ rs) = record { who = r.0.0; name = r.0.1; at = place_behind front r.1 } ∷ rows_behind (front ++ r ∷ []) rs
+rows_behind front (r ∷ rs) =
+    record { who = r.0.0; name = r.0.1; at = place_behind front r.1 } ∷ rows_behind (front ++ r ∷ []) rs
 
--- the problem of a book: each period's hourly orders, the blocks, and where each row stands among these
+-- the problem of a book: each period's hourly orders, the blocks, and where each row stands among
+-- these
 abbrev pub problem_of : BookState → ProblemState
-problem_of b = record { hours = hours_from 1 b.periods b.rows; blocks = blocks_in b.rows; rows = rows_behind [] b.rows }
+problem_of b = record {
+  hours = hours_from 1 b.periods b.rows;
+  blocks = blocks_in b.rows;
+  rows = rows_behind [] b.rows;
+}
 
 -- What every problem keeps.
 
@@ -96,10 +104,13 @@ pub record HasParentBefore (blocks : List Block) (i : ℕ) (b : Block) : Type 0 
 
 -- the order stands at its place
 abbrev pub StandsAt : ProblemState → ProblemRow → Place → Type 0
-StandsAt p r (AtHour t i) = (hour : List Step) × (slice_get p.hours (t - 1) ≡ Some hour) × (1 ≤ t) × (i < length hour)
-StandsAt p r (AtBlock i) = (b : Block) × (slice_get p.blocks i ≡ Some b) × (b.who ≡ r.who) × (b.name ≡ r.name)
+StandsAt p r (AtHour t i) =
+    (hour : List Step) × (slice_get p.hours (t - 1) ≡ Some hour) × (1 ≤ t) × (i < length hour)
+StandsAt p r (AtBlock i) =
+    (b : Block) × (slice_get p.blocks i ≡ Some b) × (b.who ≡ r.who) × (b.name ≡ r.name)
 
--- every problem is that of a closed book that keeps a book's facts: its rows are the book's, each once, in book order, with unique keys
+-- every problem is that of a closed book that keeps a book's facts: its rows are the book's, each
+-- once, in book order, with unique keys
 pub record IsProblem (p : ProblemState) : Type 0 where
   pub book : BookState
   pub is_book : IsBook book
@@ -110,6 +121,8 @@ pub record IsProblem (p : ProblemState) : Type 0 where
   pub few_hourly : hourly_orders p.hours ≤ most_hourly
   pub blocks : AreBlocks (length p.hours) p.blocks
   pub few_blocks : length p.blocks ≤ most_blocks
-  pub unique : (i j : ℕ) (a b : Block) → slice_get p.blocks i ≡ Some a → slice_get p.blocks j ≡ Some b → a.who ≡ b.who → a.name ≡ b.name → i ≡ j
-  pub parents : (i : ℕ) (b : Block) (name : List ℕ) → slice_get p.blocks i ≡ Some b → b.order.parent ≡ Some name → HasParentBefore p.blocks i b
+  pub unique : (i j : ℕ) (a b : Block) → slice_get p.blocks i ≡ Some a → slice_get p.blocks j ≡ Some b
+      → a.who ≡ b.who → a.name ≡ b.name → i ≡ j
+  pub parents : (i : ℕ) (b : Block) (name : List ℕ) → slice_get p.blocks i ≡ Some b
+      → b.order.parent ≡ Some name → HasParentBefore p.blocks i b
   pub rows : (i : ℕ) (r : ProblemRow) → slice_get p.rows i ≡ Some r → StandsAt p r r.at

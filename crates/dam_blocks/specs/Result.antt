@@ -16,7 +16,8 @@ pub record RanksAbove (v : ℤ) (xs : List Bool) (w : ℤ) (ys : List Bool) : Ty
   pub by_welfare : w ≤ℤ v
   pub by_order : v ≡ w → accepts_first xs ys ≡ true
 
--- the lesser welfare; or the same welfare, and it doesn't accept where they first differ, or they differ nowhere
+-- the lesser welfare; or the same welfare, and it doesn't accept where they first differ, or they
+-- differ nowhere
 pub record RanksAtOrBelow (v : ℤ) (xs : List Bool) (w : ℤ) (ys : List Bool) : Type 0 where
   pub by_welfare : v ≤ℤ w
   pub by_order : v ≡ w → accepts_first xs ys ≡ false
@@ -24,4 +25,5 @@ pub record RanksAtOrBelow (v : ℤ) (xs : List Bool) (w : ℤ) (ys : List Bool) 
 -- the eligible selection that no eligible one ranks above, and its welfare
 pub record IsResult (problem : ProblemState) (sel : List Bool) (welfare : ℤ) : Type 0 where
   pub eligible : IsEligible problem sel welfare
-  pub others : (ys : List Bool) (v : ℤ) → IsEligible problem ys v → RanksAtOrBelow v ys welfare sel
+  pub others : (ys : List Bool) (v : ℤ) → IsEligible problem ys v
+      → RanksAtOrBelow v ys welfare sel

@@ -23,7 +23,8 @@ padded decided = decided ++ replicate (most_blocks - length decided) false
 abbrev pub empty_selection : List Bool
 empty_selection = replicate most_blocks false
 
--- the k-th choice over n places: the first of them is accepted by the first half of the choices, and so on
+-- the k-th choice over n places: the first of them is accepted by the first half of the choices, and
+-- so on
 abbrev pub choice : ℕ → ℕ → List Bool
 choice zero k = []
 choice (suc n) k = if nat_lt k (2 ^ n) then true ∷ choice n k else false ∷ choice n (k - 2 ^ n)
@@ -39,7 +40,8 @@ over_accepted f (b ∷ bs) (true ∷ sel) = f b.order +ℤ over_accepted f bs se
 over_accepted f (b ∷ bs) (false ∷ sel) = over_accepted f bs sel
 over_accepted f _ _ = pos 0
 
--- what a block adds to the net volume of a period: its volume where it sells, and minus its volume where it buys
+-- what a block adds to the net volume of a period: its volume where it sells, and minus its volume
+-- where it buys
 abbrev pub net_volume_of : ℕ → BlockTerms → ℤ
 net_volume_of t o = neg_ℤ (signed o.side (pos (volume_in o.volumes t)))
 
@@ -47,7 +49,8 @@ net_volume_of t o = neg_ℤ (signed o.side (pos (volume_in o.volumes t)))
 abbrev pub bought_volume_of : ℕ → BlockTerms → ℤ
 bought_volume_of t o = pos (volume_on Buy o.side (volume_in o.volumes t))
 
--- limit times volume in a period of a block that buys, and the same with the other sign of one that sells
+-- limit times volume in a period of a block that buys, and the same with the other sign of one that
+-- sells
 abbrev pub value_of : ℕ → BlockTerms → ℤ
 value_of t o = signed o.side (o.price *ℤ pos (volume_in o.volumes t))
 
@@ -79,8 +82,10 @@ pub record Permits (other : Block) (is_accepted : Bool) (block : Block) : Type 0
 pub record IsAllowed (blocks : List Block) (sel : List Bool) (i : ℕ) : Type 0 where
   pub block : Block
   pub stands : slice_get blocks i ≡ Some block
-  pub others : (j : ℕ) (other : Block) → j ≢ i → slice_get blocks j ≡ Some other → Permits other (accepts sel j) block
+  pub others : (j : ℕ) (other : Block) → j ≢ i → slice_get blocks j ≡ Some other
+      → Permits other (accepts sel j) block
 
--- only blocks are accepted, each with its parent, and at most one of each group; a problem's parents all stand among its blocks, so that none is missing
+-- only blocks are accepted, each with its parent, and at most one of each group; a problem's parents
+-- all stand among its blocks, so that none is missing
 pub record IsAdmissible (blocks : List Block) (sel : List Bool) : Type 0 where
   pub each : (i : ℕ) → accepts sel i ≡ true → IsAllowed blocks sel i

@@ -31,8 +31,8 @@ fn surplus_in(order: &BlockOrder, period: Period, price: Price) -> i64
 /// What a block gains at the prices, in cents per MWh times tenths of a MW; below 0 where it loses.
 ///
 /// There is one price for each period of the day, in order; a block's periods past the list count
-/// nothing. In each period it is the volume times price less limit, for a sell, and times limit less
-/// price, for a buy.
+/// nothing. In each period it is the volume times (price less limit) for a sell, and the volume
+/// times (limit less price) for a buy.
 pub fn surplus(order: &BlockOrder, prices: &[Price]) -> i64
     requires { length prices.now ≤ last_period }
     ensures value { result ≡ surplus_of prices.now order.now }

@@ -24,7 +24,8 @@ pub fn limits()
 
 /// The empty selection is eligible.
 pub fn empty_is_eligible()
-    ensures { (problem : ProblemState) → IsProblem problem → (w : ℤ) × IsEligible problem empty_selection w }
+    ensures { (problem : ProblemState) → IsProblem problem
+        → (w : ℤ) × IsEligible problem empty_selection w }
 {
     dam_hour::laws::existence();
     dam_hour::laws::welfare();
@@ -33,8 +34,8 @@ pub fn empty_is_eligible()
 /// An eligible selection has a welfare of at least 0: at the prices no hourly order loses, and the
 /// accepted blocks together don't either.
 pub fn eligible_welfare()
-    ensures { (problem : ProblemState) (sel : List Bool) (w : ℤ) → IsProblem problem → IsEligible problem sel w
-        → pos 0 ≤ℤ w }
+    ensures { (problem : ProblemState) (sel : List Bool) (w : ℤ) → IsProblem problem
+        → IsEligible problem sel w → pos 0 ≤ℤ w }
 {
     dam_hour::laws::price();
     dam_hour::laws::exchange();
@@ -46,9 +47,11 @@ pub fn eligible_welfare()
 /// selection with another verdict isn't eligible.
 pub fn verdict()
     ensures eligible { (problem : ProblemState) (sel : List Bool) (verdict : Verdict) (w : ℤ)
-        → IsVerdict problem sel verdict → IsEligible problem sel w → (n : ℕ) × (w ≡ pos n) × (verdict ≡ Eligible n) }
+        → IsVerdict problem sel verdict → IsEligible problem sel w
+        → (n : ℕ) × (w ≡ pos n) × (verdict ≡ Eligible n) }
     ensures other { (problem : ProblemState) (sel : List Bool) (verdict : Verdict) (w : ℤ)
-        → IsVerdict problem sel verdict → ((n : ℕ) → verdict ≢ Eligible n) → ¬ (IsEligible problem sel w) }
+        → IsVerdict problem sel verdict → ((n : ℕ) → verdict ≢ Eligible n)
+        → ¬ (IsEligible problem sel w) }
     ensures one { (problem : ProblemState) (sel : List Bool) (v w : ℤ) → IsEligible problem sel v
         → IsEligible problem sel w → v ≡ w }
 {}
@@ -66,18 +69,23 @@ pub fn magnitude()
 /// The order of selections is a total one: of two, the first ranks either above the second, or at or
 /// below it; and each of two ranks at or below the other only where they are the same.
 pub fn ranking()
-    ensures either { (v w : ℤ) (xs ys : List Bool) → RanksAbove v xs w ys ⊎ RanksAtOrBelow v xs w ys }
-    ensures apart { (v w : ℤ) (xs ys : List Bool) → RanksAbove v xs w ys → ¬ (RanksAtOrBelow v xs w ys) }
+    ensures either { (v w : ℤ) (xs ys : List Bool)
+        → RanksAbove v xs w ys ⊎ RanksAtOrBelow v xs w ys }
+    ensures apart { (v w : ℤ) (xs ys : List Bool) → RanksAbove v xs w ys
+        → ¬ (RanksAtOrBelow v xs w ys) }
     ensures itself { (v : ℤ) (xs : List Bool) → RanksAtOrBelow v xs v xs }
-    ensures transitive { (u v w : ℤ) (xs ys zs : List Bool) → length xs ≡ most_blocks → length ys ≡ most_blocks
-        → length zs ≡ most_blocks → RanksAtOrBelow u xs v ys → RanksAtOrBelow v ys w zs → RanksAtOrBelow u xs w zs }
-    ensures same { (v w : ℤ) (xs ys : List Bool) → length xs ≡ most_blocks → length ys ≡ most_blocks
+    ensures transitive { (u v w : ℤ) (xs ys zs : List Bool)
+        → length xs ≡ most_blocks → length ys ≡ most_blocks → length zs ≡ most_blocks
+        → RanksAtOrBelow u xs v ys → RanksAtOrBelow v ys w zs → RanksAtOrBelow u xs w zs }
+    ensures same { (v w : ℤ) (xs ys : List Bool)
+        → length xs ≡ most_blocks → length ys ≡ most_blocks
         → RanksAtOrBelow v xs w ys → RanksAtOrBelow w ys v xs → (xs ≡ ys) × (v ≡ w) }
 {}
 
 /// A problem has a result.
 pub fn existence()
-    ensures { (problem : ProblemState) → IsProblem problem → (sel : List Bool) × ((w : ℤ) × IsResult problem sel w) }
+    ensures { (problem : ProblemState) → IsProblem problem
+        → (sel : List Bool) × ((w : ℤ) × IsResult problem sel w) }
 {
     empty_is_eligible();
     dam_hour::laws::balance();
@@ -112,8 +120,9 @@ pub fn fronts()
 /// admissible selection is one of the choices over the problem's blocks.
 pub fn choices()
     ensures each { (xs : List Bool) → (k : ℕ) × (k < 2 ^ length xs) × (choice (length xs) k ≡ xs) }
-    ensures admissible { (problem : ProblemState) (sel : List Bool) → IsProblem problem → length sel ≡ most_blocks
-        → IsAdmissible problem.blocks sel
-        → (k : ℕ) × (k < 2 ^ length problem.blocks) × (padded (choice (length problem.blocks) k) ≡ sel) }
+    ensures admissible { (problem : ProblemState) (sel : List Bool) → IsProblem problem
+        → length sel ≡ most_blocks → IsAdmissible problem.blocks sel
+        → (k : ℕ) × (k < 2 ^ length problem.blocks)
+        × (padded (choice (length problem.blocks) k) ≡ sel) }
     ensures once { (n j k : ℕ) → j < 2 ^ n → k < 2 ^ n → choice n j ≡ choice n k → j ≡ k }
 {}

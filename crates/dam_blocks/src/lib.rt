@@ -1,8 +1,25 @@
 //! Block orders of the auction: the problem of a closed book, the selections of its blocks, their
 //! score, and the plain search over all of them.
 //!
-//! What these words mean stands in `specs/`: the problem of a book, admissible and eligible
-//! selections, their welfare, the order among them and the result.
+//! A `Problem` has each period's hourly orders, ready to be cleared, and the blocks in book order. A
+//! `Selection` is a set of these blocks. `score` tells whether one is eligible and what its welfare
+//! is, or the first thing that speaks against it; `ranks_above` orders the eligible ones, and
+//! `best_of_all` finds the best of them by trying every selection.
+//!
+//! ```
+//! let problem = Problem::of_book(alloc, &book)?;
+//! let first_alone = Selection::none().with(0);
+//! assert_eq!(score(&problem, first_alone), Verdict::Losing(0));
+//! let best = best_of_all(&problem);
+//! assert_eq!(score(&problem, best.selection), Verdict::Eligible(best.welfare));
+//! ```
+//!
+//! A contract sees a problem as the steps of each period, the blocks and the rows, a selection as the
+//! list of its acceptances, and a block as its names and terms. What these words mean stands in
+//! `specs/`. Only tested is what the faults say, and that memory isn't said to have run out where it
+//! hasn't.
+//!
+//! The crate knows nothing of how a result is looked for without trying every selection, nor of texts.
 #![tactic(auto)]
 
 mod accepted;
@@ -22,7 +39,7 @@ pub use accepted::{
 };
 pub use gain::surplus;
 pub use links::admissible;
-pub use problem::{Block, MOST_PERIODS, Place, Problem, ProblemFault, ProblemRow, period_at};
+pub use problem::{Block, MOST_PERIODS, Place, Problem, ProblemFault, ProblemRow};
 pub use result::{best_of_all, ranks_above};
 pub use scoring::{Verdict, score};
 pub use selection::{Best, Selection};

@@ -1,6 +1,5 @@
-ghost use Rattle.std.specs.Prelude.{◌≡◌, ◌+◌, ◌-◌, ◌<◌, ◌↔◌, true, false, length, slice_get, option_map, IfOk, IfSome, IsErrOf};
+ghost use Rattle.std.specs.Prelude.{◌≡◌, ◌-◌, ◌↔◌, true, false, length, slice_get, option_map, IfOk, IfSome, IsErrOf};
 ghost use Rattle.std.specs.Option.{option_copied};
-ghost use Rattle.dam_book.specs.Limits.{last_period};
 ghost use Rattle.dam_book.specs.Terms.{IsBlockOrder};
 ghost use Rattle.dam_book.specs.Volumes.{have_beyond};
 ghost use Rattle.dam_hour.specs.Execution.{IsHour};
@@ -15,14 +14,6 @@ use thiserror::Error;
 
 /// The greatest number of periods of a delivery day.
 pub const MOST_PERIODS: usize = LAST_PERIOD as usize;
-
-/// The period at a place of the day, counted from 0.
-pub fn period_at(place: usize) -> Period
-    requires { place < last_period }
-    ensures { result ≡ place + 1 }
-{
-    Period::at(place)
-}
 
 /// A block order with the participant and the name that it stands under.
 #[derive(PartialEq, Eq, Debug, Drop)]
@@ -114,9 +105,17 @@ impl<A: Allocator> Model for Problem<A> {
 
     ghost Value = { ProblemState };
 
-    ghost view = { λ p. record { hours = p.hours.items; blocks = p.blocks.items; rows = p.rows.items } };
+    ghost view = { λ p. record {
+      hours = p.hours.items;
+      blocks = p.blocks.items;
+      rows = p.rows.items;
+    } };
 
-    ghost invariant = { λ p. IsProblem (record { hours = p.hours.items; blocks = p.blocks.items; rows = p.rows.items }) };
+    ghost invariant = { λ p. IsProblem (record {
+      hours = p.hours.items;
+      blocks = p.blocks.items;
+      rows = p.rows.items;
+    }) };
 }
 
 impl<A: Allocator + Copy> Problem<A> {
@@ -125,7 +124,8 @@ impl<A: Allocator + Copy> Problem<A> {
         alloc: A,
         book: &Book<B>,
     ) -> Result<Problem<A>, ProblemFault>
-        ensures ok { IfOk result (λ problem. (book.now.closed ≡ true) × (problem ≡ problem_of book.now)) }
+        ensures ok { IfOk result
+            (λ problem. (book.now.closed ≡ true) × (problem ≡ problem_of book.now)) }
         ensures still_open { IsErrOf result ProblemFault.StillOpen ↔ (book.now.closed ≡ false) }
     {
         if !book.is_closed() {
@@ -177,9 +177,10 @@ impl<A: Allocator> Problem<A> {
         self.hour(period).map(|hour| hour.steps())
     }
 
-    /// The block at a place in book order; `None` past the last.
+    /// The block at a place among the blocks, from 0 in book order; `None` past the last.
     pub fn block(&self, place: usize) -> Option<&BlockOrder>
-        ensures value { option_copied result ≡ option_map (λ b. b.order) (slice_get self.now.blocks place) }
+        ensures value { option_copied result
+            ≡ option_map (λ b. b.order) (slice_get self.now.blocks place) }
         ensures valid { IsProblem self.now }
         ensures limits { IfSome result (λ order. IsBlockOrder order.now
             × (have_beyond (length self.now.hours) order.now.volumes ≡ false)) }

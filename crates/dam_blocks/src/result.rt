@@ -1,6 +1,7 @@
 ghost use Rattle.std.specs.Prelude.{◌≡◌, ◌⊎◌, ℤ, pos, MatchBool};
 ghost use Rattle.dam_blocks.specs.Eligible.{IsEligible};
 ghost use Rattle.dam_blocks.specs.Result.{accepts_first, RanksAbove, RanksAtOrBelow, IsResult};
+ghost use Rattle.dam_blocks.specs.inside.Better.{IsNoBetter};
 
 use crate::laws;
 use crate::problem::Problem;
@@ -39,7 +40,7 @@ fn best_of_none<A: Allocator>(problem: &Problem<A>) -> Best
     ensures { IsEligible problem.now result.selection (pos result.welfare) }
 {
     laws::empty_is_eligible();
-    let _kept = problem.periods();
+    let _kept = problem.periods(); // for the proof: what a problem keeps
     let selection = Selection::none();
     match score(problem, selection) {
         Verdict::Eligible(welfare) => Best { selection, welfare },
@@ -50,8 +51,8 @@ fn best_of_none<A: Allocator>(problem: &Problem<A>) -> Best
 /// The one of the two that ranks above the other.
 fn higher(first: &Best, second: &Best) -> Best
     ensures either { (result ≡ first.now) ⊎ (result ≡ second.now) }
-    ensures first { RanksAtOrBelow (pos first.now.welfare) first.now.selection (pos result.welfare) result.selection }
-    ensures second { RanksAtOrBelow (pos second.now.welfare) second.now.selection (pos result.welfare) result.selection }
+    ensures first { IsNoBetter first.now result }
+    ensures second { IsNoBetter second.now result }
 {
     if ranks_above(*first, *second) {
         *first
@@ -64,7 +65,7 @@ fn higher(first: &Best, second: &Best) -> Best
 fn better<A: Allocator>(problem: &Problem<A>, best: Best, selection: Selection) -> Best
     requires { IsEligible problem.now best.selection (pos best.welfare) }
     ensures eligible { IsEligible problem.now result.selection (pos result.welfare) }
-    ensures kept { RanksAtOrBelow (pos best.welfare) best.selection (pos result.welfare) result.selection }
+    ensures kept { IsNoBetter best result }
     ensures tried { (v : ℤ) → IsEligible problem.now selection v
         → RanksAtOrBelow v selection (pos result.welfare) result.selection }
 {

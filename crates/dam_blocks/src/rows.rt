@@ -3,7 +3,7 @@
 ghost use Rattle.std.specs.Prelude.{◌≡◌, ◌<◌, ◌≤◌, [], Some, length, slice_get, IfOk};
 ghost use Rattle.dam_book.specs.Limits.{most_hourly};
 ghost use Rattle.dam_blocks.specs.Problem.{blocks_in, rows_behind};
-ghost use Rattle.dam_blocks.specs.Making.{hourly_in, step_of, steps_among, hours_among};
+ghost use Rattle.dam_blocks.specs.inside.Making.{hourly_in, step_of, steps_among, hours_among};
 
 use crate::problem::{Block, MOST_PERIODS, Place, ProblemRow};
 use dam_book::{Book, HourOrder, Name, Order, Participant};

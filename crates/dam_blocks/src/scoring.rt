@@ -1,7 +1,5 @@
-ghost use Rattle.std.specs.Prelude.{◌≡◌, ◌≤◌, ◌≤ℤ◌, pos, negsuc, length, take, slice_get, Some, MatchResult, MatchOption, ℕ, ◌<◌};
+ghost use Rattle.std.specs.Prelude.{◌≡◌, ◌≤◌, length, take, Some, MatchResult, MatchOption};
 ghost use Rattle.dam_book.specs.Limits.{last_period};
-ghost use Rattle.dam_blocks.specs.declared.problem.Block.{Block};
-ghost use Rattle.dam_blocks.specs.Selection.{accepts};
 ghost use Rattle.dam_blocks.specs.Eligible.{ArePrices, HasNoLoss, selection_welfare};
 ghost use Rattle.dam_blocks.specs.Score.{IsFirstUnbalanced, IsFirstLosing, IsVerdict};
 
@@ -22,7 +20,7 @@ pub enum Verdict {
     /// No execution balances with the selection in this period, the first such.
     Unbalanced(Period),
     /// At the prices of the selection the accepted block at this place, the first such, has a surplus
-    /// below 0; places count from 0 in book order.
+    /// below 0; places count the blocks alone, from 0 in book order.
     Losing(usize),
     /// The selection is eligible; its welfare in cents per MWh times tenths of a MW.
     Eligible(u64),
@@ -39,7 +37,8 @@ struct PricedDay {
 /// period that doesn't balance. What is published besides, as the executed volumes, isn't looked at.
 fn price_day<A: Allocator>(problem: &Problem<A>, selection: Selection) -> Result<PricedDay, Period>
     ensures { MatchResult result
-        (λ c. ArePrices problem.now.blocks selection 1 problem.now.hours (take (length problem.now.hours) c.prices)
+        (λ c. ArePrices problem.now.blocks selection 1 problem.now.hours
+        (take (length problem.now.hours) c.prices)
         × (selection_welfare problem.now selection ≡ Some c.welfare))
         (λ t. IsFirstUnbalanced problem.now selection t) }
 {

@@ -5,7 +5,7 @@ ghost use Rattle.dam_blocks.specs.Selection.{accepts, padded, empty_selection, c
 use dam_book::MOST_BLOCKS;
 use std::marker::Model;
 
-/// A set of blocks of a problem, by their places in book order.
+/// A set of blocks of a problem, by their places among its blocks, from 0 in book order.
 ///
 /// A contract sees the list of its acceptances, one for each place that a block of a book may have.
 #[derive(Clone, Copy, PartialEq, Eq, Debug)]

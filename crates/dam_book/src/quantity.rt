@@ -6,9 +6,6 @@ use std::marker::Model;
 /// The greatest volume of an order in one period, in tenths of a MW.
 pub const GREATEST_VOLUME: u32 = 99_999;
 
-/// The same, under the name that it had.
-pub const GREATEST_QTY: u32 = GREATEST_VOLUME;
-
 /// The volume of an order in one period, in whole tenths of a MW, from 1 to `GREATEST_VOLUME`.
 ///
 /// A contract sees the number of tenths.

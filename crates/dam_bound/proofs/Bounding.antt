@@ -11,7 +11,7 @@ use Rattle.dam_blocks.specs.Selection.{net_volume, block_value}
 use Rattle.dam_blocks.specs.Eligible.{added, period_welfare, welfare_from}
 use Rattle.dam_blocks.specs.Magnitude.{IsWithin}
 use Rattle.dam_bound.specs.Relaxed.{as_steps, relaxed_hours}
-use Rattle.dam_bound.specs.Levels.{greatest_period_bound}
+use Rattle.dam_bound.specs.inside.Levels.{greatest_period_bound}
 use Rattle.dam_bound.proofs.Levelling.{drop_at}
 
 -- the welfare of the periods so far, and what is left of them

@@ -17,9 +17,9 @@ use Rattle.dam_bound.proofs.Standing.{stand, idle}
 
 -- what the laws of sums over blocks say
 pub record SumLaws : Type 0 where
-  pub parted : (f : BlockTerms → ℤ) (bs : List Block) (front rest : List Bool)
-      → over_accepted f bs (front ++ rest) ≡ over_accepted f bs front +ℤ over_accepted f (drop (length front) bs) rest
-  pub padded : (f : BlockTerms → ℤ) (bs : List Block) (front : List Bool) → over_accepted f bs (padded front) ≡ over_accepted f bs front
+  pub parted : (f : BlockTerms → ℤ) (bs : List Block) (prefix rest : List Bool)
+      → over_accepted f bs (prefix ++ rest) ≡ over_accepted f bs prefix +ℤ over_accepted f (drop (length prefix) bs) rest
+  pub padded : (f : BlockTerms → ℤ) (bs : List Block) (prefix : List Bool) → over_accepted f bs (padded prefix) ≡ over_accepted f bs prefix
 
 -- what the laws of one period and of sums over blocks say
 pub record Laws : Type 0 where
@@ -61,92 +61,92 @@ great_at_least : Laws → (ss : List Step) (net : ℤ) (xs : List ℕ) → IsExe
 great_at_least laws ss net xs e b = let some = laws.some ss net (xs, e, b) in (some.0, some.1, laws.bound ss net some.0 some.1 xs e b)
 
 -- an execution of the steps and one of the blocks that stay undecided, which balance where more is decided
-covered : Laws → (t : ℕ) (bs : List Block) (decided rest : List Bool) (ss : List Step) (xs us : List ℕ)
-    → IsExecution ss xs → IsExecution (as_steps t (drop (length rest) (drop (length decided) bs))) us
-    → (pos (executed_volume Sell ss xs) +ℤ pos (executed_volume Sell (as_steps t (drop (length rest) (drop (length decided) bs))) us)) +ℤ net_volume bs (decided ++ rest) t
-    ≡ pos (executed_volume Buy ss xs) +ℤ pos (executed_volume Buy (as_steps t (drop (length rest) (drop (length decided) bs))) us)
-    → (r : ℤ) × (period_welfare bs decided t (ss ++ as_steps t (drop (length decided) bs)) ≡ Some r)
-    × (((welfare_of ss xs +ℤ welfare_of (as_steps t (drop (length rest) (drop (length decided) bs))) us) +ℤ block_value bs (decided ++ rest) t) ≤ℤ r)
-covered laws t bs decided rest ss xs us e f b =
-    let undecided = drop (length decided) bs in
+covered : Laws → (t : ℕ) (bs : List Block) (prefix rest : List Bool) (ss : List Step) (xs us : List ℕ)
+    → IsExecution ss xs → IsExecution (as_steps t (drop (length rest) (drop (length prefix) bs))) us
+    → (pos (executed_volume Sell ss xs) +ℤ pos (executed_volume Sell (as_steps t (drop (length rest) (drop (length prefix) bs))) us)) +ℤ net_volume bs (prefix ++ rest) t
+    ≡ pos (executed_volume Buy ss xs) +ℤ pos (executed_volume Buy (as_steps t (drop (length rest) (drop (length prefix) bs))) us)
+    → (r : ℤ) × (period_welfare bs prefix t (ss ++ as_steps t (drop (length prefix) bs)) ≡ Some r)
+    × (((welfare_of ss xs +ℤ welfare_of (as_steps t (drop (length rest) (drop (length prefix) bs))) us) +ℤ block_value bs (prefix ++ rest) t) ≤ℤ r)
+covered laws t bs prefix rest ss xs us e f b =
+    let undecided = drop (length prefix) bs in
     let s = stand t undecided rest us f in
     let ts = as_steps t undecided in
-    let net = laws.sums.parted (net_volume_of t) bs decided rest in
-    let value = laws.sums.parted (value_of t) bs decided rest in
+    let net = laws.sums.parted (net_volume_of t) bs prefix rest in
+    let value = laws.sums.parted (value_of t) bs prefix rest in
     let sold = laws.volume Sell ss ts xs s.volumes e in
     let bought = laws.volume Buy ss ts xs s.volumes e in
     let worth = laws.welfare ss ts xs s.volumes e in
     let own = s.balance in let gain = s.welfare in
-    let found = great_at_least laws (ss ++ ts) (net_volume bs decided t) (xs ++ s.volumes) (laws.joined ss ts xs s.volumes e s.execution)
+    let found = great_at_least laws (ss ++ ts) (net_volume bs prefix t) (xs ++ s.volumes) (laws.joined ss ts xs s.volumes e s.execution)
     (omega (arith, ints, b, net, sold, bought, own)) in
     let most = found.2 in (
-      found.0 +ℤ block_value bs decided t,
-      raised_is (greatest_welfare (ss ++ ts) (net_volume bs decided t)) (block_value bs decided t) found.0 found.1,
+      found.0 +ℤ block_value bs prefix t,
+      raised_is (greatest_welfare (ss ++ ts) (net_volume bs prefix t)) (block_value bs prefix t) found.0 found.1,
       omega (arith, ints, most, worth, gain, value),
     )
 
-pub drop_more : (bs : List Block) (decided rest : List Bool) → drop (length (decided ++ rest)) bs ≡ drop (length rest) (drop (length decided) bs)
+pub drop_more : (bs : List Block) (prefix rest : List Bool) → drop (length (prefix ++ rest)) bs ≡ drop (length rest) (drop (length prefix) bs)
 drop_more bs [] rest = refl
-drop_more [] (d ∷ decided) [] = refl
-drop_more [] (d ∷ decided) (r ∷ rest) = refl
-drop_more (b ∷ bs) (d ∷ decided) rest = drop_more bs decided rest
+drop_more [] (d ∷ prefix) [] = refl
+drop_more [] (d ∷ prefix) (r ∷ rest) = refl
+drop_more (b ∷ bs) (d ∷ prefix) rest = drop_more bs prefix rest
 
 -- deciding more raises no period
-period_extended : Laws → (t : ℕ) (bs : List Block) (decided rest : List Bool) (ss : List Step) (w : ℤ)
-    → period_welfare bs (decided ++ rest) t (ss ++ as_steps t (drop (length rest) (drop (length decided) bs))) ≡ Some w
-    → (r : ℤ) × (period_welfare bs decided t (ss ++ as_steps t (drop (length decided) bs)) ≡ Some r) × (w ≤ℤ r)
-period_extended laws t bs decided rest ss w e =
-    let ts = as_steps t (drop (length rest) (drop (length decided) bs)) in
-    let parts = raised_some (greatest_welfare (ss ++ ts) (net_volume bs (decided ++ rest) t)) (block_value bs (decided ++ rest) t) w e in
-    let best = laws.reached (ss ++ ts) (net_volume bs (decided ++ rest) t) parts.0 parts.1 in
+period_extended : Laws → (t : ℕ) (bs : List Block) (prefix rest : List Bool) (ss : List Step) (w : ℤ)
+    → period_welfare bs (prefix ++ rest) t (ss ++ as_steps t (drop (length rest) (drop (length prefix) bs))) ≡ Some w
+    → (r : ℤ) × (period_welfare bs prefix t (ss ++ as_steps t (drop (length prefix) bs)) ≡ Some r) × (w ≤ℤ r)
+period_extended laws t bs prefix rest ss w e =
+    let ts = as_steps t (drop (length rest) (drop (length prefix) bs)) in
+    let parts = raised_some (greatest_welfare (ss ++ ts) (net_volume bs (prefix ++ rest) t)) (block_value bs (prefix ++ rest) t) w e in
+    let best = laws.reached (ss ++ ts) (net_volume bs (prefix ++ rest) t) parts.0 parts.1 in
     let apart = laws.parted ss ts best.0 best.1 in
     let sold = ap (executed_volume Sell (ss ++ ts)) apart.2 ∙ laws.volume Sell ss ts apart.0 apart.1 apart.3 in
     let bought = ap (executed_volume Buy (ss ++ ts)) apart.2 ∙ laws.volume Buy ss ts apart.0 apart.1 apart.3 in
     let worth = ap (welfare_of (ss ++ ts)) apart.2 ∙ laws.welfare ss ts apart.0 apart.1 apart.3 in
     let balance = best.2 in let is = best.3 in let sum = parts.2 in
-    let found = covered laws t bs decided rest ss apart.0 apart.1 apart.3 apart.4 (omega (arith, ints, balance, sold, bought)) in
+    let found = covered laws t bs prefix rest ss apart.0 apart.1 apart.3 apart.4 (omega (arith, ints, balance, sold, bought)) in
     let most = found.2 in
     (found.0, found.1, omega (arith, ints, most, worth, is, sum))
 
 -- no completion reaches more in a period
-period_completed : Laws → (t : ℕ) (bs : List Block) (decided rest : List Bool) (ss : List Step) (w : ℤ) → period_welfare bs (decided ++ rest) t ss ≡ Some w
-    → (r : ℤ) × (period_welfare bs decided t (ss ++ as_steps t (drop (length decided) bs)) ≡ Some r) × (w ≤ℤ r)
-period_completed laws t bs decided rest ss w e =
-    let none = idle (as_steps t (drop (length rest) (drop (length decided) bs))) in
-    let parts = raised_some (greatest_welfare ss (net_volume bs (decided ++ rest) t)) (block_value bs (decided ++ rest) t) w e in
-    let best = laws.reached ss (net_volume bs (decided ++ rest) t) parts.0 parts.1 in
+period_completed : Laws → (t : ℕ) (bs : List Block) (prefix rest : List Bool) (ss : List Step) (w : ℤ) → period_welfare bs (prefix ++ rest) t ss ≡ Some w
+    → (r : ℤ) × (period_welfare bs prefix t (ss ++ as_steps t (drop (length prefix) bs)) ≡ Some r) × (w ≤ℤ r)
+period_completed laws t bs prefix rest ss w e =
+    let none = idle (as_steps t (drop (length rest) (drop (length prefix) bs))) in
+    let parts = raised_some (greatest_welfare ss (net_volume bs (prefix ++ rest) t)) (block_value bs (prefix ++ rest) t) w e in
+    let best = laws.reached ss (net_volume bs (prefix ++ rest) t) parts.0 parts.1 in
     let balance = best.2 in let is = best.3 in let sum = parts.2 in
     let sold = none.sold in let bought = none.bought in let worth = none.welfare in
-    let found = covered laws t bs decided rest ss best.0 none.volumes best.1 none.execution (omega (arith, ints, balance, sold, bought)) in
+    let found = covered laws t bs prefix rest ss best.0 none.volumes best.1 none.execution (omega (arith, ints, balance, sold, bought)) in
     let most = found.2 in
     (found.0, found.1, omega (arith, ints, most, worth, is, sum))
 
 -- ---- the day
-extended_from : Laws → (t : ℕ) (bs : List Block) (decided rest : List Bool) (hours : List (List Step)) (w : ℤ)
-    → welfare_from bs (decided ++ rest) t (relaxed_hours (drop (length rest) (drop (length decided) bs)) t hours) ≡ Some w
-    → (r : ℤ) × (welfare_from bs decided t (relaxed_hours (drop (length decided) bs) t hours) ≡ Some r) × (w ≤ℤ r)
-extended_from laws t bs decided rest [] w e = let zero : w ≡ pos 0 = cc in (pos 0, refl, omega (arith, ints, zero))
-extended_from laws t bs decided rest (ss ∷ hours) w e =
-    let left = drop (length rest) (drop (length decided) bs) in
-    let parts = added_some (period_welfare bs (decided ++ rest) t (ss ++ as_steps t left)) (welfare_from bs (decided ++ rest) (suc t) (relaxed_hours left (suc t) hours)) w e in
-    let here = period_extended laws t bs decided rest ss parts.0 parts.2 in
-    let more = extended_from laws (suc t) bs decided rest hours parts.1 parts.3 in
+extended_from : Laws → (t : ℕ) (bs : List Block) (prefix rest : List Bool) (hours : List (List Step)) (w : ℤ)
+    → welfare_from bs (prefix ++ rest) t (relaxed_hours (drop (length rest) (drop (length prefix) bs)) t hours) ≡ Some w
+    → (r : ℤ) × (welfare_from bs prefix t (relaxed_hours (drop (length prefix) bs) t hours) ≡ Some r) × (w ≤ℤ r)
+extended_from laws t bs prefix rest [] w e = let zero : w ≡ pos 0 = cc in (pos 0, refl, omega (arith, ints, zero))
+extended_from laws t bs prefix rest (ss ∷ hours) w e =
+    let left = drop (length rest) (drop (length prefix) bs) in
+    let parts = added_some (period_welfare bs (prefix ++ rest) t (ss ++ as_steps t left)) (welfare_from bs (prefix ++ rest) (suc t) (relaxed_hours left (suc t) hours)) w e in
+    let here = period_extended laws t bs prefix rest ss parts.0 parts.2 in
+    let more = extended_from laws (suc t) bs prefix rest hours parts.1 parts.3 in
     let h = here.2 in let m = more.2 in let sum = parts.4 in
     (here.0 +ℤ more.0, ap₂ added here.1 more.1, omega (arith, ints, h, m, sum))
 
-pub welfare_extended : Laws → (bs : List Block) (decided rest : List Bool) (hours : List (List Step)) (w : ℤ)
-    → welfare_from bs (decided ++ rest) 1 (relaxed_hours (drop (length (decided ++ rest)) bs) 1 hours) ≡ Some w
-    → (r : ℤ) × (welfare_from bs decided 1 (relaxed_hours (drop (length decided) bs) 1 hours) ≡ Some r) × (w ≤ℤ r)
-welfare_extended laws bs decided rest hours w e =
-    extended_from laws 1 bs decided rest hours w (ap (λ (left : List Block). welfare_from bs (decided ++ rest) 1 (relaxed_hours left 1 hours)) (sym (drop_more bs decided rest)) ∙ e)
+pub welfare_extended : Laws → (bs : List Block) (prefix rest : List Bool) (hours : List (List Step)) (w : ℤ)
+    → welfare_from bs (prefix ++ rest) 1 (relaxed_hours (drop (length (prefix ++ rest)) bs) 1 hours) ≡ Some w
+    → (r : ℤ) × (welfare_from bs prefix 1 (relaxed_hours (drop (length prefix) bs) 1 hours) ≡ Some r) × (w ≤ℤ r)
+welfare_extended laws bs prefix rest hours w e =
+    extended_from laws 1 bs prefix rest hours w (ap (λ (left : List Block). welfare_from bs (prefix ++ rest) 1 (relaxed_hours left 1 hours)) (sym (drop_more bs prefix rest)) ∙ e)
 
-pub completed_from : Laws → (t : ℕ) (bs : List Block) (decided rest : List Bool) (hours : List (List Step)) (w : ℤ) → welfare_from bs (decided ++ rest) t hours ≡ Some w
-    → (r : ℤ) × (welfare_from bs decided t (relaxed_hours (drop (length decided) bs) t hours) ≡ Some r) × (w ≤ℤ r)
-completed_from laws t bs decided rest [] w e = let zero : w ≡ pos 0 = cc in (pos 0, refl, omega (arith, ints, zero))
-completed_from laws t bs decided rest (ss ∷ hours) w e =
-    let parts = added_some (period_welfare bs (decided ++ rest) t ss) (welfare_from bs (decided ++ rest) (suc t) hours) w e in
-    let here = period_completed laws t bs decided rest ss parts.0 parts.2 in
-    let more = completed_from laws (suc t) bs decided rest hours parts.1 parts.3 in
+pub completed_from : Laws → (t : ℕ) (bs : List Block) (prefix rest : List Bool) (hours : List (List Step)) (w : ℤ) → welfare_from bs (prefix ++ rest) t hours ≡ Some w
+    → (r : ℤ) × (welfare_from bs prefix t (relaxed_hours (drop (length prefix) bs) t hours) ≡ Some r) × (w ≤ℤ r)
+completed_from laws t bs prefix rest [] w e = let zero : w ≡ pos 0 = cc in (pos 0, refl, omega (arith, ints, zero))
+completed_from laws t bs prefix rest (ss ∷ hours) w e =
+    let parts = added_some (period_welfare bs (prefix ++ rest) t ss) (welfare_from bs (prefix ++ rest) (suc t) hours) w e in
+    let here = period_completed laws t bs prefix rest ss parts.0 parts.2 in
+    let more = completed_from laws (suc t) bs prefix rest hours parts.1 parts.3 in
     let h = here.2 in let m = more.2 in let sum = parts.4 in
     (here.0 +ℤ more.0, ap₂ added here.1 more.1, omega (arith, ints, h, m, sum))
 
@@ -162,22 +162,22 @@ same_welfare bs xs ys t [] n v = refl
 same_welfare bs xs ys t (ss ∷ hours) n v =
     ap₂ added (ap₂ (λ (net value : ℤ). option_map (λ w. w +ℤ value) (greatest_welfare ss net)) (n t) (v t)) (same_welfare bs xs ys (suc t) hours n v)
 
-nothing_more : SumLaws → (f : BlockTerms → ℤ) (bs : List Block) (decided rest : List Bool) → drop (length decided) bs ≡ [] → over_accepted f bs decided ≡ over_accepted f bs (decided ++ rest)
-nothing_more sums f bs decided rest none =
-    let parts = sums.parted f bs decided rest in
-    let zero : over_accepted f (drop (length decided) bs) rest ≡ pos 0 = ap (λ (left : List Block). over_accepted f left rest) none in
+nothing_more : SumLaws → (f : BlockTerms → ℤ) (bs : List Block) (prefix rest : List Bool) → drop (length prefix) bs ≡ [] → over_accepted f bs prefix ≡ over_accepted f bs (prefix ++ rest)
+nothing_more sums f bs prefix rest none =
+    let parts = sums.parted f bs prefix rest in
+    let zero : over_accepted f (drop (length prefix) bs) rest ≡ pos 0 = ap (λ (left : List Block). over_accepted f left rest) none in
     omega (arith, ints, parts, zero)
 
-pub decided_welfare : SumLaws → (bs : List Block) (decided rest : List Bool) (hours : List (List Step)) → drop (length decided) bs ≡ []
-    → welfare_from bs decided 1 (relaxed_hours (drop (length decided) bs) 1 hours) ≡ welfare_from bs (decided ++ rest) 1 hours
-decided_welfare sums bs decided rest hours none =
-    ap (λ (left : List Block). welfare_from bs decided 1 (relaxed_hours left 1 hours)) none
-    ∙ ap (welfare_from bs decided 1) (relaxed_hours-nil 1 hours)
-    ∙ same_welfare bs decided (decided ++ rest) 1 hours (λ u. nothing_more sums (net_volume_of u) bs decided rest none) (λ u. nothing_more sums (value_of u) bs decided rest none)
+pub decided_welfare : SumLaws → (bs : List Block) (prefix rest : List Bool) (hours : List (List Step)) → drop (length prefix) bs ≡ []
+    → welfare_from bs prefix 1 (relaxed_hours (drop (length prefix) bs) 1 hours) ≡ welfare_from bs (prefix ++ rest) 1 hours
+decided_welfare sums bs prefix rest hours none =
+    ap (λ (left : List Block). welfare_from bs prefix 1 (relaxed_hours left 1 hours)) none
+    ∙ ap (welfare_from bs prefix 1) (relaxed_hours-nil 1 hours)
+    ∙ same_welfare bs prefix (prefix ++ rest) 1 hours (λ u. nothing_more sums (net_volume_of u) bs prefix rest none) (λ u. nothing_more sums (value_of u) bs prefix rest none)
 
 -- the decisions and the selection that accepts nothing else
-pub padded_welfare : SumLaws → (bs : List Block) (decided taken : List Bool) (depth : ℕ) (hours : List (List Step)) → length decided ≡ depth → taken ≡ padded decided
-    → welfare_from bs taken 1 (relaxed_hours (drop depth bs) 1 hours) ≡ welfare_from bs decided 1 (relaxed_hours (drop (length decided) bs) 1 hours)
-padded_welfare sums bs decided taken depth hours long is =
+pub padded_welfare : SumLaws → (bs : List Block) (prefix taken : List Bool) (depth : ℕ) (hours : List (List Step)) → length prefix ≡ depth → taken ≡ padded prefix
+    → welfare_from bs taken 1 (relaxed_hours (drop depth bs) 1 hours) ≡ welfare_from bs prefix 1 (relaxed_hours (drop (length prefix) bs) 1 hours)
+padded_welfare sums bs prefix taken depth hours long is =
     ap₂ (λ (xs : List Bool) (n : ℕ). welfare_from bs xs 1 (relaxed_hours (drop n bs) 1 hours)) is (sym long)
-    ∙ same_welfare bs (padded decided) decided 1 (relaxed_hours (drop (length decided) bs) 1 hours) (λ u. sums.padded (net_volume_of u) bs decided) (λ u. sums.padded (value_of u) bs decided)
+    ∙ same_welfare bs (padded prefix) prefix 1 (relaxed_hours (drop (length prefix) bs) 1 hours) (λ u. sums.padded (net_volume_of u) bs prefix) (λ u. sums.padded (value_of u) bs prefix)

@@ -9,7 +9,7 @@ use Rattle.dam_hour.specs.declared.step.Step.{Step}
 use Rattle.dam_blocks.specs.declared.problem.Block.{Block}
 use Rattle.dam_blocks.specs.Selection.{volume_in}
 use Rattle.dam_bound.specs.Relaxed.{step_of, as_steps}
-use Rattle.dam_bound.specs.Levels.{IsAtDepth, AreLevels, last_steps}
+use Rattle.dam_bound.specs.inside.Levels.{IsAtDepth, AreLevels, last_steps}
 
 -- ---- lists that grow
 kept : {X : Type 0} (xs : List X) (y : X) (i : ℕ) (x : X) → slice_get xs i ≡ Some x → slice_get (xs ++ y ∷ []) i ≡ Some x
@@ -33,7 +33,7 @@ drop_next (y ∷ xs) (suc i) x e = drop_next xs i x e
 pub drop_at : {X : Type 0} (xs : List X) (i : ℕ) (x : X) → slice_get xs i ≡ Some x → drop i xs ≡ x ∷ drop (i + 1) xs
 drop_at xs i x e = let next : suc i ≡ i + 1 = omega arith in drop_next xs i x e ∙ ap (λ (n : ℕ). x ∷ drop n xs) next
 
-no_step : (t : ℕ) (b : Block) (bs : List Block) → volume_in b.order.volumes t ≡ 0 → as_steps t (b ∷ bs) ≡ as_steps t bs
+pub no_step : (t : ℕ) (b : Block) (bs : List Block) → volume_in b.order.volumes t ≡ 0 → as_steps t (b ∷ bs) ≡ as_steps t bs
 no_step t b bs e =
     let none : (volume_in b.order.volumes t == 0) ≡ true = grind (arith, nat_tests) in
     ap (λ (c : _). cond c (as_steps t bs) (step_of t b.order ∷ as_steps t bs)) none

@@ -5,3 +5,5 @@ pub mod Ranges
 pub mod Levelling
 pub mod Bounding
 pub mod Periods
+pub mod Extending
+pub mod Days

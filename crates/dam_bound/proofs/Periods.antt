@@ -9,7 +9,7 @@ use Rattle.dam_hour.specs.declared.step.Step.{Step}
 use Rattle.dam_book.specs.Limits.{last_period}
 use Rattle.dam_blocks.specs.declared.problem.Block.{Block}
 use Rattle.dam_blocks.specs.Problem.{hourly_orders}
-use Rattle.dam_bound.specs.Levels.{LevelsState, AreLevels, last_steps, AreDayLevels}
+use Rattle.dam_bound.specs.inside.Levels.{LevelsState, AreLevels, last_steps, AreDayLevels}
 
 -- an element of a list with one more at its end
 of_pushed : {X : Type 0} (xs : List X) (y : X) (i : ℕ) (x : X) → slice_get (xs ++ y ∷ []) i ≡ Some x → (slice_get xs i ≡ Some x) ⊎ ((i ≡ length xs) × (y ≡ x))

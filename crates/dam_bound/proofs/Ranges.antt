@@ -50,15 +50,15 @@ both_in_range (x ∷ ss) ts r s = (r.0, r.1, both_in_range ss ts r.2 s)
 
 -- ---- the welfare
 -- the decided blocks stand as steps too, so that there is one step for each hourly order and each block
-period_size : Laws → (periods t : ℕ) (bs : List Block) (decided : List Bool) (ss : List Step) (u : ℤ) → AreBlocks periods bs → AreInRange ss
-    → period_welfare bs decided t (ss ++ as_steps t (drop (length decided) bs)) ≡ Some u → IsWithin ((length ss + length bs) * greatest_value) u
-period_size laws periods t bs decided ss u are range e =
-    let left = as_steps t (drop (length decided) bs) in
-    let parts = raised_some (greatest_welfare (ss ++ left) (net_volume bs decided t)) (block_value bs decided t) u e in
-    let best = laws.reached (ss ++ left) (net_volume bs decided t) parts.0 parts.1 in
+period_size : Laws → (periods t : ℕ) (bs : List Block) (prefix : List Bool) (ss : List Step) (u : ℤ) → AreBlocks periods bs → AreInRange ss
+    → period_welfare bs prefix t (ss ++ as_steps t (drop (length prefix) bs)) ≡ Some u → IsWithin ((length ss + length bs) * greatest_value) u
+period_size laws periods t bs prefix ss u are range e =
+    let left = as_steps t (drop (length prefix) bs) in
+    let parts = raised_some (greatest_welfare (ss ++ left) (net_volume bs prefix t)) (block_value bs prefix t) u e in
+    let best = laws.reached (ss ++ left) (net_volume bs prefix t) parts.0 parts.1 in
     let apart = laws.parted ss left best.0 best.1 in
     let worth = ap (welfare_of (ss ++ left)) apart.2 ∙ laws.welfare ss left apart.0 apart.1 apart.3 in
-    let s = stand t bs decided apart.1 apart.4 in
+    let s = stand t bs prefix apart.1 apart.4 in
     let ts = as_steps t bs in
     let within = laws.small (ss ++ ts) (apart.0 ++ s.volumes) (both_in_range ss ts range (steps_in_range periods t bs are)) (laws.joined ss ts apart.0 s.volumes apart.3 s.execution) in
     let all = laws.welfare ss ts apart.0 s.volumes apart.3 in
@@ -67,15 +67,15 @@ period_size laws periods t bs decided ss u are range e =
     let own = s.welfare in let is = best.3 in let sum = parts.2 in
     record { at_least = omega (arith, ints, l, all, worth, own, is, sum, long, few); at_most = omega (arith, ints, h, all, worth, own, is, sum, long, few) }
 
-periods_size : Laws → (periods t : ℕ) (bs : List Block) (decided : List Bool) (hours : List (List Step)) (w : ℤ) → AreBlocks periods bs → length bs ≤ most_blocks → AreHours hours
-    → welfare_from bs decided t (relaxed_hours (drop (length decided) bs) t hours) ≡ Some w → IsWithin (hourly_orders hours * greatest_value + length hours * (most_blocks * greatest_value)) w
-periods_size laws periods t bs decided [] w are few ranges e =
+periods_size : Laws → (periods t : ℕ) (bs : List Block) (prefix : List Bool) (hours : List (List Step)) (w : ℤ) → AreBlocks periods bs → length bs ≤ most_blocks → AreHours hours
+    → welfare_from bs prefix t (relaxed_hours (drop (length prefix) bs) t hours) ≡ Some w → IsWithin (hourly_orders hours * greatest_value + length hours * (most_blocks * greatest_value)) w
+periods_size laws periods t bs prefix [] w are few ranges e =
     let zero : pos 0 ≡ w = cc in record { at_least = omega (arith, ints, zero); at_most = omega (arith, ints, zero) }
-periods_size laws periods t bs decided (ss ∷ hours) w are few ranges e =
-    let left = drop (length decided) bs in
-    let parts = added_some (period_welfare bs decided t (ss ++ as_steps t left)) (welfare_from bs decided (suc t) (relaxed_hours left (suc t) hours)) w e in
-    let here = period_size laws periods t bs decided ss parts.0 are ranges.0 parts.2 in
-    let rest = periods_size laws periods (suc t) bs decided hours parts.1 are few ranges.1 parts.3 in
+periods_size laws periods t bs prefix (ss ∷ hours) w are few ranges e =
+    let left = drop (length prefix) bs in
+    let parts = added_some (period_welfare bs prefix t (ss ++ as_steps t left)) (welfare_from bs prefix (suc t) (relaxed_hours left (suc t) hours)) w e in
+    let here = period_size laws periods t bs prefix ss parts.0 are ranges.0 parts.2 in
+    let rest = periods_size laws periods (suc t) bs prefix hours parts.1 are few ranges.1 parts.3 in
     let a = here.at_least in let b = rest.at_least in let c = here.at_most in let d = rest.at_most in let sum = parts.4 in
     record { at_least = omega (arith, ints, a, b, sum, few); at_most = omega (arith, ints, c, d, sum, few) }
 
@@ -90,8 +90,8 @@ day_small n e = elim (day_is (n == 23) (n == 24) (n == 25) e) [
   | inr r ↦ elim r [ inl b ↦ (let is : n ≡ 24 = grind (arith, nat_tests) in omega (arith, is)) | inr d ↦ (let is : n ≡ 25 = grind (arith, nat_tests) in omega (arith, is)) ]
 ]
 
-pub relaxed_size : Laws → (problem : ProblemState) (decided : List Bool) (w : ℤ) → IsProblem problem → relaxed_welfare problem decided ≡ Some w → IsWithin greatest_selection_welfare w
-relaxed_size laws problem decided w is e =
-    let size = periods_size laws (length problem.hours) 1 problem.blocks decided problem.hours w is.blocks is.few_blocks is.hours e in
+pub relaxed_size : Laws → (problem : ProblemState) (prefix : List Bool) (w : ℤ) → IsProblem problem → relaxed_welfare problem prefix ≡ Some w → IsWithin greatest_selection_welfare w
+relaxed_size laws problem prefix w is e =
+    let size = periods_size laws (length problem.hours) 1 problem.blocks prefix problem.hours w is.blocks is.few_blocks is.hours e in
     let l = size.at_least in let h = size.at_most in let hourly = is.few_hourly in let day = day_small (length problem.hours) is.day in
     record { at_least = omega (arith, ints, l, hourly, day); at_most = omega (arith, ints, h, hourly, day) }

@@ -39,25 +39,25 @@ nothing_worth side p = signed_zero side (p *ℤ pos 0) (times_zero p)
 
 -- ---- the blocks
 -- volumes of the steps ts, which are bs as steps: those of the blocks that are decided, as they are, and the given ones of the others
-pub record Stands (t : ℕ) (ts : List Step) (bs : List Block) (decided : List Bool) (left : List Step) (us : List ℕ) : Type 0 where
+pub record Stands (t : ℕ) (ts : List Step) (bs : List Block) (prefix : List Bool) (left : List Step) (us : List ℕ) : Type 0 where
   pub volumes : List ℕ
   pub execution : IsExecution ts volumes
   pub balance : pos (executed_volume Sell ts volumes) +ℤ pos (executed_volume Buy left us)
-      ≡ (pos (executed_volume Buy ts volumes) +ℤ pos (executed_volume Sell left us)) +ℤ net_volume bs decided t
-  pub welfare : welfare_of ts volumes ≡ welfare_of left us +ℤ block_value bs decided t
+      ≡ (pos (executed_volume Buy ts volumes) +ℤ pos (executed_volume Sell left us)) +ℤ net_volume bs prefix t
+  pub welfare : welfare_of ts volumes ≡ welfare_of left us +ℤ block_value bs prefix t
 
-stand_more : (t : ℕ) (ts : List Step) (b : Block) (bs : List Block) (a : Bool) (decided : List Bool) (left : List Step) (us : List ℕ)
-    → Stands t ts bs decided left us → (c : Bool) → (volume_in b.order.volumes t == 0) ≡ c
-    → Stands t (cond c ts (step_of t b.order ∷ ts)) (b ∷ bs) (a ∷ decided) left us
-stand_more t ts b bs true decided left us s true e =
+stand_more : (t : ℕ) (ts : List Step) (b : Block) (bs : List Block) (a : Bool) (prefix : List Bool) (left : List Step) (us : List ℕ)
+    → Stands t ts bs prefix left us → (c : Bool) → (volume_in b.order.volumes t == 0) ≡ c
+    → Stands t (cond c ts (step_of t b.order ∷ ts)) (b ∷ bs) (a ∷ prefix) left us
+stand_more t ts b bs true prefix left us s true e =
     let none : volume_in b.order.volumes t ≡ 0 = grind (arith, nat_tests) in
     let net : net_volume_of t b.order ≡ pos 0 = ap (λ (v : ℕ). neg_ℤ (signed b.order.side (pos v))) none ∙ ap neg_ℤ (signed_zero b.order.side (pos 0) refl) in
     let value : value_of t b.order ≡ pos 0 = ap (λ (v : ℕ). signed b.order.side (b.order.price *ℤ pos v)) none ∙ nothing_worth b.order.side b.order.price in
     let balance = s.balance in let welfare = s.welfare in
     record { volumes = s.volumes; execution = s.execution; balance = omega (arith, ints, balance, net); welfare = omega (arith, ints, welfare, value) }
-stand_more t ts b bs false decided left us s true e =
+stand_more t ts b bs false prefix left us s true e =
     record { volumes = s.volumes; execution = s.execution; balance = s.balance; welfare = s.welfare }
-stand_more t ts b bs true decided left us s false e =
+stand_more t ts b bs true prefix left us s false e =
     let v = volume_in b.order.volumes t in
     let own = net_is b.order.side v in
     let balance = s.balance in let welfare = s.welfare in
@@ -67,7 +67,7 @@ stand_more t ts b bs true decided left us s false e =
       balance = omega (arith, ints, balance, own);
       welfare = omega (arith, ints, welfare);
     }
-stand_more t ts b bs false decided left us s false e =
+stand_more t ts b bs false prefix left us s false e =
     let sells = nothing_on Sell b.order.side in
     let buys = nothing_on Buy b.order.side in
     let worth = nothing_worth b.order.side b.order.price in
@@ -79,15 +79,15 @@ stand_more t ts b bs false decided left us s false e =
       welfare = omega (arith, ints, welfare, worth);
     }
 
-pub stand : (t : ℕ) (bs : List Block) (decided : List Bool) (us : List ℕ) → IsExecution (as_steps t (drop (length decided) bs)) us
-    → Stands t (as_steps t bs) bs decided (as_steps t (drop (length decided) bs)) us
+pub stand : (t : ℕ) (bs : List Block) (prefix : List Bool) (us : List ℕ) → IsExecution (as_steps t (drop (length prefix) bs)) us
+    → Stands t (as_steps t bs) bs prefix (as_steps t (drop (length prefix) bs)) us
 stand t bs [] us e =
     let net = over_accepted-nil (net_volume_of t) bs in
     let value = over_accepted-nil (value_of t) bs in
     record { volumes = us; execution = e; balance = omega (arith, ints, net); welfare = omega (arith, ints, value) }
-stand t [] (d ∷ decided) us e = record { volumes = []; execution = tt; balance = refl; welfare = refl }
-stand t (b ∷ bs) (d ∷ decided) us e =
-    stand_more t (as_steps t bs) b bs d decided (as_steps t (drop (length decided) bs)) us (stand t bs decided us e) (volume_in b.order.volumes t == 0) refl
+stand t [] (d ∷ prefix) us e = record { volumes = []; execution = tt; balance = refl; welfare = refl }
+stand t (b ∷ bs) (d ∷ prefix) us e =
+    stand_more t (as_steps t bs) b bs d prefix (as_steps t (drop (length prefix) bs)) us (stand t bs prefix us e) (volume_in b.order.volumes t == 0) refl
 
 -- ---- steps of which none is executed
 pub record Idle (ts : List Step) : Type 0 where

@@ -1,3 +1,4 @@
 pub mod Prefix
 pub mod Relaxed
-pub mod Levels
+pub mod Day
+pub mod inside

@@ -24,12 +24,12 @@ relaxed_hours undecided t [] = []
 relaxed_hours undecided t (ss ∷ hours) =
     (ss ++ as_steps t undecided) ∷ relaxed_hours undecided (suc t) hours
 
--- the welfare of the decisions where each undecided block stands as a step of its own in each of its
+-- the welfare of the prefix where each undecided block stands as a step of its own in each of its
 -- periods; None where some period so relaxed has no execution that balances
 abbrev pub relaxed_welfare : ProblemState → List Bool → Option ℤ
-relaxed_welfare problem decided =
-    welfare_from problem.blocks decided 1
-    (relaxed_hours (drop (length decided) problem.blocks) 1 problem.hours)
+relaxed_welfare problem prefix =
+    welfare_from problem.blocks prefix 1
+    (relaxed_hours (drop (length prefix) problem.blocks) 1 problem.hours)
 
 -- the problem without the places of its rows, at which no bound looks
 abbrev pub without_rows : ProblemState → ProblemState
@@ -43,8 +43,8 @@ reaches (Some w) value = int_le (pos value) w
 -- among a prefix that leaves so many blocks undecided and all prefixes that extend it, the number of
 -- those that leave some block undecided and whose relaxed welfare reaches the value
 abbrev pub live_count : ProblemState → ℕ → List Bool → ℕ → ℕ
-live_count problem value decided zero = 0
-live_count problem value decided (suc left) =
-    live_count problem value (decided ++ true ∷ []) left
-    + live_count problem value (decided ++ false ∷ []) left
-    + (if reaches (relaxed_welfare problem decided) value then 1 else 0)
+live_count problem value prefix zero = 0
+live_count problem value prefix (suc left) =
+    live_count problem value (prefix ++ true ∷ []) left
+    + live_count problem value (prefix ++ false ∷ []) left
+    + (if reaches (relaxed_welfare problem prefix) value then 1 else 0)

@@ -4,11 +4,12 @@ ghost use Rattle.dam_hour.specs.Execution.{IsHour};
 ghost use Rattle.dam_hour.specs.declared.step.Step.{Step};
 ghost use Rattle.dam_blocks.specs.Selection.{volume_in};
 ghost use Rattle.dam_bound.specs.Relaxed.{step_of, as_steps};
-ghost use Rattle.dam_bound.specs.Levels.{IsAtDepth, AreLevels, last_steps};
+ghost use Rattle.dam_bound.specs.inside.Levels.{IsAtDepth, AreLevels, last_steps};
 
 use dam_blocks::{Block, volume_in};
 use dam_book::{BlockOrder, Period, Qty};
 use dam_hour::{Hour, Step};
+use dam_stack::Stack;
 use std::alloc::{AllocError, Allocator};
 use std::marker::Model;
 
@@ -44,19 +45,19 @@ fn relaxed_steps<A: Allocator>(
     Ok(relaxed)
 }
 
-/// The hour of the steps, and behind them of the blocks as steps of the period.
-fn relaxed_hour<A: Allocator + Copy>(
+/// The stack of the steps, and behind them of the blocks as steps of the period.
+fn relaxed_stack<A: Allocator + Copy>(
     alloc: A,
     steps: &[Step],
     blocks: &[Block],
     period: Period,
-) -> Result<Hour<A>, AllocError>
+) -> Result<Stack<A>, AllocError>
     requires steps { length steps.now ≤ most_hourly }
     requires blocks { length blocks.now ≤ most_blocks }
-    ensures { IfOk result (λ hour. hour ≡ steps.now ++ as_steps period blocks.now) }
+    ensures { IfOk result (λ stack. stack ≡ steps.now ++ as_steps period blocks.now) }
 {
     let relaxed = relaxed_steps(alloc, steps, blocks, period)?;
-    Hour::build(alloc, &relaxed)
+    Stack::of(alloc, Hour::build(alloc, &relaxed)?)
 }
 
 /// A period with its undecided blocks as steps, at each depth: so many of the first blocks are
@@ -65,14 +66,14 @@ fn relaxed_hour<A: Allocator + Copy>(
 /// Depths between which no block has a volume in the period share an hour.
 #[derive(Drop)]
 pub(crate) struct Levels<A: Allocator> {
-    /// The hours, by falling number of undecided blocks.
-    hours: Vec<Hour<A>, A>,
-    /// For each depth the place of its hour.
+    /// The stacks with their hours, by falling number of undecided blocks.
+    hours: Vec<Stack<A>, A>,
+    /// For each depth the place of its stack.
     places: Vec<usize, A>,
 }
 
 impl<A: Allocator> Model for Levels<A> {
-    ghost use Rattle.dam_bound.specs.Levels.{LevelsState};
+    ghost use Rattle.dam_bound.specs.inside.Levels.{LevelsState};
 
     ghost Value = { LevelsState };
 
@@ -94,11 +95,11 @@ impl<A: Allocator + Copy> Levels<A> {
     {
         let mut hours = Vec::new(alloc);
         let mut places = Vec::with_capacity(alloc, blocks.len() + 1)?;
-        hours.push(relaxed_hour(alloc, steps, blocks, period)?)?;
+        hours.push(relaxed_stack(alloc, steps, blocks, period)?)?;
         places.push(0)?;
         for (place, block) in blocks.iter().enumerate() {
             if volume_in(block.order.volumes(), period) > 0 {
-                hours.push(relaxed_hour(alloc, steps, &blocks[place + 1..], period)?)?;
+                hours.push(relaxed_stack(alloc, steps, &blocks[place + 1..], period)?)?;
             }
             places.push(hours.len() - 1)?;
         }
@@ -107,13 +108,21 @@ impl<A: Allocator + Copy> Levels<A> {
 }
 
 impl<A: Allocator> Levels<A> {
+    /// The stack at a depth.
+    pub(crate) fn stack(&self, depth: usize) -> &Stack<A>
+        requires { (steps : List Step) × IsAtDepth self.now depth steps }
+        ensures { (steps : List Step) → IsAtDepth self.now depth steps → result.now ≡ steps }
+    {
+        &self.hours[self.places[depth]]
+    }
+
     /// The hour at a depth.
     pub(crate) fn hour(&self, depth: usize) -> &Hour<A>
         requires { (steps : List Step) × IsAtDepth self.now depth steps }
         ensures value { (steps : List Step) → IsAtDepth self.now depth steps → result.now ≡ steps }
         ensures steps { IsHour result.now }
     {
-        let hour = &self.hours[self.places[depth]];
+        let hour = self.stack(depth).hour();
         let _few = hour.len();
         hour
     }

@@ -1,13 +1,16 @@
-ghost use Rattle.std.specs.Prelude.{◌≡◌, ◌≤◌, ◌++◌, List, Bool, length, drop, map, IfOk, IfSome};
+ghost use Rattle.std.specs.Prelude.{◌≡◌, ◌<◌, ◌≤◌, [], ◌∷◌, ◌++◌, List, Bool, length, drop, map, IfOk, IfSome};
 ghost use Rattle.dam_book.specs.Limits.{most_blocks};
 ghost use Rattle.dam_blocks.specs.Selection.{padded};
 ghost use Rattle.dam_blocks.specs.Eligible.{period_welfare};
 ghost use Rattle.dam_blocks.specs.Magnitude.{IsWithin};
 ghost use Rattle.dam_bound.specs.Relaxed.{as_steps, relaxed_welfare, without_rows};
-ghost use Rattle.dam_bound.specs.Levels.{AreLevels, last_steps, AreDayLevels, greatest_period_bound};
+ghost use Rattle.dam_bound.specs.Day.{IsSmallDay, IsDayOf};
+ghost use Rattle.dam_bound.specs.inside.Levels.{AreLevels, last_steps, AreDayLevels};
+ghost use Rattle.dam_bound.specs.inside.Levels.{greatest_period_bound};
 
+use crate::day::{Day, child_of, root_of};
 use crate::levels::Levels;
-use dam_blocks::{Block, Problem, Selection, block_value, laws, net_volume, period_at};
+use dam_blocks::{Block, Problem, Selection, block_value, laws, net_volume};
 use dam_book::Period;
 use std::alloc::{AllocError, Allocator, Global};
 use std::marker::Model;
@@ -24,7 +27,7 @@ pub struct Relaxed<A: Allocator = Global> {
 
 impl<A: Allocator> Model for Relaxed<A> {
     ghost use Rattle.dam_blocks.specs.Problem.{ProblemState};
-    ghost use Rattle.dam_bound.specs.Levels.{AreDayLevels, problem_kept};
+    ghost use Rattle.dam_bound.specs.inside.Levels.{AreDayLevels, problem_kept};
 
     ghost Value = { ProblemState };
 
@@ -55,7 +58,7 @@ fn periods_of<A: Allocator + Copy, B: Allocator>(
     let count = usize::from(problem.periods());
     let mut periods = Vec::with_capacity(alloc, count)?;
     for place in 0..count {
-        let period = period_at(place);
+        let period = Period::at(place);
         let steps = problem.steps(period).unwrap();
         periods.push(Levels::of(alloc, steps, blocks, period)?)?;
     }
@@ -96,27 +99,52 @@ fn period_bound<A: Allocator>(
 }
 
 impl<A: Allocator> Relaxed<A> {
-    /// How great the welfare of a selection can be that agrees with the decisions on the first
-    /// `depth` blocks, of which those in `taken` are accepted; in cents per MWh times tenths of a MW.
+    /// How great the welfare of a selection can be that agrees with a prefix: the first `depth`
+    /// blocks are decided, and those in `taken` are accepted; in cents per MWh times tenths of a
+    /// MW.
     ///
-    /// It is the welfare of the decisions where each undecided block may be executed in part, in each
+    /// It is the welfare of the prefix where each undecided block may be executed in part, in each
     /// of its periods apart from the others: the sum over the periods of the greatest welfare with
     /// the undecided blocks as orders, and the accepted buy blocks' limit times volume less the
     /// accepted sell blocks'. It may be below 0. `None` exactly where some period so relaxed has no
-    /// execution that balances. Nothing is promised where `taken` has a block past the decided ones.
-    /// Takes no memory.
+    /// execution that balances. Nothing is promised where `taken` has a block past the decided
+    /// ones. Takes no memory.
     pub fn bound(&self, taken: Selection, depth: usize) -> Option<i64>
         requires { depth ≤ length self.now.blocks }
-        ensures { (decided : List Bool) → length decided ≡ depth → taken ≡ padded decided
-            → result ≡ relaxed_welfare self.now decided }
+        ensures { (prefix : List Bool) → length prefix ≡ depth → taken ≡ padded prefix
+            → result ≡ relaxed_welfare self.now prefix }
     {
         laws::sums();
         let mut total = 0;
         for (place, levels) in self.periods.iter().enumerate() {
-            let period = period_at(place);
+            let period = Period::at(place);
             let welfare = period_bound(levels, &self.blocks, taken, depth, period)?;
             total += welfare;
         }
         Some(total)
+    }
+
+    /// The day of the prefix that decides nothing.
+    pub fn root(&self) -> Option<Day>
+        ensures { IsDayOf self.now [] result }
+    {
+        root_of(&self.periods, &self.blocks)
+    }
+
+    /// The day of a prefix with a decision on the block at the depth too, from the day of the prefix.
+    ///
+    /// Only the periods in which the block has a volume are looked at anew. `None` exactly where the
+    /// extension has no bound. Takes no memory.
+    pub fn child(&self, day: &Option<Day>, depth: usize, accept: bool) -> Option<Day>
+        requires depth { depth < length self.now.blocks }
+        requires small { IfSome day.now (IsSmallDay depth) }
+        ensures { (prefix : List Bool) → length prefix ≡ depth → IsDayOf self.now prefix day.now
+            → IsDayOf self.now (prefix ++ accept ∷ []) result }
+    {
+        crate::laws::extension();
+        match day {
+            Some(day) => child_of(&self.periods, &self.blocks, day, depth, accept),
+            None => None,
+        }
     }
 }

@@ -74,7 +74,7 @@ book_fault-day plan periods commands entries (TooManyParticipants at) taken day 
 book_fault-day plan periods commands entries StillOpen taken day is = let both : false ≡ true = sym is ∙ day_run-closed periods commands entries day in absurd (cc)
 book_fault-day plan periods commands entries (Mismatch why) taken day is = absurd is
 book_fault-day plan periods commands entries (Unfinished piece visited) taken day is = record { taken = taken; entries = entries; day_run = day; cut = is }
-book_fault-day plan periods commands entries (Collected piece) taken day is = taken
+book_fault-day plan periods commands entries (Collected piece) taken day is = absurd is
 book_fault-day plan periods commands entries Memory taken day is = tt
 book_fault-day plan periods commands entries Write taken day is = absurd is
 
@@ -108,7 +108,7 @@ commands_fault-run plan periods commands (TooManyParticipants at) is = is
 commands_fault-run plan periods commands StillOpen is = absurd is
 commands_fault-run plan periods commands (Mismatch why) is = is
 commands_fault-run plan periods commands (Unfinished piece visited) is = is
-commands_fault-run plan periods commands (Collected piece) is = is
+commands_fault-run plan periods commands (Collected piece) is = absurd is
 commands_fault-run plan periods commands Memory is = tt
 commands_fault-run plan periods commands Write is = absurd is
 

@@ -64,7 +64,7 @@ clear_fault-given plan given (TooManyParticipants at) is = absurd is
 clear_fault-given plan given StillOpen is = (is.0, is.1, reads-given given is.0 is.1 is.2, is.3)
 clear_fault-given plan given (Mismatch why) is = absurd is
 clear_fault-given plan given (Unfinished piece visited) is = (is.0, is.1, reads-given given is.0 is.1 is.2, is.3)
-clear_fault-given plan given (Collected piece) is = (is.0, is.1, reads-given given is.0 is.1 is.2, is.3)
+clear_fault-given plan given (Collected piece) is = absurd is
 clear_fault-given plan given Memory is = tt
 clear_fault-given plan given Write is = absurd is
 
@@ -78,17 +78,18 @@ book_fault-run plan book (TooManyParticipants at) is = absurd is
 book_fault-run plan book StillOpen is = is
 book_fault-run plan book (Mismatch why) is = absurd is
 book_fault-run plan book (Unfinished piece visited) is = is
-book_fault-run plan book (Collected piece) is = is
+book_fault-run plan book (Collected piece) is = absurd is
 book_fault-run plan book Memory is = tt
 book_fault-run plan book Write is = absurd is
 
 -- what the search of a closed book's problem answers, the book is answered
 pub search_fault-book : (plan : PlanTerms) (book : BookState) (fault : SearchFault) → book.closed ≡ true
     → ((piece visited : ℕ) → fault ≡ IsCut piece visited → IsUnfinished (problem_of book) (min plan.cut (length (problem_of book).blocks)) plan.nodes piece visited)
+    → ((piece : ℕ) → ¬ (fault ≡ IsFaulty piece))
     → IsBookFault plan book (search_fault_of fault)
-search_fault-book plan book NoSpace closed cut = tt
-search_fault-book plan book (IsFaulty piece) closed cut = closed
-search_fault-book plan book (IsCut piece visited) closed cut = record { closed = closed; unfinished = cut piece visited refl }
+search_fault-book plan book NoSpace closed cut whole = tt
+search_fault-book plan book (IsFaulty piece) closed cut whole = absurd (whole piece refl)
+search_fault-book plan book (IsCut piece visited) closed cut whole = record { closed = closed; unfinished = cut piece visited refl }
 
 -- a text for whose front something is printed is a journal
 pub printed-journal : (Prints : ℕ → List Command → List ℕ → Type 0) (printed given : List ℕ) → IsMadeFrom Prints (take most_read given) printed → IsJournal given

@@ -11,7 +11,7 @@ use Rattle.dam_results.specs.declared.published.RowResult.{RowResult}
 use Rattle.dam_results.specs.Journal.{IsMadeFrom, ReadsAs}
 use Rattle.dam_results.specs.Published.{ArePublished, results_text}
 use Rattle.dam_cli.specs.declared.fault.RunFault.{RunFault}
-use Rattle.dam_cli.specs.declared.fault.RunFault.TheVariants.{Read, StillOpen, Unfinished, Collected, Memory, Write}
+use Rattle.dam_cli.specs.declared.fault.RunFault.TheVariants.{Read, StillOpen, Unfinished, Memory, Write}
 use Rattle.dam_cli.specs.Engine.{IsTextFault}
 
 -- the book is closed, and this is the results text of the result of its problem
@@ -46,11 +46,10 @@ pub record IsCutShort (plan : PlanTerms) (book : BookState) (piece visited : ℕ
   pub closed : book.closed ≡ true
   pub unfinished : IsUnfinished (problem_of book) (min plan.cut (length (problem_of book).blocks)) plan.nodes piece visited
 
--- what a book can be answered: that it is open, if it is; that the search of a closed one didn't finish, if that can be, or that its parts don't fit together; or that memory ran out
+-- what a book can be answered: that it is open, if it is; that the search of a closed one didn't finish, if that can be; or that memory ran out
 abbrev pub IsBookFault : PlanTerms → BookState → RunFault → Type 0
 IsBookFault plan book StillOpen = book.closed ≡ false
 IsBookFault plan book (Unfinished piece visited) = IsCutShort plan book piece visited
-IsBookFault plan book (Collected piece) = book.closed ≡ true
 IsBookFault plan book Memory = Unit {0}
 IsBookFault plan book fault = ⊥
 
@@ -64,7 +63,6 @@ IsFaultOnBook plan book fault = IsBookFault plan book fault
 abbrev pub IsClearTextFault : PlanTerms → List ℕ → RunFault → Type 0
 IsClearTextFault plan text StillOpen = IsOpenJournal text
 IsClearTextFault plan text (Unfinished piece visited) = (periods : ℕ) × (commands : List Command) × ReadsAs text periods commands × IsCutShort plan (run periods commands) piece visited
-IsClearTextFault plan text (Collected piece) = IsClosedJournal text
 IsClearTextFault plan text fault = IsTextFault text fault
 
 -- what a run over a text can answer: what its text can be answered, that the reader failed, or, where the text is a journal whose book is closed, that the writer did

@@ -1,16 +1,15 @@
 -- What the engine of a day answers to a text.
-use Rattle.std.specs.Prelude.{◌≡◌, ◌≢◌, ◌+◌, ◌++◌, ℕ, List, None, codes}
+use Rattle.std.specs.Prelude.{◌≡◌, ◌+◌, ◌++◌, ℕ, List, None, codes}
 use Rattle.dam_book.specs.Book.{run, commands_of}
 use Rattle.dam_book.specs.declared.command.Command.{Command}
 use Rattle.dam_book.specs.declared.command.Entry.{Entry}
 use Rattle.dam_gate.specs.Day.{IsDayFault, IsDayRun, refused}
 use Rattle.dam_gate.specs.declared.day.DayFault.TheVariants.{TooManyCommands as ManyCommands, CloseGiven as CloseAt, TooManyParticipants as ManyAt, NotSettled}
-use Rattle.dam_gate.specs.declared.settlement.Mismatch.TheVariants.{Memory as NoTally}
 use Rattle.dam_search.specs.Plan.{PlanTerms}
 use Rattle.dam_results.specs.Journal.{IsMadeFrom}
 use Rattle.dam_results.specs.Written.{journal_text}
 use Rattle.dam_cli.specs.declared.fault.RunFault.{RunFault}
-use Rattle.dam_cli.specs.declared.fault.RunFault.TheVariants.{Read, Input, TooManyCommands, CloseGiven, TooManyParticipants, Mismatch, Unfinished, Collected, Memory, Write}
+use Rattle.dam_cli.specs.declared.fault.RunFault.TheVariants.{Read, Input, TooManyCommands, CloseGiven, TooManyParticipants, Mismatch, Unfinished, Memory, Write}
 use Rattle.dam_cli.specs.Engine.{IsTextFault}
 use Rattle.dam_cli.specs.Clear.{IsClearedAs, IsCutShort}
 
@@ -54,16 +53,15 @@ IsEarlyFault commands (CloseGiven at) =
     (place : ℕ) × (at ≡ record_number place) × IsDayFault commands (CloseAt place)
 IsEarlyFault commands (TooManyParticipants at) =
     (place : ℕ) × (at ≡ record_number place) × IsDayFault commands (ManyAt place)
-IsEarlyFault commands (Mismatch why) = IsDayFault commands (NotSettled why) × (why ≢ NoTally)
+IsEarlyFault commands (Mismatch why) = IsDayFault commands (NotSettled why)
 IsEarlyFault commands Memory = Unit {0}
 IsEarlyFault commands fault = ⊥
 
 -- what commands can be answered: the above, or, where they aren't refused, that the search of a day's book didn't finish,
--- if that can be, or that its parts don't fit together
+-- if that can be
 abbrev pub IsCommandsFault : PlanTerms → ℕ → List Command → RunFault → Type 0
 IsCommandsFault plan periods commands (Unfinished piece visited) =
     IsDayCutShort plan periods commands piece visited
-IsCommandsFault plan periods commands (Collected piece) = refused commands ≡ None
 IsCommandsFault plan periods commands fault = IsEarlyFault commands fault
 
 -- what a run over a journal of these commands can answer: what they can be answered, that the reader failed, or, where they

@@ -8,10 +8,11 @@ ghost use Rattle.dam_cli.specs.Clear.{AreResultsTo, IsBookFault, IsClearedAs, Is
 use crate::fault::RunFault;
 use crate::input::read_input;
 use crate::output::write_text;
+use crate::progress::Watch;
 use dam_blocks::Problem;
 use dam_book::Book;
 use dam_results::{book_of_text, results, results_text};
-use dam_search::{Plan, Turnstile, search};
+use dam_search::{Plan, search};
 use std::alloc::Global;
 use std::io::{Read, Write};
 use std::thread::Threads;
@@ -26,7 +27,7 @@ use std::thread::Threads;
 /// Of a reader that doesn't tell its bytes nothing is said, and of a writer that doesn't tell its bytes
 /// nothing is said of what it took. Standard input and output tell no bytes. No clause says that the
 /// reader or the writer failed where `Read` or `Write` is answered: tests show it.
-pub fn run_clear<H: Threads + Sync, R: Read, W: Write, T: Turnstile + Sync>(
+pub fn run_clear<H: Threads + Sync, R: Read, W: Write, T: Watch + Sync>(
     rt: &H,
     alloc: Global,
     reader: &mut R,
@@ -50,7 +51,7 @@ pub fn run_clear<H: Threads + Sync, R: Read, W: Write, T: Turnstile + Sync>(
 }
 
 /// The results text of the book of a journal's text.
-fn clear_text<H: Threads + Sync, T: Turnstile + Sync>(
+fn clear_text<H: Threads + Sync, T: Watch + Sync>(
     rt: &H,
     alloc: Global,
     text: &[u8],
@@ -83,7 +84,7 @@ fn run_journal(alloc: Global, text: &[u8]) -> Result<Book, RunFault>
 
 /// The results text of a closed book. An open one is answered `StillOpen`, before any memory is asked
 /// for.
-pub fn clear_book<H: Threads + Sync, T: Turnstile + Sync>(
+pub fn clear_book<H: Threads + Sync, T: Watch + Sync>(
     rt: &H,
     alloc: Global,
     book: &Book,
@@ -95,7 +96,10 @@ pub fn clear_book<H: Threads + Sync, T: Turnstile + Sync>(
     ensures still_open { IsErrOf result RunFault.StillOpen ↔ (book.now.closed ≡ false) }
 {
     let problem = Problem::of_book(alloc, book)?;
-    let best = search(rt, alloc, &problem, plan, turnstile)?;
-    let published = results(alloc, &problem, best)?;
+    let depth = usize::from(plan.cut()).min(problem.block_count());
+    turnstile.begin(1 << depth);
+    let best = search(rt, alloc, &problem, plan, turnstile);
+    turnstile.end();
+    let published = results(alloc, &problem, best?)?;
     Ok(results_text(alloc, &published)?)
 }

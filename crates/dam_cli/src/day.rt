@@ -12,8 +12,9 @@ use crate::clear::clear_book;
 use crate::fault::RunFault;
 use crate::input::read_input;
 use crate::output::write_text;
+use crate::progress::Watch;
 use dam_book::Command;
-use dam_gate::{DayFault, Journal, Mismatch, Settled, run_commands};
+use dam_gate::{DayFault, Doorkeeper, Journal, Settled, run_commands};
 use dam_results::{journal_text, read_journal};
 use dam_search::{Plan, Turnstile};
 use std::alloc::Global;
@@ -29,15 +30,19 @@ use std::thread::Threads;
 /// texts; the results are always those of the journal that is written. The plan changes no results, but
 /// by its limit on nodes the search may end `Unfinished`.
 ///
+/// `turnstile` is that of the search, and `entrance` that of the participants' threads, whose jobs are
+/// the participants, numbered from 0 by first occurrence.
+///
 /// The whole text is made before its first byte is written. What `run_clear` says of readers, writers
 /// and inputs that are too long holds here too.
-pub fn run_day<H: Threads + Wait + Sync, R: Read, W: Write, T: Turnstile + Sync>(
+pub fn run_day<H: Threads + Wait + Sync, R: Read, W: Write, T: Watch + Sync, U: Turnstile + Sync>(
     rt: &H,
     alloc: Global,
     reader: &mut R,
     writer: &mut W,
     plan: Plan,
     turnstile: &T,
+    entrance: &U,
 ) -> Result<(), RunFault>
     ensures done { OnOk result (IfSome (R.remaining reader.old) (λ given.
         Writes (W.contents writer.old) (W.contents writer.new) (IsDayTextTo given))) }
@@ -50,17 +55,18 @@ pub fn run_day<H: Threads + Wait + Sync, R: Read, W: Write, T: Turnstile + Sync>
         (IsFaultOnDay plan periods commands)) }
 {
     let text = read_input(alloc, reader)?;
-    let day = day_text(rt, alloc, text.as_slice(), plan, turnstile)?;
+    let day = day_text(rt, alloc, text.as_slice(), plan, turnstile, entrance)?;
     write_text(writer, day.as_slice())
 }
 
 /// What is printed of a day of the commands of a journal's text.
-fn day_text<H: Threads + Wait + Sync, T: Turnstile + Sync>(
+fn day_text<H: Threads + Wait + Sync, T: Watch + Sync, U: Turnstile + Sync>(
     rt: &H,
     alloc: Global,
     text: &[u8],
     plan: Plan,
     turnstile: &T,
+    entrance: &U,
 ) -> Result<Vec<u8>, RunFault>
     ensures done { IfOk result (λ day. IsDayTextTo text.now day.items) }
     ensures fault { IfErr result (IsDayTextFault plan text.now) }
@@ -71,33 +77,59 @@ fn day_text<H: Threads + Wait + Sync, T: Turnstile + Sync>(
 {
     let journal = read_journal(alloc, text)?;
     let commands = journal.commands.as_slice();
-    day_of_commands(rt, alloc, journal.periods, commands, plan, turnstile)
+    day_of_commands(
+        rt,
+        alloc,
+        journal.periods,
+        commands,
+        plan,
+        turnstile,
+        entrance,
+    )
 }
 
 /// What is printed of a day of the commands.
-fn day_of_commands<H: Threads + Wait + Sync, T: Turnstile + Sync>(
+fn day_of_commands<H: Threads + Wait + Sync, T: Watch + Sync, U: Turnstile + Sync>(
     rt: &H,
     alloc: Global,
     periods: u8,
     commands: &[Command],
     plan: Plan,
     turnstile: &T,
+    entrance: &U,
 ) -> Result<Vec<u8>, RunFault>
     requires { is_day periods ≡ true }
     ensures done { IfOk result (λ day. IsDayText periods commands.now day.items) }
     ensures fault { IfErr result (IsCommandsFault plan periods commands.now) }
 {
-    let settled = settled_day(rt, alloc, periods, commands)?;
+    let settled = settled_day(rt, alloc, periods, commands, entrance)?;
     print_day(rt, alloc, settled.journal(), plan, turnstile)
+}
+
+/// A turnstile at the door of a gate.
+#[derive(Clone, Copy)]
+struct Door<'a, U> {
+    turnstile: &'a U,
+}
+
+impl<U: Turnstile> Doorkeeper for Door<'_, U> {
+    fn before(&self, participant: u32) {
+        self.turnstile.before(participant);
+    }
+
+    fn after(&self, participant: u32) {
+        self.turnstile.after(participant);
+    }
 }
 
 /// The settled journal of a day of the commands. A command's place is counted from 0, a record's number
 /// from 1, and the first record is the day.
-fn settled_day<H: Threads + Wait + Sync>(
+fn settled_day<H: Threads + Wait + Sync, U: Turnstile + Sync>(
     rt: &H,
     alloc: Global,
     periods: u8,
     commands: &[Command],
+    entrance: &U,
 ) -> Result<Settled, RunFault>
     requires { is_day periods ≡ true }
     ensures periods { IfOk result (λ settled. settled.book.periods ≡ periods) }
@@ -106,18 +138,21 @@ fn settled_day<H: Threads + Wait + Sync>(
     ensures taken { OnOk result (refused commands.now ≡ None) }
     ensures fault { IfErr result (IsEarlyFault commands.now) }
 {
-    match run_commands(rt, alloc, periods, commands) {
-        Ok(settled) => Ok(settled),
+    let door = Door {
+        turnstile: entrance,
+    };
+    match run_commands(rt, alloc, periods, commands, &door) {
+        Ok(day) => Ok(day.settled),
         Err(DayFault::TooManyCommands) => Err(RunFault::TooManyCommands),
         Err(DayFault::CloseGiven(place)) => Err(RunFault::CloseGiven(place + 2)),
         Err(DayFault::TooManyParticipants(place)) => Err(RunFault::TooManyParticipants(place + 2)),
-        Err(DayFault::Memory | DayFault::NotSettled(Mismatch::Memory)) => Err(RunFault::Memory),
+        Err(DayFault::Memory) => Err(RunFault::Memory),
         Err(DayFault::NotSettled(why)) => Err(RunFault::Mismatch(why)),
     }
 }
 
 /// The written journal, the line `results`, and the results text of the journal's book.
-fn print_day<H: Threads + Sync, T: Turnstile + Sync>(
+fn print_day<H: Threads + Sync, T: Watch + Sync>(
     rt: &H,
     alloc: Global,
     journal: &Journal,

@@ -30,7 +30,8 @@ pub enum RunFault {
     /// The search visited as many nodes of this piece, the least such, as the plan allows, and needed
     /// another.
     Unfinished { piece: u32, visited: u32 },
-    /// The answers of the search's workers lack this piece or repeat it. No run is known to meet it.
+    /// The answers of the search's workers lack this piece or repeat it. The search never answers so, and
+    /// so no run does.
     Collected { piece: u32 },
     /// Memory ran out.
     Memory,

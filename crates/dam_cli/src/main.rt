@@ -10,6 +10,7 @@ mod fault;
 mod input;
 mod laws;
 mod output;
+mod progress;
 mod replay;
 #[cfg(test)]
 mod tests;
@@ -20,10 +21,11 @@ use dam_search::FreeTurn;
 use day::run_day;
 use fault::{RunFault, fault_line, status};
 use output::write_text;
+use progress::Progress;
 use replay::run_replay;
 use std::alloc::Global;
 use std::env;
-use std::io::{ErrorKind, Write};
+use std::io::{ErrorKind, IsTerminal, Write};
 use std::process::ExitCode;
 
 /// The status of a command line that is refused.
@@ -34,11 +36,21 @@ fn main(rt: HostRuntime) -> ExitCode {
         Ok(job) => job,
         Err(fault) => return answer(&rt, &fault),
     };
+    hint(&rt);
+    let progress = Progress::new(&rt, rt.stderr().is_terminal());
     let (mut input, mut output) = (rt.stdin(), rt.stdout());
     let done = match job {
         Job::Replay => run_replay(rt.alloc(), &mut input, &mut output),
-        Job::Clear(plan) => run_clear(&rt, rt.alloc(), &mut input, &mut output, plan, &FreeTurn),
-        Job::Day(plan) => run_day(&rt, rt.alloc(), &mut input, &mut output, plan, &FreeTurn),
+        Job::Clear(plan) => run_clear(&rt, rt.alloc(), &mut input, &mut output, plan, &progress),
+        Job::Day(plan) => run_day(
+            &rt,
+            rt.alloc(),
+            &mut input,
+            &mut output,
+            plan,
+            &progress,
+            &FreeTurn,
+        ),
     };
     match done {
         Ok(()) => ExitCode::SUCCESS,
@@ -54,6 +66,7 @@ fn job(rt: &HostRuntime) -> Result<Job, LineFault> {
         Err(error) if error.kind() == ErrorKind::OutOfMemory => return Err(LineFault::Memory),
         Err(_) => return Err(not_text(alloc)),
     };
+    // the first word is the program's name
     let _program = words.next();
     let Ok(words) = words.collect::<Vec<String>>(alloc) else {
         return Err(LineFault::Memory);
@@ -66,6 +79,15 @@ fn not_text(alloc: Global) -> LineFault {
     match String::from_str(alloc, "error: a word isn't UTF-8\n") {
         Ok(text) => LineFault::Refused { help: false, text },
         Err(_) => LineFault::Memory,
+    }
+}
+
+/// Says to a person at a terminal, who may wait for an answer, that a journal is read from there.
+fn hint(rt: &HostRuntime) {
+    if rt.stdin().is_terminal() && rt.stderr().is_terminal() {
+        let _ = eprintln!(rt;
+            "dam: a journal is read from this terminal, up to Ctrl-D on a line of its own"
+        );
     }
 }
 

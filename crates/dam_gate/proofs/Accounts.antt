@@ -9,7 +9,7 @@ use Rattle.dam_book.specs.Book.{BookState, book_after, IsLegalFrom}
 use Rattle.dam_gate.specs.Pass.{PassState, IsPass, AreInOrder}
 use Rattle.dam_gate.specs.Settled.{numbered, receipts_of, AreReceipts}
 use Rattle.dam_gate.specs.Headline.{AreSomeOf}
-use Rattle.dam_gate.proofs.Numbers.{numbered-head, numbered-behind, none_below}
+use Rattle.dam_gate.proofs.Numbers.{numbered-head, numbered-tail, none_below}
 
 -- where the entry of a number stands
 pub record Stands (e : Entry) (rs : List Entry) : Type 0 where
@@ -22,7 +22,7 @@ stands n e es [] one = absurd (cc)
 stands n e es (r ∷ rs) one = elim (r.number == n) as (λ (b : Bool). r.number == n ≡ b → Stands e (r ∷ rs)) [
   | true ↦ λ own. let same : r ∷ numbered n rs ≡ e ∷ es = sym (numbered-head n r rs (eqb-true r.number n own)) ∙ one in
       record { front = []; back = rs; is = let head : r ≡ e = cc in ap (λ (x : Entry). x ∷ rs) head }
-  | false ↦ λ other. let rest = stands n e es rs (sym (numbered-behind n r rs (eqb-false r.number n other)) ∙ one) in
+  | false ↦ λ other. let rest = stands n e es rs (sym (numbered-tail n r rs (eqb-false r.number n other)) ∙ one) in
       record { front = r ∷ rest.front; back = rest.back; is = ap (λ (xs : List Entry). r ∷ xs) rest.is }
 ] refl
 
@@ -48,8 +48,8 @@ others n e es front back own none are m = elim (e.number == m) as (λ (b : Bool)
       ∙ numbered-head m e es here ∙ ap (λ (xs : List Entry). e ∷ xs) gone in
       numbered-both m front back ∙ no_more (numbered m front) (numbered m back) e one ∙ sym gone
   | false ↦ λ other. let apart : e.number ≢ m = eqb-false e.number m other in
-      numbered-both m front back ∙ ap (λ (xs : List Entry). numbered m front ++ xs) (sym (numbered-behind m e back apart)) ∙ sym (numbered-middle m front back e) ∙ are m
-      ∙ numbered-behind m e es apart
+      numbered-both m front back ∙ ap (λ (xs : List Entry). numbered m front ++ xs) (sym (numbered-tail m e back apart)) ∙ sym (numbered-middle m front back e) ∙ are m
+      ∙ numbered-tail m e es apart
 ] refl
 
 pub each_once : (n : ℕ) (b : BookState) (es rs : List Entry) → IsLegalFrom n b es → AreReceipts es rs → IsPermutation rs es
@@ -79,7 +79,7 @@ at_most_one n m b (e ∷ es) legal = elim (e.number == m) as (λ (t : Bool). e.n
       let gone : numbered m es ≡ [] = none_below (suc n) m (book_after b e.command) es legal.2 (omega (arith, here, legal.0)) in
       let one : numbered m (e ∷ es) ≡ e ∷ [] = numbered-head m e es here ∙ ap (λ (xs : List Entry). e ∷ xs) gone in
       omega (arith, ap (λ (xs : List Entry). length xs) one)
-  | false ↦ λ other. omega (arith, ap (λ (xs : List Entry). length xs) (numbered-behind m e es (eqb-false e.number m other)), at_most_one (suc n) m (book_after b e.command) es legal.2)
+  | false ↦ λ other. omega (arith, ap (λ (xs : List Entry). length xs) (numbered-tail m e es (eqb-false e.number m other)), at_most_one (suc n) m (book_after b e.command) es legal.2)
 ] refl
 
 only_one : (xs ys zs : List Entry) (r : Entry) → xs ++ r ∷ ys ≡ zs → length zs ≤ 1 → zs ≡ r ∷ []
@@ -98,12 +98,12 @@ are_entries b es front (r ∷ rs) back legal are =
       are_entries b es (front ++ r ∷ []) rs back legal (subst (AreReceipts es) (sym (append_assoc front (r ∷ []) (rs ++ back))) are),
     )
 
--- behind the first entry, whose number is at most `low`
-entries-behind : (n low seen : ℕ) (e : Entry) (es rs : List Entry) → e.number ≡ n → n ≤ low → AreInOrder low seen rs → AreEntries (e ∷ es) rs → AreEntries es rs
-entries-behind n low seen e es [] own above ordered are = tt
-entries-behind n low seen e es (r ∷ rs) own above ordered are = (
-  sym (numbered-behind r.number e es (λ same. omega (arith, same, own, above, ordered.0))) ∙ are.0,
-  entries-behind n r.number seen e es rs own (omega (arith, above, ordered.0)) ordered.1 are.1,
+-- after the first entry, whose number is at most `low`
+entries-tail : (n low seen : ℕ) (e : Entry) (es rs : List Entry) → e.number ≡ n → n ≤ low → AreInOrder low seen rs → AreEntries (e ∷ es) rs → AreEntries es rs
+entries-tail n low seen e es [] own above ordered are = tt
+entries-tail n low seen e es (r ∷ rs) own above ordered are = (
+  sym (numbered-tail r.number e es (λ same. omega (arith, same, own, above, ordered.0))) ∙ are.0,
+  entries-tail n r.number seen e es rs own (omega (arith, above, ordered.0)) ordered.1 are.1,
 )
 
 not_below : (n m : ℕ) (b : BookState) (es : List Entry) (r : Entry) → IsLegalFrom n b es → numbered m es ≡ r ∷ [] → (m < n) ⊎ (n ≤ m) → n ≤ m
@@ -122,13 +122,13 @@ some_of n low seen b (e ∷ es) (r ∷ rs) legal above ordered are =
           inl (
             equal,
             some_of (suc n) r.number seen (book_after b e.command) es rs legal.2 (omega (arith, here, legal.0)) ordered.1
-                (entries-behind n r.number seen e es rs legal.0 (omega (arith, here, legal.0)) ordered.1 are.1),
+                (entries-tail n r.number seen e es rs legal.0 (omega (arith, here, legal.0)) ordered.1 are.1),
           )
       | false ↦ λ other. let apart = eqb-false e.number r.number other in
           let no_less = not_below n r.number b (e ∷ es) r legal are.0 (cases_lt r.number n) in
           let later : n < r.number = omega (arith, apart, no_less, legal.0) in
           inr (some_of (suc n) n seen (book_after b e.command) es (r ∷ rs) legal.2 (omega arith) (later, ordered.1)
-          (sym (numbered-behind r.number e es apart) ∙ are.0, entries-behind n r.number seen e es rs legal.0 (omega (arith, later)) ordered.1 are.1))
+          (sym (numbered-tail r.number e es apart) ∙ are.0, entries-tail n r.number seen e es rs legal.0 (omega (arith, later)) ordered.1 are.1))
     ] refl
 
 in_order-from : (b : BookState) (es front : List Entry) (ps : List PassState) → IsLegalFrom 1 b es → AreReceipts es (front ++ receipts_of ps) → All IsPass ps
@@ -136,7 +136,7 @@ in_order-from : (b : BookState) (es front : List Entry) (ps : List PassState) �
 in_order-from b es front [] legal are passes = All-nil (λ (p : PassState). AreSomeOf p.receipts es)
 in_order-from b es front (p ∷ ps) legal are passes =
     All-cons (λ (q : PassState). AreSomeOf q.receipts es) p ps
-    (some_of 1 0 p.seen b es p.receipts legal (omega arith) (passes 0 p (omega arith)) (are_entries b es front p.receipts (receipts_of ps) legal are))
+    (some_of 1 0 p.seen b es p.receipts legal (omega arith) (passes 0 p (omega arith)).in_order (are_entries b es front p.receipts (receipts_of ps) legal are))
     (in_order-from b es (front ++ p.receipts) ps legal (subst (AreReceipts es) (sym (append_assoc front p.receipts (receipts_of ps))) are)
     (λ k d within. passes (suc k) d (omega (arith, within))))
 

@@ -14,7 +14,8 @@ use Rattle.dam_book.specs.declared.command.Entry.{Entry}
 use Rattle.dam_book.specs.Book.{BookState, empty_book, book_after, commands_of, IsLegalFrom, IsLegalHistory}
 use Rattle.dam_gate.specs.Pass.{PassState, IsPass, AreInOrder, new_pass, is_own, is_from, is_close}
 use Rattle.dam_gate.specs.Settled.{numbered, receipts_of, AreReceipts}
-use Rattle.dam_gate.specs.Day.{commands_by, own_commands, is_one_of, AreApart, AreGivers, AreServed, HasEntered, IsDayFault, refused, giver, with_giver, refused_at, refused_from, IsDayRun}
+use Rattle.dam_gate.specs.Day.{commands_by, is_one_of, IsDayFault, refused, giver, with_giver, refused_at, refused_from, IsDayRun}
+use Rattle.dam_gate.specs.inside.Entering.{AreApart, AreGivers, AreServed, Enters, HasAll, HasEntered, IsLateFault, own_commands}
 use Rattle.dam_gate.specs.declared.day.DayFault.{DayFault}
 use Rattle.dam_gate.specs.declared.day.DayFault.TheVariants.{TooManyCommands, CloseGiven, TooManyParticipants, NotSettled, Memory}
 use Rattle.dam_gate.specs.declared.settlement.Mismatch.{Mismatch}
@@ -22,7 +23,7 @@ use Rattle.dam_book.specs.Limits.{most_entries}
 use Rattle.dam_gate.specs.Limits.{most_participants}
 use Rattle.std.proofs.lemmas.Grind.{flat_map-append}
 use Rattle.std.proofs.lemmas.List.Folds.{list_any-append}
-use Rattle.dam_gate.proofs.Numbers.{numbered-head, numbered-behind}
+use Rattle.dam_gate.proofs.Numbers.{numbered-head, numbered-tail}
 
 -- ---- texts
 
@@ -110,7 +111,7 @@ legal-order low b (e ∷ es) legal =
 none_in_order : (m low seen : ℕ) (es : List Entry) → m ≤ low → AreInOrder low seen es → numbered m es ≡ []
 none_in_order m low seen [] below ordered = refl
 none_in_order m low seen (e ∷ es) below ordered =
-    numbered-behind m e es (λ same. omega (arith, same, below, ordered.0)) ∙ none_in_order m e.number seen es (omega (arith, below, ordered.0)) ordered.1
+    numbered-tail m e es (λ same. omega (arith, same, below, ordered.0)) ∙ none_in_order m e.number seen es (omega (arith, below, ordered.0)) ordered.1
 
 same-tails : (m last first : ℕ) (x y : Entry) (xs ys : List Entry) → x ≡ y → AreInOrder x.number last xs → AreInOrder y.number first ys
     → numbered m (x ∷ xs) ≡ numbered m (y ∷ ys) → (x.number ≡ m) ⊎ (x.number ≢ m) → numbered m xs ≡ numbered m ys
@@ -118,7 +119,7 @@ same-tails m last first x y xs ys head a b same (inl own) =
     none_in_order m x.number last xs (omega (arith, own)) a
     ∙ sym (none_in_order m y.number first ys (let n = ap (λ (e : Entry). e.number) head in omega (arith, own, n)) b)
 same-tails m last first x y xs ys head a b same (inr other) =
-    sym (numbered-behind m x xs other) ∙ same ∙ numbered-behind m y ys (λ own. other (ap (λ (e : Entry). e.number) head ∙ own))
+    sym (numbered-tail m x xs other) ∙ same ∙ numbered-tail m y ys (λ own. other (ap (λ (e : Entry). e.number) head ∙ own))
 
 is_number : (n m : ℕ) → (n ≡ m) ⊎ (n ≢ m)
 is_number n m = elim (n == m) as (λ (t : Bool). n == m ≡ t → (n ≡ m) ⊎ (n ≢ m)) [ true ↦ λ e. inl (eqb-true n m e) | false ↦ λ e. inr (eqb-false n m e) ] refl
@@ -127,7 +128,7 @@ is_number n m = elim (n == m) as (λ (t : Bool). n == m ≡ t → (n ≡ m) ⊎ 
 heads-apart : (last : ℕ) (x y : Entry) (xs ys : List Entry) → numbered x.number (x ∷ xs) ≡ numbered x.number (y ∷ ys) → AreInOrder y.number last ys → x.number < y.number → ⊥
 heads-apart last x y xs ys same ordered less =
     let none : numbered x.number (y ∷ ys) ≡ [] =
-    numbered-behind x.number y ys (λ e. omega (arith, e, less)) ∙ none_in_order x.number y.number last ys (omega (arith, less)) ordered in
+    numbered-tail x.number y ys (λ e. omega (arith, e, less)) ∙ none_in_order x.number y.number last ys (omega (arith, less)) ordered in
     let some : x ∷ numbered x.number xs ≡ [] = sym (numbered-head x.number x xs refl) ∙ same ∙ none in
     cc
 
@@ -209,48 +210,48 @@ from-giver other who (Amend w name price volumes) is = let same : w ≡ who = cc
 from-giver other who (Cancel w name) is = let same : w ≡ who = cc in ap (same_text other) same
 from-giver other who Close is = absurd (cc)
 
-apart-more : (whos : List (List ℕ)) (who : List ℕ) → AreApart whos → is_one_of whos who ≡ false → AreApart (whos ++ who ∷ [])
+apart-more : (participants : List (List ℕ)) (who : List ℕ) → AreApart participants → is_one_of participants who ≡ false → AreApart (participants ++ who ∷ [])
 apart-more [] who apart other = (refl, tt)
-apart-more (w ∷ whos) who apart other =
-    let parts = or_parts (same_text who w) (is_one_of whos who) other in
-    (list_any-append (same_text w) whos (who ∷ []) ∙ ap₂ (λ (a b : Bool). a || (b || false)) apart.0 (text-apart who w parts.0), apart-more whos who apart.1 parts.1)
+apart-more (w ∷ participants) who apart other =
+    let parts = or_parts (same_text who w) (is_one_of participants who) other in
+    (list_any-append (same_text w) participants (who ∷ []) ∙ ap₂ (λ (a b : Bool). a || (b || false)) apart.0 (text-apart who w parts.0), apart-more participants who apart.1 parts.1)
 
 by-none : (other : List ℕ) (front : List Command) (c : Command) → commands_by other front ≡ [] → is_from other c ≡ false → commands_by other (front ++ c ∷ []) ≡ []
 by-none other front c none not_from =
     filter-append (is_from other) front (c ∷ []) ∙ ap₂ (λ (cs : List Command) (b : Bool). cs ++ cond b (c ∷ []) []) none not_from
 
-known-giver : (whos : List (List ℕ)) (who other : List ℕ) → is_one_of whos who ≡ true → is_one_of whos other ≡ false → same_text other who ≡ false
-known-giver whos who other known unknown = go (same_text other who) refl
+known-giver : (participants : List (List ℕ)) (who other : List ℕ) → is_one_of participants who ≡ true → is_one_of participants other ≡ false → same_text other who ≡ false
+known-giver participants who other known unknown = go (same_text other who) refl
   where
     go : (t : Bool) → same_text other who ≡ t → t ≡ false
-    go true is = let one : true ≡ false = sym known ∙ ap (is_one_of whos) (sym ((text-Decides other who).0 is)) ∙ unknown in absurd (cc)
+    go true is = let one : true ≡ false = sym known ∙ ap (is_one_of participants) (sym ((text-Decides other who).0 is)) ∙ unknown in absurd (cc)
     go false is = refl
 
-givers-step : (whos : List (List ℕ)) (who : List ℕ) (c : Command) (front : List Command) (t : Bool) → is_one_of whos who ≡ t → giver c ≡ Some who → AreGivers whos front
-    → AreGivers (if t then whos else whos ++ who ∷ []) (front ++ c ∷ [])
-givers-step whos who c front true known gives are =
+givers-step : (participants : List (List ℕ)) (who : List ℕ) (c : Command) (front : List Command) (t : Bool) → is_one_of participants who ≡ t → giver c ≡ Some who → AreGivers participants front
+    → AreGivers (if t then participants else participants ++ who ∷ []) (front ++ c ∷ [])
+givers-step participants who c front true known gives are =
     record {
       apart = are.apart;
-      all = λ other unknown. by-none other front c (are.all other unknown) (from-giver other who c gives ∙ known-giver whos who other known unknown);
+      all = λ other unknown. by-none other front c (are.all other unknown) (from-giver other who c gives ∙ known-giver participants who other known unknown);
     }
-givers-step whos who c front false new gives are =
+givers-step participants who c front false new gives are =
     record {
-      apart = apart-more whos who are.apart new;
+      apart = apart-more participants who are.apart new;
       all = λ other unknown.
-          let parts = or_parts (is_one_of whos other) (same_text other who || false) (sym (list_any-append (same_text other) whos (who ∷ [])) ∙ unknown) in
+          let parts = or_parts (is_one_of participants other) (same_text other who || false) (sym (list_any-append (same_text other) participants (who ∷ [])) ∙ unknown) in
           let apart = or_parts (same_text other who) false parts.1 in
           by-none other front c (are.all other parts.0) (from-giver other who c gives ∙ apart.0);
     }
 
-pub givers-more : (whos : List (List ℕ)) (who : List ℕ) (c : Command) (front : List Command) → giver c ≡ Some who → AreGivers whos front → AreGivers (with_giver whos who) (front ++ c ∷ [])
-givers-more whos who c front gives are = givers-step whos who c front (is_one_of whos who) refl gives are
+pub givers-more : (participants : List (List ℕ)) (who : List ℕ) (c : Command) (front : List Command) → giver c ≡ Some who → AreGivers participants front → AreGivers (with_giver participants who) (front ++ c ∷ [])
+givers-more participants who c front gives are = givers-step participants who c front (is_one_of participants who) refl gives are
 
-pub left-more : (i : ℕ) (whos : List (List ℕ)) (who : List ℕ) (c : Command) (cs rest : List Command) (end : Option DayFault) → giver c ≡ Some who → length (with_giver whos who) ≤ most_participants
-    → cs ≡ c ∷ rest → refused_from i whos cs ≡ end → refused_from (i + 1) (with_giver whos who) rest ≡ end
-left-more i whos who c cs rest end gives few next kept =
-    let behind = λ (more : List (List ℕ)). refused_from (i + 1) more rest in
-    sym (ap (λ (b : Bool). if b then Some (TooManyParticipants i) else behind (with_giver whos who)) (le-ltb most_participants (length (with_giver whos who)) few))
-    ∙ sym (ap (λ (g : Option (List ℕ)). refused_at i whos g behind) gives) ∙ ap (refused_from i whos) (sym next) ∙ kept
+pub left-more : (i : ℕ) (participants : List (List ℕ)) (who : List ℕ) (c : Command) (cs rest : List Command) (end : Option DayFault) → giver c ≡ Some who → length (with_giver participants who) ≤ most_participants
+    → cs ≡ c ∷ rest → refused_from i participants cs ≡ end → refused_from (i + 1) (with_giver participants who) rest ≡ end
+left-more i participants who c cs rest end gives few next kept =
+    let after = λ (more : List (List ℕ)). refused_from (i + 1) more rest in
+    sym (ap (λ (b : Bool). if b then Some (TooManyParticipants i) else after (with_giver participants who)) (le-ltb most_participants (length (with_giver participants who)) few))
+    ∙ sym (ap (λ (g : Option (List ℕ)). refused_at i participants g after) gives) ∙ ap (refused_from i participants) (sym next) ∙ kept
 
 -- ---- the shares of the participants in the journal
 
@@ -260,22 +261,22 @@ pub record Share (given : List Command) (other : List ℕ) (one : Bool) (rs : Li
   pub in_order : AreInOrder 0 last (filter (of_command (is_from other)) rs)
   pub commands : commands_of (filter (of_command (is_from other)) rs) ≡ cond one (commands_by other given) []
 
-share-step : (given : List Command) (other who : List ℕ) (whos : List (List ℕ)) (p : PassState) (rest : List Entry) (t : Bool) → is_one_of whos who ≡ false → IsPass p
-    → commands_of (filter (of_command (is_from other)) p.receipts) ≡ cond t (commands_by who given) [] → same_text other who ≡ t → Share given other (is_one_of whos other) rest
-    → Share given other (t || is_one_of whos other) (p.receipts ++ rest)
-share-step given other who whos p rest true apart pass mine is share =
+share-step : (given : List Command) (other who : List ℕ) (participants : List (List ℕ)) (p : PassState) (rest : List Entry) (t : Bool) → is_one_of participants who ≡ false → IsPass p
+    → commands_of (filter (of_command (is_from other)) p.receipts) ≡ cond t (commands_by who given) [] → same_text other who ≡ t → Share given other (is_one_of participants other) rest
+    → Share given other (t || is_one_of participants other) (p.receipts ++ rest)
+share-step given other who participants p rest true apart pass mine is share =
     let same : other ≡ who = (text-Decides other who).0 is in
     let P = of_command (is_from other) in
     let gone : filter P rest ≡ [] =
-    no_commands (filter P rest) (share.commands ∙ ap (λ (b : Bool). cond b (commands_by other given) []) (ap (is_one_of whos) same ∙ apart)) in
+    no_commands (filter P rest) (share.commands ∙ ap (λ (b : Bool). cond b (commands_by other given) []) (ap (is_one_of participants) same ∙ apart)) in
     let whole : filter P (p.receipts ++ rest) ≡ filter P p.receipts =
     filter-append P p.receipts rest ∙ ap (λ (es : List Entry). filter P p.receipts ++ es) gone ∙ append-nil (filter P p.receipts) in
     record {
       last = p.seen;
-      in_order = subst (AreInOrder 0 p.seen) (sym whole) (order-filter P 0 p.seen p.receipts pass);
+      in_order = subst (AreInOrder 0 p.seen) (sym whole) (order-filter P 0 p.seen p.receipts pass.in_order);
       commands = ap commands_of whole ∙ mine ∙ ap (λ (w : List ℕ). commands_by w given) (sym same);
     }
-share-step given other who whos p rest false apart pass mine is share =
+share-step given other who participants p rest false apart pass mine is share =
     let P = of_command (is_from other) in
     let gone : filter P p.receipts ≡ [] = no_commands (filter P p.receipts) mine in
     let whole : filter P (p.receipts ++ rest) ≡ filter P rest = filter-append P p.receipts rest ∙ ap (λ (es : List Entry). es ++ filter P rest) gone in
@@ -285,24 +286,24 @@ share-step given other who whos p rest false apart pass mine is share =
       commands = ap commands_of whole ∙ share.commands;
     }
 
-shares : (given : List Command) (other : List ℕ) (whos : List (List ℕ)) (ps : List PassState) → AreApart whos → AreServed given whos ps → Share given other (is_one_of whos other) (receipts_of ps)
+shares : (given : List Command) (other : List ℕ) (participants : List (List ℕ)) (ps : List PassState) → AreApart participants → AreServed given participants ps → Share given other (is_one_of participants other) (receipts_of ps)
 shares given other [] [] apart served = record { last = 0; in_order = omega arith; commands = refl }
-shares given other (who ∷ whos) (p ∷ ps) apart served =
-    share-step given other who whos p (receipts_of ps) (same_text other who) apart.0 served.1
+shares given other (who ∷ participants) (p ∷ ps) apart served =
+    share-step given other who participants p (receipts_of ps) (same_text other who) apart.0 served.1
     (commands-filter (is_from other) p.receipts ∙ ap (filter (is_from other)) served.0 ∙ own_again who other given) refl
-    (shares given other whos ps apart.1 served.2)
+    (shares given other participants ps apart.1 served.2)
 shares given other [] (p ∷ ps) apart served = absurd served
-shares given other (who ∷ whos) [] apart served = absurd served
+shares given other (who ∷ participants) [] apart served = absurd served
 
-no_closes : (given : List Command) (whos : List (List ℕ)) (ps : List PassState) → AreServed given whos ps → filter (of_command is_close) (receipts_of ps) ≡ []
+no_closes : (given : List Command) (participants : List (List ℕ)) (ps : List PassState) → AreServed given participants ps → filter (of_command is_close) (receipts_of ps) ≡ []
 no_closes given [] [] served = refl
-no_closes given (who ∷ whos) (p ∷ ps) served =
+no_closes given (who ∷ participants) (p ∷ ps) served =
     let Q = of_command is_close in
     let mine : filter Q p.receipts ≡ [] =
     no_commands (filter Q p.receipts) (commands-filter is_close p.receipts ∙ ap (filter is_close) served.0 ∙ no_close who given) in
-    filter-append Q p.receipts (receipts_of ps) ∙ ap₂ (λ (a b : List Entry). a ++ b) mine (no_closes given whos ps served.2)
+    filter-append Q p.receipts (receipts_of ps) ∙ ap₂ (λ (a b : List Entry). a ++ b) mine (no_closes given participants ps served.2)
 no_closes given [] (p ∷ ps) served = absurd served
-no_closes given (who ∷ whos) [] served = absurd served
+no_closes given (who ∷ participants) [] served = absurd served
 
 -- ---- the day
 
@@ -320,48 +321,48 @@ with_operator p ps op =
     ap (filter (of_command p)) (flat_map-append (λ (q : PassState). q.receipts) ps (op ∷ []) ∙ ap (λ (es : List Entry). receipts_of ps ++ es) (append-nil op.receipts))
     ∙ filter-append (of_command p) (receipts_of ps) op.receipts
 
-closed-by : (given : List Command) (whos : List (List ℕ)) (ps : List PassState) (op : PassState) → AreServed given whos ps
+closed-by : (given : List Command) (participants : List (List ℕ)) (ps : List PassState) (op : PassState) → AreServed given participants ps
     → filter (of_command is_close) (receipts_of (ps ++ op ∷ [])) ≡ filter (of_command is_close) op.receipts
-closed-by given whos ps op served =
-    with_operator is_close ps op ∙ ap (λ (xs : List Entry). xs ++ filter (of_command is_close) op.receipts) (no_closes given whos ps served)
+closed-by given participants ps op served =
+    with_operator is_close ps op ∙ ap (λ (xs : List Entry). xs ++ filter (of_command is_close) op.receipts) (no_closes given participants ps served)
 
-one-close : (periods : ℕ) (given : List Command) (whos : List (List ℕ)) (es : List Entry) (ps : List PassState) (op : PassState) (before : List Command)
-    → IsLegalHistory periods es → AreReceipts es (receipts_of (ps ++ op ∷ [])) → AreServed given whos ps
+one-close : (periods : ℕ) (given : List Command) (participants : List (List ℕ)) (es : List Entry) (ps : List PassState) (op : PassState) (before : List Command)
+    → IsLegalHistory periods es → AreReceipts es (receipts_of (ps ++ op ∷ [])) → AreServed given participants ps
     → commands_of op.receipts ≡ Close ∷ [] → IsPass op → commands_of es ≡ before ++ Close ∷ [] → filter is_close before ≡ []
-one-close periods given whos es ps op before legal are served closes pass last =
+one-close periods given participants es ps op before legal are served closes pass last =
     let Q = of_command is_close in
     let rs = receipts_of (ps ++ op ∷ []) in
-    let closed = closed-by given whos ps op served in
-    let ordered : AreInOrder 0 op.seen (filter Q rs) = subst (AreInOrder 0 op.seen) (sym closed) (order-filter Q 0 op.seen op.receipts pass) in
+    let closed = closed-by given participants ps op served in
+    let ordered : AreInOrder 0 op.seen (filter Q rs) = subst (AreInOrder 0 op.seen) (sym closed) (order-filter Q 0 op.seen op.receipts pass.in_order) in
     let of_journal : commands_of (filter Q es) ≡ filter is_close before ++ Close ∷ [] =
     commands-filter is_close es ∙ ap (filter is_close) last ∙ filter-append is_close before (Close ∷ []) in
     let of_receipts : commands_of (filter Q rs) ≡ Close ∷ [] = ap commands_of closed ∙ commands-filter is_close op.receipts ∙ ap (filter is_close) closes in
     nothing_before (filter is_close before) Close (sym of_journal ∙ ap commands_of (sym (same_passing Q periods op.seen es rs legal are ordered)) ∙ of_receipts)
 
-own-order : (periods : ℕ) (given : List Command) (whos : List (List ℕ)) (es : List Entry) (ps : List PassState) (op : PassState) (who : List ℕ)
-    → IsLegalHistory periods es → AreReceipts es (receipts_of (ps ++ op ∷ [])) → AreGivers whos given → AreServed given whos ps
+own-order : (periods : ℕ) (given : List Command) (participants : List (List ℕ)) (es : List Entry) (ps : List PassState) (op : PassState) (who : List ℕ)
+    → IsLegalHistory periods es → AreReceipts es (receipts_of (ps ++ op ∷ [])) → AreGivers participants given → AreServed given participants ps
     → commands_of op.receipts ≡ Close ∷ [] → commands_by who (commands_of es) ≡ commands_by who given
-own-order periods given whos es ps op who legal are givers served closes =
+own-order periods given participants es ps op who legal are givers served closes =
     let P = of_command (is_from who) in
     let rs = receipts_of (ps ++ op ∷ []) in
-    let share = shares given who whos ps givers.apart served in
+    let share = shares given who participants ps givers.apart served in
     let none : filter P op.receipts ≡ [] = no_commands (filter P op.receipts) (commands-filter (is_from who) op.receipts ∙ ap (filter (is_from who)) closes) in
     let whole : filter P rs ≡ filter P (receipts_of ps) =
     with_operator (is_from who) ps op ∙ ap (λ (xs : List Entry). filter P (receipts_of ps) ++ xs) none ∙ append-nil (filter P (receipts_of ps)) in
     let ordered : AreInOrder 0 share.last (filter P rs) = subst (AreInOrder 0 share.last) (sym whole) share.in_order in
     sym (commands-filter (is_from who) es) ∙ ap commands_of (sym (same_passing P periods share.last es rs legal are ordered))
-    ∙ ap commands_of whole ∙ share.commands ∙ known-or-none given who (is_one_of whos who) (givers.all who)
+    ∙ ap commands_of whole ∙ share.commands ∙ known-or-none given who (is_one_of participants who) (givers.all who)
 
-pub day_run : (periods : ℕ) (given : List Command) (whos : List (List ℕ)) (es : List Entry) (ps : List PassState) (op : PassState) (before : List Command)
-    → IsLegalHistory periods es → AreReceipts es (receipts_of (ps ++ op ∷ [])) → AreGivers whos given → AreServed given whos ps
+pub day_run : (periods : ℕ) (given : List Command) (participants : List (List ℕ)) (es : List Entry) (ps : List PassState) (op : PassState) (before : List Command)
+    → IsLegalHistory periods es → AreReceipts es (receipts_of (ps ++ op ∷ [])) → AreGivers participants given → AreServed given participants ps
     → commands_of op.receipts ≡ Close ∷ [] → IsPass op → commands_of es ≡ before ++ Close ∷ [] → IsDayRun periods given es
-day_run periods given whos es ps op before legal are givers served closes pass last =
+day_run periods given participants es ps op before legal are givers served closes pass last =
     record {
       legal = legal;
       before = before;
       close_last = last;
-      close_once = one-close periods given whos es ps op before legal are served closes pass last;
-      own_order = λ who. own-order periods given whos es ps op who legal are givers served closes;
+      close_once = one-close periods given participants es ps op before legal are served closes pass last;
+      own_order = λ who. own-order periods given participants es ps op who legal are givers served closes;
     }
 
 -- ---- what the code keeps
@@ -380,48 +381,41 @@ all-entered own p has as_long =
     ap (λ (cs : List Command). length cs) (sym has.receipts) ∙ length-map p.receipts (λ (e : Entry). e.command) ∙ as_long ∙ ap (λ (cs : List Command). length cs) has.own_is in
     has.receipts ∙ sym (append-nil has.entered) ∙ ap (λ (cs : List Command). has.entered ++ cs) (sym (none-left has.entered has.left count)) ∙ sym has.own_is
 
--- a participant's pass that entered all
-pub record IsEntered (given : List Command) (who : List ℕ) (p : PassState) : Type 0 where
-  pub holder : p.holder ≡ Some who
-  pub entered : HasEntered [] (own_commands (Some who) given) p
-  pub as_long : length p.receipts ≡ length (own_commands p.holder given)
-  pub pass : IsPass p
+-- a participant's pass that has receipts of all its own commands
+abbrev pub IsServed : List Command → List ℕ → PassState → Type 0
+IsServed given who p = (commands_of p.receipts ≡ commands_by who given) × IsPass p
 
-served-from : (given : List Command) (whos : List (List ℕ)) (ps : List PassState) → length ps ≡ length whos
-    → ((i : ℕ) (d : PassState) (w : List ℕ) → i < length ps → IsEntered given (get_or whos i w) (get_or ps i d)) → AreServed given whos ps
+served : (given : List Command) (who : List ℕ) (before p : PassState) → before ≡ new_pass (Some who) → Enters given before p → HasAll given p → IsServed given who p
+served given who before p new enters all =
+    let holder : p.holder ≡ Some who = enters.holder ∙ ap (λ (q : PassState). q.holder) new in
+    let entered : HasEntered [] (own_commands (Some who) given) p =
+    subst (λ (q : PassState). HasEntered (commands_of q.receipts) (own_commands q.holder given) p) new enters.entered in
+    (all-entered (own_commands (Some who) given) p entered (all.as_many ∙ ap (λ (h : Option (List ℕ)). length (own_commands h given)) holder), all.pass)
+
+served-from : (given : List Command) (participants : List (List ℕ)) (ps : List PassState) → length ps ≡ length participants
+    → ((i : ℕ) (d : PassState) (w : List ℕ) → i < length ps → IsServed given (get_or participants i w) (get_or ps i d)) → AreServed given participants ps
 served-from given [] [] same are = tt
-served-from given (who ∷ whos) (p ∷ ps) same are =
+served-from given (who ∷ participants) (p ∷ ps) same are =
     let is = are 0 p who (omega arith) in
-    let as_long : length p.receipts ≡ length (own_commands (Some who) given) = is.as_long ∙ ap (λ (h : Option (List ℕ)). length (own_commands h given)) is.holder in (
-      all-entered (own_commands (Some who) given) p is.entered as_long,
-      is.pass,
-      served-from given whos ps (omega (arith, same)) (λ i d w within. are (suc i) d w (omega (arith, within))),
-    )
+    (is.0, is.1, served-from given participants ps (omega (arith, same)) (λ i d w within. are (suc i) d w (omega (arith, within))))
 served-from given [] (p ∷ ps) same are = absurd (omega (arith, same))
-served-from given (who ∷ whos) [] same are = absurd (omega (arith, same))
+served-from given (who ∷ participants) [] same are = absurd (omega (arith, same))
 
-new_at : (whos : List (List ℕ)) (i : ℕ) (d : PassState) (w : List ℕ) → i < length whos → get_or (map (λ (who : List ℕ). new_pass (Some who)) whos) i d ≡ new_pass (Some (get_or whos i w))
+new_at : (participants : List (List ℕ)) (i : ℕ) (d : PassState) (w : List ℕ) → i < length participants
+    → get_or (map (λ (who : List ℕ). new_pass (Some who)) participants) i d ≡ new_pass (Some (get_or participants i w))
 new_at [] i d w within = absurd (omega (arith, within))
-new_at (who ∷ whos) zero d w within = refl
-new_at (who ∷ whos) (suc i) d w within = new_at whos i d w (omega (arith, within))
+new_at (who ∷ participants) zero d w within = refl
+new_at (who ∷ participants) (suc i) d w within = new_at participants i d w (omega (arith, within))
 
-pub served-all : (given : List Command) (whos : List (List ℕ)) (olds news : List PassState) → olds ≡ map (λ (who : List ℕ). new_pass (Some who)) whos → length news ≡ length olds
-    → ((i : ℕ) (d : PassState) → i < length olds → (get_or news i d).holder ≡ (get_or olds i d).holder)
-    → ((i : ℕ) (d : PassState) → i < length olds → HasEntered (commands_of (get_or olds i d).receipts) (own_commands (get_or olds i d).holder given) (get_or news i d))
-    → All (λ (p : PassState). IsPass p × (length p.receipts ≡ length (own_commands p.holder given))) news → AreServed given whos news
-served-all given whos olds news new_ones as_long holders entered all =
-    let many : length olds ≡ length whos = ap (λ (ps : List PassState). length ps) new_ones ∙ length-map whos (λ (who : List ℕ). new_pass (Some who)) in
-    served-from given whos news (as_long ∙ many)
+pub served-all : (given : List Command) (participants : List (List ℕ)) (olds news : List PassState) → olds ≡ map (λ (who : List ℕ). new_pass (Some who)) participants → length news ≡ length olds
+    → ((i : ℕ) (d : PassState) → i < length olds → Enters given (get_or olds i d) (get_or news i d)) → All (HasAll given) news → AreServed given participants news
+served-all given participants olds news new_ones as_long enters all =
+    let many : length olds ≡ length participants = ap (λ (ps : List PassState). length ps) new_ones ∙ length-map participants (λ (who : List ℕ). new_pass (Some who)) in
+    served-from given participants news (as_long ∙ many)
     (λ i d w within.
-    let inside : i < length olds = omega (arith, within, as_long) in
-    let at : get_or olds i d ≡ new_pass (Some (get_or whos i w)) =
-    ap (λ (ps : List PassState). get_or ps i d) new_ones ∙ new_at whos i d w (omega (arith, within, as_long, many)) in
-    record {
-      holder = holders i d inside ∙ ap (λ (p : PassState). p.holder) at;
-      entered = subst (λ (q : PassState). HasEntered (commands_of q.receipts) (own_commands q.holder given) (get_or news i d)) at (entered i d inside);
-      as_long = (all i d within).1;
-      pass = (all i d within).0;
-    })
+    let at : get_or olds i d ≡ new_pass (Some (get_or participants i w)) =
+    ap (λ (ps : List PassState). get_or ps i d) new_ones ∙ new_at participants i d w (omega (arith, within, as_long, many)) in
+    served given (get_or participants i w) (get_or olds i d) (get_or news i d) at (enters i d (omega (arith, within, as_long))) (all i d within))
 
 -- ---- the faults
 
@@ -430,25 +424,33 @@ never-if : (b : Bool) (place : ℕ) (rest : Option DayFault) (why : Mismatch) �
 never-if true place rest why never is = cc
 never-if false place rest why never is = never is
 
-never-at : (place : ℕ) (whos : List (List ℕ)) (g : Option (List ℕ)) (behind : List (List ℕ) → Option DayFault) (why : Mismatch)
-    → ((more : List (List ℕ)) → behind more ≡ Some (NotSettled why) → ⊥) → refused_at place whos g behind ≡ Some (NotSettled why) → ⊥
-never-at place whos None behind why never is = cc
-never-at place whos (Some who) behind why never is =
-    never-if (nat_lt most_participants (length (with_giver whos who))) place (behind (with_giver whos who)) why (never (with_giver whos who)) is
+never-at : (place : ℕ) (participants : List (List ℕ)) (g : Option (List ℕ)) (after : List (List ℕ) → Option DayFault) (why : Mismatch)
+    → ((more : List (List ℕ)) → after more ≡ Some (NotSettled why) → ⊥) → refused_at place participants g after ≡ Some (NotSettled why) → ⊥
+never-at place participants None after why never is = cc
+never-at place participants (Some who) after why never is =
+    never-if (nat_lt most_participants (length (with_giver participants who))) place (after (with_giver participants who)) why (never (with_giver participants who)) is
 
-never-settles : (place : ℕ) (whos : List (List ℕ)) (cs : List Command) (why : Mismatch) → refused_from place whos cs ≡ Some (NotSettled why) → ⊥
-never-settles place whos [] why is = cc
-never-settles place whos (c ∷ cs) why is =
-    never-at place whos (giver c) (λ more. refused_from (place + 1) more cs) why (λ more. never-settles (place + 1) more cs why) is
+never-settles : (place : ℕ) (participants : List (List ℕ)) (cs : List Command) (why : Mismatch) → refused_from place participants cs ≡ Some (NotSettled why) → ⊥
+never-settles place participants [] why is = cc
+never-settles place participants (c ∷ cs) why is =
+    never-at place participants (giver c) (λ more. refused_from (place + 1) more cs) why (λ more. never-settles (place + 1) more cs why) is
 
 -- where there are not too many commands, the first that is refused decides
 pub refused-few : (cs : List Command) → length cs < most_entries → refused cs ≡ refused_from 0 [] cs
 refused-few cs few = ap (λ (b : Bool). if b then Some TooManyCommands else refused_from 0 [] cs) (le-ltb (most_entries - 1) (length cs) (omega (arith, few)))
 
 pub refused-fault : (cs : List Command) (fault : DayFault) → length cs < most_entries → (fault ≡ Memory) ⊎ (refused_from 0 [] cs ≡ Some fault) → IsDayFault cs fault
-refused-fault cs fault few (inl none) = subst (IsDayFault cs) (sym none) tt
-refused-fault cs Memory few (inr is) = tt
+refused-fault cs fault few (inl none) = subst (IsDayFault cs) (sym none) few
+refused-fault cs Memory few (inr is) = few
 refused-fault cs (NotSettled why) few (inr is) = absurd (never-settles 0 [] cs why is)
 refused-fault cs TooManyCommands few (inr is) = refused-few cs few ∙ is
 refused-fault cs (CloseGiven place) few (inr is) = refused-few cs few ∙ is
 refused-fault cs (TooManyParticipants place) few (inr is) = refused-few cs few ∙ is
+
+-- a day of commands that aren't refused
+pub late-fault : (cs : List Command) (fault : DayFault) → length cs < most_entries → refused_from 0 [] cs ≡ None → IsLateFault fault → IsDayFault cs fault
+late-fault cs Memory few none is = few
+late-fault cs (NotSettled why) few none is = (refused-few cs few ∙ none, is)
+late-fault cs TooManyCommands few none is = absurd is
+late-fault cs (CloseGiven place) few none is = absurd is
+late-fault cs (TooManyParticipants place) few none is = absurd is

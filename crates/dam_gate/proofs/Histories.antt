@@ -5,8 +5,9 @@ use Rattle.dam_book.specs.declared.command.Command.TheVariants.{Submit, Amend, C
 use Rattle.dam_book.specs.declared.command.Entry.{Entry}
 use Rattle.dam_book.specs.Book.{BookState, Key, order_at, empty_book, is_day, carried_out, refusal, book_after, reply_to, run, run_from, commands_of, IsLegalFrom, IsLegalHistory}
 use Rattle.dam_book.specs.Limits.{most_entries}
-use Rattle.dam_gate.specs.Journal.{JournalState, IsJournal, next_entry, journal_after, is_full}
-use Rattle.dam_gate.specs.Gate.{EndsHistory, IsLookAt, IsLook}
+use Rattle.dam_gate.specs.Journal.{JournalState, IsHistory, IsJournal, FoundRoom, next_entry, journal_after, is_full}
+use Rattle.dam_gate.specs.Gate.{EndsHistory, IsLook}
+use Rattle.dam_gate.specs.inside.Looks.{IsLookAt}
 use Rattle.dam_gate.specs.declared.pass.Look.{Look}
 use Rattle.std.proofs.lemmas.Bool.{leb-false}
 
@@ -30,41 +31,54 @@ IsLegalFrom-snoc n b [] e legal number reply = (omega (arith, number), reply, tt
 IsLegalFrom-snoc n b (x ∷ es) e legal number reply =
     (legal.0, legal.1, IsLegalFrom-snoc (suc n) (book_after b x.command) es e legal.2 (omega (arith, number)) reply)
 
--- the journal's entries with that of one command more
-pub legal-after : (j : JournalState) (c : Command) → IsJournal j → IsLegalHistory j.book.periods (j.entries ++ next_entry j c ∷ [])
-legal-after j c is =
-    IsLegalFrom-snoc 1 (empty_book j.book.periods) j.entries (next_entry j c) is.legal (omega arith) (ap (λ (b : BookState). reply_to b c) is.book_is)
-
-pub journal_after_is : (j : JournalState) (c : Command) → IsJournal j → length j.entries < most_entries → IsJournal (journal_after j c)
-journal_after_is j c is room =
-    let same = book_after-periods j.book c in
-    let all = j.entries ++ next_entry j c ∷ [] in
-    let after : run j.book.periods (commands_of all) ≡ book_after j.book c =
-    run_from-snoc (empty_book j.book.periods) j.entries (next_entry j c) ∙ ap (λ (b : BookState). book_after b c) (sym is.book_is) in
-    record {
-      day = ap is_day same ∙ is.day;
-      legal = subst (λ (n : ℕ). IsLegalHistory n all) (sym same) (legal-after j c is);
-      book_is = sym after ∙ ap (λ (n : ℕ). run n (commands_of all)) (sym same);
-      few = omega (arith, length-append j.entries (next_entry j c ∷ []), room);
-    }
-
-pub ends_history : (j : JournalState) (c : Command) → IsJournal j → EndsHistory (next_entry j c)
-ends_history j c is = (j.book.periods, j.entries, legal-after j c is, sym (length-append j.entries (next_entry j c ∷ [])))
-
-pub look_is : (j : JournalState) (least : ℕ) (key : Key) (look : Look) → IsJournal j → least ≤ length j.entries → IsLookAt j key look → IsLook least key look
-look_is j least key look is more at =
-    record {
-      periods = j.book.periods;
-      entries = j.entries;
-      legal = is.legal;
-      seen = at.seen;
-      no_less = omega (arith, more, at.seen);
-      closed = at.closed ∙ ap (λ (b : BookState). b.closed) is.book_is;
-      order = at.order ∙ ap (λ (b : BookState). order_at b key) is.book_is;
-    }
+FoundRoom-snoc : (held : ℕ) (es : List Entry) (e : Entry) → FoundRoom held es → is_full (held + length es) e.command ≡ false → FoundRoom held (es ++ e ∷ [])
+FoundRoom-snoc held [] e found room = (let same : held + 0 ≡ held = omega arith in subst (λ (n : ℕ). is_full n e.command ≡ false) same room, tt)
+FoundRoom-snoc held (x ∷ es) e found room =
+    let same : held + suc (length es) ≡ suc held + length es = omega arith in
+    (found.0, FoundRoom-snoc (suc held) es e found.1 (subst (λ (n : ℕ). is_full n e.command ≡ false) same room))
 
 pub room_left : (held : ℕ) (c : Command) → is_full held c ≡ false → held < most_entries
 room_left held (Submit who name order) left = omega (arith, leb-false (most_entries - 1) held left)
 room_left held (Amend who name price volumes) left = omega (arith, leb-false (most_entries - 1) held left)
 room_left held (Cancel who name) left = omega (arith, leb-false (most_entries - 1) held left)
 room_left held Close left = leb-false most_entries held left
+
+-- the journal's entries with that of one command more, for which there is room
+history-after : (j : JournalState) (c : Command) → IsJournal j → is_full (length j.entries) c ≡ false → IsHistory j.book.periods (j.entries ++ next_entry j c ∷ [])
+history-after j c is room =
+    let e = next_entry j c in
+    record {
+      day = is.history.day;
+      legal = IsLegalFrom-snoc 1 (empty_book j.book.periods) j.entries e is.history.legal (omega arith) (ap (λ (b : BookState). reply_to b c) is.book_is);
+      few = omega (arith, length-append j.entries (e ∷ []), room_left (length j.entries) c room);
+      room =
+          FoundRoom-snoc 0 j.entries e is.history.room
+          (let same : length j.entries ≡ 0 + length j.entries = omega arith in subst (λ (n : ℕ). is_full n c ≡ false) same room);
+    }
+
+pub journal_after_is : (j : JournalState) (c : Command) → IsJournal j → is_full (length j.entries) c ≡ false → IsJournal (journal_after j c)
+journal_after_is j c is room =
+    let same = book_after-periods j.book c in
+    let all = j.entries ++ next_entry j c ∷ [] in
+    let after : run j.book.periods (commands_of all) ≡ book_after j.book c =
+    run_from-snoc (empty_book j.book.periods) j.entries (next_entry j c) ∙ ap (λ (b : BookState). book_after b c) (sym is.book_is) in
+    record {
+      history = subst (λ (n : ℕ). IsHistory n all) (sym same) (history-after j c is room);
+      book_is = sym after ∙ ap (λ (n : ℕ). run n (commands_of all)) (sym same);
+    }
+
+pub ends_history : (j : JournalState) (c : Command) → IsJournal j → is_full (length j.entries) c ≡ false → EndsHistory (next_entry j c)
+ends_history j c is room =
+    record { periods = j.book.periods; before = j.entries; history = history-after j c is room; number = sym (length-append j.entries (next_entry j c ∷ [])) }
+
+pub look_is : (j : JournalState) (least : ℕ) (key : Key) (look : Look) → IsJournal j → least ≤ length j.entries → IsLookAt j key look → IsLook least key look
+look_is j least key look is more at =
+    record {
+      periods = j.book.periods;
+      entries = j.entries;
+      history = is.history;
+      seen = at.seen;
+      no_less = omega (arith, more, at.seen);
+      closed = at.closed ∙ ap (λ (b : BookState). b.closed) is.book_is;
+      order = at.order ∙ ap (λ (b : BookState). order_at b key) is.book_is;
+    }

@@ -1,9 +1,10 @@
 -- A receipt more, and a look further, keep the receipts of a pass in order.
-use Rattle.std.proofs.Common.{◌≡◌, zero, suc, ◌+◌, length, get_or, take, append-nil, ap, ◌∙◌, ℕ, ◌<◌, ◌≤◌, List, [], ◌∷◌, ◌++◌, arith}
+use Rattle.std.proofs.Common.{◌≡◌, zero, suc, ◌+◌, ◌-◌, true, false, Option, length, get_or, take, append-nil, ap, ◌∙◌, ℕ, ◌<◌, ◌≤◌, List, [], ◌∷◌, ◌++◌, arith}
 use Rattle.dam_book.specs.declared.command.Entry.{Entry}
 use Rattle.std.proofs.lemmas.List.{take_more}
 use Rattle.std.proofs.lemmas.Grind.{flat_map-append}
-use Rattle.dam_gate.specs.Pass.{PassState, AreInOrder}
+use Rattle.dam_gate.specs.Journal.{is_full}
+use Rattle.dam_gate.specs.Pass.{PassState, AreInOrder, AreOwn, is_own}
 use Rattle.dam_gate.specs.Settled.{receipts_of}
 
 pub AreInOrder-snoc : (low seen : ℕ) (es : List Entry) (e : Entry) → AreInOrder low seen es → seen < e.number → AreInOrder low e.number (es ++ e ∷ [])
@@ -13,6 +14,11 @@ AreInOrder-snoc low seen (x ∷ es) e ordered later = (ordered.0, AreInOrder-sno
 pub AreInOrder-seen : (low seen more : ℕ) (es : List Entry) → AreInOrder low seen es → seen ≤ more → AreInOrder low more es
 AreInOrder-seen low seen more [] ordered later = omega (arith, ordered, later)
 AreInOrder-seen low seen more (x ∷ es) ordered later = (ordered.0, AreInOrder-seen x.number seen more es ordered.1 later)
+
+pub AreOwn-snoc : (holder : Option (List ℕ)) (es : List Entry) (e : Entry) → AreOwn holder es → is_own holder e.command ≡ true → is_full (e.number - 1) e.command ≡ false
+    → AreOwn holder (es ++ e ∷ [])
+AreOwn-snoc holder [] e own mine room = (mine, room, tt)
+AreOwn-snoc holder (x ∷ es) e own mine room = (own.0, own.1, AreOwn-snoc holder es e own.2 mine room)
 
 -- the number of each is above `low`
 pub number_above : (low seen i : ℕ) (es : List Entry) (d : Entry) → AreInOrder low seen es → i < length es → low < (get_or es i d).number

@@ -12,7 +12,7 @@ use Rattle.dam_gate.specs.declared.settlement.Mismatch.TheVariants.{StillOpen, M
 use Rattle.dam_gate.specs.declared.tally.Found.{Found}
 use Rattle.dam_gate.specs.declared.tally.Found.TheVariants.{Nothing, Same, Other, Several}
 use Rattle.dam_gate.specs.Settled.{numbered, AreReceipts, IsFaultOf, IsLeastFault, IsExtra}
-use Rattle.dam_gate.specs.Tally.{IsFound, found_with, AreFound, IsLeastExtra, lesser, IsTally, first_fault}
+use Rattle.dam_gate.specs.inside.Tally.{IsFound, found_with, AreFound, IsLeastExtra, lesser, IsTally, first_fault}
 use Rattle.dam_gate.proofs.Numbers.{numbered-own, numbered-other, none_below, none_above, AreOnly, are_only}
 
 -- ---- one receipt more
@@ -177,19 +177,19 @@ none-told : (periods : ℕ) (es : List Entry) (fs : List Found) (extra : Option 
 none-told periods es fs extra rs legal is tally =
     subst (λ (o : Option Mismatch). MatchOption o ((m : ℕ) → m < 1 + length es → numbered m rs ≡ numbered m es) (IsFaultOf es rs)) is (tally-first periods es fs extra rs legal tally)
 
-behind-all : (periods n : ℕ) (es rs : List Entry) → IsLegalHistory periods es → ((m : ℕ) → m < 1 + length es → numbered m rs ≡ numbered m es)
+all_numbers : (periods n : ℕ) (es rs : List Entry) → IsLegalHistory periods es → ((m : ℕ) → m < 1 + length es → numbered m rs ≡ numbered m es)
     → (length es < n → numbered n rs ≡ []) → numbered n rs ≡ numbered n es
-behind-all periods n es rs legal right behind = go (cases_lt n (1 + length es))
+all_numbers periods n es rs legal right after = go (cases_lt n (1 + length es))
   where
     go : (n < 1 + length es) ⊎ (1 + length es ≤ n) → numbered n rs ≡ numbered n es
     go (inl below) = right n below
-    go (inr above) = behind (omega (arith, above)) ∙ sym (none_above 1 n (empty_book periods) es legal above)
+    go (inr above) = after (omega (arith, above)) ∙ sym (none_above 1 n (empty_book periods) es legal above)
 
 -- where each entry is received as it should be, the least extra number decides
 pub all-told : (periods : ℕ) (es : List Entry) (fs : List Found) (extra : Option ℕ) (rs : List Entry) → IsLegalHistory periods es → first_fault 1 fs ≡ None → extra ≡ None
     → IsTally es fs extra rs → AreReceipts es rs
 all-told periods es fs extra rs legal is none tally n =
-    behind-all periods n es rs legal (none-told periods es fs extra rs legal is tally) (subst (IsLeastExtra (length es) rs) none tally.extra_is n)
+    all_numbers periods n es rs legal (none-told periods es fs extra rs legal is tally) (subst (IsLeastExtra (length es) rs) none tally.extra_is n)
 
 pub extra-told : (periods least : ℕ) (es : List Entry) (fs : List Found) (extra : Option ℕ) (rs : List Entry) → IsLegalHistory periods es → first_fault 1 fs ≡ None → extra ≡ Some least
     → IsTally es fs extra rs → IsLeastFault IsExtra es rs least
@@ -197,7 +197,7 @@ extra-told periods least es fs extra rs legal is some tally =
     let own = subst (IsLeastExtra (length es) rs) some tally.extra_is in
     record {
       wrong = (none_above 1 least (empty_book periods) es legal (omega (arith, own.0)), own.1);
-      least = λ m below. behind-all periods m es rs legal (none-told periods es fs extra rs legal is tally) (λ above. own.2 m above below);
+      least = λ m below. all_numbers periods m es rs legal (none-told periods es fs extra rs legal is tally) (λ above. own.2 m above below);
     }
 
 -- what is received as it should be has no fault

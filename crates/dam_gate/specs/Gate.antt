@@ -1,6 +1,7 @@
 -- What the gate answers.
 use Rattle.std.specs.Prelude.{◌≡◌, ℕ, ◌<◌, ◌≤◌, true, false, List, [], ◌∷◌, ◌++◌, length}
-use Rattle.dam_book.specs.Book.{Key, run, commands_of, order_at, IsLegalHistory}
+use Rattle.dam_book.specs.Book.{Key, run, commands_of, order_at}
+use Rattle.dam_book.specs.Limits.{most_entries}
 use Rattle.dam_book.specs.declared.command.Command.{Command}
 use Rattle.dam_book.specs.declared.command.Entry.{Entry}
 use Rattle.dam_gate.specs.declared.keeper.KeeperFault.{KeeperFault}
@@ -8,7 +9,7 @@ use Rattle.dam_gate.specs.declared.keeper.KeeperFault.TheVariants.{JournalFull a
 use Rattle.dam_gate.specs.declared.gate.GateFault.{GateFault}
 use Rattle.dam_gate.specs.declared.gate.GateFault.TheVariants.{NotYours, Behind, JournalFull, Memory}
 use Rattle.dam_gate.specs.declared.pass.Look.{Look}
-use Rattle.dam_gate.specs.Journal.{JournalState, is_full}
+use Rattle.dam_gate.specs.Journal.{IsHistory, is_full}
 use Rattle.dam_gate.specs.Pass.{PassState, is_own}
 
 -- what a journal of so many entries may answer to the command in place of its entry
@@ -29,23 +30,20 @@ IsFaultAt held p c Memory = (is_own p.holder c ≡ true) × (p.seen ≤ held) ×
 
 -- what a gate may answer, whose number of entries nobody but itself knows
 abbrev pub IsGateFault : PassState → Command → GateFault → Type 0
-IsGateFault p c fault = (held : ℕ) × IsFaultAt held p c fault
+IsGateFault p c fault = (held : ℕ) × (held ≤ most_entries) × IsFaultAt held p c fault
 
--- the entry is the last of some legal history
-abbrev pub EndsHistory : Entry → Type 0
-EndsHistory e = (periods : ℕ) × (before : List Entry) × IsLegalHistory periods (before ++ e ∷ []) × (e.number ≡ length (before ++ e ∷ []))
+-- the entry is the last of a history that a journal of some day may hold
+pub record EndsHistory (e : Entry) : Type 0 where
+  pub periods : ℕ
+  pub before : List Entry
+  pub history : IsHistory periods (before ++ e ∷ [])
+  pub number : e.number ≡ length (before ++ e ∷ [])
 
--- what is seen of a journal, of the order at the key
-pub record IsLookAt (j : JournalState) (key : Key) (look : Look) : Type 0 where
-  pub seen : look.seen ≡ length j.entries
-  pub closed : look.closed ≡ j.book.closed
-  pub order : look.order ≡ order_at j.book key
-
--- what the run of some legal history shows, of at least so many entries
+-- what the run of some history shows that a journal of some day may hold, of at least so many entries
 pub record IsLook (least : ℕ) (key : Key) (look : Look) : Type 0 where
   pub periods : ℕ
   pub entries : List Entry
-  pub legal : IsLegalHistory periods entries
+  pub history : IsHistory periods entries
   pub seen : look.seen ≡ length entries
   pub no_less : least ≤ look.seen
   pub closed : look.closed ≡ (run periods (commands_of entries)).closed

@@ -1,34 +1,16 @@
 -- A pass: who holds it, how many entries of the journal it has seen, and the entries that its calls were answered with.
-use Rattle.std.specs.Prelude.{ℕ, ◌<◌, ◌≤◌, Bool, true, false, List, [], ◌∷◌, ◌++◌, Option, None, Some}
+use Rattle.std.specs.Prelude.{◌≡◌, ℕ, ◌-◌, ◌<◌, ◌≤◌, Bool, true, false, List, [], ◌∷◌, ◌++◌, Option, None, Some}
 use Rattle.dam_book.specs.Name.{same_text}
 use Rattle.dam_book.specs.declared.command.Command.{Command}
 use Rattle.dam_book.specs.declared.command.Command.TheVariants.{Submit, Amend, Cancel, Close}
 use Rattle.dam_book.specs.declared.command.Entry.{Entry}
+use Rattle.dam_gate.specs.Journal.{is_full}
 
 -- the operator's pass has no participant
 pub record PassState : Type 0 where
   pub holder : Option (List ℕ)
   pub seen : ℕ
   pub receipts : List Entry
-
--- the numbers are above `low`, each above the one before it, and none is above `seen`
-abbrev pub AreInOrder : ℕ → ℕ → List Entry → Type 0
-AreInOrder low seen [] = low ≤ seen
-AreInOrder low seen (e ∷ es) = (low < e.number) × AreInOrder e.number seen es
-
-abbrev pub IsPass : PassState → Type 0
-IsPass p = AreInOrder 0 p.seen p.receipts
-
-abbrev pub new_pass : Option (List ℕ) → PassState
-new_pass holder = record { holder = holder; seen = 0; receipts = [] }
-
--- the pass behind a call that was answered with the entry
-abbrev pub with_receipt : PassState → Entry → PassState
-with_receipt p e = record { holder = p.holder; seen = e.number; receipts = p.receipts ++ e ∷ [] }
-
--- the pass behind a look at so many entries
-abbrev pub having_seen : PassState → ℕ → PassState
-having_seen p seen = record { holder = p.holder; seen = seen; receipts = p.receipts }
 
 -- whether this participant gave the command; nobody but the operator closes
 abbrev pub is_from : List ℕ → Command → Bool
@@ -47,3 +29,29 @@ is_close Close = true
 abbrev pub is_own : Option (List ℕ) → Command → Bool
 is_own None c = is_close c
 is_own (Some who) c = is_from who c
+
+-- the numbers are above `low`, each above the one before it, and none is above `seen`
+abbrev pub AreInOrder : ℕ → ℕ → List Entry → Type 0
+AreInOrder low seen [] = low ≤ seen
+AreInOrder low seen (e ∷ es) = (low < e.number) × AreInOrder e.number seen es
+
+-- each is of a command that was the holder's to give, and that found room in the journal
+abbrev pub AreOwn : Option (List ℕ) → List Entry → Type 0
+AreOwn holder [] = Unit {0}
+AreOwn holder (e ∷ es) =
+    (is_own holder e.command ≡ true) × (is_full (e.number - 1) e.command ≡ false) × AreOwn holder es
+
+pub record IsPass (p : PassState) : Type 0 where
+  pub in_order : AreInOrder 0 p.seen p.receipts
+  pub own : AreOwn p.holder p.receipts
+
+abbrev pub new_pass : Option (List ℕ) → PassState
+new_pass holder = record { holder = holder; seen = 0; receipts = [] }
+
+-- the pass after a call that was answered with the entry
+abbrev pub with_receipt : PassState → Entry → PassState
+with_receipt p e = record { holder = p.holder; seen = e.number; receipts = p.receipts ++ e ∷ [] }
+
+-- the pass after a look at so many entries
+abbrev pub having_seen : PassState → ℕ → PassState
+having_seen p seen = record { holder = p.holder; seen = seen; receipts = p.receipts }

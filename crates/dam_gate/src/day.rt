@@ -1,15 +1,18 @@
 ghost use Rattle.std.specs.Option.{option_copied};
-ghost use Rattle.dam_book.specs.Limits.{most_entries};
 ghost use Rattle.dam_gate.specs.Limits.{most_participants};
-ghost use Rattle.std.specs.Prelude.{◌≡◌, ◌⊎◌, ◌≤◌, All, List, OnOk, ◌<◌, ◌++◌, ◌∷◌, [], ℕ, true, false, None, Some, length, map, slice_index_or, IfOk, IfErr, MatchResult};
+ghost use Rattle.std.specs.Prelude.{◌≡◌, ◌⊎◌, ◌≤◌, ◌<◌, ◌∷◌, [], ℕ, All, true, None, Some, length, map, slice_index_or, IfOk, IfErr, OnOk};
 ghost use Rattle.dam_book.specs.Book.{is_day, commands_of};
 ghost use Rattle.dam_gate.specs.Journal.{IsJournal};
 ghost use Rattle.dam_gate.specs.Pass.{PassState, IsPass, new_pass};
 ghost use Rattle.dam_gate.specs.Settled.{IsSettled};
-ghost use Rattle.dam_gate.specs.Day.{AreGivers, AreServed, HasEntered, IsClosedDay, IsDayFault, IsDayRun, IsLateFault, refused, giver, is_one_of, own_commands, refused_at, refused_from, with_giver};
+ghost use Rattle.dam_gate.specs.Headline.{IsWholeAccount};
+ghost use Rattle.dam_gate.specs.Day.{IsDayFault, IsDayRun, refused, giver, is_one_of, refused_from};
+ghost use Rattle.dam_gate.specs.inside.Entering.{AreGivers, AreServed, Enters, HasAll, IsClosedDay, IsLateFault, IsRefusalAt, Takes, own_commands};
 
+use crate::doorkeeper::Doorkeeper;
 use crate::gate::{Gate, GateFault, PassFault};
 use crate::keeper::Journal;
+use crate::laws::whole_account;
 use crate::limits::MOST_PARTICIPANTS;
 use crate::pass::Pass;
 use crate::settlement::{Mismatch, Settled, settle};
@@ -32,12 +35,21 @@ pub enum DayFault {
     /// The command at this place brings one participant too many.
     #[error("command {0} brings one participant too many")]
     TooManyParticipants(usize),
-    /// The journal and the passes came out unsettled.
+    /// The journal and the passes came out unsettled, which no day of one gate should show; never for want of memory.
     #[error("not settled: {0}")]
     NotSettled(Mismatch),
     /// Memory ran out, or a call or a pass was refused.
     #[error("out of memory")]
     Memory,
+}
+
+/// A day that came out settled.
+#[derive(Debug, Drop)]
+pub struct SettledDay {
+    pub settled: Settled,
+    /// The passes through which its commands were entered: the participants', by first occurrence among the commands
+    /// given, and then the operator's.
+    pub passes: Vec<Pass>,
 }
 
 impl From<AllocError> for DayFault {
@@ -86,8 +98,7 @@ impl From<GateFault> for DayFault {
 
 /// Enters the holder's own commands in their order, up to the first that is refused.
 fn enter(rt: &impl Wait, gate: &Gate, pass: &mut Pass, commands: &[Command])
-    ensures holder { pass.new.holder ≡ pass.old.holder }
-    ensures entered { HasEntered (commands_of pass.old.receipts) (own_commands pass.old.holder commands.now) pass.new }
+    ensures { Enters commands.now pass.old pass.new }
 {
     for given in commands {
         if !pass.owns(given) {
@@ -99,23 +110,39 @@ fn enter(rt: &impl Wait, gate: &Gate, pass: &mut Pass, commands: &[Command])
     }
 }
 
+/// Enters the commands of one participant, between the calls of the doorkeeper.
+fn attend<D: Doorkeeper>(
+    rt: &impl Wait,
+    gate: &Gate,
+    doorkeeper: &D,
+    participant: u32,
+    pass: &mut Pass,
+    commands: &[Command],
+)
+    ensures { Enters commands.now pass.old pass.new }
+{
+    doorkeeper.before(participant);
+    enter(rt, gate, pass, commands);
+    doorkeeper.after(participant);
+}
+
 /// Has each participant enter its commands, on a thread of its own where one can be started.
-fn enter_all<R: Threads + Wait + Sync>(
+fn enter_all<R: Threads + Wait + Sync, D: Doorkeeper + Sync>(
     rt: &R,
     gate: &Gate,
+    doorkeeper: &D,
     passes: &mut [Pass],
     commands: &[Command],
 )
-    ensures holder { (i : ℕ) (d : PassState) → i < length passes.old
-        → (slice_index_or passes.new i d).holder ≡ (slice_index_or passes.old i d).holder }
-    ensures entered { (i : ℕ) (d : PassState) → i < length passes.old
-        → HasEntered (commands_of (slice_index_or passes.old i d).receipts) (own_commands (slice_index_or passes.old i d).holder commands.now) (slice_index_or passes.new i d) }
+    requires { length passes.old ≤ most_participants }
+    ensures { (i : ℕ) (d : PassState) → i < length passes.old
+        → Enters commands.now (slice_index_or passes.old i d) (slice_index_or passes.new i d) }
 {
     thread::for_each_mut(
         rt,
         passes,
         MOST_PARTICIPANTS,
-        &|_, pass| enter(rt, gate, pass, commands),
+        &|place, pass| attend(rt, gate, doorkeeper, place as u32, pass, commands),
     );
 }
 
@@ -133,7 +160,7 @@ fn count_own(pass: &Pass, commands: &[Command]) -> usize
 
 /// Whether no call was refused: each holder has as many receipts as commands of its own.
 fn have_all_entered(passes: &[Pass], commands: &[Command]) -> bool
-    ensures { result ≡ true → All (λ (p : PassState). IsPass p × (length p.receipts ≡ length (own_commands p.holder commands.now))) passes.now }
+    ensures { result ≡ true → All (HasAll commands.now) passes.now }
 {
     for pass in passes {
         if pass.receipts().len() != count_own(pass, commands) {
@@ -155,43 +182,49 @@ fn giver(command: &Command) -> Option<&Participant>
     }
 }
 
-fn is_one_of(whos: &[Participant], who: &Participant) -> bool
-    ensures { result ≡ is_one_of whos.now who.now }
+fn is_one_of(participants: &[Participant], who: &Participant) -> bool
+    ensures { result ≡ is_one_of participants.now who.now }
 {
-    whos.iter().any(|other| *who == *other)
+    participants.iter().any(|other| *who == *other)
 }
 
 /// Takes the giver of the command at this place among the participants.
-fn take_giver(whos: &mut Vec<Participant>, command: &Command, place: usize) -> Result<(), DayFault>
-    requires { length whos.old.items ≤ most_participants }
-    ensures few { OnOk result (length whos.new.items ≤ most_participants) }
-    ensures giver { OnOk result ((who : List ℕ) × (giver command.now ≡ Some who) × (whos.new.items ≡ with_giver whos.old.items who)) }
-    ensures refused { IfErr result (λ fault. (fault ≡ DayFault.Memory) ⊎ ((behind : _) → refused_at place whos.old.items (giver command.now) behind ≡ Some fault)) }
+fn take_giver(
+    participants: &mut Vec<Participant>,
+    command: &Command,
+    place: usize,
+) -> Result<(), DayFault>
+    requires { length participants.old.items ≤ most_participants }
+    ensures few { OnOk result (length participants.new.items ≤ most_participants) }
+    ensures giver { OnOk result (Takes command.now participants.old.items participants.new.items) }
+    ensures refused { IfErr result (IsRefusalAt place participants.old.items command.now) }
 {
     let Some(who) = giver(command) else {
         return Err(DayFault::CloseGiven(place));
     };
-    if is_one_of(whos, who) {
+    if is_one_of(participants, who) {
         return Ok(());
     }
-    if whos.len() >= MOST_PARTICIPANTS {
+    if participants.len() >= MOST_PARTICIPANTS {
         return Err(DayFault::TooManyParticipants(place));
     }
-    whos.push(who.copy())?;
+    participants.push(who.copy())?;
     Ok(())
 }
 
 /// The participants who give the commands, by first occurrence.
-fn participants(alloc: Global, commands: &[Command]) -> Result<Vec<Participant>, DayFault>
-    ensures ok { IfOk result (λ whos. AreGivers whos.items commands.now) }
+fn givers(alloc: Global, commands: &[Command]) -> Result<Vec<Participant>, DayFault>
+    ensures ok { IfOk result (λ participants. AreGivers participants.items commands.now) }
+    ensures few { IfOk result (λ participants. length participants.items ≤ most_participants) }
     ensures given { OnOk result (refused_from 0 [] commands.now ≡ None) }
-    ensures refused { IfErr result (λ fault. (fault ≡ DayFault.Memory) ⊎ (refused_from 0 [] commands.now ≡ Some fault)) }
+    ensures refused { IfErr result (λ fault.
+        (fault ≡ DayFault.Memory) ⊎ (refused_from 0 [] commands.now ≡ Some fault)) }
 {
-    let mut whos = Vec::new(alloc);
+    let mut participants = Vec::new(alloc);
     for (place, command) in commands.iter().enumerate() {
-        take_giver(&mut whos, command, place)?;
+        take_giver(&mut participants, command, place)?;
     }
-    Ok(whos)
+    Ok(participants)
 }
 
 /// A pass for each participant.
@@ -199,13 +232,14 @@ fn passes_for(
     rt: &impl Wait,
     alloc: Global,
     gate: &Gate,
-    whos: &[Participant],
+    participants: &[Participant],
 ) -> Result<Vec<Pass>, DayFault>
-    ensures ok { IfOk result (λ passes. passes.items ≡ map (λ who. new_pass (Some who)) whos.now) }
+    ensures ok { IfOk result (λ passes.
+        passes.items ≡ map (λ who. new_pass (Some who)) participants.now) }
     ensures err { IfErr result (λ fault. fault ≡ DayFault.Memory) }
 {
-    let mut passes = Vec::with_capacity(alloc, whos.len())?;
-    for who in whos {
+    let mut passes = Vec::with_capacity(alloc, participants.len() + 1)?;
+    for who in participants {
         passes.push(gate.pass(rt, who.copy())?)?;
     }
     Ok(passes)
@@ -224,18 +258,20 @@ fn close(rt: &impl Wait, gate: &Gate) -> Result<Pass, DayFault>
 }
 
 /// The passes through which all commands were entered, one for each participant.
-fn enter_day<R: Threads + Wait + Sync>(
+fn enter_day<R: Threads + Wait + Sync, D: Doorkeeper + Sync>(
     rt: &R,
     alloc: Global,
     gate: &Gate,
-    whos: &[Participant],
+    doorkeeper: &D,
+    participants: &[Participant],
     commands: &[Command],
 ) -> Result<Vec<Pass>, DayFault>
-    ensures ok { IfOk result (λ passes. AreServed commands.now whos.now passes.items) }
+    requires { length participants.now ≤ most_participants }
+    ensures ok { IfOk result (λ passes. AreServed commands.now participants.now passes.items) }
     ensures err { IfErr result (λ fault. fault ≡ DayFault.Memory) }
 {
-    let mut passes = passes_for(rt, alloc, gate, whos)?;
-    enter_all(rt, gate, &mut passes, commands);
+    let mut passes = passes_for(rt, alloc, gate, participants)?;
+    enter_all(rt, gate, doorkeeper, &mut passes, commands);
     if !have_all_entered(&passes, commands) {
         return Err(DayFault::Memory);
     }
@@ -253,31 +289,34 @@ fn is_closed_day(journal: &Journal, periods: u8) -> bool
 }
 
 /// The day of participants who give all the commands, at a gate of its own.
-fn run_day<R: Threads + Wait + Sync>(
+fn run_day<R: Threads + Wait + Sync, D: Doorkeeper + Sync>(
     rt: &R,
     alloc: Global,
     periods: u8,
-    whos: &[Participant],
+    doorkeeper: &D,
+    participants: &[Participant],
     commands: &[Command],
-) -> Result<Settled, DayFault>
+) -> Result<SettledDay, DayFault>
     requires day { is_day periods ≡ true }
-    requires givers { AreGivers whos.now commands.now }
-    ensures periods { IfOk result (λ settled. settled.book.periods ≡ periods) }
-    ensures journal { IfOk result IsJournal }
-    ensures day { IfOk result (λ settled. IsDayRun periods commands.now settled.entries) }
+    requires givers { AreGivers participants.now commands.now }
+    requires few { length participants.now ≤ most_participants }
+    ensures periods { IfOk result (λ day. day.settled.book.periods ≡ periods) }
+    ensures journal { IfOk result (λ day. IsJournal day.settled) }
+    ensures day { IfOk result (λ day. IsDayRun periods commands.now day.settled.entries) }
+    ensures settled { IfOk result (λ day. IsSettled day.settled day.passes.items) }
     ensures err { IfErr result IsLateFault }
 {
     let Ok(gate) = Gate::begin(alloc, periods) else {
         unreachable!();
     };
-    let mut passes = enter_day(rt, alloc, &gate, whos, commands)?;
+    let mut passes = enter_day(rt, alloc, &gate, doorkeeper, participants, commands)?;
     let operator = close(rt, &gate)?;
     passes.push(operator)?;
     let settled = settle_day(alloc, gate.finish(), &passes)?;
     if !is_closed_day(settled.journal(), periods) {
         return Err(DayFault::NotSettled(Mismatch::StillOpen));
     }
-    Ok(settled)
+    Ok(SettledDay { settled, passes })
 }
 
 /// The journal settled with the passes.
@@ -297,23 +336,28 @@ fn settle_day(alloc: Global, journal: Journal, passes: &[Pass]) -> Result<Settle
 /// Runs a day of given commands: each participant enters its own, in their order, through a pass of its own and on a
 /// thread of its own where one can be started; then the operator closes, and the journal is settled.
 ///
-/// `Memory` may come in place of any answer. A place is counted from 0.
-pub fn run_commands<R: Threads + Wait + Sync>(
+/// The doorkeeper is called round each participant's commands, on the thread that enters them. `Memory` may come in
+/// place of any answer but `TooManyCommands`. A place is counted from 0.
+pub fn run_commands<R: Threads + Wait + Sync, D: Doorkeeper + Sync>(
     rt: &R,
     alloc: Global,
     periods: u8,
     commands: &[Command],
-) -> Result<Settled, DayFault>
+    doorkeeper: &D,
+) -> Result<SettledDay, DayFault>
     requires { is_day periods ≡ true }
-    ensures periods { IfOk result (λ settled. settled.book.periods ≡ periods) }
-    ensures journal { IfOk result IsJournal }
-    ensures day { IfOk result (λ settled. IsDayRun periods commands.now settled.entries) }
+    ensures periods { IfOk result (λ day. day.settled.book.periods ≡ periods) }
+    ensures journal { IfOk result (λ day. IsJournal day.settled) }
+    ensures day { IfOk result (λ day. IsDayRun periods commands.now day.settled.entries) }
+    ensures account { IfOk result (λ day. IsWholeAccount day.settled day.passes.items) }
     ensures given { OnOk result (refused commands.now ≡ None) }
     ensures fault { IfErr result (IsDayFault commands.now) }
 {
     if commands.len() >= MOST_ENTRIES {
         return Err(DayFault::TooManyCommands);
     }
-    let whos = participants(alloc, commands)?;
-    run_day(rt, alloc, periods, &whos, commands)
+    let participants = givers(alloc, commands)?;
+    let day = run_day(rt, alloc, periods, doorkeeper, &participants, commands)?;
+    whole_account(&day.settled, &day.passes);
+    Ok(day)
 }

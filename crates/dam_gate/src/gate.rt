@@ -1,4 +1,4 @@
-ghost use Rattle.std.specs.Prelude.{◌≡◌, ◌<◌, ◌≤◌, ◌+◌, true, false, MatchResult, IfOk, IfErr, IfSome, IfNone, OnOk, OnErr};
+ghost use Rattle.std.specs.Prelude.{◌≡◌, ◌<◌, ◌≤◌, ◌+◌, true, false, Some, None, MatchResult, IfOk, IfErr, IfSome, IfNone, IsErrOf, OnOk, OnErr, IfNone};
 ghost use Rattle.dam_book.specs.Book.{is_day};
 ghost use Rattle.dam_gate.specs.Journal.{IsJournal};
 ghost use Rattle.dam_gate.specs.Limits.{most_passes};
@@ -22,10 +22,18 @@ pub enum GateFault {
     NotYours,
     /// The pass has seen more entries than the gate holds, so it is a pass of another gate.
     #[error("the pass has seen {seen} entries, and the gate holds {held}")]
-    Behind { seen: u32, held: u32 },
+    Behind {
+        /// How many entries the pass has seen.
+        seen: u32,
+        /// How many entries the gate holds.
+        held: u32,
+    },
     /// The journal holds as many entries as it may; the last one is only for a close.
     #[error("the journal is full, with {held} entries")]
-    JournalFull { held: u32 },
+    JournalFull {
+        /// How many entries it holds.
+        held: u32,
+    },
     /// Memory ran out.
     #[error("out of memory")]
     Memory,
@@ -88,11 +96,13 @@ struct Desk {
 
 impl Desk {
     fn pass(&mut self, alloc: Global, holder: Option<Participant>) -> Result<Pass, PassFault>
-        ensures ok { IfOk result (λ pass. (pass ≡ new_pass holder) × (self.old.passes < most_passes) × (self.new.passes ≡ self.old.passes + 1)) }
+        ensures pass { IfOk result (λ pass. pass ≡ new_pass holder) }
+        ensures room { OnOk result (self.old.passes < most_passes) }
+        ensures count { OnOk result (self.new.passes ≡ self.old.passes + 1) }
         ensures journal { self.new.keeper ≡ self.old.keeper }
         ensures err { OnErr result (self.new.passes ≡ self.old.passes) }
-        ensures used { IfErr result (λ fault. fault ≡ PassFault.PassesUsed → most_passes ≤ self.old.passes) }
-        ensures memory { IfErr result (λ fault. fault ≡ PassFault.Memory → self.old.passes < most_passes) }
+        ensures used { IsErrOf result PassFault.PassesUsed → most_passes ≤ self.old.passes }
+        ensures memory { IsErrOf result PassFault.Memory → self.old.passes < most_passes }
     {
         if self.passes >= MOST_PASSES {
             return Err(PassFault::PassesUsed);
@@ -163,8 +173,8 @@ impl Gate {
         pass.step(&mut self.desk.lock(rt).keeper, command)
     }
 
-    /// The participant's order of that name, and whether the book is closed, behind all entries journalled so far; or
-    /// `None`, where the pass has seen more entries than the gate holds.
+    /// The participant's order of that name, and whether the book is closed, after all entries journalled so far; or
+    /// `None`, where the pass has seen more entries than the gate holds, so that it is a pass of another gate.
     pub fn look(
         &self,
         rt: &impl Wait,
@@ -174,7 +184,7 @@ impl Gate {
     ) -> Option<Look>
         ensures look { IfSome result (IsLook pass.old.seen (who.now, name.now)) }
         ensures seen { IfSome result (λ look. pass.new ≡ having_seen pass.old look.seen) }
-        ensures none { IfNone result (pass.new ≡ pass.old) }
+        ensures none { IfNone result ((0 < pass.old.seen) × (pass.new ≡ pass.old)) }
     {
         pass.look(&self.desk.lock(rt).keeper, who, name)
     }

@@ -13,7 +13,10 @@ use thiserror::Error;
 pub enum KeeperFault {
     /// The journal holds as many entries as it may; the last one is only for a close.
     #[error("the journal is full, with {held} entries")]
-    JournalFull { held: u32 },
+    JournalFull {
+        /// How many entries it holds.
+        held: u32,
+    },
     /// Memory ran out.
     #[error("out of memory")]
     Memory,
@@ -30,34 +33,32 @@ impl From<AllocError> for KeeperFault {
     }
 }
 
-/// The book of one day and the journal of the commands that reached it.
+/// The book of one day and the journal of the commands that reached it, to which commands are added one by one.
 ///
 /// A contract sees the entries and the book. The entries are a legal history at every moment, and the
 /// book is what their commands make of the empty book.
 #[derive(Debug, Drop)]
 pub struct Keeper<A: Allocator = Global> {
-    book: Book<A>,
-    entries: Vec<Entry, A>,
+    journal: Journal<A>,
 }
 
 impl<A: Allocator> Model for Keeper<A> {
-    ghost use Rattle.dam_gate.specs.Journal.{JournalState, IsJournal};
+    ghost use Rattle.dam_gate.specs.Journal.{JournalState};
 
     ghost Value = { JournalState };
 
-    ghost view = { λ k. record { entries = k.entries.items; book = k.book } };
-
-    ghost invariant = { λ k. IsJournal (record { entries = k.entries.items; book = k.book }) };
+    ghost view = { λ k. k.journal };
 }
 
 impl<A: Allocator + Copy> Keeper<A> {
     /// The empty journal and the empty book of a day of 23, 24 or 25 periods.
     pub fn begin(alloc: A, periods: u8) -> Result<Keeper<A>, BeginFault>
-        ensures { MatchResult result (λ keeper. (is_day periods ≡ true) × (keeper ≡ empty_journal periods)) (λ _. is_day periods ≡ false) }
+        ensures { MatchResult result
+            (λ keeper. (is_day periods ≡ true) × (keeper ≡ empty_journal periods))
+            (λ _. is_day periods ≡ false) }
     {
         Ok(Keeper {
-            book: Book::begin(alloc, periods)?,
-            entries: Vec::new(alloc),
+            journal: Journal::begin(alloc, periods)?,
         })
     }
 
@@ -65,6 +66,91 @@ impl<A: Allocator + Copy> Keeper<A> {
     ///
     /// All memory is taken before anything changes.
     pub fn apply(&mut self, command: Command) -> Result<Entry, KeeperFault>
+        ensures entry { IfOk result (λ entry. entry ≡ next_entry self.old command) }
+        ensures step { OnOk result (self.new ≡ journal_after self.old command) }
+        ensures room { OnOk result (is_full (length self.old.entries) command ≡ false) }
+        ensures err { OnErr result (self.new ≡ self.old) }
+        ensures fault { IfErr result (IsKeeperFault (length self.old.entries) command) }
+    {
+        self.journal.append(command)
+    }
+
+    /// The number of entries held.
+    pub fn len(&self) -> u32
+        ensures value { result ≡ length self.now.entries }
+        ensures valid { IsJournal self.now }
+    {
+        self.journal.len()
+    }
+
+    /// The entries, numbered from 1.
+    pub fn entries(&self) -> &[Entry]
+        ensures value { result.now ≡ self.now.entries }
+        ensures valid { IsJournal self.now }
+    {
+        self.journal.entries()
+    }
+
+    /// The book that the commands of the entries make of the empty book of the day.
+    pub fn book(&self) -> &Book<A>
+        ensures value { result.now ≡ self.now.book }
+        ensures valid { IsJournal self.now }
+    {
+        self.journal.book()
+    }
+
+    pub(crate) fn into_journal(self) -> Journal<A>
+        ensures { result ≡ self }
+    {
+        self.journal
+    }
+}
+
+/// Whether a journal of so many entries has no room for the command.
+pub(crate) fn is_full(held: u32, command: &Command) -> bool
+    ensures { result ≡ is_full held command.now }
+{
+    let held = held as usize;
+    match command {
+        Command::Submit { .. } | Command::Amend { .. } | Command::Cancel { .. } => {
+            held >= MOST_ENTRIES - 1
+        }
+        Command::Close => held >= MOST_ENTRIES,
+    }
+}
+
+/// What a gate leaves: its entries, and the book that they made.
+///
+/// A contract sees the entries and the book, as those of a `Keeper`.
+#[derive(Debug, Drop)]
+pub struct Journal<A: Allocator = Global> {
+    book: Book<A>,
+    entries: Vec<Entry, A>,
+}
+
+impl<A: Allocator> Model for Journal<A> {
+    ghost use Rattle.dam_gate.specs.Journal.{JournalState, IsJournal};
+
+    ghost Value = { JournalState };
+
+    ghost view = { λ j. record { entries = j.entries.items; book = j.book } };
+
+    ghost invariant = { λ j. IsJournal (record { entries = j.entries.items; book = j.book }) };
+}
+
+impl<A: Allocator + Copy> Journal<A> {
+    fn begin(alloc: A, periods: u8) -> Result<Journal<A>, BeginFault>
+        ensures { MatchResult result
+            (λ journal. (is_day periods ≡ true) × (journal ≡ empty_journal periods))
+            (λ _. is_day periods ≡ false) }
+    {
+        Ok(Journal {
+            book: Book::begin(alloc, periods)?,
+            entries: Vec::new(alloc),
+        })
+    }
+
+    fn append(&mut self, command: Command) -> Result<Entry, KeeperFault>
         ensures entry { IfOk result (λ entry. entry ≡ next_entry self.old command) }
         ensures step { OnOk result (self.new ≡ journal_after self.old command) }
         ensures room { OnOk result (is_full (length self.old.entries) command ≡ false) }
@@ -86,65 +172,13 @@ impl<A: Allocator + Copy> Keeper<A> {
         Ok(entry)
     }
 
-    pub(crate) fn into_journal(self) -> Journal<A>
-        ensures { result ≡ self }
-    {
-        Journal {
-            book: self.book,
-            entries: self.entries,
-        }
-    }
-}
-
-impl<A: Allocator + Copy> Keeper<A> {
-    /// The number of entries held.
-    pub fn len(&self) -> u32
+    fn len(&self) -> u32
         ensures value { result ≡ length self.now.entries }
         ensures valid { IsJournal self.now }
     {
         self.entries.len() as u32
     }
 
-    pub(crate) fn book(&self) -> &Book<A>
-        ensures { result.now ≡ self.now.book }
-    {
-        &self.book
-    }
-}
-
-/// Whether a journal of so many entries has no room for the command.
-pub(crate) fn is_full(held: u32, command: &Command) -> bool
-    ensures { result ≡ is_full held command.now }
-{
-    let held = held as usize;
-    match command {
-        Command::Submit { .. } | Command::Amend { .. } | Command::Cancel { .. } => {
-            held >= MOST_ENTRIES - 1
-        }
-        Command::Close => held >= MOST_ENTRIES,
-    }
-}
-
-/// What a gate leaves behind: its entries, and the book that they made.
-///
-/// A contract sees the entries and the book, as those of a `Keeper`.
-#[derive(Debug, Drop)]
-pub struct Journal<A: Allocator = Global> {
-    book: Book<A>,
-    entries: Vec<Entry, A>,
-}
-
-impl<A: Allocator> Model for Journal<A> {
-    ghost use Rattle.dam_gate.specs.Journal.{JournalState, IsJournal};
-
-    ghost Value = { JournalState };
-
-    ghost view = { λ j. record { entries = j.entries.items; book = j.book } };
-
-    ghost invariant = { λ j. IsJournal (record { entries = j.entries.items; book = j.book }) };
-}
-
-impl<A: Allocator + Copy> Journal<A> {
     /// How many periods the delivery day has.
     pub fn periods(&self) -> u8
         ensures { result ≡ self.now.book.periods }

@@ -1,9 +1,12 @@
-//! What a settled gate shows, as the contract of a function that does nothing but cite the laws that it rests on.
-ghost use Rattle.std.specs.Prelude.{All};
+//! What a settled gate shows, and the limits of a gate, each as the contract of a function that does nothing but cite the
+//! laws that it rests on.
+ghost use Rattle.std.specs.Prelude.{◌≡◌, All};
+ghost use Rattle.dam_gate.specs.Limits.{most_participants, most_passes};
 ghost use Rattle.dam_gate.specs.Pass.{IsPass};
 ghost use Rattle.dam_gate.specs.Settled.{IsSettled};
 ghost use Rattle.dam_gate.specs.Headline.{IsWholeAccount};
 
+use crate::limits::{MOST_PARTICIPANTS, MOST_PASSES};
 use crate::pass::Pass;
 use crate::settlement::Settled;
 use dam_book::laws::histories_are_runs;
@@ -19,6 +22,12 @@ pub fn whole_account<A: Allocator + Copy>(settled: &Settled<A>, passes: &[Pass])
     are_passes(passes);
     histories_are_runs();
 }
+
+/// Each exported constant is the number of its limit.
+pub fn limits()
+    ensures most_passes { MOST_PASSES ≡ most_passes }
+    ensures most_participants { MOST_PARTICIPANTS ≡ most_participants }
+{}
 
 // What every pass keeps holds of these.
 fn are_passes(passes: &[Pass])

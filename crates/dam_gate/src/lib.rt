@@ -3,6 +3,7 @@
 #![tactic(auto)]
 
 mod day;
+mod doorkeeper;
 mod gate;
 mod keeper;
 pub mod laws;
@@ -11,7 +12,8 @@ mod pass;
 mod settlement;
 mod tally;
 
-pub use day::{DayFault, run_commands};
+pub use day::{DayFault, SettledDay, run_commands};
+pub use doorkeeper::{Doorkeeper, OpenDoor};
 pub use gate::{Gate, GateFault, PassFault};
 pub use keeper::{Journal, Keeper, KeeperFault};
 pub use limits::{MOST_PARTICIPANTS, MOST_PASSES};

@@ -1,7 +1,9 @@
-ghost use Rattle.std.specs.Prelude.{◌≡◌, ◌<◌, ◌≤◌, true, length, IfOk, IfErr, IfSome, IfNone, OnOk, OnErr, OnSome};
+ghost use Rattle.std.specs.Prelude.{◌≡◌, ◌<◌, ◌≤◌, true, length, IfOk, IfErr, IfSome, OnOk, OnErr, OnSome, IfNone};
+ghost use Rattle.dam_book.specs.Limits.{most_entries};
 ghost use Rattle.dam_gate.specs.Journal.{journal_after, next_entry};
 ghost use Rattle.dam_gate.specs.Pass.{IsPass, having_seen, is_from, is_own, new_pass, with_receipt};
-ghost use Rattle.dam_gate.specs.Gate.{EndsHistory, IsFaultAt, IsLook, IsLookAt};
+ghost use Rattle.dam_gate.specs.Gate.{EndsHistory, IsFaultAt, IsLook};
+ghost use Rattle.dam_gate.specs.inside.Looks.{IsLookAt};
 
 use crate::gate::GateFault;
 use crate::keeper::{Keeper, is_full};
@@ -12,8 +14,8 @@ use std::marker::Model;
 /// What a holder carries through the gate's calls: how many entries of the journal it has seen, and a receipt of each
 /// of its own commands that reached the book, in the order of its calls.
 ///
-/// A contract sees the holder, the number seen and the receipts. The receipts' numbers increase, and none is above the
-/// number seen.
+/// A contract sees the holder, the number seen and the receipts. The receipts are of the holder's own commands; their
+/// numbers increase, and none is above the number seen.
 #[derive(Debug, Drop)]
 pub struct Pass {
     holder: Option<Participant>,
@@ -31,10 +33,12 @@ impl Model for Pass {
     ghost invariant = { λ p. IsPass (record { holder = p.holder; seen = p.seen; receipts = p.receipts.items }) };
 }
 
-/// What a look finds, in the book behind the first `seen` entries of the journal.
+/// What a look finds, in the book after the first `seen` entries of the journal.
 #[derive(PartialEq, Eq, Debug, Drop)]
 pub struct Look {
+    /// How many entries the journal had.
     pub seen: u32,
+    /// Whether the book was closed.
     pub closed: bool,
     /// A copy of the order that was looked for, if the book has it.
     pub order: Option<Order>,
@@ -111,6 +115,7 @@ impl Pass {
         ensures receipt { IfOk result (λ entry. self.new ≡ with_receipt self.old entry) }
         ensures err { OnErr result ((keeper.new ≡ keeper.old) × (self.new ≡ self.old)) }
         ensures fault { IfErr result (IsFaultAt (length keeper.old.entries) self.old command) }
+        ensures few { length keeper.old.entries ≤ most_entries }
     {
         let held = keeper.len();
         if self.seen > held {
@@ -133,8 +138,10 @@ impl Pass {
     pub(crate) fn look(&mut self, keeper: &Keeper, who: &Participant, name: &Name) -> Option<Look>
         ensures look { IfSome result (IsLookAt keeper.now (who.now, name.now)) }
         ensures legal { IfSome result (IsLook self.old.seen (who.now, name.now)) }
-        ensures seen { OnSome result ((self.old.seen ≤ length keeper.now.entries) × (self.new ≡ having_seen self.old (length keeper.now.entries))) }
-        ensures none { IfNone result ((length keeper.now.entries < self.old.seen) × (self.new ≡ self.old)) }
+        ensures later { OnSome result (self.old.seen ≤ length keeper.now.entries) }
+        ensures seen { OnSome result (self.new ≡ having_seen self.old (length keeper.now.entries)) }
+        ensures none { IfNone result (length keeper.now.entries < self.old.seen) }
+        ensures kept { IfNone result (self.new ≡ self.old) }
     {
         let held = keeper.len();
         if self.seen > held {

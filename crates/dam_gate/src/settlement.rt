@@ -1,5 +1,6 @@
-ghost use Rattle.std.specs.Prelude.{◌≡◌, IfOk, IfErr, OnOk, MatchOption};
-ghost use Rattle.dam_gate.specs.Settled.{AreReceipts, IsFaultOf, IsMismatch, IsSettled, receipts_of};
+ghost use Rattle.std.specs.Prelude.{◌≡◌, true, IfOk, IfErr};
+ghost use Rattle.dam_gate.specs.Settled.{IsMismatch, IsSettled, receipts_of};
+ghost use Rattle.dam_gate.specs.inside.Tally.{IsFirstFault};
 
 use crate::keeper::Journal;
 use crate::pass::Pass;
@@ -34,30 +35,34 @@ pub enum Mismatch {
 
 /// A journal whose entries are the receipts of the passes, each once.
 ///
-/// A contract sees the entries and the book.
+/// A contract sees the entries and the book, which is closed.
 #[derive(Debug, Drop)]
 pub struct Settled<A: Allocator = Global> {
     journal: Journal<A>,
 }
 
 impl<A: Allocator> Model for Settled<A> {
+    ghost use Rattle.std.specs.Prelude.{◌≡◌, true};
     ghost use Rattle.dam_gate.specs.Journal.{JournalState};
 
     ghost Value = { JournalState };
 
     ghost view = { λ s. s.journal };
+
+    ghost invariant = { λ s. s.journal.book.closed ≡ true };
 }
 
 impl<A: Allocator> Settled<A> {
     /// The journal that was given.
     pub fn journal(&self) -> &Journal<A>
-        ensures { result.now ≡ self.now }
+        ensures value { result.now ≡ self.now }
+        ensures closed { self.now.book.closed ≡ true }
     {
         &self.journal
     }
 }
 
-/// A journal that isn't settled with the passes, given back.
+/// A journal that isn't settled with the passes, given back with the reason.
 #[derive(Debug, Drop)]
 pub struct Unsettled<A: Allocator = Global> {
     pub why: Mismatch,
@@ -77,7 +82,8 @@ pub fn settle<A: Allocator + Copy, B: Allocator>(
     ensures settled { IfOk result (λ settled. IsSettled settled passes.now) }
     ensures back { IfErr result (λ unsettled. unsettled.journal ≡ journal) }
     ensures why { IfErr result (λ unsettled. IsMismatch journal passes.now unsettled.why) }
-    ensures exact { IsSettled journal passes.now → IfErr result (λ unsettled. unsettled.why ≡ Mismatch.Memory) }
+    ensures exact { IsSettled journal passes.now
+        → IfErr result (λ unsettled. unsettled.why ≡ Mismatch.Memory) }
 {
     if !journal.book().is_closed() {
         return Err(Unsettled {
@@ -101,7 +107,7 @@ fn compare<A: Allocator + Copy, B: Allocator>(
     journal: &Journal<A>,
     passes: &[Pass],
 ) -> Result<Option<Mismatch>, AllocError>
-    ensures { IfOk result (λ why. MatchOption why (AreReceipts journal.now.entries (receipts_of passes.now)) (IsFaultOf journal.now.entries (receipts_of passes.now))) }
+    ensures { IfOk result (λ why. IsFirstFault journal.now.entries (receipts_of passes.now) why) }
 {
     let tally = Tally::of(alloc, journal.entries(), passes)?;
     Ok(tally.fault(journal.entries()))

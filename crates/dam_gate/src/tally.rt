@@ -1,10 +1,10 @@
-ghost use Rattle.std.specs.Prelude.{◌≡◌, ◌≢◌, ◌<◌, ◌≤◌, ◌^◌, ◌++◌, ◌∷◌, [], ℕ, List, length, IfOk, MatchBool, MatchOption};
+ghost use Rattle.std.specs.Prelude.{◌≡◌, ◌≢◌, ◌<◌, ◌≤◌, ◌^◌, ◌++◌, ◌∷◌, [], ℕ, List, length, IfOk, MatchBool};
 ghost use Rattle.dam_book.specs.Book.{IsLegalHistory};
 ghost use Rattle.dam_book.specs.declared.command.Entry.{Entry};
 ghost use Rattle.dam_book.specs.Limits.{most_entries};
 ghost use Rattle.dam_gate.specs.Pass.{AreInOrder};
-ghost use Rattle.dam_gate.specs.Settled.{AreReceipts, IsFaultOf, receipts_of};
-ghost use Rattle.dam_gate.specs.Tally.{IsTally, first_fault, found_with, lesser};
+ghost use Rattle.dam_gate.specs.Settled.{receipts_of};
+ghost use Rattle.dam_gate.specs.inside.Tally.{IsFirstFault, IsTally, first_fault, found_with, lesser};
 
 use crate::pass::Pass;
 use crate::settlement::Mismatch;
@@ -65,7 +65,8 @@ impl<A: Allocator> Tally<A> {
     /// The tally of no receipts.
     fn new(alloc: A, entries: &[Entry]) -> Result<Tally<A>, AllocError>
         ensures as_long { IfOk result (λ tally. length tally.found.items ≡ length entries.now) }
-        ensures tally { IfOk result (λ tally. IsTally entries.now tally.found.items tally.extra []) }
+        ensures tally { IfOk result (λ tally.
+            IsTally entries.now tally.found.items tally.extra []) }
     {
         let mut found = Vec::with_capacity(alloc, entries.len())?;
         for _ in entries {
@@ -79,7 +80,9 @@ impl<A: Allocator> Tally<A> {
         requires positive { 0 < receipt.now.number }
         requires as_long { length self.old.found.items ≡ length entries.now }
         ensures as_long { length self.new.found.items ≡ length entries.now }
-        ensures tally { (before : List Entry) → IsTally entries.now self.old.found.items self.old.extra before → IsTally entries.now self.new.found.items self.new.extra (before ++ receipt.now ∷ []) }
+        ensures tally { (before : List Entry)
+            → IsTally entries.now self.old.found.items self.old.extra before
+            → IsTally entries.now self.new.found.items self.new.extra (before ++ receipt.now ∷ []) }
     {
         let place = receipt.number as usize - 1;
         match entries.get(place) {
@@ -93,7 +96,9 @@ impl<A: Allocator> Tally<A> {
         requires positive { (seen : ℕ) × AreInOrder 0 seen receipts.now }
         requires as_long { length self.old.found.items ≡ length entries.now }
         ensures as_long { length self.new.found.items ≡ length entries.now }
-        ensures tally { (before : List Entry) → IsTally entries.now self.old.found.items self.old.extra before → IsTally entries.now self.new.found.items self.new.extra (before ++ receipts.now) }
+        ensures tally { (before : List Entry)
+            → IsTally entries.now self.old.found.items self.old.extra before
+            → IsTally entries.now self.new.found.items self.new.extra (before ++ receipts.now) }
     {
         for receipt in receipts {
             self.count(entries, receipt);
@@ -103,7 +108,8 @@ impl<A: Allocator> Tally<A> {
     /// The tally of the receipts of all passes.
     pub(crate) fn of(alloc: A, entries: &[Entry], passes: &[Pass]) -> Result<Tally<A>, AllocError>
         ensures as_long { IfOk result (λ tally. length tally.found.items ≡ length entries.now) }
-        ensures tally { IfOk result (λ tally. IsTally entries.now tally.found.items tally.extra (receipts_of passes.now)) }
+        ensures tally { IfOk result (λ tally.
+            IsTally entries.now tally.found.items tally.extra (receipts_of passes.now)) }
     {
         let mut tally = Tally::new(alloc, entries)?;
         for pass in passes {
@@ -116,7 +122,9 @@ impl<A: Allocator> Tally<A> {
     pub(crate) fn fault(&self, entries: &[Entry]) -> Option<Mismatch>
         requires legal { (periods : ℕ) × IsLegalHistory periods entries.now }
         requires few { length self.now.found.items ≤ most_entries }
-        ensures { (receipts : List Entry) → IsTally entries.now self.now.found.items self.now.extra receipts → MatchOption result (AreReceipts entries.now receipts) (IsFaultOf entries.now receipts) }
+        ensures { (receipts : List Entry)
+            → IsTally entries.now self.now.found.items self.now.extra receipts
+            → IsFirstFault entries.now receipts result }
     {
         if let Some(fault) = first_fault(&self.found) {
             return Some(fault);

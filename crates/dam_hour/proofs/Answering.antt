@@ -6,10 +6,10 @@ use Rattle.dam_hour.specs.declared.step.Step.{Step}
 use Rattle.dam_hour.specs.Execution.{AreInRange, IsHour, IsWithinOffers, IsUnbalanced}
 use Rattle.dam_hour.specs.Price.{AreEnds}
 use Rattle.dam_hour.specs.Best.{IsBest, AreBestTotals, greatest_welfare}
-use Rattle.dam_hour.specs.Volumes.{margin_of, at_volume, better_volume, full_surplus, share, fill, total_on, AreTotals, IsLeastHighEnough, IsGreatestLowEnough}
-use Rattle.dam_hour.proofs.Fill.{fill_place, execution_past}
+use Rattle.dam_hour.specs.inside.Volumes.{margin_of, at_volume, better_volume, full_surplus, share, fill, total_on, AreTotals, IsLeastHighEnough, IsGreatestLowEnough}
+use Rattle.dam_hour.proofs.FilledExecution.{fill_place, execution_past}
 use Rattle.dam_hour.proofs.Totals.{best_at, left_at, best_is_best, best_bought, best_sold, best_welfare}
-use Rattle.dam_hour.proofs.Filling.{fill_from_totals}
+use Rattle.dam_hour.proofs.VolumesInTurn.{fill_from_totals}
 use Rattle.dam_hour.proofs.Supporting.{ends_from, balance_within}
 use Rattle.dam_hour.proofs.Existence.{best_unique}
 use Rattle.dam_hour.proofs.Enumeration.{best_greatest_welfare}

@@ -7,7 +7,7 @@ use Rattle.dam_hour.specs.declared.step.Step.{Step}
 use Rattle.dam_hour.specs.Execution.{IsExecution, executed_volume, volume_on, Balances}
 use Rattle.dam_hour.specs.Best.{signed, welfare_of, surplus_at}
 use Rattle.dam_hour.specs.Price.{IsBetter, IsWorse, Supports}
-use Rattle.dam_hour.specs.Volumes.{margin_of, above_zero, full_surplus}
+use Rattle.dam_hour.specs.inside.Volumes.{margin_of, above_zero, full_surplus}
 use Rattle.dam_hour.proofs.Numbers.{minus_times, plus_times, times_net, signed_times, full_or_none, at_most_full, full_where_better, none_where_worse, margin_better, margin_worse, better_margin, worse_margin}
 
 -- one step's part of `welfare_split`

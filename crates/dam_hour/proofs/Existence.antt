@@ -9,8 +9,8 @@ use Rattle.dam_hour.specs.declared.step.Step.{Step}
 use Rattle.dam_hour.specs.Execution.{AreInRange, IsExecution, IsWithinOffers, executed_volume, offered_volume, volume_on, IsBalanced}
 use Rattle.dam_hour.specs.Price.{AreEnds}
 use Rattle.dam_hour.specs.Best.{AtMostInOrder, IsBest, welfare_of}
-use Rattle.dam_hour.specs.Volumes.{total_on, IsHighEnough, IsLowEnough, IsLeastHighEnough, IsGreatestLowEnough}
-use Rattle.dam_hour.proofs.Fill.{fill_total_step}
+use Rattle.dam_hour.specs.inside.Volumes.{total_on, IsHighEnough, IsLowEnough, IsLeastHighEnough, IsGreatestLowEnough}
+use Rattle.dam_hour.proofs.FilledExecution.{fill_total_step}
 use Rattle.dam_hour.proofs.Totals.{totals_at, best_at, best_is_best}
 use Rattle.dam_hour.proofs.Supporting.{higher, lower, high_or_next_low, low_or_previous_high, highest_enough, lowest_enough, ends_from, least_is_low}
 

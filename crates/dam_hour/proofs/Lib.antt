@@ -1,9 +1,11 @@
 pub mod Ranges
 pub mod Numbers
 pub mod Duality
-pub mod Fill
+pub mod FilledExecution
 pub mod Totals
-pub mod Filling
+pub mod Ladders
+pub mod Positions
+pub mod VolumesInTurn
 pub mod Supporting
 pub mod Existence
 pub mod Enumeration

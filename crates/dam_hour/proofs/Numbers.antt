@@ -7,7 +7,7 @@ use Rattle.dam_book.specs.declared.order.Side.{Side}
 use Rattle.dam_book.specs.declared.order.Side.TheVariants.{Buy, Sell}
 use Rattle.dam_hour.specs.Best.{signed}
 use Rattle.dam_hour.specs.Price.{IsBetter, IsWorse}
-use Rattle.dam_hour.specs.Volumes.{margin_of, above_zero}
+use Rattle.dam_hour.specs.inside.Volumes.{margin_of, above_zero}
 
 pub minus_times : (a b : ℤ) (x : ℕ) → (a -ℤ b) *ℤ pos x +ℤ b *ℤ pos x ≡ a *ℤ pos x
 minus_times a b x =
@@ -25,7 +25,7 @@ times_net p net b s e =
     let n = ap (λ (n : ℕ). down p * n) k in
     omega (arith, ints, m, n)
 
-neg_times : (z : ℤ) (x : ℕ) → neg_ℤ (z *ℤ pos x) ≡ neg_ℤ z *ℤ pos x
+pub neg_times : (z : ℤ) (x : ℕ) → neg_ℤ (z *ℤ pos x) ≡ neg_ℤ z *ℤ pos x
 neg_times z x =
     let e : up (neg_ℤ z) + up z ≡ down (neg_ℤ z) + down z = omega (arith, ints) in
     let m = ap (λ (n : ℕ). n * x) e in

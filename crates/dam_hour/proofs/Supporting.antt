@@ -9,9 +9,9 @@ use Rattle.dam_hour.specs.declared.step.Step.{Step}
 use Rattle.dam_hour.specs.Execution.{AreInRange, IsExecution, IsWithinOffers, offered_volume, volume_on, Balances}
 use Rattle.dam_hour.specs.Price.{Supports, IsSupporting, AreEnds}
 use Rattle.dam_hour.specs.Best.{IsBest}
-use Rattle.dam_hour.specs.Volumes.{margin_of, if_better, if_at, better_volume, at_volume, IsHighEnough, IsLowEnough, IsLeastHighEnough, IsGreatestLowEnough}
+use Rattle.dam_hour.specs.inside.Volumes.{margin_of, if_better, if_at, better_volume, at_volume, IsHighEnough, IsLowEnough, IsLeastHighEnough, IsGreatestLowEnough}
 use Rattle.dam_hour.proofs.Duality.{equals_supported, supported_between}
-use Rattle.dam_hour.proofs.Fill.{volume_on_sum, executed_at_most}
+use Rattle.dam_hour.proofs.FilledExecution.{volume_on_sum, executed_at_most}
 use Rattle.dam_hour.proofs.Totals.{totals_at, best_supported, supporting_tests}
 
 -- ---- a step's volume, by its margin
@@ -154,12 +154,6 @@ low_or_previous_high ss net p q n =
     (λ enough. inl (record { enough = enough }))
 
 -- ---- the ends of the range
-none_better_on : (side own : Side) (m : ℤ) (q : ℕ) → m ≤ℤ pos 0 → volume_on side own (if_better m q) ≡ 0
-none_better_on Buy Buy m q h = none_better m q h
-none_better_on Sell Sell m q h = none_better m q h
-none_better_on Buy Sell m q h = refl
-none_better_on Sell Buy m q h = refl
-
 -- no buy is better than the highest price and no sell than the lowest
 abbrev end_of : Side → ℤ
 end_of Buy = highest_price

@@ -10,9 +10,9 @@ use Rattle.dam_hour.specs.declared.step.Step.{Step}
 use Rattle.dam_hour.specs.Execution.{IsExecution, executed_volume, Balances}
 use Rattle.dam_hour.specs.Best.{RanksAtOrBelow, IsBest, welfare_of}
 use Rattle.dam_hour.specs.Price.{Supports, IsSupporting}
-use Rattle.dam_hour.specs.Volumes.{better_volume, at_volume, full_surplus, total_on, fill, IsHighEnough, IsLowEnough, AreTotals}
+use Rattle.dam_hour.specs.inside.Volumes.{better_volume, at_volume, full_surplus, total_on, fill, IsHighEnough, IsLowEnough, AreTotals}
 use Rattle.dam_hour.proofs.Duality.{supported_greatest, equals_supported, welfare_balanced, surplus_supported}
-use Rattle.dam_hour.proofs.Fill.{taken, supported_split, taken_at_most, fill_fits, fill_supported, fill_total, fill_last}
+use Rattle.dam_hour.proofs.FilledExecution.{taken, supported_split, taken_at_most, fill_fits, fill_supported, fill_total, fill_last}
 
 -- what is left for each side at the price
 abbrev pub left_at : ℤ → List Step → ℕ → ℕ → Side → ℕ

@@ -2,4 +2,4 @@ pub mod Limits
 pub mod Execution
 pub mod Price
 pub mod Best
-pub mod Volumes
+pub mod inside

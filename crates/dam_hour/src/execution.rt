@@ -1,7 +1,6 @@
 ghost use Rattle.std.specs.Prelude.{◌≡◌, ◌-◌, IfOk};
 ghost use Rattle.dam_book.specs.declared.order.Side.TheVariants.{Buy, Sell};
-ghost use Rattle.dam_hour.specs.Execution.{volume_on};
-ghost use Rattle.dam_hour.specs.Volumes.{margin_of, if_at, total_on, fill};
+ghost use Rattle.dam_hour.specs.inside.Volumes.{at_part, total_on, fill};
 
 use crate::step::Step;
 use dam_book::{Price, Side};
@@ -27,8 +26,8 @@ impl Left {
 
     /// What is left behind a step: where it stands at the price, less by what it takes.
     fn behind(self, step: Step, price: Price) -> Left
-        ensures buys { result.buys ≡ self.buys - volume_on Buy step.side (if_at (margin_of step.side step.price price) step.qty) }
-        ensures sells { result.sells ≡ self.sells - volume_on Sell step.side (if_at (margin_of step.side step.price price) step.qty) }
+        ensures buys { result.buys ≡ self.buys - at_part Buy price step }
+        ensures sells { result.sells ≡ self.sells - at_part Sell price step }
     {
         let side = step.side;
         let taken = step.volume_at(price);
@@ -53,7 +52,8 @@ pub(crate) fn fill<B: Allocator>(
     price: Price,
     left: Left,
 ) -> Result<Vec<u32, B>, AllocError>
-    ensures { IfOk result (λ volumes. volumes.items ≡ fill price steps.now (λ side. total_on side left.buys left.sells)) }
+    ensures { IfOk result (λ volumes.
+        volumes.items ≡ fill price steps.now (λ side. total_on side left.buys left.sells)) }
 {
     let mut volumes = Vec::with_capacity(alloc, steps.len())?;
     let mut left = left;

@@ -1,14 +1,17 @@
-ghost use Rattle.std.specs.Prelude.{◌≡◌, ◌≤◌, ◌-◌, take, pos, ◌*ℤ◌, ◌+ℤ◌, ℕ, List, length, slice_get, IfOk, IfSome, IfNone, MatchOption, IsTrue, ◌↔◌, [], None};
+ghost use Rattle.std.specs.Prelude.{◌≡◌, ◌≤◌, ◌-◌, ◌+◌, ◌*◌, ◌-ℤ◌, take, pos, ◌*ℤ◌, ◌+ℤ◌, ℕ, List, length, slice_get, IfOk, IfSome, IfNone, MatchOption, IsTrue, ◌↔◌, [], None};
 ghost use Rattle.std.specs.Option.{option_map};
 ghost use Rattle.dam_book.specs.declared.order.Side.TheVariants.{Buy, Sell};
-ghost use Rattle.dam_hour.specs.Limits.{most_steps};
-ghost use Rattle.dam_hour.specs.Execution.{IsHour, IsNetVolume, IsWithinOffers, IsUnbalanced};
+ghost use Rattle.dam_book.specs.Limits.{greatest_volume};
+ghost use Rattle.dam_hour.specs.Limits.{most_steps, price_span};
+ghost use Rattle.dam_hour.specs.Execution.{IsHour, IsNetVolume, IsWithinOffers, IsUnbalanced, offered_volume};
 ghost use Rattle.dam_hour.specs.Price.{AreEnds, price_between};
-ghost use Rattle.dam_hour.specs.Best.{IsBest, AreBestTotals, AreSmall, greatest_welfare};
-ghost use Rattle.dam_hour.specs.Volumes.{better_volume, at_volume, full_surplus, total_on, IsLeastHighEnough, AreTotals};
+ghost use Rattle.dam_hour.specs.Best.{signed, IsBest, AreBestTotals, AreSmall, greatest_welfare};
+ghost use Rattle.dam_hour.specs.inside.Volumes.{better_volume, at_volume, full_surplus, total_on, IsLeastHighEnough, AreTotals};
+ghost use Rattle.dam_hour.specs.inside.Ladder.{AreOfSide, gain_of};
 
 use crate::ends::{high_end, is_within_offers, low_end, price_between};
 use crate::execution::{Left, fill};
+use crate::ladder::{Ladder, Sums, order_of};
 use crate::step::Step;
 use crate::volumes::{Bounds, surplus};
 use dam_book::{GREATEST_VOLUME, MOST_BLOCKS, MOST_HOURLY, Price, Side};
@@ -24,22 +27,26 @@ pub const GREATEST_NET: i64 = MOST_BLOCKS as i64 * GREATEST_VOLUME as i64;
 
 /// One period: its steps in book order, at most `MOST_STEPS`.
 ///
-/// A contract sees the list of the steps.
+/// Beside them it keeps the buys by falling and the sells by rising limit, each with the volume and the
+/// value that stand before it, so that a price is found by bisection. A contract sees the list of the
+/// steps.
 #[derive(Drop)]
 pub struct Hour<A: Allocator = Global> {
     steps: Vec<Step, A>,
+    buys: Ladder<A>,
+    sells: Ladder<A>,
 }
 
 impl<A: Allocator> Model for Hour<A> {
     ghost use Rattle.std.specs.Prelude.{List};
     ghost use Rattle.dam_hour.specs.declared.step.Step.{Step};
-    ghost use Rattle.dam_hour.specs.Execution.{IsHour};
+    ghost use Rattle.dam_hour.specs.inside.Ladder.{AreKept};
 
     ghost Value = { List Step };
 
     ghost view = { λ h. h.steps.items };
 
-    ghost invariant = { λ h. IsHour h.steps.items };
+    ghost invariant = { λ h. AreKept h.steps.items h.buys h.sells };
 }
 
 /// What a period clears at; the volumes and the welfare are those of its steps alone.
@@ -74,16 +81,16 @@ struct Totals {
 
 impl Totals {
     /// At the least supporting price the side that is short executes all that is not worse than it.
-    fn of(steps: &[Step], net: i64) -> Totals
-        requires steps { IsHour steps.now }
+    fn of<A: Allocator>(hour: &Hour<A>, net: i64) -> Totals
+        requires steps { IsHour hour.now }
         requires net { IsNetVolume net }
-        requires within { IsWithinOffers steps.now net }
-        ensures low { IsLeastHighEnough steps.now net result.low }
-        ensures totals { AreTotals steps.now net result.low result.bought result.sold }
+        requires within { IsWithinOffers hour.now net }
+        ensures low { IsLeastHighEnough hour.now net result.low }
+        ensures totals { AreTotals hour.now net result.low result.bought result.sold }
     {
-        let low = low_end(steps, net);
-        let buys = Bounds::of(steps, Side::Buy, low);
-        let sells = Bounds::of(steps, Side::Sell, low);
+        let low = low_end(hour, net);
+        let buys = Bounds::of(hour, Side::Buy, low);
+        let sells = Bounds::of(hour, Side::Sell, low);
         let supply = sells.most as i64 + net;
         let demand = buys.most as i64;
         if supply < demand {
@@ -102,49 +109,41 @@ impl Totals {
     }
 
     /// What is left at the price for each side, where the better steps are executed in full.
-    fn left(self, steps: &[Step]) -> Left
-        requires { IsHour steps.now }
-        ensures buys { result.buys ≡ self.bought - better_volume Buy self.low steps.now }
-        ensures sells { result.sells ≡ self.sold - better_volume Sell self.low steps.now }
+    fn left<A: Allocator>(self, hour: &Hour<A>) -> Left
+        ensures buys { result.buys ≡ self.bought - better_volume Buy self.low hour.now }
+        ensures sells { result.sells ≡ self.sold - better_volume Sell self.low hour.now }
     {
-        let buys = Bounds::of(steps, Side::Buy, self.low);
-        let sells = Bounds::of(steps, Side::Sell, self.low);
         Left {
-            buys: self.bought.saturating_sub(buys.least),
-            sells: self.sold.saturating_sub(sells.least),
+            buys: self
+                .bought
+                .saturating_sub(hour.better(Side::Buy, self.low).volume),
+            sells: self
+                .sold
+                .saturating_sub(hour.better(Side::Sell, self.low).volume),
         }
     }
 
-    /// What the steps in front of a place leave for a step of that side at the price.
-    fn left_for(self, steps: &[Step], side: Side, place: usize) -> u64
-        requires steps { IsHour steps.now }
-        requires place { place ≤ length steps.now }
-        ensures { result ≡ (total_on side self.bought self.sold - better_volume side self.low steps.now)
-            - at_volume side self.low (take place steps.now) }
+    /// The total of the side.
+    fn on(self, side: Side) -> u64
+        ensures { result ≡ total_on side self.bought self.sold }
     {
-        let total = match side {
+        match side {
             Side::Buy => self.bought,
             Side::Sell => self.sold,
-        };
-        let all = Bounds::of(steps, side, self.low);
-        let front = Bounds::of(&steps[..place], side, self.low);
-        total
-            .saturating_sub(all.least)
-            .saturating_sub(front.most - front.least)
+        }
     }
 }
 
 /// The welfare of an execution that balances and that the price supports: the surplus at the price,
 /// and the price times the net volume.
-fn welfare_at(steps: &[Step], net: i64, price: Price) -> i64
-    requires steps { IsHour steps.now }
+fn welfare_at<A: Allocator>(hour: &Hour<A>, net: i64, price: Price) -> i64
     requires net { IsNetVolume net }
-    ensures { result ≡ pos (full_surplus price steps.now) +ℤ price *ℤ net }
+    ensures { result ≡ pos (full_surplus price hour.now) +ℤ price *ℤ net }
 {
-    surplus(steps, price) as i64 + i64::from(price.get()) * net
+    surplus(hour, price) as i64 + i64::from(price.get()) * net
 }
 
-impl<A: Allocator> Hour<A> {
+impl<A: Allocator + Copy> Hour<A> {
     /// The hour of these steps, which stand in book order. The error is want of memory.
     pub fn build(alloc: A, steps: &[Step]) -> Result<Hour<A>, AllocError>
         requires { length steps.now ≤ most_steps }
@@ -154,7 +153,72 @@ impl<A: Allocator> Hour<A> {
         for step in steps {
             kept.push(step.in_range())?;
         }
-        Ok(Hour { steps: kept })
+        let buys = Ladder::of(alloc, kept.as_slice(), Side::Buy)?;
+        let sells = Ladder::of(alloc, kept.as_slice(), Side::Sell)?;
+        Ok(Hour {
+            steps: kept,
+            buys,
+            sells,
+        })
+    }
+}
+
+impl<A: Allocator> Hour<A> {
+    /// The steps of one side.
+    pub(crate) fn side(&self, side: Side) -> &Ladder<A>
+        ensures side { AreOfSide side result.now self.now }
+        ensures steps { IsHour self.now }
+    {
+        match side {
+            Side::Buy => &self.buys,
+            Side::Sell => &self.sells,
+        }
+    }
+
+    /// The volume of one side that stands before a limit at a place in book order, in tenths of a MW: what
+    /// is better than the limit, and of what has that limit as much as stands in front of the place.
+    pub(crate) fn volume_before(&self, side: Side, limit: Price, place: usize) -> u64
+        requires { place ≤ most_steps }
+        ensures value { result
+            ≡ better_volume side limit self.now + at_volume side limit (take place self.now) }
+        ensures steps { IsHour self.now }
+        ensures small { result ≤ most_steps * greatest_volume }
+    {
+        let ladder = self.side(side);
+        let count = ladder.place(order_of(side, limit, place));
+        ladder.sums(count).volume
+    }
+
+    /// The whole volume of one side, in tenths of a MW.
+    pub(crate) fn offered(&self, side: Side) -> u64
+        ensures value { result ≡ offered_volume side self.now }
+        ensures steps { IsHour self.now }
+        ensures small { result ≤ most_steps * greatest_volume }
+    {
+        self.side(side).all().volume
+    }
+
+    /// What the steps of one side that are better than a price add up to; with it, what they gain there.
+    pub(crate) fn better(&self, side: Side, price: Price) -> Sums
+        ensures volume { result.volume ≡ better_volume side price self.now }
+        ensures small { result.volume ≤ most_steps * greatest_volume }
+        ensures gain { signed side (result.value -ℤ price *ℤ pos result.volume)
+            ≡ pos (gain_of side price self.now) }
+        ensures gain_small { gain_of side price self.now
+            ≤ most_steps * (price_span * greatest_volume) }
+    {
+        let ladder = self.side(side);
+        let count = ladder.place(order_of(side, price, 0));
+        ladder.sums(count)
+    }
+
+    /// The volume of one side that is not worse than a price, in tenths of a MW.
+    pub(crate) fn not_worse(&self, side: Side, price: Price) -> u64
+        ensures value { result
+            ≡ better_volume side price self.now + at_volume side price self.now }
+        ensures small { result ≤ most_steps * greatest_volume }
+    {
+        self.volume_before(side, price, MOST_STEPS)
     }
 
     /// The number of steps.
@@ -196,19 +260,18 @@ impl<A: Allocator> Hour<A> {
         ensures small { IfSome result (λ c. AreSmall (length self.now) c.bought c.sold c.welfare) }
         ensures welfare { greatest_welfare self.now net ≡ option_map (λ c. c.welfare) result }
     {
-        let steps = self.steps();
-        if !is_within_offers(steps, net) {
+        if !is_within_offers(self, net) {
             return None;
         }
-        let totals = Totals::of(steps, net);
-        let high = high_end(steps, net);
+        let totals = Totals::of(self, net);
+        let high = high_end(self, net);
         Some(Cleared {
             low: totals.low,
             high,
             price: price_between(totals.low, high),
             bought: totals.bought,
             sold: totals.sold,
-            welfare: welfare_at(steps, net, totals.low),
+            welfare: welfare_at(self, net, totals.low),
         })
     }
 
@@ -223,12 +286,13 @@ impl<A: Allocator> Hour<A> {
     {
         let steps = self.steps();
         let step = *steps.get(place)?;
-        if !is_within_offers(steps, net) {
+        if !is_within_offers(self, net) {
             return None;
         }
-        let totals = Totals::of(steps, net);
-        let left = totals.left_for(steps, step.side, place);
-        Some(step.share(totals.low, left) as u32)
+        let totals = Totals::of(self, net);
+        let before = self.volume_before(step.side, step.price, place);
+        let left = totals.on(step.side).saturating_sub(before);
+        Some(step.volume().min(left) as u32)
     }
 
     /// The executed volumes of all steps in book order, in tenths of a MW: the best execution, as `clear`
@@ -241,14 +305,14 @@ impl<A: Allocator> Hour<A> {
         net: i64,
     ) -> Result<Option<Vec<u32, B>>, AllocError>
         requires { IsNetVolume net }
-        ensures { IfOk result (λ found. MatchOption found (IsUnbalanced self.now net) (λ volumes. IsBest self.now net volumes.items)) }
+        ensures { IfOk result (λ found. MatchOption found (IsUnbalanced self.now net)
+            (λ volumes. IsBest self.now net volumes.items)) }
     {
-        let steps = self.steps();
-        if !is_within_offers(steps, net) {
+        if !is_within_offers(self, net) {
             return Ok(None);
         }
-        let totals = Totals::of(steps, net);
-        let volumes = fill(alloc, steps, totals.low, totals.left(steps))?;
+        let totals = Totals::of(self, net);
+        let volumes = fill(alloc, self.steps(), totals.low, totals.left(self))?;
         Ok(Some(volumes))
     }
 }

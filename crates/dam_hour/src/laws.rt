@@ -28,32 +28,37 @@ pub fn limits()
 pub fn exchange()
     ensures prices { (steps : List Step) (net low high p : ℤ) → AreEnds steps net low high
         → IsSupporting steps net p ↔ ((low ≤ℤ p) × (p ≤ℤ high)) }
-    ensures best { (steps : List Step) (net low high p : ℤ) (xs : List ℕ) → AreEnds steps net low high
-        → IsBest steps net xs → low ≤ℤ p → p ≤ℤ high → Supports p steps xs }
+    ensures best { (steps : List Step) (net low high p : ℤ) (xs : List ℕ)
+        → AreEnds steps net low high → IsBest steps net xs → low ≤ℤ p → p ≤ℤ high
+        → Supports p steps xs }
 {}
 
 /// Some execution balances exactly where the net volume is from minus all sells to all buys.
 pub fn balance()
-    ensures within { (steps : List Step) (net : ℤ) (xs : List ℕ) → IsExecution steps xs → Balances steps net xs
-        → IsWithinOffers steps net }
-    ensures exists { (steps : List Step) (net : ℤ) → IsWithinOffers steps net → IsBalanced steps net }
+    ensures within { (steps : List Step) (net : ℤ) (xs : List ℕ)
+        → IsExecution steps xs → Balances steps net xs → IsWithinOffers steps net }
+    ensures exists { (steps : List Step) (net : ℤ)
+        → IsWithinOffers steps net → IsBalanced steps net }
 {}
 
 /// Where an execution balances there is a best execution, and where the limits and volumes are in
 /// range there are a least and a greatest supporting price.
 pub fn existence()
-    ensures ends { (steps : List Step) (net : ℤ) → AreInRange steps → IsWithinOffers steps net
+    ensures ends { (steps : List Step) (net : ℤ)
+        → AreInRange steps → IsWithinOffers steps net
         → (low : ℤ) × (high : ℤ) × AreEnds steps net low high }
-    ensures best { (steps : List Step) (net : ℤ) → AreInRange steps → IsWithinOffers steps net
+    ensures best { (steps : List Step) (net : ℤ)
+        → AreInRange steps → IsWithinOffers steps net
         → (xs : List ℕ) × IsBest steps net xs }
 {}
 
 /// There is one least and one greatest supporting price, and one best execution.
 pub fn uniqueness()
-    ensures ends { (steps : List Step) (net low high other_low other_high : ℤ) → AreEnds steps net low high
-        → AreEnds steps net other_low other_high → (low ≡ other_low) × (high ≡ other_high) }
-    ensures best { (steps : List Step) (net : ℤ) (xs ys : List ℕ) → IsBest steps net xs → IsBest steps net ys
-        → xs ≡ ys }
+    ensures ends { (steps : List Step) (net low high other_low other_high : ℤ)
+        → AreEnds steps net low high → AreEnds steps net other_low other_high
+        → (low ≡ other_low) × (high ≡ other_high) }
+    ensures best { (steps : List Step) (net : ℤ) (xs ys : List ℕ)
+        → IsBest steps net xs → IsBest steps net ys → xs ≡ ys }
 {}
 
 /// Which case of the period's price applies, and that the price lies between the ends.
@@ -70,51 +75,57 @@ pub fn price()
 /// The greatest welfare as a function of the net volume is the best execution's, and there is none
 /// exactly where nothing balances.
 pub fn welfare()
-    ensures best { (steps : List Step) (net : ℤ) (xs : List ℕ) → IsBest steps net xs
-        → greatest_welfare steps net ≡ Some (welfare_of steps xs) }
+    ensures best { (steps : List Step) (net : ℤ) (xs : List ℕ)
+        → IsBest steps net xs → greatest_welfare steps net ≡ Some (welfare_of steps xs) }
     ensures reached { (steps : List Step) (net w : ℤ) → greatest_welfare steps net ≡ Some w
         → (xs : List ℕ) × IsExecution steps xs × Balances steps net xs × (welfare_of steps xs ≡ w) }
     ensures bound { (steps : List Step) (net w : ℤ) → greatest_welfare steps net ≡ Some w
         → (xs : List ℕ) → IsExecution steps xs → Balances steps net xs → welfare_of steps xs ≤ℤ w }
-    ensures some { (steps : List Step) (net : ℤ) → IsBalanced steps net
-        → (w : ℤ) × (greatest_welfare steps net ≡ Some w) }
-    ensures none { (steps : List Step) (net : ℤ) → (greatest_welfare steps net ≡ None) ↔ IsUnbalanced steps net }
+    ensures some { (steps : List Step) (net : ℤ)
+        → IsBalanced steps net → (w : ℤ) × (greatest_welfare steps net ≡ Some w) }
+    ensures none { (steps : List Step) (net : ℤ)
+        → (greatest_welfare steps net ≡ None) ↔ IsUnbalanced steps net }
 {}
 
 /// The welfare of a balanced execution is its surplus at any price and that price times the net
 /// volume; and at a price that supports it the surplus is at least 0, and the greatest there is.
 pub fn surplus()
-    ensures welfare { (p net : ℤ) (steps : List Step) (xs : List ℕ) → Balances steps net xs
-        → welfare_of steps xs ≡ surplus_at p steps xs +ℤ p *ℤ net }
-    ensures at_least_zero { (p : ℤ) (steps : List Step) (xs : List ℕ) → IsExecution steps xs → Supports p steps xs
-        → pos 0 ≤ℤ surplus_at p steps xs }
-    ensures greatest { (p : ℤ) (steps : List Step) (xs ys : List ℕ) → IsExecution steps xs → Supports p steps xs
-        → IsExecution steps ys → surplus_at p steps ys ≤ℤ surplus_at p steps xs }
+    ensures welfare { (p net : ℤ) (steps : List Step) (xs : List ℕ)
+        → Balances steps net xs → welfare_of steps xs ≡ surplus_at p steps xs +ℤ p *ℤ net }
+    ensures at_least_zero { (p : ℤ) (steps : List Step) (xs : List ℕ)
+        → IsExecution steps xs → Supports p steps xs → pos 0 ≤ℤ surplus_at p steps xs }
+    ensures greatest { (p : ℤ) (steps : List Step) (xs ys : List ℕ)
+        → IsExecution steps xs → Supports p steps xs → IsExecution steps ys
+        → surplus_at p steps ys ≤ℤ surplus_at p steps xs }
 {}
 
 /// How large the executed volumes and the welfare of any execution can be: for each step at most
 /// 99,999 tenths of a MW, and 39,999,600,000 cents per MWh times tenths of a MW.
 pub fn magnitude()
     ensures { (steps : List Step) (xs : List ℕ) → AreInRange steps → IsExecution steps xs
-        → AreSmall (length steps) (executed_volume Buy steps xs) (executed_volume Sell steps xs) (welfare_of steps xs) }
+        → AreSmall (length steps) (executed_volume Buy steps xs) (executed_volume Sell steps xs)
+        (welfare_of steps xs) }
 {}
 
 /// An execution has one volume for each step, and none is greater than its step's own.
 pub fn lengths()
-    ensures length { (steps : List Step) (xs : List ℕ) → IsExecution steps xs → length xs ≡ length steps }
-    ensures at_most { (steps : List Step) (xs : List ℕ) (place : ℕ) (step : Step) (x : ℕ) → IsExecution steps xs
-        → slice_get steps place ≡ Some step → slice_get xs place ≡ Some x → x ≤ step.qty }
+    ensures length { (steps : List Step) (xs : List ℕ)
+        → IsExecution steps xs → length xs ≡ length steps }
+    ensures at_most { (steps : List Step) (xs : List ℕ) (place : ℕ) (step : Step) (x : ℕ)
+        → IsExecution steps xs → slice_get steps place ≡ Some step → slice_get xs place ≡ Some x
+        → x ≤ step.qty }
 {}
 
 /// The executions of some steps and then others are those of the first and then those of the second;
 /// their executed volumes and their welfare add up.
 pub fn joining()
-    ensures joined { (ss ts : List Step) (xs ys : List ℕ) → IsExecution ss xs → IsExecution ts ys
-        → IsExecution (ss ++ ts) (xs ++ ys) }
+    ensures joined { (ss ts : List Step) (xs ys : List ℕ)
+        → IsExecution ss xs → IsExecution ts ys → IsExecution (ss ++ ts) (xs ++ ys) }
     ensures parted { (ss ts : List Step) (zs : List ℕ) → IsExecution (ss ++ ts) zs
         → (xs : List ℕ) × (ys : List ℕ) × (zs ≡ xs ++ ys) × IsExecution ss xs × IsExecution ts ys }
     ensures volume { (side : Side) (ss ts : List Step) (xs ys : List ℕ) → IsExecution ss xs
-        → executed_volume side (ss ++ ts) (xs ++ ys) ≡ executed_volume side ss xs + executed_volume side ts ys }
+        → executed_volume side (ss ++ ts) (xs ++ ys)
+        ≡ executed_volume side ss xs + executed_volume side ts ys }
     ensures welfare { (ss ts : List Step) (xs ys : List ℕ) → IsExecution ss xs
         → welfare_of (ss ++ ts) (xs ++ ys) ≡ welfare_of ss xs +ℤ welfare_of ts ys }
 {}
@@ -122,14 +133,15 @@ pub fn joining()
 /// With steps behind them, the greatest welfare is at least that of the first steps at one net volume
 /// with that of any execution of the others that makes up the difference to the whole's.
 pub fn extension()
-    ensures { (ss ts : List Step) (net first u : ℤ) (ys : List ℕ) → greatest_welfare ss first ≡ Some u
-        → IsExecution ts ys → Balances ts (net -ℤ first) ys
+    ensures { (ss ts : List Step) (net first u : ℤ) (ys : List ℕ)
+        → greatest_welfare ss first ≡ Some u → IsExecution ts ys → Balances ts (net -ℤ first) ys
         → (w : ℤ) × (greatest_welfare (ss ++ ts) net ≡ Some w) × ((u +ℤ welfare_of ts ys) ≤ℤ w) }
 {}
 
 /// The price of the period supports the best execution: no hourly order loses at it, and none that is
 /// better than it is cut.
 pub fn support()
-    ensures { (steps : List Step) (net low high : ℤ) (xs : List ℕ) → AreEnds steps net low high → IsBest steps net xs
+    ensures { (steps : List Step) (net low high : ℤ) (xs : List ℕ)
+        → AreEnds steps net low high → IsBest steps net xs
         → Supports (price_between low high) steps xs }
 {}

@@ -1,14 +1,26 @@
 //! One period of the auction: its clearing price and the execution of its hourly orders.
 //!
 //! An [`Hour`] holds the steps of a period in book order. With a net volume of accepted blocks it
-//! answers the price (`clear`), the executed volume of one step (`executed`) and those of all steps
-//! (`execution`). What these words mean stands in `specs/`: executions and their balance, supporting
-//! prices, the best execution.
+//! answers the price, the totals and the welfare (`clear`), the executed volume of one step
+//! (`executed`) and those of all steps (`execution`). What these words mean stands in `specs/`:
+//! executions and their balance, supporting prices, the best execution.
+//!
+//! ```
+//! let buy = Step { side: Side::Buy, price: Price::new(6000)?, qty: Qty::new(10)? };
+//! let sell = Step { side: Side::Sell, price: Price::new(5000)?, qty: Qty::new(15)? };
+//! let hour = Hour::build(alloc, &[buy, sell])?;
+//! let cleared = hour.clear(0)?;
+//! assert_eq!(cleared.price.get(), 5000);
+//! assert_eq!(hour.executed(0, 1), Some(10));
+//! ```
+//!
+//! The crate knows nothing of blocks, books and the other periods.
 #![tactic(auto)]
 
 mod ends;
 mod execution;
 mod hour;
+mod ladder;
 pub mod laws;
 #[cfg(test)]
 mod plain;
@@ -17,5 +29,6 @@ mod step;
 mod tests;
 mod volumes;
 
+pub use ends::price_between;
 pub use hour::{Cleared, GREATEST_NET, Hour, MOST_STEPS};
 pub use step::Step;

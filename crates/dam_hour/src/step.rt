@@ -1,9 +1,9 @@
-ghost use Rattle.std.specs.Prelude.{◌≡◌, ◌≤◌, pos, neg_ℤ, ◌≤ℤ◌};
+ghost use Rattle.std.specs.Prelude.{◌≡◌, ◌≤◌, pos, neg_ℤ, ◌*ℤ◌, ◌≤ℤ◌};
 ghost use Rattle.dam_book.specs.Limits.{greatest_volume};
 ghost use Rattle.dam_book.specs.Price.{IsPrice};
 ghost use Rattle.dam_book.specs.Quantity.{IsQuantity};
-ghost use Rattle.dam_hour.specs.Limits.{price_span};
-ghost use Rattle.dam_hour.specs.Volumes.{margin_of, if_at, share};
+ghost use Rattle.dam_hour.specs.Limits.{price_span, greatest_value};
+ghost use Rattle.dam_hour.specs.inside.Volumes.{margin_at, if_at, share};
 
 use dam_book::{Price, Qty, Side};
 
@@ -21,7 +21,7 @@ pub struct Step {
 impl Step {
     /// How many cents better than the price the limit is: 0 at the price, below 0 where it is worse.
     pub(crate) fn margin(self, price: Price) -> i32
-        ensures value { result ≡ margin_of self.side self.price price }
+        ensures value { result ≡ margin_at self price }
         ensures at_least { neg_ℤ (pos price_span) ≤ℤ result }
         ensures at_most { result ≤ℤ pos price_span }
     {
@@ -50,9 +50,18 @@ impl Step {
         u64::from(self.qty.get())
     }
 
+    /// The limit times the volume, in cents per MWh times tenths of a MW.
+    pub(crate) fn value(self) -> i64
+        ensures value { result ≡ self.price *ℤ pos self.qty }
+        ensures at_least { neg_ℤ (pos greatest_value) ≤ℤ result }
+        ensures at_most { result ≤ℤ pos greatest_value }
+    {
+        i64::from(self.price.get()) * i64::from(self.qty.get())
+    }
+
     /// The step's volume where its limit is the price, and else 0, in tenths of a MW.
     pub(crate) fn volume_at(&self, price: Price) -> u64
-        ensures { result ≡ if_at (margin_of self.now.side self.now.price price) self.now.qty }
+        ensures { result ≡ if_at (margin_at self.now price) self.now.qty }
     {
         let volume = self.volume();
         let margin = self.margin(price);
@@ -62,7 +71,7 @@ impl Step {
     /// The executed volume at that price, in tenths of a MW: all of a better step, none of a worse one,
     /// and at the price as much as is left for it.
     pub(crate) fn share(&self, price: Price, left: u64) -> u64
-        ensures value { result ≡ share (margin_of self.now.side self.now.price price) self.now.qty left }
+        ensures value { result ≡ share (margin_at self.now price) self.now.qty left }
         ensures small { result ≤ greatest_volume }
     {
         let volume = self.volume();

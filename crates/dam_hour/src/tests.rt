@@ -233,53 +233,168 @@ fn compare_execution(
     Ok(())
 }
 
+/// Compares the hour of the steps with the slow program at a net volume.
+fn compare_with_all(rt: &impl Abort, hour: &Hour, steps: &[Step], net: i64) {
+    assert!(rt; steps.len() <= 3);
+    assert!(rt; -GREATEST_NET <= net && net <= GREATEST_NET);
+    let tried = try_all(steps, net, WINDOW);
+    assert_eq!(rt; hour.clear(net).map(found_of), tried.map(|t| t.found));
+    for place in 0..steps.len() {
+        let volume = tried.and_then(|t| t.volumes.get(place).copied());
+        assert_eq!(rt; hour.executed(net, place), volume);
+    }
+}
+
 /// Compares the hour with the merge and with the slow program at nets from -7 to 7.
 fn compare(rt: &impl Abort, alloc: Global, steps: &[Step]) -> Result<(), AllocError> {
     assert!(rt; steps.len() <= 3);
     let hour = Hour::build(alloc, steps)?;
     for net in -7..=7 {
         compare_execution(rt, alloc, &hour, net)?;
-        assert!(rt; -GREATEST_NET <= net && net <= GREATEST_NET);
-        let found = hour.clear(net).map(found_of);
-        let tried = try_all(steps, net, WINDOW);
-        assert_eq!(rt; found, tried.map(|t| t.found));
-        let mut rows = Vec::new(alloc);
-        for step in steps {
-            rows.push(Row::of(*step))?;
-        }
-        let merged = merge(rows.as_mut_slice(), net);
-        assert_eq!(rt; merged, found.is_some());
-        if merged {
-            assert_eq!(rt; found, Some(read(rows.as_slice())));
-        }
-        for (place, row) in rows.iter().enumerate() {
-            let volume = hour.executed(net, place);
-            assert_eq!(rt;
-                volume.map(u64::from),
-                if merged { Some(row.executed) } else { None }
-            );
-            assert_eq!(rt; volume, tried.and_then(|t| t.volumes.get(place).copied()));
-        }
+        compare_with_merge(rt, alloc, &hour, steps, net)?;
+        compare_with_all(rt, &hour, steps, net);
+    }
+    Ok(())
+}
+
+/// Three steps, of all kinds as the number goes from 0 to the third power of `KINDS`.
+fn three(number: u32) -> Option<[Step; 3]> {
+    let first = kind(number)?;
+    let second = kind(number / KINDS)?;
+    let third = kind(number / (KINDS * KINDS))?;
+    Some([first, second, third])
+}
+
+#[test]
+fn clears_three_steps_as_the_plain_programs(rt: HostRuntime) -> Result<(), Fail> {
+    for number in 0..KINDS * KINDS * KINDS {
+        let steps = three(number).ok_or("no step")?;
+        compare(&rt, rt.alloc(), &steps)?;
     }
     Ok(())
 }
 
 #[test]
-fn clears_as_the_plain_programs(rt: HostRuntime) -> Result<(), Fail> {
+fn clears_two_steps_as_the_plain_programs(rt: HostRuntime) -> Result<(), Fail> {
+    for number in 0..KINDS * KINDS {
+        let steps = three(number).ok_or("no step")?;
+        compare(&rt, rt.alloc(), &steps[..2])?;
+    }
+    Ok(())
+}
+
+#[test]
+fn clears_a_step_as_the_plain_programs(rt: HostRuntime) -> Result<(), Fail> {
+    compare(&rt, rt.alloc(), &[])?;
+    for number in 0..KINDS {
+        let steps = three(number).ok_or("no step")?;
+        compare(&rt, rt.alloc(), &steps[..1])?;
+    }
+    Ok(())
+}
+
+/// What stands before each step, the best limit first and equal limits in book order.
+#[test]
+fn keeps_what_stands_before_each_step(rt: HostRuntime) -> Result<(), Fail> {
+    let orders = [(BUY, 6000, 10), (BUY, 5200, 10), (SELL, 5000, 15)];
+    let hour = hour_of(&rt, rt.alloc(), &orders)?;
+    let buys = hour.side(BUY);
+    assert_eq!(&rt; buys.len(), 2);
+    let (first, second) = (buys.sums(0), buys.sums(1));
+    assert_eq!(&rt; (first.volume, first.value), (0, 0));
+    assert_eq!(&rt; (second.volume, second.value), (10, 60_000));
+    let orders = [
+        (BUY, 5200, 7),
+        (BUY, -100, 9),
+        (BUY, 6000, 10),
+        (BUY, 5200, 8),
+    ];
+    let hour = hour_of(&rt, rt.alloc(), &orders)?;
+    let buys = hour.side(BUY);
+    assert_eq!(&rt; buys.len(), 4);
+    assert_eq!(&rt; (buys.sums(1).volume, buys.sums(1).value), (10, 60_000));
+    assert_eq!(&rt; (buys.sums(2).volume, buys.sums(2).value), (17, 96_400));
+    assert_eq!(&rt; (buys.sums(3).volume, buys.sums(3).value), (25, 138_000));
+    assert_eq!(&rt; (buys.sums(4).volume, buys.sums(4).value), (34, 137_100));
+    assert_eq!(&rt; hour.side(SELL).len(), 0);
+    Ok(())
+}
+
+/// The numbers of a drawn hour come from here (a linear congruence; its high bits are used).
+#[derive(Clone, Copy)]
+struct Drawn {
+    state: u64,
+}
+
+impl Drawn {
+    /// A number under the limit.
+    fn below(&mut self, limit: u32) -> u32 {
+        self.state = self
+            .state
+            .wrapping_mul(6_364_136_223_846_793_005)
+            .wrapping_add(1_442_695_040_888_963_407);
+        ((self.state >> 33) as u32).checked_rem(limit).unwrap_or(0)
+    }
+
+    fn step(&mut self) -> Option<Step> {
+        let side = if self.below(2) == 0 { BUY } else { SELL };
+        let fifties = i32::try_from(self.below(9)).unwrap_or(0);
+        let cents = fifties.wrapping_mul(50).wrapping_sub(100);
+        step_of((side, cents, self.below(12).saturating_add(1)))
+    }
+}
+
+/// Compares the hour of the steps with the merge at a net volume.
+fn compare_with_merge(
+    rt: &impl Abort,
+    alloc: Global,
+    hour: &Hour,
+    steps: &[Step],
+    net: i64,
+) -> Result<(), AllocError> {
+    assert!(rt; -GREATEST_NET <= net && net <= GREATEST_NET);
+    let mut rows = Vec::new(alloc);
+    for step in steps {
+        rows.push(Row::of(*step))?;
+    }
+    let merged = merge(rows.as_mut_slice(), net);
+    let found = hour.clear(net).map(found_of);
+    assert_eq!(rt;
+        found,
+        if merged {
+            Some(read(rows.as_slice()))
+        } else {
+            None
+        }
+    );
+    for (place, row) in rows.iter().enumerate() {
+        let want = if merged { Some(row.executed) } else { None };
+        assert_eq!(rt; hour.executed(net, place).map(u64::from), want);
+    }
+    Ok(())
+}
+
+/// Compares the hour of the steps with the merge at nets from -30 to 30.
+fn compare_at_each_net(rt: &impl Abort, alloc: Global, steps: &[Step]) -> Result<(), AllocError> {
+    assert!(rt; steps.len() <= 12);
+    let hour = Hour::build(alloc, steps)?;
+    for net in -30..=30 {
+        compare_with_merge(rt, alloc, &hour, steps, net)?;
+    }
+    Ok(())
+}
+
+#[test]
+fn clears_drawn_hours_as_the_merge(rt: HostRuntime) -> Result<(), Fail> {
     let alloc = rt.alloc();
-    compare(&rt, alloc, &[])?;
-    for number in 0..KINDS * KINDS * KINDS {
-        let a = kind(number).ok_or("no step")?;
-        let b = kind(number / KINDS).ok_or("no step")?;
-        let c = kind(number / (KINDS * KINDS)).ok_or("no step")?;
-        let steps = [a, b, c];
-        compare(&rt, alloc, &steps)?;
-        if number < KINDS * KINDS {
-            compare(&rt, alloc, &steps[..2])?;
+    let mut drawn = Drawn { state: 12 };
+    for _ in 0..1000 {
+        let mut steps = Vec::new(alloc);
+        for _ in 0..drawn.below(13) {
+            let step = drawn.step().ok_or("no step")?;
+            steps.push(step)?;
         }
-        if number < KINDS {
-            compare(&rt, alloc, &steps[..1])?;
-        }
+        compare_at_each_net(&rt, alloc, steps.as_slice())?;
     }
     Ok(())
 }

@@ -1,11 +1,11 @@
-ghost use Rattle.std.specs.Prelude.{◌≡◌, ◌+◌, ◌*◌, ◌≤◌, length};
+ghost use Rattle.std.specs.Prelude.{◌≡◌, ◌+◌, ◌*◌, ◌≤◌, pos, neg_ℤ, ◌*ℤ◌, ◌≤ℤ◌};
 ghost use Rattle.dam_book.specs.Limits.{greatest_volume};
-ghost use Rattle.dam_hour.specs.Limits.{most_steps, price_span};
-ghost use Rattle.dam_hour.specs.Execution.{offered_volume, volume_on};
-ghost use Rattle.dam_hour.specs.Volumes.{margin_of, if_better, if_at, better_volume, at_volume, full_surplus};
+ghost use Rattle.dam_hour.specs.Limits.{most_steps, price_span, greatest_price};
+ghost use Rattle.dam_hour.specs.inside.Volumes.{better_volume, at_volume, full_surplus};
 
-use crate::step::Step;
+use crate::hour::Hour;
 use dam_book::{Price, Side};
+use std::alloc::Allocator;
 
 /// What one side executes at a price, in tenths of a MW.
 #[derive(Clone, Copy)]
@@ -17,72 +17,38 @@ pub(crate) struct Bounds {
 }
 
 impl Bounds {
-    pub(crate) fn of(steps: &[Step], side: Side, price: Price) -> Bounds
-        requires { length steps.now ≤ most_steps }
-        ensures least { result.least ≡ better_volume side price steps.now }
-        ensures most { result.most ≡ better_volume side price steps.now + at_volume side price steps.now }
+    pub(crate) fn of<A: Allocator>(hour: &Hour<A>, side: Side, price: Price) -> Bounds
+        ensures least { result.least ≡ better_volume side price hour.now }
+        ensures most { result.most
+            ≡ better_volume side price hour.now + at_volume side price hour.now }
         ensures small { result.most ≤ most_steps * greatest_volume }
     {
-        let mut least = 0;
-        let mut most = 0;
-        for step in steps {
-            let own = Bounds::of_step(*step, side, price);
-            least += own.least;
-            most += own.most;
-        }
-        Bounds { least, most }
-    }
-
-    fn of_step(step: Step, side: Side, price: Price) -> Bounds
-        ensures least { result.least ≡ volume_on side step.side (if_better (margin_of step.side step.price price) step.qty) }
-        ensures most { result.most ≡ volume_on side step.side (if_better (margin_of step.side step.price price) step.qty)
-            + volume_on side step.side (if_at (margin_of step.side step.price price) step.qty) }
-        ensures least_small { result.least ≤ greatest_volume }
-        ensures most_small { result.most ≤ greatest_volume }
-    {
-        let margin = step.margin(price);
-        if step.side != side || margin < 0 {
-            Bounds { least: 0, most: 0 }
-        } else if margin == 0 {
-            Bounds {
-                least: 0,
-                most: step.volume(),
-            }
-        } else {
-            Bounds {
-                least: step.volume(),
-                most: step.volume(),
-            }
+        Bounds {
+            least: hour.better(side, price).volume,
+            most: hour.not_worse(side, price),
         }
     }
 }
 
-/// The whole volume of one side.
-pub(crate) fn offered(steps: &[Step], side: Side) -> u64
-    requires { length steps.now ≤ most_steps }
-    ensures value { result ≡ offered_volume side steps.now }
-    ensures small { result ≤ most_steps * greatest_volume }
+/// A price times a volume, in cents per MWh times tenths of a MW.
+fn value_at(price: Price, volume: u64) -> i64
+    requires { volume ≤ most_steps * greatest_volume }
+    ensures value { result ≡ price *ℤ pos volume }
+    ensures at_least { neg_ℤ (pos (greatest_price * (most_steps * greatest_volume))) ≤ℤ result }
+    ensures at_most { result ≤ℤ pos (greatest_price * (most_steps * greatest_volume)) }
 {
-    let mut total = 0;
-    for step in steps {
-        if step.side == side {
-            total += step.volume();
-        }
-    }
-    total
+    i64::from(price.get()) * volume as i64
 }
 
-/// What the steps gain at the price where the better ones are executed in full, in cents times
-/// tenths of a MW.
-pub(crate) fn surplus(steps: &[Step], price: Price) -> u64
-    requires { length steps.now ≤ most_steps }
-    ensures value { result ≡ full_surplus price steps.now }
-    ensures small { result ≤ most_steps * (price_span * greatest_volume) }
+/// What the steps gain at the price where the better ones are executed in full, in cents per
+/// MWh times tenths of a MW.
+pub(crate) fn surplus<A: Allocator>(hour: &Hour<A>, price: Price) -> u64
+    ensures value { result ≡ full_surplus price hour.now }
+    ensures small { result ≤ 2 * (most_steps * (price_span * greatest_volume)) }
 {
-    let mut total = 0;
-    for step in steps {
-        let gain = step.margin(price).max(0).unsigned_abs();
-        total += u64::from(gain) * step.volume();
-    }
-    total
+    let buys = hour.better(Side::Buy, price);
+    let sells = hour.better(Side::Sell, price);
+    let buyers_gain = buys.value - value_at(price, buys.volume);
+    let sellers_gain = value_at(price, sells.volume) - sells.value;
+    buyers_gain as u64 + sellers_gain as u64
 }

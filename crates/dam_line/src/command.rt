@@ -20,32 +20,41 @@ const USAGE: &str = "dam replay < JOURNAL
        dam day [OPTIONS] < JOURNAL";
 
 const JOURNAL_EXAMPLE: &str =
-    "A journal is a text of comma-separated values: a day, and then its participants' commands.
+    "The journal is read from standard input. It is a text of comma-separated values: a day with its
+number of periods, and then its participants' commands, as
 
   day,24,,,,,,,
   submit,NORD,WIND-8,hour,sell,1200,8:450,,
   submit,STAD,BASE-8,hour,buy,9500,8:300,,
   close,,,,,,,,
 
-Example: with these lines in a file `first-day.csv`,
+Example: with these lines in a file `first-day.csv`, this prints the prices of the day, and what
+becomes of each order:
 
   dam clear < first-day.csv
 
-prints the prices of the day, and what becomes of each order.";
+`dam replay --help`, `dam clear --help` and `dam day --help` say more of each command.";
 
-const REPLAY_EXAMPLE: &str = "Example: dam replay < first-day.csv";
+const REPLAY_EXAMPLE: &str = "The journal is read from standard input. `dam --help` shows one.
+
+Example: dam replay < first-day.csv";
 
 const CLEAR_EXAMPLE: &str =
-    "No option changes the results: --workers and --cut change how long the search for them takes,
-and --nodes when it gives up, with status 3.
+    "No option changes the results: --workers and --cut change how long it takes, and with --nodes
+whether it gives up, with status 3.
+
+The journal is read from standard input. `dam --help` shows one.
 
 Example: dam clear --workers 4 --cut 6 < first-day.csv";
 
 const DAY_EXAMPLE: &str =
-    "No option changes the results: --workers and --cut change how long the search for them takes,
-and --nodes when it gives up, with status 3.
+    "No option changes the results: --workers and --cut change how long it takes, and with --nodes
+whether it gives up, with status 3.
 
-Example, where orders.csv is a journal without its last record, the close:
+The journal is read from standard input, without its last record, the close. `dam --help` shows one
+with it.
+
+Example:
 
   dam day --workers 4 --cut 6 < orders.csv";
 
@@ -59,7 +68,7 @@ fn number_option<'a>(alloc: Global, option: NumberOption) -> Arg<'a>
     Arg::new(alloc, option.name)
         .long(option.name)
         .action(ArgAction::Set)
-        .value_name("NUMBER")
+        .value_name(option.letter)
         .value_parser(value_parser!(u32).range(range))
         .default_value(option.default_text)
         .help(option.help)
@@ -125,7 +134,7 @@ pub fn program_command<'a>(alloc: Global) -> Result<Command<'a>, AllocError>
     ensures { IfOk result (λ c. app_of c ≡ program) }
 {
     let command = Command::new(alloc, "dam")
-        .about("A day-ahead auction of electricity, fed with a journal of its orders")
+        .about("A day-ahead auction of electricity, read from a journal of its orders")
         .override_usage(USAGE)
         .after_help(JOURNAL_EXAMPLE);
     let command = with_subcommands(alloc, command)?;

@@ -6,8 +6,8 @@ ghost use Rattle.dam_line.specs.Line.{AreRefused, AsksFor, plan_of, program};
 
 use crate::line::Job;
 
-/// The program's command is simple, and no option has a rule on another: of such a command `clap` says
-/// exactly what it makes of words.
+/// The program's command is simple, and no option has a rule on another: of such a command `clap`
+/// says exactly what it makes of words.
 pub fn exactness()
     ensures simple { is_simple program ≡ true }
     ensures free { is_simple_and_free program ≡ true }

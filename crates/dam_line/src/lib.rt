@@ -1,7 +1,8 @@
 //! The command line of `dam`: what the words behind the program's name ask for.
 //!
 //! `clap` reads the words. The program's command, as `clap` sees it, and the job that words ask for
-//! stand in `specs/`.
+//! stand in `specs/`. A contract sees words as lists of bytes, and an option as its name, its range and
+//! its default. The texts of help and of refusals are only tested.
 #![tactic(auto)]
 
 mod command;

@@ -1,6 +1,6 @@
 use dam_search::{MOST_CUT, MOST_NODES, MOST_WORKERS};
 
-/// An option `--NAME NUMBER`. A contract sees it without its texts of help.
+/// An option with a number. A contract sees it without its texts of help.
 #[derive(Clone, Copy)]
 pub struct NumberOption {
     pub name: &'static str,
@@ -10,6 +10,8 @@ pub struct NumberOption {
     pub default: u32,
     /// `default`, as it would stand among the words.
     pub default_text: &'static str,
+    /// How the help calls the number.
+    pub letter: &'static str,
     pub help: &'static str,
 }
 
@@ -20,7 +22,8 @@ pub const WORKERS: NumberOption = NumberOption {
     most: MOST_WORKERS as u32,
     default: 2,
     default_text: "2",
-    help: "How many workers search side by side, from 1 to 8",
+    letter: "N",
+    help: "Search with N workers side by side, from 1 to 8",
 };
 
 /// How many blocks the cutting decides.
@@ -30,7 +33,8 @@ pub const CUT: NumberOption = NumberOption {
     most: MOST_CUT as u32,
     default: 3,
     default_text: "3",
-    help: "How many blocks are decided beforehand, from 0 to 8: each doubles the pieces",
+    letter: "K",
+    help: "Split the search into 2^K pieces by what becomes of the first K blocks, from 0 to 8",
 };
 
 /// How many nodes of one piece may be visited.
@@ -40,5 +44,6 @@ pub const NODES: NumberOption = NumberOption {
     most: MOST_NODES,
     default: MOST_NODES,
     default_text: "67108864",
-    help: "How many nodes of a piece are visited before the search gives up, from 1 to 67108864",
+    letter: "M",
+    help: "Give up where a piece needs more than M nodes, from 1 to 67108864",
 };

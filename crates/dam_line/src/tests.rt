@@ -3,14 +3,6 @@ use dam_search::{MOST_NODES, Plan};
 use std::alloc::Global;
 use std::test::Fail;
 
-/// The job that the words ask for. Where a growth was refused, they are read once more.
-fn read(alloc: Global, words: &[&str]) -> Result<Job, LineFault> {
-    match read_line(alloc, words) {
-        Err(LineFault::Memory) => read_line(alloc, words),
-        line => line,
-    }
-}
-
 fn plan(workers: u8, cut: u8, nodes: u32) -> Result<Plan, Fail> {
     Ok(Plan::new(workers, cut, nodes).ok_or("a plan")?)
 }
@@ -55,7 +47,7 @@ fn words_ask_for_a_job(rt: HostRuntime) -> Result<(), Fail> {
         (&["clear", "--"], Job::Clear(usual)),
     ];
     for (words, job) in table {
-        assert_eq!(rt; read(rt.alloc(), words), Ok(job), "{words:?}");
+        assert_eq!(rt; read_line(rt.alloc(), words), Ok(job), "{words:?}");
     }
     Ok(())
 }
@@ -99,7 +91,7 @@ fn words_are_refused(rt: HostRuntime) {
         &["day", "--plan", "2"],
     ];
     for words in table {
-        let line = read(rt.alloc(), words);
+        let line = read_line(rt.alloc(), words);
         assert!(rt;
             matches!(&line, Err(LineFault::Refused { help: false, .. })),
             "{words:?} {line:?}"
@@ -120,7 +112,7 @@ fn words_ask_for_help(rt: HostRuntime) {
         &["day", "--cut", "2", "--help"],
     ];
     for words in table {
-        let line = read(rt.alloc(), words);
+        let line = read_line(rt.alloc(), words);
         assert!(rt;
             matches!(&line, Err(LineFault::Refused { help: true, .. })),
             "{words:?} {line:?}"
@@ -130,7 +122,7 @@ fn words_ask_for_help(rt: HostRuntime) {
 
 /// The text of words that ask for no job.
 fn text_for(alloc: Global, words: &[&str]) -> Result<String, Fail> {
-    match read(alloc, words) {
+    match read_line(alloc, words) {
         Err(LineFault::Refused { text, .. }) => Ok(text),
         _ => Err("a text".into()),
     }
@@ -138,6 +130,17 @@ fn text_for(alloc: Global, words: &[&str]) -> Result<String, Fail> {
 
 #[test]
 fn a_person_learns_how_to_feed_a_journal(rt: HostRuntime) -> Result<(), Fail> {
+    let lines: [&[&str]; 2] = [&[], &["--help"]];
+    for words in lines {
+        let text = text_for(rt.alloc(), words)?;
+        for part in [
+            "read from standard input",
+            "day,24,,",
+            "dam clear < first-day.csv",
+        ] {
+            assert!(rt; text.as_str().contains(part), "{part} in {text}");
+        }
+    }
     let lines: [&[&str]; 3] = [&[], &["--help"], &["clear", "--help"]];
     for words in lines {
         let text = text_for(rt.alloc(), words)?;
@@ -157,13 +160,13 @@ fn help_tells_each_option_with_its_range_and_default(rt: HostRuntime) -> Result<
     for name in names {
         let text = text_for(rt.alloc(), &[name, "--help"])?;
         for part in [
-            "--workers <NUMBER>",
+            "--workers <N>",
             "from 1 to 8",
             "[default: 2]",
-            "--cut <NUMBER>",
+            "--cut <K>",
             "from 0 to 8",
             "[default: 3]",
-            "--nodes <NUMBER>",
+            "--nodes <M>",
             "from 1 to 67108864",
             "[default: 67108864]",
         ] {
@@ -178,7 +181,7 @@ fn a_refusal_says_what_is_wrong(rt: HostRuntime) -> Result<(), Fail> {
     let text = text_for(rt.alloc(), &["clear", "--cut", "9"])?;
     assert!(rt;
         text.as_str()
-            .contains("'9' for '--cut <NUMBER>': 9 is not in 0..=8"),
+            .contains("'9' for '--cut <K>': 9 is not in 0..=8"),
         "{text}"
     );
     assert!(rt; text.as_str().contains("--help"), "{text}");

@@ -1,10 +1,11 @@
 -- Clearing the periods and going through the rows, one by one.
-use Rattle.std.proofs.Common.{◌≡◌, ℕ, zero, suc, ◌+◌, ◌-◌, ◌<◌, ◌≤◌, ℤ, pos, Bool, true, inl, inr, Option, Some, None, List, [], ◌∷◌, ◌++◌, length, get_or, take, ap, ◌∙◌, sym, subst, refl, arith}
+use Rattle.std.proofs.Common.{◌≡◌, ℕ, zero, suc, ◌+◌, ◌-◌, ◌<◌, ◌≤◌, ℤ, pos, Bool, true, Option, Some, None, List, [], ◌∷◌, ◌++◌, length, get_or, take, ap, ◌∙◌, sym, subst, refl, arith}
 use Rattle.std.specs.List.{slice_get}
 use Rattle.std.specs.Option.{option_and_then, MatchOption}
 use Rattle.std.proofs.lemmas.Int.{ints}
 use Rattle.std.proofs.lemmas.List.{take_more, length-take, length-map, map-append}
 use Rattle.std.proofs.lemmas.Option.{slice_get_within, slice_get-get_or, get_or_from_slice_get, none-some, same_Some}
+use Rattle.dam_book.specs.Limits.{last_period}
 use Rattle.dam_book.specs.Book.{is_day}
 use Rattle.dam_hour.specs.Execution.{IsExecution, IsBalanced}
 use Rattle.dam_hour.specs.Price.{AreEnds, price_between}
@@ -21,7 +22,7 @@ use Rattle.dam_results.specs.declared.published.PeriodResult.{PeriodResult}
 use Rattle.dam_results.specs.declared.published.RowResult.{RowResult}
 use Rattle.dam_results.specs.Published.{IsPeriodResult, ArePeriodResults, prices_of, IsExecuted, IsRowResult, AreRowResults}
 use Rattle.dam_results.specs.inside.Cleared.{IsBalancedIn, IsCleared, AreBest, AreCleared, volume_at}
-use Rattle.dam_results.proofs.Rules.{cases_day}
+use Rattle.dam_results.proofs.Rules.{short_day}
 
 take_at : {X : Type 0} (xs : List X) (i : ℕ) (x : X) → slice_get xs i ≡ Some x → take (i + 1) xs ≡ take i xs ++ x ∷ []
 take_at xs i x e = take_more xs i x (slice_get_within xs i x e) ∙ ap (λ (y : _). take i xs ++ y ∷ []) (get_or_from_slice_get xs i x x e)
@@ -171,13 +172,10 @@ periods_long blocks sel t [] (r ∷ rs) are = absurd are
 periods_long blocks sel t (h ∷ hours) [] are = absurd are
 periods_long blocks sel t (h ∷ hours) (r ∷ rs) are = ap (λ (n : ℕ). suc n) (periods_long blocks sel (suc t) hours rs are.1)
 
-small_day : (n : ℕ) → is_day n ≡ true → n ≤ 25
-small_day n e = elim (cases_day n e) [ inl a ↦ omega (arith, a) | inr r ↦ elim r [ inl b ↦ omega (arith, b) | inr d ↦ omega (arith, d) ] ]
-
 pub few_prices : (blocks : List Block) (sel : List Bool) (hours : List (List Step)) (periods : List PeriodResult) (prices : List ℤ) (executions : List (List ℕ))
-    → is_day (length hours) ≡ true → AreCleared blocks sel hours periods prices executions → length prices ≤ 25
+    → is_day (length hours) ≡ true → AreCleared blocks sel hours periods prices executions → length prices ≤ last_period
 few_prices blocks sel hours periods prices executions day cleared =
-    let few = small_day (length hours) day in
+    let few = short_day (length hours) day in
     let long = periods_long blocks sel 1 hours periods cleared.are_periods in
     let same = ap length cleared.are_prices ∙ length-map periods (λ (r : PeriodResult). r.price) in
     omega (arith, few, long, same)

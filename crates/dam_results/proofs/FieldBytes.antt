@@ -23,6 +23,7 @@ use Rattle.dam_book.specs.declared.command.Command.{Command}
 use Rattle.dam_book.specs.declared.command.Command.TheVariants.{Submit, Amend, Cancel, Close}
 use Rattle.dam_results.specs.Records.{Fields, day_row, row_of, side_word, optional_text}
 use Rattle.dam_results.specs.Journal.{IsCommand}
+use Rattle.dam_results.proofs.Rules.{short_day}
 
 -- from the dash to the letter z: digits, letters, the colon and the semicolon are there, and no mark of the format is
 abbrev pub is_field_byte : ℕ → Bool
@@ -132,13 +133,10 @@ AreFields [] (x ∷ xs) = ⊥
 AreFields (n ∷ ns) [] = ⊥
 AreFields (n ∷ ns) (x ∷ xs) = IsFieldText n x × AreFields ns xs
 
-small_day : (periods : ℕ) → is_day periods ≡ true → periods ≤ 25
-small_day periods day = grind (arith, nat_tests)
-
 pub day_fields : (periods : ℕ) → is_day periods ≡ true → AreFields limits (day_row periods)
 unfolding limits
 day_fields periods day =
-    let small = small_day periods day in
+    let small = short_day periods day in
     let two : length (decimal periods) ≤ 2 = length-decimal-le 2 periods (omega arith) (omega arith) (omega arith) in
     let word : IsFieldText 6 (codes "day") = record { fits = omega arith; bytes = refl } in
     let number : IsFieldText 8 (decimal periods) = record { fits = omega arith; bytes = digits periods (omega arith) } in

@@ -1,5 +1,5 @@
 -- Written records: different commands have different records, and each keeps its rules.
-use Rattle.std.proofs.Common.{◌≡◌, ℕ, ℤ, ◌^◌, ◌<◌, inl, inr, true, List, [], ◌∷◌, length, Option, None, Some, IfSome, map, refl, sym, ap, ◌∙◌, arith, codes, decimal}
+use Rattle.std.proofs.Common.{◌≡◌, ℕ, ℤ, ◌^◌, ◌<◌, true, List, [], ◌∷◌, length, Option, None, Some, IfSome, map, refl, sym, ap, ◌∙◌, arith, codes, decimal}
 use Rattle.std.specs.List.{AllByRecursion}
 use Rattle.std.proofs.lemmas.Fmt.{decimal_injective}
 use Rattle.dam_book.specs.Price.{IsPrice}
@@ -17,7 +17,7 @@ use Rattle.dam_book.specs.declared.command.Command.{Command}
 use Rattle.dam_book.specs.declared.command.Command.TheVariants.{Submit, Amend, Cancel, Close}
 use Rattle.dam_results.specs.Records.{Fields, kind_field, day_row, row_of, order_fields, optional_text, side_word}
 use Rattle.dam_results.specs.Journal.{AreRecords, IsCommand}
-use Rattle.dam_results.proofs.Rules.{one_volume, cases_day}
+use Rattle.dam_results.proofs.Rules.{one_volume, short_day}
 
 -- what the texts of prices and volumes owe
 pub record TextsDiffer : Type 0 where
@@ -149,7 +149,7 @@ rows-injective differ (c ∷ cs) (d ∷ ds) h k e =
     cc
 
 small_day : (periods : ℕ) → is_day periods ≡ true → periods < 2 ^ 64
-small_day periods day = elim (cases_day periods day) [ inl a ↦ omega arith | inr (inl b) ↦ omega arith | inr (inr d) ↦ omega arith ]
+small_day periods day = let short = short_day periods day in omega (arith, short)
 
 -- records are at most one journal
 pub AreRecords-one : TextsDiffer → (rows : List Fields) (p q : ℕ) (cs ds : List Command) → AreRecords rows p cs → AreRecords rows q ds → (p ≡ q) × (cs ≡ ds)

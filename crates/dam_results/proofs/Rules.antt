@@ -1,37 +1,19 @@
 -- Which fields keep their rules.
-use Rattle.std.proofs.Common.{◌≡◌, ℕ, ◌⊎◌, inl, inr, true, false, nat_lt, List, [], ◌∷◌, refl, codes, decimal, arith, ◌∙◌, sym, subst, Result, Ok, Err, MatchResult}
-use Rattle.std.specs.List.{list_any}
+use Rattle.std.proofs.Common.{◌≡◌, ℕ, ◌≤◌, true, false, nat_lt, List, [], ◌∷◌, refl, codes, arith, sym, subst, Result, Ok, Err, MatchResult}
 use Rattle.std.specs.Str.{bytes_eq}
 use Rattle.std.proofs.lemmas.Bool.{lt-ltb}
 use Rattle.std.proofs.lemmas.Bool.Decides.{nat_tests}
+use Rattle.dam_book.specs.Limits.{last_period}
 use Rattle.dam_book.specs.Period.{IsPeriod}
 use Rattle.dam_book.specs.Quantity.{IsQuantity}
 use Rattle.dam_book.specs.Volumes.{IsVolumes}
 use Rattle.dam_book.specs.Book.{is_day}
 use Rattle.dam_results.specs.Records.{Fields, form_field}
-use Rattle.dam_results.specs.Rules.{Periods, Keeps, IsLeastBroken, command_rules, form_rules, hour_rules, block_rules, submit_of, submit_rules}
-use Rattle.itoa.proofs.Decimal.{decimal_two}
+use Rattle.dam_results.specs.Rules.{IsLeastBroken, command_rules, form_rules, hour_rules, block_rules, submit_of, submit_rules}
 
--- the days by their numbers of periods
-pub cases_day : (periods : ℕ) → is_day periods ≡ true → (periods ≡ 23) ⊎ (periods ≡ 24) ⊎ (periods ≡ 25)
-cases_day periods day = grind (arith, nat_tests)
-
-pub decimal_23 : decimal 23 ≡ codes "23"
-decimal_23 = decimal_two 23 (omega arith) (omega arith) ∙ refl
-
-pub decimal_24 : decimal 24 ≡ codes "24"
-decimal_24 = decimal_two 24 (omega arith) (omega arith) ∙ refl
-
-pub decimal_25 : decimal 25 ≡ codes "25"
-decimal_25 = decimal_two 25 (omega arith) (omega arith) ∙ refl
-
-pub Keeps-Periods : (field : List ℕ) → Keeps Periods field → list_any (bytes_eq field) (codes "23" ∷ codes "24" ∷ codes "25" ∷ []) ≡ true
-Keeps-Periods field k =
-    elim (cases_day k.0 k.1) [
-      | inl a ↦ let e : field ≡ codes "23" = cc (k.2, a, decimal_23) in rw e refl
-      | inr (inl b) ↦ let e : field ≡ codes "24" = cc (k.2, b, decimal_24) in rw e refl
-      | inr (inr d) ↦ let e : field ≡ codes "25" = cc (k.2, d, decimal_25) in rw e refl
-    ]
+-- no day has more periods than the last number of a period
+pub short_day : (periods : ℕ) → is_day periods ≡ true → periods ≤ last_period
+short_day periods day = grind (arith, nat_tests)
 
 -- one pair of a period and a volume makes volumes
 pub one_volume : (period qty : ℕ) → IsPeriod period → IsQuantity qty → IsVolumes ((period, qty) ∷ [])

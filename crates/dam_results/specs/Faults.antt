@@ -1,4 +1,5 @@
--- The fault of a text that is no journal: the first one, in the order in which faults are looked for.
+-- The fault of a text that is no journal: the first one, in the order in which faults are looked
+-- for.
 use Rattle.std.specs.Prelude.{◌≡◌, ◌≢◌, ◌<◌, ◌≤◌, ◌⊎◌, ℕ, ◌+◌, List, [], ◌∷◌, ◌++◌, length, codes, Some, None}
 use Rattle.dam_book.specs.declared.command.Command.{Command}
 use Rattle.dam_results.specs.Limits.{most_bytes, most_records}
@@ -17,7 +18,9 @@ abbrev pub IsRecordFault : ℕ → Fields → JournalFault → Type 0
 IsRecordFault number row TooManyRecords = most_records < number
 IsRecordFault number row NotDay = (number ≡ 1) × (kind_field row ≢ codes "day")
 IsRecordFault number row (FieldCount at) = IsInPlace number row × (at ≡ number) × (length row ≢ 9)
-IsRecordFault number row (BadField at field) = IsInPlace number row × (at ≡ number) × (length row ≡ 9) × IsLeastBroken (rules_of number row) row field
+IsRecordFault number row (BadField at field) =
+    IsInPlace number row × (at ≡ number) × (length row ≡ 9)
+    × IsLeastBroken (rules_of number row) row field
 IsRecordFault number row TooLong = ⊥
 IsRecordFault number row (NotAscii offset) = ⊥
 IsRecordFault number row Memory = ⊥
@@ -28,7 +31,8 @@ pub record HasFault (rows : List Fields) (fault : JournalFault) : Type 0 where
   pub row : Fields
   pub rest : List Fields
   pub parts : rows ≡ front ++ row ∷ rest
-  pub fine : (front ≡ []) ⊎ ((periods : ℕ) × (commands : List Command) × AreRecords front periods commands)
+  pub fine : (front ≡ []) ⊎ ((periods : ℕ) × (commands : List Command)
+      × AreRecords front periods commands)
   pub faulty : IsRecordFault (length front + 1) row fault
 
 -- these records make no journal, and this is their first fault; of want of memory it says nothing
@@ -37,9 +41,11 @@ IsFaultOfRecords rows NotDay = (rows ≡ []) ⊎ HasFault rows NotDay
 IsFaultOfRecords rows Memory = Unit {0}
 IsFaultOfRecords rows fault = HasFault rows fault
 
--- the text is no journal, and this is its first fault; of want of memory it says only that the whole text has no fault of length or bytes
+-- the text is no journal, and this is its first fault; of want of memory it says only that the
+-- whole text has no fault of length or bytes
 abbrev pub IsFaultOf : List ℕ → JournalFault → Type 0
 IsFaultOf text TooLong = most_bytes < length text
 IsFaultOf text (NotAscii offset) = (length text ≤ most_bytes) × (first_high text ≡ Some offset)
 IsFaultOf text Memory = (length text ≤ most_bytes) × (first_high text ≡ None)
-IsFaultOf text fault = (length text ≤ most_bytes) × (first_high text ≡ None) × IsFaultOfRecords (records_of text) fault
+IsFaultOf text fault =
+    (length text ≤ most_bytes) × (first_high text ≡ None) × IsFaultOfRecords (records_of text) fault

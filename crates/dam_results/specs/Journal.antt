@@ -14,7 +14,8 @@ use Rattle.dam_results.specs.Records.{Fields, records_of, day_row, row_of}
 -- each part of a command is within its limits
 abbrev pub IsCommand : Command → Type 0
 IsCommand (Submit who name order) = IsParticipant who × IsName name × IsOrder order
-IsCommand (Amend who name price volumes) = IsParticipant who × IsName name × IsPrice price × IsVolumes volumes
+IsCommand (Amend who name price volumes) =
+    IsParticipant who × IsName name × IsPrice price × IsVolumes volumes
 IsCommand (Cancel who name) = IsParticipant who × IsName name
 IsCommand Close = Unit {0}
 
@@ -37,4 +38,6 @@ pub record ReadsAs (text : List ℕ) (periods : ℕ) (commands : List Command) :
 
 -- the text is a journal, and this is made of its periods and commands
 abbrev pub IsMadeFrom : {T : Type 0} → (ℕ → List Command → T → Type 0) → List ℕ → T → Type 0
-IsMadeFrom MadeOf text made = (periods : ℕ) × (commands : List Command) × ReadsAs text periods commands × MadeOf periods commands made
+IsMadeFrom MadeOf text made =
+    (periods : ℕ) × (commands : List Command) × ReadsAs text periods commands
+    × MadeOf periods commands made

@@ -13,12 +13,14 @@ use Rattle.dam_book.specs.declared.command.Command.TheVariants.{Submit, Amend, C
 abbrev pub Fields : Type 0
 Fields = List (List ℕ)
 
--- the records of a text, as the reader of comma-separated values has them: with the comma as delimiter, the double quote
--- as quote, no header and any number of fields; CR, LF or both end a record, and an empty line is none
+-- the records of a text, as the reader of comma-separated values has them: with the comma as
+-- delimiter, the double quote as quote, no header and any number of fields; CR, LF or both end a
+-- record, and an empty line is none
 abbrev pub records_of : List ℕ → List Fields
 records_of text = records default_config text
 
--- what stands in the first field, which says what the record is (never used where there is no field, as each record has one)
+-- what stands in the first field, which says what the record is (never used where there is no
+-- field, as each record has one)
 abbrev pub kind_field : Fields → List ℕ
 kind_field [] = []
 kind_field (f ∷ fs) = f
@@ -43,12 +45,17 @@ optional_text (Some name) = name
 
 -- the fields 4 to 9 of a submit: an hourly order has its one period and volume in field 7
 abbrev pub order_fields : Order → Fields
-order_fields (Hour o) = codes "hour" ∷ side_word o.side ∷ price_text o.price ∷ volumes_text ((o.period, o.qty) ∷ []) ∷ [] ∷ [] ∷ []
-order_fields (Block o) = codes "block" ∷ side_word o.side ∷ price_text o.price ∷ volumes_text o.volumes ∷ optional_text o.parent ∷ optional_text o.group ∷ []
+order_fields (Hour o) =
+    codes "hour" ∷ side_word o.side ∷ price_text o.price ∷ volumes_text ((o.period, o.qty) ∷ [])
+    ∷ [] ∷ [] ∷ []
+order_fields (Block o) =
+    codes "block" ∷ side_word o.side ∷ price_text o.price ∷ volumes_text o.volumes
+    ∷ optional_text o.parent ∷ optional_text o.group ∷ []
 
 -- the record of a command
 abbrev pub row_of : Command → Fields
 row_of (Submit who name order) = codes "submit" ∷ who ∷ name ∷ order_fields order
-row_of (Amend who name price volumes) = codes "amend" ∷ who ∷ name ∷ [] ∷ [] ∷ price_text price ∷ volumes_text volumes ∷ [] ∷ [] ∷ []
+row_of (Amend who name price volumes) =
+    codes "amend" ∷ who ∷ name ∷ [] ∷ [] ∷ price_text price ∷ volumes_text volumes ∷ [] ∷ [] ∷ []
 row_of (Cancel who name) = codes "cancel" ∷ who ∷ name ∷ [] ∷ [] ∷ [] ∷ [] ∷ [] ∷ [] ∷ []
 row_of Close = codes "close" ∷ [] ∷ [] ∷ [] ∷ [] ∷ [] ∷ [] ∷ [] ∷ [] ∷ []

@@ -23,8 +23,9 @@ pub data FieldRule : Type 0 where
   AllVolumes : FieldRule
   NameOrEmpty : FieldRule
 
--- the field holds it: no byte, one of these words, the number of a day's periods, a participant's code, the name of an
--- order, a price, one pair of a period and a volume, pairs of them, or a name or no byte
+-- the field holds it: no byte, one of these words, the number of a day's periods, a participant's
+-- code, the name of an order, a price, one pair of a period and a volume, pairs of them, or a name
+-- or no byte
 abbrev pub Keeps : FieldRule → List ℕ → Type 0
 Keeps Empty field = field ≡ []
 Keeps (OneOf words) field = list_any (bytes_eq field) words ≡ true
@@ -32,7 +33,9 @@ Keeps Periods field = (periods : ℕ) × (is_day periods ≡ true) × (field ≡
 Keeps Code field = IsParticipant field
 Keeps OrderName field = IsName field
 Keeps LimitPrice field = (price : ℤ) × IsPrice price × (field ≡ price_text price)
-Keeps OneVolume field = (period : ℕ) × (qty : ℕ) × IsPeriod period × IsQuantity qty × (field ≡ volumes_text ((period, qty) ∷ []))
+Keeps OneVolume field =
+    (period : ℕ) × (qty : ℕ) × IsPeriod period × IsQuantity qty
+    × (field ≡ volumes_text ((period, qty) ∷ []))
 Keeps AllVolumes field = (volumes : List Pair) × IsVolumes volumes × (field ≡ volumes_text volumes)
 Keeps NameOrEmpty field = (field ≡ []) ⊎ IsName field
 
@@ -41,15 +44,20 @@ abbrev pub word : List ℕ → FieldRule
 word text = OneOf (text ∷ [])
 
 abbrev pub day_rules : List FieldRule
-day_rules = word (codes "day") ∷ Periods ∷ Empty ∷ Empty ∷ Empty ∷ Empty ∷ Empty ∷ Empty ∷ Empty ∷ []
+day_rules =
+    word (codes "day") ∷ Periods ∷ Empty ∷ Empty ∷ Empty ∷ Empty ∷ Empty ∷ Empty ∷ Empty ∷ []
 
 -- the rules of the fields 4 to 9 of a submit of an hourly order
 abbrev pub hour_rules : List FieldRule
-hour_rules = word (codes "hour") ∷ OneOf (codes "buy" ∷ codes "sell" ∷ []) ∷ LimitPrice ∷ OneVolume ∷ Empty ∷ Empty ∷ []
+hour_rules =
+    word (codes "hour") ∷ OneOf (codes "buy" ∷ codes "sell" ∷ []) ∷ LimitPrice ∷ OneVolume ∷ Empty
+    ∷ Empty ∷ []
 
 -- the same of a block
 abbrev pub block_rules : List FieldRule
-block_rules = word (codes "block") ∷ OneOf (codes "buy" ∷ codes "sell" ∷ []) ∷ LimitPrice ∷ AllVolumes ∷ NameOrEmpty ∷ NameOrEmpty ∷ []
+block_rules =
+    word (codes "block") ∷ OneOf (codes "buy" ∷ codes "sell" ∷ []) ∷ LimitPrice ∷ AllVolumes
+    ∷ NameOrEmpty ∷ NameOrEmpty ∷ []
 
 -- the same by what stands in field 4; where that is no form of an order, it breaks the one rule
 abbrev pub form_rules : List ℕ → List FieldRule
@@ -66,15 +74,20 @@ abbrev pub submit_rules : Fields → List FieldRule
 submit_rules row = submit_of (form_rules (form_field row))
 
 abbrev pub amend_rules : List FieldRule
-amend_rules = word (codes "amend") ∷ Code ∷ OrderName ∷ Empty ∷ Empty ∷ LimitPrice ∷ AllVolumes ∷ Empty ∷ Empty ∷ []
+amend_rules =
+    word (codes "amend") ∷ Code ∷ OrderName ∷ Empty ∷ Empty ∷ LimitPrice ∷ AllVolumes ∷ Empty
+    ∷ Empty ∷ []
 
 abbrev pub cancel_rules : List FieldRule
-cancel_rules = word (codes "cancel") ∷ Code ∷ OrderName ∷ Empty ∷ Empty ∷ Empty ∷ Empty ∷ Empty ∷ Empty ∷ []
+cancel_rules =
+    word (codes "cancel") ∷ Code ∷ OrderName ∷ Empty ∷ Empty ∷ Empty ∷ Empty ∷ Empty ∷ Empty ∷ []
 
 abbrev pub close_rules : List FieldRule
-close_rules = word (codes "close") ∷ Empty ∷ Empty ∷ Empty ∷ Empty ∷ Empty ∷ Empty ∷ Empty ∷ Empty ∷ []
+close_rules =
+    word (codes "close") ∷ Empty ∷ Empty ∷ Empty ∷ Empty ∷ Empty ∷ Empty ∷ Empty ∷ Empty ∷ []
 
--- the rules of a later record than the first, by the kind in its first field; where that is no kind, it breaks the one rule
+-- the rules of a later record than the first, by the kind in its first field; where that is no
+-- kind, it breaks the one rule
 abbrev pub command_rules : Fields → List FieldRule
 command_rules row =
     if bytes_eq (kind_field row) (codes "submit") then submit_rules row
@@ -90,5 +103,6 @@ rules_of number row = if number == 1 then day_rules else command_rules row
 -- the field of that number, counted from 1, breaks its rule, and those in front of it keep theirs
 abbrev pub IsLeastBroken : List FieldRule → Fields → ℕ → Type 0
 IsLeastBroken (rule ∷ rules) (field ∷ fields) (suc zero) = ¬ (Keeps rule field)
-IsLeastBroken (rule ∷ rules) (field ∷ fields) (suc (suc n)) = Keeps rule field × IsLeastBroken rules fields (suc n)
+IsLeastBroken (rule ∷ rules) (field ∷ fields) (suc (suc n)) =
+    Keeps rule field × IsLeastBroken rules fields (suc n)
 IsLeastBroken rules fields n = ⊥

@@ -1,4 +1,5 @@
--- Which texts spell the same records: fields may stand in quotes, lines may end in three ways, and there may be empty lines.
+-- Which texts spell the same records: fields may stand in quotes, lines may end in three ways, and
+-- there may be empty lines.
 use Rattle.std.specs.Prelude.{ℕ, List, [], ◌∷◌, ◌++◌}
 use Rattle.csv.specs.Machine.{carriage_return, line_feed}
 use Rattle.csv.specs.Writing.{comma, quote_mark}
@@ -18,11 +19,15 @@ pub data IsSpelledField : List ℕ → List ℕ → Type 0 where
 -- the fields of a record, with a comma between each two
 pub data IsSpelledRow : Fields → List ℕ → Type 0 where
   One : (field text : List ℕ) → IsSpelledField field text → IsSpelledRow (field ∷ []) text
-  More : (field text : List ℕ) (fields : Fields) (others : List ℕ) → IsSpelledField field text → IsSpelledRow fields others → IsSpelledRow (field ∷ fields) (text ++ comma ∷ others)
+  More : (field text : List ℕ) (fields : Fields) (others : List ℕ) → IsSpelledField field text
+      → IsSpelledRow fields others → IsSpelledRow (field ∷ fields) (text ++ comma ∷ others)
 
--- the records, each ended by a line end or the last one by the end of the text, with empty lines anywhere
+-- the records, each ended by a line end or the last one by the end of the text, with empty lines
+-- anywhere
 pub data IsSpelled : List Fields → List ℕ → Type 0 where
   Nothing : IsSpelled [] []
-  EmptyLine : (rows : List Fields) (end rest : List ℕ) → IsLineEnd end → IsSpelled rows rest → IsSpelled rows (end ++ rest)
-  Record : (row : Fields) (rows : List Fields) (line end rest : List ℕ) → IsSpelledRow row line → IsLineEnd end → IsSpelled rows rest → IsSpelled (row ∷ rows) (line ++ (end ++ rest))
+  EmptyLine : (rows : List Fields) (end rest : List ℕ) → IsLineEnd end → IsSpelled rows rest
+      → IsSpelled rows (end ++ rest)
+  Record : (row : Fields) (rows : List Fields) (line end rest : List ℕ) → IsSpelledRow row line
+      → IsLineEnd end → IsSpelled rows rest → IsSpelled (row ∷ rows) (line ++ (end ++ rest))
   LastRecord : (row : Fields) (line : List ℕ) → IsSpelledRow row line → IsSpelled (row ∷ []) line

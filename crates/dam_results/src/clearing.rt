@@ -1,12 +1,12 @@
 //! Clearing the periods of the day under a selection.
 
-ghost use Rattle.std.specs.Prelude.{◌≡◌, ◌+◌, ◌-◌, ◌<◌, pos, map, IfOk};
+ghost use Rattle.std.specs.Prelude.{◌≡◌, ◌-◌, pos, map, IfOk};
 ghost use Rattle.dam_blocks.specs.Eligible.{IsEligible};
 ghost use Rattle.dam_results.specs.inside.Cleared.{IsBalancedIn, IsCleared, AreCleared, volume_at};
 
 use crate::published::PeriodResult;
-use dam_blocks::{Best, MOST_PERIODS, Problem, Selection, bought_volume, net_volume};
-use dam_book::{Period, Price};
+use dam_blocks::{Best, Problem, Selection, bought_volume, net_volume};
+use dam_book::{Period, Price, laws};
 use std::alloc::{AllocError, Allocator};
 
 /// What a selection clears at, one of each for every period from the first on.
@@ -27,14 +27,6 @@ impl<A: Allocator> Clearing<A> {
         let volumes = self.executions.get(usize::from(period.get()) - 1)?;
         volumes.get(place).copied()
     }
-}
-
-/// The period at a place of the day, counted from 0.
-fn period_at(place: u8) -> Period
-    requires { place < MOST_PERIODS }
-    ensures { result ≡ place + 1 }
-{
-    Period::new(place + 1).unwrap()
 }
 
 /// Clears a period, and gives the executed volumes of its hourly orders too.
@@ -74,12 +66,13 @@ pub(crate) fn clear_day<A: Allocator + Copy, B: Allocator>(
     ensures { IfOk result (λ c. AreCleared problem.now.blocks best.selection problem.now.hours
         c.periods.items c.prices.items (map (λ v. v.items) c.executions.items)) }
 {
-    let count = problem.periods();
+    laws::days_are_short();
+    let count = usize::from(problem.periods());
     let mut periods = Vec::new(alloc);
     let mut prices = Vec::new(alloc);
     let mut executions = Vec::new(alloc);
     for place in 0..count {
-        let period = period_at(place);
+        let period = Period::at(place);
         let (result, executed) = clear_period(alloc, problem, best.selection, period)?;
         prices.push(result.price)?;
         periods.push(result)?;

@@ -11,6 +11,9 @@
 //! let text = results_text(alloc, &published)?;
 //! ```
 //!
+//! A contract sees a text as the list of its bytes, a book as its state, and results as their parts. Only
+//! tested is what the faults say, and that memory isn't said to have run out where it hasn't.
+//!
 //! The crate knows nothing of how the best selection is found, nor of readers, writers and the command
 //! line.
 #![tactic(auto)]

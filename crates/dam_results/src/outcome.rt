@@ -1,13 +1,14 @@
 //! What becomes of the orders of the book.
 
 ghost use Rattle.std.specs.Prelude.{◌<◌, ◌≤◌, map, length, IfOk};
+ghost use Rattle.dam_book.specs.Limits.{last_period};
 ghost use Rattle.dam_blocks.specs.Problem.{StandsAt};
 ghost use Rattle.dam_results.specs.Published.{HasSurplus, IsRowResult, AreRowResults};
 ghost use Rattle.dam_results.specs.inside.Cleared.{AreCleared};
 
 use crate::clearing::Clearing;
 use crate::published::RowResult;
-use dam_blocks::{MOST_PERIODS, Place, Problem, ProblemRow, Selection, surplus};
+use dam_blocks::{Place, Problem, ProblemRow, Selection, surplus};
 use dam_book::Price;
 use std::alloc::{AllocError, Allocator};
 
@@ -15,7 +16,7 @@ use std::alloc::{AllocError, Allocator};
 /// MW.
 fn surplus_at<B: Allocator>(problem: &Problem<B>, place: usize, prices: &[Price]) -> i64
     requires place { place < length problem.now.blocks }
-    requires prices { length prices.now ≤ MOST_PERIODS }
+    requires prices { length prices.now ≤ last_period }
     ensures { HasSurplus problem.now.blocks prices.now place result }
 {
     surplus(problem.block(place).unwrap(), prices)

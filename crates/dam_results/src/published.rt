@@ -20,7 +20,8 @@ pub enum RowResult {
         executed: u32,
     },
     /// A block, whether it is accepted, and its surplus at the prices, in cents per MWh times tenths of
-    /// a MW. A rejected block may have any surplus; one above 0 makes it paradoxically rejected.
+    /// a MW. A rejected block may have any surplus, one above 0 too
+    /// ("PRB reinsertion"), as where its parent or its group keeps it out.
     Block {
         who: Participant,
         name: Name,

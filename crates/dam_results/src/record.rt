@@ -1,21 +1,19 @@
-ghost use Rattle.std.specs.Prelude.{◌≡◌, ℕ, [], ◌∷◌, true, false, codes, decimal, IfSome, MatchOption, MatchResult};
-ghost use Rattle.dam_book.specs.Price.{IsPrice};
+ghost use Rattle.std.specs.Prelude.{◌≡◌, ◌≢◌, ◌<◌, ◌^◌, ℕ, [], ◌∷◌, true, false, codes, decimal, IfSome, MatchOption, MatchResult};
 ghost use Rattle.dam_book.specs.Period.{IsPeriod};
 ghost use Rattle.dam_book.specs.Quantity.{IsQuantity};
 ghost use Rattle.dam_book.specs.Name.{IsName, IsParticipant};
-ghost use Rattle.dam_book.specs.Order.{IsOrder};
 ghost use Rattle.dam_book.specs.Fields.{volumes_text};
 ghost use Rattle.dam_book.specs.Book.{is_day};
-ghost use Rattle.dam_results.specs.Records.{day_row, row_of, order_fields, optional_text, side_word};
+ghost use Rattle.dam_results.specs.Records.{day_row, optional_text, side_word};
 ghost use Rattle.dam_results.specs.inside.Row.{fields_in, ReadsCommand, ReadsOrder};
 ghost use Rattle.dam_results.specs.Rules.{OneOf, Periods, OneVolume, NameOrEmpty, Keeps, IsLeastBroken, day_rules, hour_rules, block_rules, submit_of, submit_rules, amend_rules, cancel_rules, close_rules, command_rules};
-ghost use Rattle.dam_results.specs.Journal.{IsCommand};
 
 use crate::row::Row;
 use dam_book::{
     BlockOrder, Command, HourOrder, Name, Order, Participant, Period, Qty, Side, laws, read_price,
     read_volumes,
 };
+use itoa::Buffer;
 
 // Each reader of a record answers what it says, or the number of the least field that breaks its
 // rule.
@@ -26,16 +24,36 @@ fn check(kept: bool, field: usize) -> Result<(), usize>
     if kept { Ok(()) } else { Err(field) }
 }
 
+/// The number whose text in decimal, without leading zeros, the field is.
+fn read_number(field: &[u8]) -> Option<u8>
+    ensures { MatchOption result
+        ((n : ℕ) → n < 2 ^ 8 → field.now ≢ decimal n)
+        (λ n. (n < 2 ^ 8) × (field.now ≡ decimal n)) }
+{
+    let Ok(text) = str::from_utf8(field) else {
+        return None;
+    };
+    let Ok(number) = text.parse::<u8>() else {
+        return None;
+    };
+    if Buffer::new().format(number) == text {
+        Some(number)
+    } else {
+        None
+    }
+}
+
 fn read_periods(field: &[u8]) -> Option<u8>
     ensures { MatchOption result
         (¬ (Keeps Periods field.now))
         (λ periods. (is_day periods ≡ true) × (field.now ≡ decimal periods)) }
 {
-    match field {
-        b"23" => Some(23),
-        b"24" => Some(24),
-        b"25" => Some(25),
-        _ => None,
+    laws::days_are_short();
+    let periods = read_number(field)?;
+    if dam_book::is_day(periods) {
+        Some(periods)
+    } else {
+        None
     }
 }
 

@@ -5,7 +5,7 @@ ghost use Rattle.dam_book.specs.Book.{book_after, empty_book, entries_from, is_d
 ghost use Rattle.dam_book.specs.declared.command.Command.{Command};
 ghost use Rattle.dam_results.specs.Journal.{IsMadeFrom, ReadsAs};
 ghost use Rattle.dam_results.specs.Faults.{IsFaultOf};
-ghost use Rattle.dam_results.specs.Replies.{AreReplies, day_line, replies_to, reply_line};
+ghost use Rattle.dam_results.specs.Replies.{AreReplies, day_line, reply_line};
 ghost use Rattle.dam_results.specs.Replies;
 ghost use Rattle.dam_results.specs.Run.{IsRun};
 

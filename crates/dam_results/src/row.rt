@@ -21,7 +21,7 @@ pub(crate) struct Row<'a> {
 
 impl<'a> Row<'a> {
     /// `None` where the record doesn't have nine fields.
-    #[tactic(auto, using(crate::proofs::Fields::missing))]
+    #[tactic(auto, using(crate::proofs::FieldByField::missing))]
     pub(crate) fn of(fields: &'a ByteRecord) -> Option<Row<'a>>
         ensures { MatchOption result
             (length (fields_of fields.entry.now) ≢ 9)

@@ -15,7 +15,7 @@ ghost use Rattle.dam_results.specs.Written.{journal_text};
 /// A text within the limits that spells the records of a day and of commands reads as that day and
 /// those commands, whichever fields stand in quotes, whichever line ends it uses and wherever it has
 /// empty lines.
-#[tactic(auto, using(crate::proofs::WrittenFacts::reads_spelled))]
+#[tactic(auto, using(crate::proofs::ReadBack::reads_spelled))]
 pub fn spellings_read_alike()
     ensures { (periods : ℕ) (commands : List Command) (text : List ℕ)
         → is_day periods ≡ true → AllByRecursion IsCommand commands → length commands ≤ most_entries
@@ -24,7 +24,7 @@ pub fn spellings_read_alike()
 {}
 
 /// The written journal is one of the spellings of its records.
-#[tactic(auto, using(crate::proofs::WrittenFacts::spelled_written))]
+#[tactic(auto, using(crate::proofs::ReadBack::spelled_written))]
 pub fn written_journals_are_spelled()
     ensures { (periods : ℕ) (entries : List Entry)
         → is_day periods ≡ true → AllByRecursion IsCommand (commands_of entries)
@@ -34,7 +34,7 @@ pub fn written_journals_are_spelled()
 
 /// The written journal of as many entries as a journal may hold is within the limit on bytes, and
 /// reads as its day and the commands of its entries.
-#[tactic(auto, using(crate::proofs::WrittenFacts::reads_journal_text))]
+#[tactic(auto, using(crate::proofs::ReadBack::reads_journal_text))]
 pub fn written_journals_read()
     ensures { (periods : ℕ) (entries : List Entry)
         → is_day periods ≡ true → AllByRecursion IsCommand (commands_of entries)

@@ -10,7 +10,8 @@ use Rattle.dam_blocks.specs.Problem.{ProblemState}
 use Rattle.dam_search.specs.declared.answer.PieceAnswer.{PieceAnswer}
 use Rattle.dam_search.specs.Piece.{Rises}
 use Rattle.dam_search.specs.Answer.{AreAnswered}
-use Rattle.dam_search.specs.Search.{IsWorked, answers_about, is_lesser, IsLeastUnfinished, IsLong, IsHighestFound}
+use Rattle.dam_search.specs.Search.{IsWorked, answers_about, AreOneEach, IsLeastUnfinished}
+use Rattle.dam_search.specs.inside.Collect.{is_lesser, IsLong, IsHighestFound}
 use Rattle.dam_search.proofs.Ranks.{IsTransitive, rises_twice}
 
 not_done : (b : Bool) → not b ≡ true → b ≡ false
@@ -117,7 +118,7 @@ counted p (a ∷ answers) h =
     ] refl
 
 pub answered : (problem : ProblemState) (depth nodes : ℕ) (answers : List PieceAnswer) → All (λ (a : PieceAnswer). IsWorked problem depth nodes a) answers
-    → ((q : ℕ) → q < 2 ^ depth → answers_about answers q ≡ 1) → All (λ (a : PieceAnswer). a.done ≡ true) answers → AreAnswered problem depth answers
+    → AreOneEach answers (2 ^ depth) → All (λ (a : PieceAnswer). a.done ≡ true) answers → AreAnswered problem depth answers
 answered problem depth nodes answers worked one done = record {
   sound = λ k d l. (worked k d l).sound;
   done = done;

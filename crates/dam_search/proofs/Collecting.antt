@@ -4,7 +4,7 @@ use Rattle.std.specs.List.{All, Contains}
 use Rattle.std.proofs.lemmas.Int.{ints}
 use Rattle.std.proofs.lemmas.List.{length-take-le, take-append-drop}
 use Rattle.std.proofs.lemmas.List.Elements.{All-contains, All-head, All-tail, All-weaker}
-use Rattle.dam_book.specs.declared.limits.TheConstants.{MOST_BLOCKS}
+use Rattle.dam_book.specs.Limits.{most_blocks}
 use Rattle.dam_blocks.specs.declared.selection.Best.{Best}
 use Rattle.dam_blocks.specs.Problem.{ProblemState, IsProblem}
 use Rattle.dam_blocks.specs.Selection.{choice}
@@ -24,18 +24,18 @@ abbrev pub AreChoices : Type 0
 AreChoices = (xs : List Bool) → (k : ℕ) × (k < 2 ^ length xs) × (choice (length xs) k ≡ xs)
 
 -- each selection is a completion of some piece
-pub some_piece : AreChoices → (depth : ℕ) (sel : List Bool) → depth ≤ MOST_BLOCKS → length sel ≡ MOST_BLOCKS → (k : ℕ) × (k < 2 ^ depth) × IsCompletion (choice depth k) sel
+pub some_piece : AreChoices → (depth : ℕ) (sel : List Bool) → depth ≤ most_blocks → length sel ≡ most_blocks → (k : ℕ) × (k < 2 ^ depth) × IsCompletion (choice depth k) sel
 some_piece choices depth sel few long =
-    let front : length (take depth sel) ≡ depth = length-take-le depth sel (omega (arith, few, long)) in
+    let prefix : length (take depth sel) ≡ depth = length-take-le depth sel (omega (arith, few, long)) in
     let found = choices (take depth sel) in
-    let is : choice depth found.0 ≡ take depth sel = subst (λ (n : ℕ). choice n found.0 ≡ take depth sel) front found.2 in (
+    let is : choice depth found.0 ≡ take depth sel = subst (λ (n : ℕ). choice n found.0 ≡ take depth sel) prefix found.2 in (
       found.0,
-      subst (λ (n : ℕ). found.0 < 2 ^ n) front found.1,
+      subst (λ (n : ℕ). found.0 < 2 ^ n) prefix found.1,
       record { as_long = long; rest = drop depth sel; agrees = sym (take-append-drop depth sel) ∙ ap (λ (xs : List Bool). xs ++ drop depth sel) (sym is) },
     )
 
 -- the result is matched by what the answer about its piece found
-pub result_matched : (problem : ProblemState) (depth : ℕ) (answers : List PieceAnswer) (sel : List Bool) (w : ℤ) → AreChoices → depth ≤ MOST_BLOCKS → AreAnswered problem depth answers
+pub result_matched : (problem : ProblemState) (depth : ℕ) (answers : List PieceAnswer) (sel : List Bool) (w : ℤ) → AreChoices → depth ≤ most_blocks → AreAnswered problem depth answers
     → All (λ (a : PieceAnswer). IsReached problem a.read) answers → IsResult problem sel w → (a : PieceAnswer) × Contains answers a × IsMatched w sel a.best
 result_matched problem depth answers sel w choices few are reached result =
     let piece = some_piece choices depth sel few result.eligible.as_long in
@@ -56,13 +56,13 @@ matched_found : (w : ℤ) (sel : List Bool) (best : Option Best) → IsMatched w
 matched_found w sel None h = absurd h
 matched_found w sel (Some c) h = (c, refl, h)
 
-found_eligible : (problem : ProblemState) (decided : List Bool) (best : Option Best) (b : Best) → best ≡ Some b → IsFind problem decided best → IsEligible problem b.selection (pos b.welfare)
-found_eligible problem decided best b e h = (subst (λ (o : Option Best). IsFind problem decided o) e h).1
+found_eligible : (problem : ProblemState) (prefix : List Bool) (best : Option Best) (b : Best) → best ≡ Some b → IsFind problem prefix best → IsEligible problem b.selection (pos b.welfare)
+found_eligible problem prefix best b e h = (subst (λ (o : Option Best). IsFind problem prefix o) e h).1
 
 pub collected : (problem : ProblemState) (depth : ℕ) (answers : List PieceAnswer) (b : Best) → IsSolvable → AreChoices → IsTransitive → IsProblem problem → depth ≤ length problem.blocks
     → AreAnswered problem depth answers → All (λ (a : PieceAnswer). IsReached problem a.read) answers → IsHighest answers b → IsResult problem b.selection (pos b.welfare)
 collected problem depth answers b solvable choices through is deep are reached highest =
-    let few : depth ≤ MOST_BLOCKS = omega (arith, deep, is.few_blocks) in
+    let few : depth ≤ most_blocks = omega (arith, deep, is.few_blocks) in
     let best = solvable problem is in
     let sel = best.0 in let w = best.1.0 in let result = best.1.1 in
     let answer = result_matched problem depth answers sel w choices few are reached result in
@@ -85,7 +85,7 @@ collected problem depth answers b solvable choices through is deep are reached h
 pub some_found : (problem : ProblemState) (depth : ℕ) (answers : List PieceAnswer) → IsSolvable → AreChoices → IsProblem problem → depth ≤ length problem.blocks
     → AreAnswered problem depth answers → All (λ (a : PieceAnswer). IsReached problem a.read) answers → All (λ (a : PieceAnswer). a.best ≡ None) answers → ⊥
 some_found problem depth answers solvable choices is deep are reached none =
-    let few : depth ≤ MOST_BLOCKS = omega (arith, deep, is.few_blocks) in
+    let few : depth ≤ most_blocks = omega (arith, deep, is.few_blocks) in
     let best = solvable problem is in
     let answer = result_matched problem depth answers best.0 best.1.0 choices few are reached best.1.1 in
     let nothing = All-contains (λ (x : PieceAnswer). x.best ≡ None) answers answer.0 none answer.1 in
@@ -106,9 +106,9 @@ reached_greater problem a b r s = either (le_or_gt a b)
     either (inl h) = reached_less problem a (max a b) h r
     either (inr h) = reached_less problem b (max a b) h s
 
-pub reached_found : (problem : ProblemState) (decided : List Bool) (best : Option Best) → IsReached problem 0 → IsFind problem decided best → IsReached problem (welfare_found best)
-reached_found problem decided None zero_reached h = zero_reached
-reached_found problem decided (Some b) zero_reached h = record { selection = b.selection; welfare = pos b.welfare; eligible = h.1; reaches = omega (arith, ints) }
+pub reached_found : (problem : ProblemState) (prefix : List Bool) (best : Option Best) → IsReached problem 0 → IsFind problem prefix best → IsReached problem (welfare_found best)
+reached_found problem prefix None zero_reached h = zero_reached
+reached_found problem prefix (Some b) zero_reached h = record { selection = b.selection; welfare = pos b.welfare; eligible = h.1; reaches = omega (arith, ints) }
 
 pub reached_greatest : (problem : ProblemState) (depth : ℕ) (answers : List PieceAnswer) → IsReached problem 0 → All (λ (a : PieceAnswer). IsSoundAnswer problem depth a) answers
     → IsReached problem (greatest_found answers)
@@ -128,8 +128,8 @@ all_reached problem answers value r all =
 
 -- ---- a worker's answer
 
-pub spent_less : (problem : ProblemState) (decided : List Bool) (left told nodes visited : ℕ) (done : Bool) → IsSpent problem decided left told nodes visited done → IsSpent problem decided left 0 nodes visited done
-spent_less problem decided left told nodes visited done s = record {
+pub spent_less : (problem : ProblemState) (prefix : List Bool) (left told nodes visited : ℕ) (done : Bool) → IsSpent problem prefix left told nodes visited done → IsSpent problem prefix left 0 nodes visited done
+spent_less problem prefix left told nodes visited done s = record {
   within = s.within;
   all = s.all;
   live = λ v h. s.live v (omega (arith, h));
@@ -138,6 +138,6 @@ spent_less problem decided left told nodes visited done s = record {
   done_by_live = λ v h. s.done_by_live v (omega (arith, h));
 }
 
-pub reached_next : (problem : ProblemState) (decided : List Bool) (best : Option Best) (top next : ℕ) → IsReached problem top → IsFind problem decided best → next ≡ max top (welfare_found best) → IsReached problem next
-reached_next problem decided best top next r find e =
-    subst (λ (n : ℕ). IsReached problem n) (sym e) (reached_greater problem top (welfare_found best) r (reached_found problem decided best (reached_less problem top 0 (omega arith) r) find))
+pub reached_next : (problem : ProblemState) (prefix : List Bool) (best : Option Best) (top next : ℕ) → IsReached problem top → IsFind problem prefix best → next ≡ max top (welfare_found best) → IsReached problem next
+reached_next problem prefix best top next r find e =
+    subst (λ (n : ℕ). IsReached problem n) (sym e) (reached_greater problem top (welfare_found best) r (reached_found problem prefix best (reached_less problem top 0 (omega arith) r) find))

@@ -1,14 +1,14 @@
 -- The order of selections, and what is found as it rises.
 use Rattle.std.proofs.Common.{◌≡◌, ℕ, ◌≤◌, ◌<◌, ◌⊎◌, inl, inr, ℤ, pos, Bool, true, false, Option, Some, None, List, [], ◌∷◌, ◌++◌, length, append_assoc, ◌∙◌, sym, subst, refl, arith}
 use Rattle.std.proofs.lemmas.Int.{ints}
-use Rattle.dam_book.specs.declared.limits.TheConstants.{MOST_BLOCKS}
+use Rattle.dam_book.specs.Limits.{most_blocks}
 use Rattle.dam_blocks.specs.declared.selection.Best.{Best}
 use Rattle.dam_blocks.specs.Problem.{ProblemState}
 use Rattle.dam_blocks.specs.Result.{accepts_first, RanksAbove, RanksAtOrBelow}
 use Rattle.dam_bound.specs.Prefix.{IsCompletion}
 use Rattle.dam_search.specs.Piece.{IsFind, IsMatched, Rises, welfare_found}
-use Rattle.dam_search.specs.Walk.{Finds, Covers}
-use Rattle.dam_search.specs.Search.{IsLong}
+use Rattle.dam_search.specs.inside.Walk.{Finds, Covers}
+use Rattle.dam_search.specs.inside.Collect.{IsLong}
 
 turned : (xs ys : List Bool) → accepts_first xs ys ≡ true → accepts_first ys xs ≡ false
 turned [] ys e = absurd (cc)
@@ -33,7 +33,7 @@ ranks_with_itself v xs = record { by_welfare = omega (arith, ints); by_order = �
 
 -- the law of dam_blocks on three selections
 abbrev pub IsTransitive : Type 0
-IsTransitive = (u v w : ℤ) (xs ys zs : List Bool) → length xs ≡ MOST_BLOCKS → length ys ≡ MOST_BLOCKS → length zs ≡ MOST_BLOCKS
+IsTransitive = (u v w : ℤ) (xs ys zs : List Bool) → length xs ≡ most_blocks → length ys ≡ most_blocks → length zs ≡ most_blocks
     → RanksAtOrBelow u xs v ys → RanksAtOrBelow v ys w zs → RanksAtOrBelow u xs w zs
 
 -- ---- what is found
@@ -47,11 +47,11 @@ welfare_rises None b h = omega arith
 welfare_rises (Some a) None h = absurd h
 welfare_rises (Some a) (Some b) h = let by = h.by_welfare in omega (arith, ints, by)
 
-pub long_find : (problem : ProblemState) (decided : List Bool) (best : Option Best) → IsFind problem decided best → IsLong best
-long_find problem decided None h = tt
-long_find problem decided (Some b) h = h.0.as_long
+pub long_find : (problem : ProblemState) (prefix : List Bool) (best : Option Best) → IsFind problem prefix best → IsLong best
+long_find problem prefix None h = tt
+long_find problem prefix (Some b) h = h.0.as_long
 
-pub matched_rises : (w : ℤ) (sel : List Bool) (a b : Option Best) → IsTransitive → length sel ≡ MOST_BLOCKS → IsLong a → IsLong b → IsMatched w sel a → Rises a b → IsMatched w sel b
+pub matched_rises : (w : ℤ) (sel : List Bool) (a b : Option Best) → IsTransitive → length sel ≡ most_blocks → IsLong a → IsLong b → IsMatched w sel a → Rises a b → IsMatched w sel b
 matched_rises w sel None b through long la lb m h = absurd m
 matched_rises w sel (Some a) None through long la lb m h = absurd h
 matched_rises w sel (Some a) (Some b) through long la lb m h = through w (pos a.welfare) (pos b.welfare) sel a.selection b.selection long la lb m h
@@ -62,38 +62,38 @@ rises_twice (Some a) b c through la lb lc h g = matched_rises (pos a.welfare) a.
 
 -- ---- what is found among fewer completions
 
-pub shorter : (decided extra sel : List Bool) → IsCompletion (decided ++ extra) sel → IsCompletion decided sel
-shorter decided extra sel h = record { as_long = h.as_long; rest = extra ++ h.rest; agrees = h.agrees ∙ append_assoc decided extra h.rest }
+pub shorter : (prefix extra sel : List Bool) → IsCompletion (prefix ++ extra) sel → IsCompletion prefix sel
+shorter prefix extra sel h = record { as_long = h.as_long; rest = extra ++ h.rest; agrees = h.agrees ∙ append_assoc prefix extra h.rest }
 
-pub any_find : (problem : ProblemState) (decided : List Bool) (best : Option Best) → IsFind problem decided best → IsFind problem [] best
-any_find problem decided None h = tt
-any_find problem decided (Some b) h = (record { as_long = h.0.as_long; rest = b.selection; agrees = refl }, h.1)
+pub any_find : (problem : ProblemState) (prefix : List Bool) (best : Option Best) → IsFind problem prefix best → IsFind problem [] best
+any_find problem prefix None h = tt
+any_find problem prefix (Some b) h = (record { as_long = h.0.as_long; rest = b.selection; agrees = refl }, h.1)
 
-shorter_find : (problem : ProblemState) (decided extra : List Bool) (best : Option Best) → IsFind problem (decided ++ extra) best → IsFind problem decided best
-shorter_find problem decided extra None h = tt
-shorter_find problem decided extra (Some b) h = (shorter decided extra b.selection h.0, h.1)
+shorter_find : (problem : ProblemState) (prefix extra : List Bool) (best : Option Best) → IsFind problem (prefix ++ extra) best → IsFind problem prefix best
+shorter_find problem prefix extra None h = tt
+shorter_find problem prefix extra (Some b) h = (shorter prefix extra b.selection h.0, h.1)
 
-pub found_after : (problem : ProblemState) (decided : List Bool) (a b : Option Best) → IsFind problem [] a → Finds problem decided a b → IsFind problem [] b
-found_after problem decided a b find f =
+pub found_after : (problem : ProblemState) (prefix : List Bool) (a b : Option Best) → IsFind problem [] a → Finds problem prefix a b → IsFind problem [] b
+found_after problem prefix a b find f =
     elim f.found [
       | inl e ↦ subst (λ (o : Option Best). IsFind problem [] o) (sym e) find
-      | inr g ↦ any_find problem decided b g
+      | inr g ↦ any_find problem prefix b g
     ]
 
-pub finds_nothing : (problem : ProblemState) (decided : List Bool) (best : Option Best) → Finds problem decided best best
-finds_nothing problem decided best = record { found = inl refl; rises = stays best }
+pub finds_nothing : (problem : ProblemState) (prefix : List Bool) (best : Option Best) → Finds problem prefix best best
+finds_nothing problem prefix best = record { found = inl refl; rises = stays best }
 
-pub finds_shorter : (problem : ProblemState) (decided extra : List Bool) (a b : Option Best) → Finds problem (decided ++ extra) a b → Finds problem decided a b
-finds_shorter problem decided extra a b f =
-    record { found = elim f.found [ inl e ↦ inl e | inr g ↦ inr (shorter_find problem decided extra b g) ]; rises = f.rises }
+pub finds_shorter : (problem : ProblemState) (prefix extra : List Bool) (a b : Option Best) → Finds problem (prefix ++ extra) a b → Finds problem prefix a b
+finds_shorter problem prefix extra a b f =
+    record { found = elim f.found [ inl e ↦ inl e | inr g ↦ inr (shorter_find problem prefix extra b g) ]; rises = f.rises }
 
-pub finds_twice : (problem : ProblemState) (decided : List Bool) (a b c : Option Best) → IsTransitive → IsFind problem [] a → Finds problem decided a b → Finds problem decided b c → Finds problem decided a c
-finds_twice problem decided a b c through find f g =
-    let find_b = found_after problem decided a b find f in
-    let find_c = found_after problem decided b c find_b g in
+pub finds_twice : (problem : ProblemState) (prefix : List Bool) (a b c : Option Best) → IsTransitive → IsFind problem [] a → Finds problem prefix a b → Finds problem prefix b c → Finds problem prefix a c
+finds_twice problem prefix a b c through find f g =
+    let find_b = found_after problem prefix a b find f in
+    let find_c = found_after problem prefix b c find_b g in
     record {
       found = elim g.found [
-        | inl e ↦ elim f.found [ inl d ↦ inl (e ∙ d) | inr h ↦ inr (subst (λ (o : Option Best). IsFind problem decided o) (sym e) h) ]
+        | inl e ↦ elim f.found [ inl d ↦ inl (e ∙ d) | inr h ↦ inr (subst (λ (o : Option Best). IsFind problem prefix o) (sym e) h) ]
         | inr h ↦ inr h
       ];
       rises = rises_twice a b c through (long_find problem [] a find) (long_find problem [] b find_b) (long_find problem [] c find_c) f.rises g.rises;
@@ -101,24 +101,24 @@ finds_twice problem decided a b c through find f g =
 
 -- the law of dam_bound on the completions of a prefix
 abbrev pub AreExtended : Type 0
-AreExtended = (decided sel : List Bool) → length decided < MOST_BLOCKS → IsCompletion decided sel → IsCompletion (decided ++ true ∷ []) sel ⊎ IsCompletion (decided ++ false ∷ []) sel
+AreExtended = (prefix sel : List Bool) → length prefix < most_blocks → IsCompletion prefix sel → IsCompletion (prefix ++ true ∷ []) sel ⊎ IsCompletion (prefix ++ false ∷ []) sel
 
 -- what is covered stays so as the value read and what is found rise
-covers_rises : (problem : ProblemState) (decided : List Bool) (a b : Option Best) (read next : ℕ) → IsTransitive → IsFind problem [] a → IsFind problem [] b
-    → Covers problem decided a read → Rises a b → read ≤ next → Covers problem decided b next
-covers_rises problem decided a b read next through find find' covers h more sel w whole e =
+covers_rises : (problem : ProblemState) (prefix : List Bool) (a b : Option Best) (read next : ℕ) → IsTransitive → IsFind problem [] a → IsFind problem [] b
+    → Covers problem prefix a read → Rises a b → read ≤ next → Covers problem prefix b next
+covers_rises problem prefix a b read next through find find' covers h more sel w whole e =
     elim (covers sel w whole e) [
       | inl less ↦ inl (omega (arith, ints, less, more))
       | inr m ↦ inr (matched_rises w sel a b through e.as_long (long_find problem [] a find) (long_find problem [] b find') m h)
     ]
 
-pub covers_both : (problem : ProblemState) (decided : List Bool) (a b c : Option Best) (read next : ℕ) → IsTransitive → AreExtended → length decided < MOST_BLOCKS → IsFind problem [] a
-    → Finds problem (decided ++ false ∷ []) a b → Covers problem (decided ++ false ∷ []) b read
-    → Finds problem (decided ++ true ∷ []) b c → Covers problem (decided ++ true ∷ []) c next → read ≤ next → Covers problem decided c next
-covers_both problem decided a b c read next through extended few find f first g second more sel w whole e =
-    let find_b = found_after problem (decided ++ false ∷ []) a b find f in
-    let find_c = found_after problem (decided ++ true ∷ []) b c find_b g in
-    elim (extended decided sel few whole) [
+pub covers_both : (problem : ProblemState) (prefix : List Bool) (a b c : Option Best) (read next : ℕ) → IsTransitive → AreExtended → length prefix < most_blocks → IsFind problem [] a
+    → Finds problem (prefix ++ false ∷ []) a b → Covers problem (prefix ++ false ∷ []) b read
+    → Finds problem (prefix ++ true ∷ []) b c → Covers problem (prefix ++ true ∷ []) c next → read ≤ next → Covers problem prefix c next
+covers_both problem prefix a b c read next through extended few find f first g second more sel w whole e =
+    let find_b = found_after problem (prefix ++ false ∷ []) a b find f in
+    let find_c = found_after problem (prefix ++ true ∷ []) b c find_b g in
+    elim (extended prefix sel few whole) [
       | inl accepted ↦ second sel w accepted e
-      | inr rejected ↦ covers_rises problem (decided ++ false ∷ []) b c read next through find_b find_c first g.rises more sel w rejected e
+      | inr rejected ↦ covers_rises problem (prefix ++ false ∷ []) b c read next through find_b find_c first g.rises more sel w rejected e
     ]

@@ -6,8 +6,8 @@ use Rattle.std.proofs.Math.Nat.{two-pow-succ}
 use Rattle.dam_blocks.specs.Problem.{ProblemState}
 use Rattle.dam_bound.specs.Relaxed.{relaxed_welfare, reaches, live_count}
 use Rattle.dam_search.specs.Piece.{IsSpent}
-use Rattle.dam_search.specs.Walk.{Spends}
-use Rattle.dam_search.proofs.Fronts.{length_more}
+use Rattle.dam_search.specs.inside.Walk.{Spends}
+use Rattle.dam_search.proofs.Prefixes.{length_more}
 
 -- a power of two twice over
 doubled : (n : ℕ) → 2 ^ (n + 1) ≡ 2 ^ n + 2 ^ n
@@ -22,16 +22,16 @@ reaches_less None value less h e = e
 reaches_less (Some (pos n)) value less h e = grind (arith, nat_tests)
 reaches_less (Some (negsuc n)) value less h e = absurd (cc)
 
-pub live_here : (problem : ProblemState) (decided : List Bool) (value least left next : ℕ) → value ≤ least → reaches (relaxed_welfare problem decided) least ≡ true → left ≡ suc next
-    → live_count problem value decided left ≡ live_count problem value (decided ++ true ∷ []) next + live_count problem value (decided ++ false ∷ []) next + 1
-live_here problem decided value least left next h r e =
-    let alive = reaches_less (relaxed_welfare problem decided) least value h r in
-    ap (λ (n : ℕ). live_count problem value decided n) e
-    ∙ ap (λ (b : Bool). live_count problem value (decided ++ true ∷ []) next + live_count problem value (decided ++ false ∷ []) next + (if b then 1 else 0)) alive
+pub live_here : (problem : ProblemState) (prefix : List Bool) (value least left next : ℕ) → value ≤ least → reaches (relaxed_welfare problem prefix) least ≡ true → left ≡ suc next
+    → live_count problem value prefix left ≡ live_count problem value (prefix ++ true ∷ []) next + live_count problem value (prefix ++ false ∷ []) next + 1
+live_here problem prefix value least left next h r e =
+    let alive = reaches_less (relaxed_welfare problem prefix) least value h r in
+    ap (λ (n : ℕ). live_count problem value prefix n) e
+    ∙ ap (λ (b : Bool). live_count problem value (prefix ++ true ∷ []) next + live_count problem value (prefix ++ false ∷ []) next + (if b then 1 else 0)) alive
 
 -- the limit was met before the node
-pub spends_none : (problem : ProblemState) (decided : List Bool) (left told nodes before : ℕ) → before ≡ nodes → Spends problem decided left told nodes before before false
-spends_none problem decided left told nodes before e =
+pub spends_none : (problem : ProblemState) (prefix : List Bool) (left told nodes before : ℕ) → before ≡ nodes → Spends problem prefix left told nodes before before false
+spends_none problem prefix left told nodes before e =
     let some = two_or_more left in
     record {
       grows = omega arith;
@@ -44,8 +44,8 @@ spends_none problem decided left told nodes before e =
     }
 
 -- the node alone was visited
-pub spends_one : (problem : ProblemState) (decided : List Bool) (left told nodes before : ℕ) → before < nodes → Spends problem decided left told nodes before (before + 1) true
-spends_one problem decided left told nodes before h =
+pub spends_one : (problem : ProblemState) (prefix : List Bool) (left told nodes before : ℕ) → before < nodes → Spends problem prefix left told nodes before (before + 1) true
+spends_one problem prefix left told nodes before h =
     let some = two_or_more left in
     record {
       grows = omega arith;
@@ -58,65 +58,65 @@ spends_one problem decided left told nodes before h =
     }
 
 -- one block less is undecided
-one_less : (n : ℕ) (decided : List Bool) (b : Bool) → length decided < n → n - length decided ≡ suc (n - length (decided ++ b ∷ []))
-one_less n decided b h = omega (arith, length_more decided b)
+one_less : (n : ℕ) (prefix : List Bool) (b : Bool) → length prefix < n → n - length prefix ≡ suc (n - length (prefix ++ b ∷ []))
+one_less n prefix b h = omega (arith, length_more prefix b)
 
-twice_over : (n : ℕ) (decided : List Bool) (b : Bool) → length decided < n
-    → 2 ^ (n - length decided + 1) ≡ 2 ^ (n - length (decided ++ b ∷ []) + 1) + 2 ^ (n - length (decided ++ b ∷ []) + 1)
-twice_over n decided b h = ap (λ (k : ℕ). 2 ^ (k + 1)) (one_less n decided b h) ∙ ap (λ (k : ℕ). 2 ^ k) (more (n - length (decided ++ b ∷ []))) ∙ doubled (n - length (decided ++ b ∷ []) + 1)
+twice_over : (n : ℕ) (prefix : List Bool) (b : Bool) → length prefix < n
+    → 2 ^ (n - length prefix + 1) ≡ 2 ^ (n - length (prefix ++ b ∷ []) + 1) + 2 ^ (n - length (prefix ++ b ∷ []) + 1)
+twice_over n prefix b h = ap (λ (k : ℕ). 2 ^ (k + 1)) (one_less n prefix b h) ∙ ap (λ (k : ℕ). 2 ^ k) (more (n - length (prefix ++ b ∷ []))) ∙ doubled (n - length (prefix ++ b ∷ []) + 1)
   where
     more : (k : ℕ) → suc k + 1 ≡ (k + 1) + 1
     more k = omega arith
 
 -- the node and the first of its extensions, where the limit was met
-pub spends_first : (problem : ProblemState) (decided : List Bool) (n told least nodes before after : ℕ) → length decided < n → told ≤ least → reaches (relaxed_welfare problem decided) least ≡ true
-    → Spends problem (decided ++ false ∷ []) (n - length (decided ++ false ∷ [])) least nodes (before + 1) after false → Spends problem decided (n - length decided) told nodes before after false
-spends_first problem decided n told least nodes before after few h r s =
-    let next = n - length (decided ++ false ∷ []) in
-    let less = one_less n decided false few in
-    let twice = twice_over n decided false few in
+pub spends_first : (problem : ProblemState) (prefix : List Bool) (n told least nodes before after : ℕ) → length prefix < n → told ≤ least → reaches (relaxed_welfare problem prefix) least ≡ true
+    → Spends problem (prefix ++ false ∷ []) (n - length (prefix ++ false ∷ [])) least nodes (before + 1) after false → Spends problem prefix (n - length prefix) told nodes before after false
+spends_first problem prefix n told least nodes before after few h r s =
+    let next = n - length (prefix ++ false ∷ []) in
+    let less = one_less n prefix false few in
+    let twice = twice_over n prefix false few in
     let some = two_or_more next in
     let grows = s.grows in let all = s.all in let over = s.over_all refl in
     record {
       grows = omega (arith, grows);
       within = s.within;
       all = omega (arith, all, twice, some);
-      live = λ v m. (let m' : v ≤ least = omega (arith, m, h) in let l = s.live v m' in let here = live_here problem decided v least (n - length decided) next m' r less in omega (arith, l, here));
+      live = λ v m. (let m' : v ≤ least = omega (arith, m, h) in let l = s.live v m' in let here = live_here problem prefix v least (n - length prefix) next m' r less in omega (arith, l, here));
       unfinished = λ f. s.unfinished refl;
       over_all = λ f. omega (arith, over, twice, some);
       over_live = λ f v m. (let m' : v ≤ least = omega (arith, m, h) in let l = s.over_live refl v m' in
-          let here = live_here problem decided v least (n - length decided) next m' r less in omega (arith, l, here));
+          let here = live_here problem prefix v least (n - length prefix) next m' r less in omega (arith, l, here));
     }
 
 -- the node and both of its extensions
-pub spends_both : (problem : ProblemState) (decided : List Bool) (n told least later nodes before middle after : ℕ) (done : Bool) → length decided < n → told ≤ least → least ≤ later
-    → reaches (relaxed_welfare problem decided) least ≡ true
-    → Spends problem (decided ++ false ∷ []) (n - length (decided ++ false ∷ [])) least nodes (before + 1) middle true
-    → Spends problem (decided ++ true ∷ []) (n - length (decided ++ true ∷ [])) later nodes middle after done
-    → Spends problem decided (n - length decided) told nodes before after done
-spends_both problem decided n told least later nodes before middle after done few h h' r s t' =
-    let next = n - length (decided ++ false ∷ []) in
-    let same : n - length (decided ++ true ∷ []) ≡ next = omega (arith, one_less n decided false few, one_less n decided true few) in
-    let t = subst (λ (k : ℕ). Spends problem (decided ++ true ∷ []) k later nodes middle after done) same t' in
-    let less = one_less n decided false few in
-    let twice = twice_over n decided false few in
+pub spends_both : (problem : ProblemState) (prefix : List Bool) (n told least later nodes before middle after : ℕ) (done : Bool) → length prefix < n → told ≤ least → least ≤ later
+    → reaches (relaxed_welfare problem prefix) least ≡ true
+    → Spends problem (prefix ++ false ∷ []) (n - length (prefix ++ false ∷ [])) least nodes (before + 1) middle true
+    → Spends problem (prefix ++ true ∷ []) (n - length (prefix ++ true ∷ [])) later nodes middle after done
+    → Spends problem prefix (n - length prefix) told nodes before after done
+spends_both problem prefix n told least later nodes before middle after done few h h' r s t' =
+    let next = n - length (prefix ++ false ∷ []) in
+    let same : n - length (prefix ++ true ∷ []) ≡ next = omega (arith, one_less n prefix false few, one_less n prefix true few) in
+    let t = subst (λ (k : ℕ). Spends problem (prefix ++ true ∷ []) k later nodes middle after done) same t' in
+    let less = one_less n prefix false few in
+    let twice = twice_over n prefix false few in
     let grows = s.grows in let grows' = t.grows in let all = s.all in let all' = t.all in
     record {
       grows = omega (arith, grows, grows');
       within = t.within;
       all = omega (arith, all, all', twice);
       live = λ v m. (let m' : v ≤ least = omega (arith, m, h) in let l' : v ≤ later = omega (arith, m', h') in
-          let one = s.live v m' in let two = t.live v l' in let here = live_here problem decided v least (n - length decided) next m' r less in omega (arith, one, two, here));
+          let one = s.live v m' in let two = t.live v l' in let here = live_here problem prefix v least (n - length prefix) next m' r less in omega (arith, one, two, here));
       unfinished = t.unfinished;
       over_all = λ f. (let over = t.over_all f in omega (arith, over, all, twice));
       over_live = λ f v m. (let m' : v ≤ least = omega (arith, m, h) in let l' : v ≤ later = omega (arith, m', h') in
-          let one = s.live v m' in let two = t.over_live f v l' in let here = live_here problem decided v least (n - length decided) next m' r less in omega (arith, one, two, here));
+          let one = s.live v m' in let two = t.over_live f v l' in let here = live_here problem prefix v least (n - length prefix) next m' r less in omega (arith, one, two, here));
     }
 
 -- a whole walk, before which nothing was visited
-pub spent_from : (problem : ProblemState) (decided : List Bool) (left told nodes visited : ℕ) (done : Bool) → Spends problem decided left told nodes 0 visited done
-    → IsSpent problem decided left told nodes visited done
-spent_from problem decided left told nodes visited done s =
+pub spent_from : (problem : ProblemState) (prefix : List Bool) (left told nodes visited : ℕ) (done : Bool) → Spends problem prefix left told nodes 0 visited done
+    → IsSpent problem prefix left told nodes visited done
+spent_from problem prefix left told nodes visited done s =
     let all = s.all in let some = two_or_more left in
     record {
       within = s.within;

@@ -2,6 +2,7 @@ pub mod Limits
 pub mod Plan
 pub mod Piece
 pub mod Answer
-pub mod Walk
 pub mod Search
-pub mod Share
+pub mod Words
+pub mod Work
+pub mod inside

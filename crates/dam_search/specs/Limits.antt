@@ -1,4 +1,5 @@
--- How many workers a search may have, how deep it may be cut, and how many nodes of a piece it may visit.
+-- How many workers a search may have, how deep it may be cut, and how many nodes of a piece it may
+-- visit.
 use Rattle.std.specs.Prelude.{ℕ}
 
 abbrev pub most_workers : ℕ

@@ -7,13 +7,14 @@ use Rattle.dam_blocks.specs.Result.{RanksAtOrBelow}
 use Rattle.dam_bound.specs.Prefix.{IsCompletion}
 use Rattle.dam_bound.specs.Relaxed.{live_count}
 
--- A cutting of a depth decides so many of the first blocks. Its pieces are the choices over them, with their completions; piece j is `choice depth j`.
+-- A cutting of a depth decides so many of the first blocks. Its pieces are the completions of the
+-- prefixes of that length; that of piece j is `choice depth j`.
 
--- what was found: nothing, or an eligible completion of the decisions with its welfare
+-- what was found: nothing, or an eligible completion of the prefix with its welfare
 abbrev pub IsFind : ProblemState → List Bool → Option Best → Type 0
-IsFind problem decided None = Unit {0}
-IsFind problem decided (Some b) =
-    IsCompletion decided b.selection × IsEligible problem b.selection (pos b.welfare)
+IsFind problem prefix None = Unit {0}
+IsFind problem prefix (Some b) =
+    IsCompletion prefix b.selection × IsEligible problem b.selection (pos b.welfare)
 
 -- the selection ranks at or below what was found
 abbrev pub IsMatched : ℤ → List Bool → Option Best → Type 0
@@ -30,11 +31,12 @@ abbrev pub welfare_found : Option Best → ℕ
 welfare_found None = 0
 welfare_found (Some b) = b.welfare
 
--- a sound answer about the completions of these decisions: what was found is one of them, and where the answer is done, each eligible one ranks at or below it or has less welfare than the value read
-pub record IsSound (problem : ProblemState) (decided : List Bool) (best : Option Best) (read : ℕ)
+-- a sound answer about the completions of this prefix: what was found is one of them, and where the
+-- answer is done, each eligible one ranks at or below it or has less welfare than the value read
+pub record IsSound (problem : ProblemState) (prefix : List Bool) (best : Option Best) (read : ℕ)
     (done : Bool) : Type 0 where
-  pub found : IsFind problem decided best
-  pub others : done ≡ true → (sel : List Bool) (welfare : ℤ) → IsCompletion decided sel
+  pub found : IsFind problem prefix best
+  pub others : done ≡ true → (sel : List Bool) (welfare : ℤ) → IsCompletion prefix sel
       → IsEligible problem sel welfare
       → (welfare <ℤ pos read) ⊎ IsMatched welfare sel best
 
@@ -44,15 +46,16 @@ all_nodes left = 2 ^ (left + 1) - 1
 
 -- how many nodes are visited at most where so many blocks are undecided and a value was read before
 abbrev pub live_nodes : ProblemState → ℕ → List Bool → ℕ → ℕ
-live_nodes problem value decided left = 1 + 2 * live_count problem value decided left
+live_nodes problem value prefix left = 1 + 2 * live_count problem value prefix left
 
--- what a walk over the completions of these decisions has cost, where a value was read before it and it may visit so many nodes
-pub record IsSpent (problem : ProblemState) (decided : List Bool) (left told nodes visited : ℕ)
+-- what a walk over the completions of this prefix has cost, where a value was read before it and it
+-- may visit so many nodes
+pub record IsSpent (problem : ProblemState) (prefix : List Bool) (left told nodes visited : ℕ)
     (done : Bool) : Type 0 where
   pub within : visited ≤ nodes
   pub all : visited ≤ all_nodes left
-  pub live : (value : ℕ) → value ≤ told → visited ≤ live_nodes problem value decided left
+  pub live : (value : ℕ) → value ≤ told → visited ≤ live_nodes problem value prefix left
   pub unfinished : done ≡ false → visited ≡ nodes
   pub done_by_all : all_nodes left ≤ nodes → done ≡ true
-  pub done_by_live : (value : ℕ) → value ≤ told → live_nodes problem value decided left ≤ nodes
+  pub done_by_live : (value : ℕ) → value ≤ told → live_nodes problem value prefix left ≤ nodes
       → done ≡ true

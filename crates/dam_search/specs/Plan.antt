@@ -2,7 +2,8 @@
 use Rattle.std.specs.Prelude.{ℕ, ◌≤◌}
 use Rattle.dam_search.specs.Limits.{most_workers, most_cut, most_nodes}
 
--- how many workers there are, how many blocks the cutting decides, and how many nodes of a piece may be visited
+-- how many workers there are, how many blocks the cutting decides, and how many nodes of a piece
+-- may be visited
 pub record PlanTerms : Type 0 where
   pub workers : ℕ
   pub cut : ℕ

@@ -1,10 +1,12 @@
 -- The answers of the workers, and what a search makes of them.
-use Rattle.std.specs.Prelude.{◌≡◌, ◌≢◌, ℕ, ◌-◌, ◌^◌, ◌<◌, ◌≤◌, Bool, true, false, not, ◌&&◌, nat_lt, ◌==◌, Option, Some, None, List, length, All, Contains, count_by}
-use Rattle.dam_book.specs.declared.limits.TheConstants.{MOST_BLOCKS}
+use Rattle.std.specs.Prelude.{◌≡◌, ◌≢◌, ℕ, ◌-◌, ◌^◌, ◌<◌, ◌≤◌, true, false, ◌==◌, Result, Ok, Err}
+use Rattle.std.specs.Prelude.{Option, Some, None, List, length, All, Contains, count_by}
 use Rattle.dam_blocks.specs.declared.selection.Best.{Best}
 use Rattle.dam_blocks.specs.Problem.{ProblemState}
 use Rattle.dam_blocks.specs.Selection.{choice}
 use Rattle.dam_search.specs.declared.answer.PieceAnswer.{PieceAnswer}
+use Rattle.dam_search.specs.declared.fault.SearchFault.{SearchFault}
+use Rattle.dam_search.specs.declared.fault.SearchFault.TheVariants.{Memory, Collected, Unfinished}
 use Rattle.dam_search.specs.Piece.{IsSpent, all_nodes, live_nodes}
 use Rattle.dam_search.specs.Answer.{IsSoundAnswer, IsReached, IsHighest}
 
@@ -29,15 +31,14 @@ pub record IsUnfinished (problem : ProblemState) (depth nodes piece visited : �
 abbrev pub answers_about : List PieceAnswer → ℕ → ℕ
 answers_about answers piece = count_by (λ (a : PieceAnswer). a.piece == piece) answers
 
+-- there is one answer about each of so many pieces
+abbrev pub AreOneEach : List PieceAnswer → ℕ → Type 0
+AreOneEach answers pieces = (piece : ℕ) → piece < pieces → answers_about answers piece ≡ 1
+
 -- the piece has no answer or more than one, and each before it has one
 pub record IsFirstFaulty (answers : List PieceAnswer) (piece : ℕ) : Type 0 where
   pub faulty : answers_about answers piece ≢ 1
-  pub before : (q : ℕ) → q < piece → answers_about answers q ≡ 1
-
--- whether the answer isn't done, and is about a lesser piece than that one
-abbrev pub is_lesser : PieceAnswer → Option PieceAnswer → Bool
-is_lesser a None = not a.done
-is_lesser a (Some u) = not a.done && nat_lt a.piece u.piece
+  pub before : AreOneEach answers piece
 
 -- the answer about the least piece of those that aren't done
 abbrev pub IsLeastUnfinished : List PieceAnswer → Option PieceAnswer → Type 0
@@ -46,12 +47,22 @@ IsLeastUnfinished answers (Some u) =
     Contains answers u × (u.done ≡ false)
     × All (λ (a : PieceAnswer). a.done ≡ false → u.piece ≤ a.piece) answers
 
--- what was found is as long as a selection is
-abbrev pub IsLong : Option Best → Type 0
-IsLong None = Unit {0}
-IsLong (Some b) = length b.selection ≡ MOST_BLOCKS
+-- what answers about the pieces of a cutting of this depth come to: the first piece that lacks one
+-- or has several, else the least unfinished one, else the highest selection that was found
+abbrev pub IsCollected : ℕ → List PieceAnswer → Result Best SearchFault → Type 0
+IsCollected depth answers (Err Memory) = ⊥
+IsCollected depth answers (Err (Collected piece)) =
+    (piece < 2 ^ depth) × IsFirstFaulty answers piece
+IsCollected depth answers (Err (Unfinished piece visited)) =
+    AreOneEach answers (2 ^ depth)
+    × ((u : PieceAnswer) × IsLeastUnfinished answers (Some u) × (u.piece ≡ piece)
+    × (u.visited ≡ visited))
+IsCollected depth answers (Ok best) =
+    AreOneEach answers (2 ^ depth) × IsLeastUnfinished answers None × IsHighest answers best
 
--- the highest of what the answers found, nothing where they found nothing
-abbrev pub IsHighestFound : List PieceAnswer → Option Best → Type 0
-IsHighestFound answers None = All (λ (a : PieceAnswer). a.best ≡ None) answers
-IsHighestFound answers (Some b) = IsHighest answers b
+-- what a search answers, want of memory apart: what workers' answers about its pieces come to
+pub record IsSearched (problem : ProblemState) (depth nodes : ℕ) (result : Result Best SearchFault)
+    : Type 0 where
+  pub answers : List PieceAnswer
+  pub worked : All (λ (a : PieceAnswer). IsWorked problem depth nodes a) answers
+  pub collected : IsCollected depth answers result

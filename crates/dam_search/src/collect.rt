@@ -1,8 +1,11 @@
-ghost use Rattle.std.specs.Prelude.{◌≡◌, ◌⊎◌, ◌<◌, ◌≤◌, ◌^◌, ℕ, pos, [], length, All, MatchOption, IfOk, IsErrOf};
+ghost use Rattle.std.specs.Prelude.{◌≡◌, ◌⊎◌, ◌<◌, ◌≤◌, ◌^◌, ℕ, pos, [], length, All};
+ghost use Rattle.std.specs.Prelude.{MatchOption, IfOk, IsErrOf};
 ghost use Rattle.dam_blocks.specs.Result.{IsResult};
 ghost use Rattle.dam_search.specs.Limits.{most_cut};
 ghost use Rattle.dam_search.specs.Piece.{Rises};
-ghost use Rattle.dam_search.specs.Search.{IsWorked, IsUnfinished, answers_about, IsFirstFaulty, is_lesser, IsLong, IsLeastUnfinished, IsHighestFound};
+ghost use Rattle.dam_search.specs.Search.{IsWorked, answers_about, AreOneEach, IsFirstFaulty};
+ghost use Rattle.dam_search.specs.Search.{IsLeastUnfinished, IsUnfinished, IsCollected};
+ghost use Rattle.dam_search.specs.inside.Collect.{is_lesser, IsLong, IsHighestFound};
 
 use crate::answer::PieceAnswer;
 use crate::fault::SearchFault;
@@ -32,8 +35,8 @@ fn answers_about(answers: &[PieceAnswer], piece: u32) -> usize
 
 /// The first piece that has no answer or more than one.
 fn first_faulty(answers: &[PieceAnswer], pieces: u32) -> Option<u32>
-    ensures { MatchOption result ((q : ℕ) → q < pieces → answers_about answers.now q ≡ 1)
-        (λ piece. IsFirstFaulty answers.now piece) }
+    ensures { MatchOption result (AreOneEach answers.now pieces)
+        (λ piece. (piece < pieces) × IsFirstFaulty answers.now piece) }
 {
     for piece in 0..pieces {
         if answers_about(answers, piece) != 1 {
@@ -95,8 +98,8 @@ fn highest(answers: &[PieceAnswer]) -> Option<Best>
     best
 }
 
-/// What the workers' answers come to: the result, or the first fault. A piece without just one answer comes first, and
-/// then the least one that is unfinished.
+/// What the workers' answers come to: the result, or the first fault. The first piece that lacks an
+/// answer or has several comes before the least one that is unfinished.
 pub(crate) fn collected<A: Allocator>(
     problem: &Problem<A>,
     depth: usize,
@@ -107,10 +110,12 @@ pub(crate) fn collected<A: Allocator>(
     requires few { depth ≤ most_cut }
     requires worked { All (λ a. IsWorked problem.now depth nodes a) answers.now }
     ensures ok { IfOk result (λ best. IsResult problem.now best.selection (pos best.welfare)) }
+    ensures collected { IsCollected depth answers.now result }
     ensures unfinished { (piece visited : ℕ) → IsErrOf result (SearchFault.Unfinished piece visited)
         → IsUnfinished problem.now depth nodes piece visited }
 {
     laws::collecting();
+    // What every problem keeps, as a clause of this reader tells it.
     let _kept = problem.periods();
     if let Some(piece) = first_faulty(answers, pieces(depth)) {
         return Err(SearchFault::Collected { piece });

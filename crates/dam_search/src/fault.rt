@@ -1,18 +1,29 @@
 use std::alloc::AllocError;
 use thiserror::Error;
 
-/// Why a search has no result.
+/// Why a search has no result, in the order in which the faults are looked for.
 #[derive(Clone, Copy, PartialEq, Eq, Debug, Error)]
 pub enum SearchFault {
-    /// A growth was refused.
+    /// A growth was refused: of the bounds, the words or the lists, before the work, or of a worker's own
+    /// list, before its first draw.
     #[error("out of memory")]
     Memory,
-    /// The workers' answers lack this piece or repeat it, the least such; it comes before `Unfinished`.
+    /// Some piece has no answer of the workers, or more than one. No order in which workers run
+    /// makes it so.
     #[error("piece {piece} has no answer, or more than one")]
-    Collected { piece: u32 },
-    /// This piece, the least such, visited as many nodes as the plan allows and needed another.
+    Collected {
+        /// The least such piece, from 0.
+        piece: u32,
+    },
+    /// Some piece visited as many nodes as the plan allows and needed another. A plan with a
+    /// greater limit may finish the search.
     #[error("piece {piece} isn't finished after {visited} nodes")]
-    Unfinished { piece: u32, visited: u32 },
+    Unfinished {
+        /// The least such piece, from 0.
+        piece: u32,
+        /// How many nodes of it were visited: the plan's limit.
+        visited: u32,
+    },
 }
 
 impl From<AllocError> for SearchFault {

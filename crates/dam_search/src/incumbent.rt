@@ -1,9 +1,12 @@
 ghost use Rattle.std.specs.Prelude.{◌≡◌, ◌≤◌, ℕ, max};
 
-/// The greatest welfare that a search knows of, which its pieces are pruned by.
+/// The greatest welfare that a search knows of, which its pieces are pruned by: a prefix whose
+/// bound is less than what was read is passed over.
 ///
-/// An incumbent keeps two numbers, in cents per MWh times tenths of a MW: the greatest value that was read of it and
-/// the greatest welfare that was offered to it, each 0 where there was none.
+/// An incumbent keeps two numbers, in cents per MWh times tenths of a MW: the greatest value that
+/// was read of it and the greatest welfare that was offered to it, each 0 where there was none.
+/// What it reads need not be what was offered to it: workers that share one read each other's
+/// offers.
 pub trait Incumbent {
     /// The greatest value read so far.
     ghost told: { Self → ℕ };
@@ -11,19 +14,29 @@ pub trait Incumbent {
     /// The greatest welfare offered so far.
     ghost top: { Self → ℕ };
 
-    /// A welfare to prune by, never less than what this incumbent answered before.
+    /// What neither a read nor an offer changes.
+    ghost Kept: { Type 0 } = { Unit {0} };
+
+    ghost kept: { Self → Self.Kept };
+
+    /// A welfare to prune by, never less than what this incumbent answered before, in cents per MWh
+    /// times tenths of a MW. A walk asks for it before each bound.
     fn read(&mut self) -> u64
         ensures rises { told self.old ≤ result }
         ensures told { told self.new ≡ result }
-        ensures top { top self.new ≡ top self.old };
+        ensures top { top self.new ≡ top self.old }
+        ensures kept { kept self.new ≡ kept self.old };
 
-    /// Takes the welfare of an eligible selection that was found.
+    /// Takes the welfare of an eligible selection that was found, in cents per MWh times tenths of
+    /// a MW. A walk offers each that ranks above those that it found before.
     fn offer(&mut self, welfare: u64)
         ensures told { told self.new ≡ told self.old }
-        ensures top { top self.new ≡ max (top self.old) welfare };
+        ensures top { top self.new ≡ max (top self.old) welfare }
+        ensures kept { kept self.new ≡ kept self.old };
 }
 
-/// The incumbent of one worker alone: it reads the greatest welfare offered to it.
+/// The incumbent of one worker alone: it reads the greatest welfare offered to it, 0 where none
+/// was.
 #[derive(Clone, Copy, PartialEq, Eq, Debug)]
 pub struct Private {
     /// The greatest value read, in cents per MWh times tenths of a MW; 0 where none was.
@@ -55,6 +68,10 @@ impl Incumbent for Private {
     ghost told = { λ p. p.told };
 
     ghost top = { λ p. p.top };
+
+    ghost Kept = { Unit {0} };
+
+    ghost kept = { λ _. tt };
 
     fn read(&mut self) -> u64
         ensures value { result ≡ self.old.top }

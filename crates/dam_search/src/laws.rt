@@ -2,7 +2,12 @@
 //!
 //! A caller that needs one of them in a proof calls the function, at no cost.
 
-ghost use Rattle.std.specs.Prelude.{◌≡◌, ◌≤◌, max, ℕ, pos, None, List, length, All};
+ghost use mathlib.Core.Option.{some};
+ghost use lib.ListN.{get_elem?};
+ghost use Rattle.atomic_table.specs.Table.{State};
+ghost use Rattle.dam_search.specs.declared.view.View.{View};
+ghost use Rattle.dam_search.specs.Words.{most_seats, AreWords, IsClosed};
+ghost use Rattle.std.specs.Prelude.{◌≡◌, ◌+◌, ◌≤◌, max, ℕ, pos, None, List, length, All};
 ghost use Rattle.dam_blocks.specs.declared.selection.Best.{Best};
 ghost use Rattle.dam_blocks.specs.Problem.{ProblemState, IsProblem};
 ghost use Rattle.dam_blocks.specs.Result.{IsResult};
@@ -19,26 +24,31 @@ pub fn limits()
     ensures nodes { most_nodes ≡ MOST_NODES }
 {}
 
-/// The collecting law: of sound answers about every piece, all of them done, the highest that was found is the
-/// result, provided that no value read exceeds the greatest welfare found.
+/// The collecting law: of sound answers about every piece, all of them done, some found a
+/// selection, and the highest that was found is the result, provided that no value read exceeds the
+/// greatest welfare found.
 ///
-/// The value may also be that of another eligible selection, as one that was offered to the workers before they started:
-/// it is enough that some eligible selection has at least the value read.
+/// The value may also be that of another eligible selection, as one that was offered to the workers
+/// before they started: it is enough that some eligible selection has at least the value read.
 pub fn collecting()
     ensures bests { (problem : ProblemState) (depth : ℕ) (answers : List PieceAnswer) (b : Best)
         → IsProblem problem → depth ≤ length problem.blocks → AreAnswered problem depth answers
         → All (λ a. a.read ≤ greatest_found answers) answers
         → IsHighest answers b → IsResult problem b.selection (pos b.welfare) }
+    ensures bests_found { (problem : ProblemState) (depth : ℕ) (answers : List PieceAnswer)
+        → IsProblem problem → depth ≤ length problem.blocks → AreAnswered problem depth answers
+        → All (λ a. a.read ≤ greatest_found answers) answers
+        → ¬ (All (λ a. a.best ≡ None) answers) }
     ensures first { (problem : ProblemState) (depth first : ℕ) (answers : List PieceAnswer)
-        (b : Best) → IsProblem problem → depth ≤ length problem.blocks → AreAnswered problem depth answers
-        → IsReached problem first
+        (b : Best) → IsProblem problem → depth ≤ length problem.blocks
+        → AreAnswered problem depth answers → IsReached problem first
         → All (λ a. a.read ≤ max first (greatest_found answers)) answers
         → IsHighest answers b → IsResult problem b.selection (pos b.welfare) }
     ensures reached { (problem : ProblemState) (depth : ℕ) (answers : List PieceAnswer) (b : Best)
         → IsProblem problem → depth ≤ length problem.blocks → AreAnswered problem depth answers
         → All (λ a. IsReached problem a.read) answers
         → IsHighest answers b → IsResult problem b.selection (pos b.welfare) }
-    ensures found { (problem : ProblemState) (depth : ℕ) (answers : List PieceAnswer)
+    ensures reached_found { (problem : ProblemState) (depth : ℕ) (answers : List PieceAnswer)
         → IsProblem problem → depth ≤ length problem.blocks → AreAnswered problem depth answers
         → All (λ a. IsReached problem a.read) answers
         → ¬ (All (λ a. a.best ≡ None) answers) }
@@ -49,3 +59,12 @@ pub fn collecting()
     dam_blocks::laws::existence();
     dam_blocks::laws::choices();
 }
+
+/// The closing law of the two words: where one seat has all seats joined into it, the claim word is
+/// the number of its draws, which were every piece once if one of them was past the last piece; and
+/// the incumbent word is its greatest offer, and it read no more than that.
+pub fn closing()
+    ensures { (pieces seat : ℕ) (state : State (Unit {0}) View) (v : View)
+        → AreWords pieces state → get_elem? state.views seat ≡ some v
+        → v.seats + v.left ≡ most_seats → IsClosed pieces state.words v }
+{}

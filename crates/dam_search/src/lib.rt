@@ -1,20 +1,30 @@
 //! The search for the best selection of blocks: its pieces, and the workers that explore them.
 //!
-//! What these words mean stands in `specs/`: a plan, a piece and a sound answer about it.
+//! What these words mean stands in `specs/`: a plan, a piece and a sound answer about it, and what
+//! the answers of the workers come to. A contract sees a [`Plan`] as its three numbers, an
+//! [`Incumbent`] as the greatest value read of it and the greatest welfare offered to it, and a
+//! selection as its list of acceptances. That pieces are explored side by side, and that want of
+//! memory has a cause, is only tested.
 #![tactic(auto)]
 
 mod answer;
 mod collect;
 mod fault;
 mod first;
-mod front;
 mod incumbent;
 pub mod laws;
 mod piece;
 mod plan;
+mod prefix;
+mod shared;
 #[cfg(test)]
 mod tests;
 mod turnstile;
+mod view;
+#[cfg(test)]
+mod word_tests;
+mod words;
+mod worker;
 mod workers;
 
 pub use answer::PieceAnswer;
@@ -23,5 +33,8 @@ pub use first::first_selection;
 pub use incumbent::{Incumbent, Private};
 pub use piece::search_piece;
 pub use plan::{MOST_CUT, MOST_NODES, MOST_WORKERS, Plan};
+pub use shared::Shared;
 pub use turnstile::{FreeTurn, Turnstile};
+pub use view::View;
+pub use worker::work;
 pub use workers::search;

@@ -12,11 +12,11 @@ pub const MOST_CUT: u8 = 8;
 /// The greatest number of nodes that may be visited in one piece.
 pub const MOST_NODES: u32 = 67_108_864;
 
-/// How a search is shared out: how many workers explore the pieces, how many of the first blocks the
-/// cutting decides, and how many nodes of one piece may be visited.
+/// How a search is shared out: how many workers explore the pieces, how many of the first blocks
+/// the cutting decides, and how many nodes of one piece may be visited.
 ///
-/// The first two change how long a search takes, and never its result; by the third it may end unfinished. A
-/// contract sees the three numbers.
+/// The first two change how long a search takes, and never its result; by the third it may end
+/// unfinished. A contract sees the three numbers.
 #[derive(Clone, Copy, PartialEq, Eq, Debug)]
 pub struct Plan {
     workers: u8,
@@ -38,8 +38,8 @@ impl Model for Plan {
 }
 
 impl Plan {
-    /// The plan of these numbers, or `None` where one is outside its limits: 1 to `MOST_WORKERS`, 0 to
-    /// `MOST_CUT` and 1 to `MOST_NODES`.
+    /// The plan of these numbers, or `None` where one is outside its limits: 1 to `MOST_WORKERS`, 0
+    /// to `MOST_CUT` and 1 to `MOST_NODES`.
     pub fn new(workers: u8, cut: u8, nodes: u32) -> Option<Plan>
         ensures { SomeIff result
             (IsPlan (record { workers = workers; cut = cut; nodes = nodes }))

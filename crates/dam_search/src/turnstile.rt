@@ -1,12 +1,13 @@
 /// What is called round each job's work, on the thread that does it.
 ///
-/// A search calls it round each piece, with the piece's number. So a caller can see which jobs are at work side by
-/// side, or have one wait for another: a call may take as long as it likes.
+/// A search calls it round each piece, with the piece's number. So a caller can see which jobs are
+/// at work side by side, or have one wait for another. It can't change what the work comes to.
 pub trait Turnstile {
-    /// Called before the work of a job.
+    /// Called before the work of a job, which begins when the call returns: it may take as long as
+    /// it likes. Jobs are numbered from 0.
     fn before(&self, job: u32);
 
-    /// Called after the work of a job.
+    /// Called after the work of a job, once for each call of `before`, on the same thread.
     fn after(&self, job: u32);
 }
 

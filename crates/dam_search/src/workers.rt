@@ -1,143 +1,213 @@
-ghost use Rattle.std.specs.Prelude.{◌≡◌, ◌<◌, ◌≤◌, ◌^◌, min, ℕ, pos, length, vec_capacity, All, IfOk, IsErrOf};
+ghost use Rattle.std.specs.Prelude.{◌≡◌, ◌⊎◌, ◌<◌, ◌≤◌, ◌-◌, ◌^◌, min, ℕ, pos, [], length};
+ghost use Rattle.std.specs.Prelude.{vec_len, All, IfOk, IsErrOf};
+ghost use Rattle.atomic_table.specs.Seated.{TableId};
 ghost use Rattle.dam_blocks.specs.Result.{IsResult};
 ghost use Rattle.dam_bound.specs.Relaxed.{without_rows};
-ghost use Rattle.dam_search.specs.Limits.{most_cut};
-ghost use Rattle.dam_search.specs.Answer.{IsReached};
-ghost use Rattle.dam_search.specs.Search.{IsWorked, IsUnfinished};
-ghost use Rattle.dam_search.specs.Share.{IsReady, AreWorked};
-ghost use Rattle.dam_blocks.specs.Problem.{ProblemState};
+ghost use Rattle.dam_search.specs.Limits.{most_workers, most_cut};
+ghost use Rattle.dam_search.specs.Search.{IsUnfinished, IsSearched};
+ghost use Rattle.dam_search.specs.inside.Share.{IsNewSeat, IsShare, AreJoined, AreWhole};
 
 use crate::answer::PieceAnswer;
 use crate::collect::{collected, pieces};
 use crate::fault::SearchFault;
 use crate::first::first_selection;
-use crate::incumbent::{Incumbent, Private};
-use crate::piece::search_piece;
+use crate::incumbent::Incumbent;
 use crate::plan::Plan;
+use crate::shared::Shared;
 use crate::turnstile::Turnstile;
+use crate::words::{Totals, close, new_words};
+use crate::worker::work;
 use dam_blocks::{Best, Problem};
 use dam_bound::Relaxed;
 use std::alloc::{AllocError, Global};
 use std::thread;
 use std::thread::Threads;
 
-/// A worker's number, and its answers about its pieces.
+/// A worker's seat after its work, and its answers.
 #[derive(Drop)]
-pub(crate) struct Share {
-    worker: u8,
-    answers: Vec<PieceAnswer>,
+pub(crate) struct Share<'a> {
+    seat: Shared<'a>,
+    answers: Result<Vec<PieceAnswer>, AllocError>,
 }
 
-/// What all workers share.
+/// What all workers are told.
 #[derive(Clone, Copy)]
-struct Task<'a> {
-    problem: &'a Problem,
-    relaxed: &'a Relaxed,
-    depth: usize,
-    plan: Plan,
-    /// The welfare of the selection that every worker begins with.
-    first: u64,
+pub(crate) struct Task<'a> {
+    pub(crate) alloc: Global,
+    pub(crate) problem: &'a Problem,
+    pub(crate) relaxed: &'a Relaxed,
+    pub(crate) depth: usize,
+    pub(crate) nodes: u32,
+    pub(crate) workers: u8,
+    /// The welfare that is offered before any worker starts.
+    pub(crate) first: u64,
 }
 
-/// A worker's answer about a piece.
-fn answer(task: &Task, piece: u32, incumbent: &mut Private) -> PieceAnswer
+/// A seat for each worker, split off the first one.
+fn seats_for<'a>(
+    first: &mut Shared<'a>,
+    alloc: Global,
+    workers: u8,
+) -> Result<Vec<Shared<'a>>, AllocError>
+    requires { workers ≤ first.old.seat.me.0.left }
+    ensures table { first.new.seat.table_id ≡ first.old.seat.table_id }
+    ensures first { IfOk result (λ _. first.new.seat.me.0 ≡ record first.old.seat.me.0 {
+      left = first.old.seat.me.0.left - workers;
+    }) }
+    ensures many { IfOk result (λ seats. vec_len seats ≡ workers) }
+    ensures seats { IfOk result (λ seats. All (λ s.
+        IsNewSeat first.old.seat.table_id first.old.seat.me.0.pieces s) seats.items) }
+{
+    let mut seats = Vec::with_capacity(alloc, usize::from(workers))?;
+    for _ in 0..workers {
+        seats.push_reserved(first.split());
+    }
+    Ok(seats)
+}
+
+/// A worker's work at its seat.
+fn share_of<'a, T: Turnstile>(task: &Task, turnstile: &T, seat: Shared<'a>) -> Share<'a>
     requires same { task.now.relaxed.now ≡ without_rows task.now.problem.now }
     requires depth { task.now.depth ≤ length task.now.problem.now.blocks }
-    requires piece { piece < 2 ^ task.now.depth }
-    requires reached { IsReached task.now.problem.now incumbent.old.top }
-    ensures worked { IsWorked task.now.problem.now task.now.depth task.now.plan.nodes result }
-    ensures reached { IsReached task.now.problem.now incumbent.new.top }
+    requires new { IsNewSeat seat.seat.table_id (2 ^ task.now.depth) seat }
+    ensures { IsShare task.now.problem.now task.now.depth task.now.nodes
+        seat.entry.seat.table_id result }
 {
-    search_piece(
+    let mut seat = seat;
+    let answers = work(
+        task.alloc,
         task.problem,
         task.relaxed,
-        piece,
         task.depth,
-        task.plan.nodes(),
-        incumbent,
-    )
-}
-
-/// Explores the pieces of one worker, those whose number is its own modulo the number of workers, with one incumbent
-/// for all of them.
-fn work<T: Turnstile>(task: &Task, turnstile: &T, share: &mut Share)
-    requires same { task.now.relaxed.now ≡ without_rows task.now.problem.now }
-    requires depth { task.now.depth ≤ length task.now.problem.now.blocks }
-    requires few { task.now.depth ≤ most_cut }
-    requires first { IsReached task.now.problem.now task.now.first }
-    requires ready { IsReady (2 ^ task.now.depth) share.old }
-    ensures { All (λ a. IsWorked task.now.problem.now task.now.depth task.now.plan.nodes a)
-        share.new.answers.items }
-{
-    let mut incumbent = Private::new();
-    incumbent.offer(task.first);
-    for piece in 0..pieces(task.depth) {
-        if piece % u32::from(task.plan.workers()) == u32::from(share.worker) {
-            turnstile.before(piece);
-            share
-                .answers
-                .push_reserved(answer(task, piece, &mut incumbent));
-            turnstile.after(piece);
-        }
-    }
-}
-
-/// A share for each worker, with room for as many answers as there are pieces.
-fn shares(alloc: Global, workers: u8, count: usize) -> Result<Vec<Share>, AllocError>
-    ensures { IfOk result (λ shares. All (λ s. IsReady count s) shares.items) }
-{
-    let mut shares = Vec::new(alloc);
-    for worker in 0..workers {
-        shares.push(Share {
-            worker,
-            answers: Vec::with_capacity(alloc, count)?,
-        })?;
-    }
-    Ok(shares)
+        task.nodes,
+        &mut seat,
+        turnstile,
+    );
+    Share { seat, answers }
 }
 
 /// Runs the workers, each on a thread of its own where threads can be made.
-fn work_all<R: Threads + Sync, T: Turnstile + Sync>(
+fn work_all<'a, R: Threads + Sync, T: Turnstile + Sync>(
     rt: &R,
     task: &Task,
     turnstile: &T,
-    shares: &mut [Share],
-)
+    seats: Vec<Shared<'a>>,
+) -> Result<Vec<Share<'a>>, AllocError>
     requires same { task.now.relaxed.now ≡ without_rows task.now.problem.now }
     requires depth { task.now.depth ≤ length task.now.problem.now.blocks }
-    requires few { task.now.depth ≤ most_cut }
-    requires first { IsReached task.now.problem.now task.now.first }
-    requires ready { All (λ s. IsReady (2 ^ task.now.depth) s) shares.old }
-    ensures { AreWorked task.now.problem.now task.now.depth task.now.plan.nodes shares.new }
+    requires new { All (λ s. IsNewSeat s.seat.table_id (2 ^ task.now.depth) s) seats.items }
+    ensures many { IfOk result (λ shares. vec_len shares ≡ vec_len seats.entry) }
+    ensures shares { (table : TableId)
+        → All (λ s. IsNewSeat table (2 ^ task.now.depth) s) seats.entry.items
+        → IfOk result (λ shares. All (λ s. IsShare task.now.problem.now task.now.depth
+        task.now.nodes table s) shares.items) }
 {
-    let workers = usize::from(task.plan.workers());
-    thread::for_each_mut(
+    thread::map_vec(
         rt,
-        shares,
-        workers,
-        &|_, share| work(task, turnstile, share),
-    );
+        seats,
+        &|seat: Shared| -> Share
+            requires { (task.now.relaxed.now ≡ without_rows task.now.problem.now)
+                × (task.now.depth ≤ length task.now.problem.now.blocks)
+                × IsNewSeat seat.seat.table_id (2 ^ task.now.depth) seat }
+            ensures { IsShare task.entry.now.problem.now task.entry.now.depth task.entry.now.nodes
+                seat.entry.seat.table_id result }
+        { share_of(task, turnstile, seat) },
+    )
 }
 
-/// The answers of all workers in one list.
-fn gathered(alloc: Global, shares: &[Share]) -> Result<Vec<PieceAnswer>, AllocError>
-    ensures { (problem : ProblemState) (depth nodes : ℕ) → AreWorked problem depth nodes shares.now
-        → IfOk result (λ answers. All (λ a. IsWorked problem depth nodes a) answers.items) }
+/// Joins the workers' seats into the first one, and their answers into one list, which was made with
+/// room for them before the work.
+fn gathered<'a>(
+    task: &Task,
+    first: &mut Shared<'a>,
+    mut shares: Vec<Share<'a>>,
+    mut answers: Vec<PieceAnswer>,
+) -> Result<Vec<PieceAnswer>, AllocError>
+    requires empty { answers.items ≡ [] }
+    requires undrawn { first.old.seat.me.0.drawn ≡ [] }
+    requires shares { All (λ s. IsShare task.now.problem.now task.now.depth task.now.nodes
+        first.old.seat.table_id s) shares.items }
+    ensures table { first.new.seat.table_id ≡ first.old.seat.table_id }
+    ensures joined { IfOk result (λ answers.
+        AreJoined task.now.problem.now task.now.depth task.now.nodes first.old.seat.me.0
+        (vec_len shares.entry) first.new.seat.me.0 answers.items) }
 {
-    let mut answers = Vec::new(alloc);
-    for share in shares {
-        answers.extend_from_slice(&share.answers)?;
+    while let Some(share) = shares.pop() {
+        let Share {
+            seat,
+            answers: found,
+        } = share;
+        first.join(seat);
+        answers.extend_from_slice(&found?)?;
     }
     Ok(answers)
 }
 
-/// The result of a problem: the eligible selection of greatest welfare, and of several such the one that accepts at the
-/// first place where two differ. No plan and no order in which the workers happen to run changes it.
+/// Has the workers share out the pieces among them, at seats that are split off the first one and
+/// joined into it again.
+fn shared_out<'a, R: Threads + Sync, T: Turnstile + Sync>(
+    rt: &R,
+    task: &Task,
+    turnstile: &T,
+    first: &mut Shared<'a>,
+) -> Result<Vec<PieceAnswer>, AllocError>
+    requires same { task.now.relaxed.now ≡ without_rows task.now.problem.now }
+    requires depth { task.now.depth ≤ length task.now.problem.now.blocks }
+    requires pieces { first.old.seat.me.0.pieces ≡ 2 ^ task.now.depth }
+    requires undrawn { first.old.seat.me.0.drawn ≡ [] }
+    requires left { task.now.workers ≤ first.old.seat.me.0.left }
+    ensures table { first.new.seat.table_id ≡ first.old.seat.table_id }
+    ensures joined { IfOk result (λ answers.
+        AreJoined task.now.problem.now task.now.depth task.now.nodes
+        (record first.old.seat.me.0 { left = first.old.seat.me.0.left - task.now.workers })
+        task.now.workers first.new.seat.me.0 answers.items) }
+{
+    let answers = Vec::with_capacity(task.alloc, first.pieces() as usize)?;
+    let seats = seats_for(first, task.alloc, task.workers)?;
+    let shares = work_all(rt, task, turnstile, seats)?;
+    gathered(task, first, shares, answers)
+}
+
+/// The answers of all workers, and what the words held when they were closed.
+#[derive(Drop)]
+pub(crate) struct Explored {
+    pub(crate) answers: Vec<PieceAnswer>,
+    pub(crate) totals: Totals,
+}
+
+/// Explores every piece, each of them once, beginning with the first welfare as offered.
+pub(crate) fn explore_all<R: Threads + Sync, T: Turnstile + Sync>(
+    rt: &R,
+    task: &Task,
+    turnstile: &T,
+) -> Result<Explored, AllocError>
+    requires same { task.now.relaxed.now ≡ without_rows task.now.problem.now }
+    requires depth { task.now.depth ≤ length task.now.problem.now.blocks }
+    requires few { task.now.depth ≤ most_cut }
+    requires some_worker { 1 ≤ task.now.workers }
+    requires few_workers { task.now.workers ≤ most_workers }
+    ensures { IfOk result (λ explored. AreWhole task.now.problem.now task.now.depth task.now.nodes
+        task.now.first explored.answers.items) }
+{
+    let count = pieces(task.depth);
+    let (words, seat) = new_words(task.alloc, count)?;
+    let mut first = Shared::first(&words, seat, count);
+    first.offer(task.first);
+    let answers = shared_out(rt, task, turnstile, &mut first)?;
+    let seat = first.into_seat();
+    let totals = close(words, seat);
+    Ok(Explored { answers, totals })
+}
+
+/// The result of a problem: the eligible selection of greatest welfare, and of several such the one
+/// that accepts at the first place where two differ. No plan and no order in which the workers
+/// happen to run changes it.
 ///
-/// A first good selection is found, and its welfare is what every worker begins with. The pieces of the cutting that
-/// decides as many of the first blocks as the plan says, or all of them, go to the workers in turn, each on a thread of its
-/// own; where no thread can be made the calling one does its work. `Memory` comes first of the faults, then `Collected`,
-/// and then `Unfinished`.
+/// A first good selection is found, and its welfare is offered before any worker starts. The
+/// workers, each on a thread of its own, draw the pieces of the cutting that decides as many of the
+/// first blocks as the plan says, or all of them, as they come free, and prune by the greatest
+/// welfare that any of them has found; where no thread can be made the calling one does its work.
+/// `Memory` comes first of the faults, then `Collected`, and then `Unfinished`.
 pub fn search<R: Threads + Sync, T: Turnstile + Sync>(
     rt: &R,
     alloc: Global,
@@ -149,19 +219,24 @@ pub fn search<R: Threads + Sync, T: Turnstile + Sync>(
     ensures unfinished { (piece visited : ℕ) → IsErrOf result (SearchFault.Unfinished piece visited)
         → IsUnfinished problem.now (min plan.cut (length problem.now.blocks))
         plan.nodes piece visited }
+
+    // Which piece a fault names, and in what order they come.
+    ensures searched { IsErrOf result SearchFault.Memory
+        ⊎ IsSearched problem.now (min plan.cut (length problem.now.blocks)) plan.nodes result }
+
+    // Each piece was drawn once: none lacks its answer or has two.
+    ensures whole { (piece : ℕ) → ¬ (IsErrOf result (SearchFault.Collected piece)) }
 {
     let relaxed = Relaxed::build(alloc, problem)?;
-    let depth = usize::from(plan.cut()).min(problem.block_count());
-    let mut list = shares(alloc, plan.workers(), pieces(depth) as usize)?;
-    let shares = list.as_mut_slice();
     let task = Task {
+        alloc,
         problem,
         relaxed: &relaxed,
-        depth,
-        plan,
+        depth: usize::from(plan.cut()).min(problem.block_count()),
+        nodes: plan.nodes(),
+        workers: plan.workers(),
         first: first_selection(problem).welfare,
     };
-    work_all(rt, &task, turnstile, shares);
-    let answers = gathered(alloc, shares)?;
-    collected(problem, depth, plan.nodes(), &answers)
+    let explored = explore_all(rt, &task, turnstile)?;
+    collected(problem, task.depth, task.nodes, &explored.answers)
 }

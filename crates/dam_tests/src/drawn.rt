@@ -230,12 +230,21 @@ fn add_block(alloc: Global, drawn: &mut Drawn, dice: &mut Dice, busy: usize) -> 
     submit(&mut drawn.book, block.who, block_name(blocks, place), order)
 }
 
-/// A closed book of a day of 23 periods, with orders in the first two or three alone.
+/// The most blocks of a book that is too large for the plain market's enumeration.
+pub(crate) const MANY_BLOCKS: usize = 10;
+
+/// A closed book of a day of 23 periods, with orders in the first two or three alone, and few blocks.
 pub(crate) fn draw(alloc: Global, dice: &mut Dice) -> Result<Drawn, Fail> {
+    draw_with(alloc, dice, MOST_BLOCKS)
+}
+
+/// Such a book with so many blocks at most.
+pub(crate) fn draw_with(alloc: Global, dice: &mut Dice, blocks: usize) -> Result<Drawn, Fail> {
     let mut drawn = nothing(alloc)?;
     let busy = dice.below(2).saturating_add(2);
-    let most = dice.below(MOST_BLOCKS + 1);
-    for number in 0..dice.below(10).saturating_add(6) {
+    let most = dice.below(blocks.saturating_add(1));
+    let entries = dice.below(10).saturating_add(blocks).saturating_add(1);
+    for number in 0..entries {
         if drawn.market.blocks.len() < most && dice.comes(2) {
             add_block(alloc, &mut drawn, dice, busy)?;
         } else {

@@ -1,10 +1,11 @@
 use super::{Breakage, Broken, Dripping, Holding};
 use crate::day::run_day;
 use crate::fault::RunFault;
-use dam_search::{FreeTurn, MOST_NODES, Plan};
+use dam_search::{FreeTurn, MOST_NODES, Plan, Turnstile};
 use std::alloc::Global;
 use std::io::{Read, Write};
 use std::sync::Wait;
+use std::sync::atomic::{AtomicU32, Ordering};
 use std::test::Fail;
 use std::thread::Threads;
 
@@ -93,7 +94,7 @@ fn ran<H: Threads + Wait + Sync, R: Read, W: Write>(
     writer: &mut W,
 ) -> Result<(), RunFault> {
     let plan = Plan::new(2, 3, MOST_NODES).unwrap();
-    run_day(rt, alloc, reader, writer, plan, &FreeTurn)
+    run_day(rt, alloc, reader, writer, plan, &FreeTurn, &FreeTurn)
 }
 
 #[test]
@@ -128,6 +129,54 @@ fn submits_of_two_participants_stand_in_either_order(rt: HostRuntime) -> Result<
         assert!(rt; is_either);
     }
     Ok(())
+}
+
+/// Holds each of two participants until both have come, for at most so many turns.
+#[derive(Drop)]
+struct Meeting {
+    come: AtomicU32,
+    met: AtomicU32,
+    left: AtomicU32,
+}
+
+impl Turnstile for Meeting {
+    fn before(&self, _job: u32) {
+        self.come.fetch_add(1, Ordering::SeqCst);
+        for _ in 0..100_000_000 {
+            if self.come.load(Ordering::SeqCst) == 2 {
+                self.met.fetch_add(1, Ordering::SeqCst);
+                return;
+            }
+        }
+    }
+
+    fn after(&self, _job: u32) {
+        self.left.fetch_add(1, Ordering::SeqCst);
+    }
+}
+
+#[test]
+fn two_participants_are_in_a_day_at_once(rt: HostRuntime) {
+    let meeting = Meeting {
+        come: AtomicU32::new(0),
+        met: AtomicU32::new(0),
+        left: AtomicU32::new(0),
+    };
+    let plan = Plan::new(2, 3, MOST_NODES).unwrap();
+    let mut reader = TWO_PARTICIPANTS;
+    let mut written = Vec::new(rt.alloc());
+    let result = run_day(
+        &rt,
+        rt.alloc(),
+        &mut reader,
+        &mut written,
+        plan,
+        &FreeTurn,
+        &meeting,
+    );
+    assert_eq!(rt; result, Ok(()));
+    assert_eq!(rt; meeting.met.load(Ordering::SeqCst), 2);
+    assert_eq!(rt; meeting.left.load(Ordering::SeqCst), 2);
 }
 
 #[test]

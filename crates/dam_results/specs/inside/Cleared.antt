@@ -17,7 +17,8 @@ pub record IsBalancedIn (problem : ProblemState) (sel : List Bool) (t : ℕ) : T
   pub balanced : IsBalanced hour (net_volume problem.blocks sel t)
 
 -- what is published of period t, counted from 1, and its best execution
-pub record IsCleared (problem : ProblemState) (sel : List Bool) (t : ℕ) (published : PeriodResult) (executed : List ℕ) : Type 0 where
+pub record IsCleared (problem : ProblemState) (sel : List Bool) (t : ℕ) (published : PeriodResult)
+    (executed : List ℕ) : Type 0 where
   pub hour : List Step
   pub stands : slice_get problem.hours (t - 1) ≡ Some hour
   pub result : IsPeriodResult problem.blocks sel t hour published
@@ -26,12 +27,14 @@ pub record IsCleared (problem : ProblemState) (sel : List Bool) (t : ℕ) (publi
 -- the best execution of each period, from period t on
 abbrev pub AreBest : List Block → List Bool → ℕ → List (List Step) → List (List ℕ) → Type 0
 AreBest blocks sel t [] [] = Unit {0}
-AreBest blocks sel t (ss ∷ hours) (xs ∷ executions) = IsBest ss (net_volume blocks sel t) xs × AreBest blocks sel (suc t) hours executions
+AreBest blocks sel t (ss ∷ hours) (xs ∷ executions) =
+    IsBest ss (net_volume blocks sel t) xs × AreBest blocks sel (suc t) hours executions
 AreBest blocks sel t [] (xs ∷ executions) = ⊥
 AreBest blocks sel t (ss ∷ hours) [] = ⊥
 
 -- what is published of these periods from the first on, their prices and their best executions
-pub record AreCleared (blocks : List Block) (sel : List Bool) (hours : List (List Step)) (periods : List PeriodResult) (prices : List ℤ) (executions : List (List ℕ)) : Type 0 where
+pub record AreCleared (blocks : List Block) (sel : List Bool) (hours : List (List Step))
+    (periods : List PeriodResult) (prices : List ℤ) (executions : List (List ℕ)) : Type 0 where
   pub are_periods : ArePeriodResults blocks sel 1 hours periods
   pub are_prices : prices ≡ prices_of periods
   pub are_best : AreBest blocks sel 1 hours executions

@@ -9,7 +9,9 @@ use Rattle.dam_results.specs.Journal.{IsCommand}
 use Rattle.dam_results.specs.declared.row.Row.{Row}
 
 abbrev pub fields_in : Row → Fields
-fields_in r = r.kind.now ∷ r.who.now ∷ r.name.now ∷ r.form.now ∷ r.side.now ∷ r.price.now ∷ r.volumes.now ∷ r.parent.now ∷ r.group.now ∷ []
+fields_in r =
+    r.kind.now ∷ r.who.now ∷ r.name.now ∷ r.form.now ∷ r.side.now ∷ r.price.now ∷ r.volumes.now
+    ∷ r.parent.now ∷ r.group.now ∷ []
 
 -- the record of a command within its limits, or the least field that breaks its rule
 abbrev pub ReadsCommand : List FieldRule → Row → Result Command ℕ → Type 0
@@ -20,5 +22,6 @@ ReadsCommand rules row read = MatchResult read
 -- the record of a submit of an order within its limits, or the least field that breaks its rule
 abbrev pub ReadsOrder : List FieldRule → Row → Result Order ℕ → Type 0
 ReadsOrder rules row read = MatchResult read
-    (λ order. IsOrder order × (fields_in row ≡ codes "submit" ∷ row.who.now ∷ row.name.now ∷ order_fields order))
+    (λ order. IsOrder order
+    × (fields_in row ≡ codes "submit" ∷ row.who.now ∷ row.name.now ∷ order_fields order))
     (IsLeastBroken rules (fields_in row))

@@ -4,7 +4,7 @@ use Rattle.std.proofs.lemmas.Int.{ints}
 use Rattle.std.proofs.lemmas.Option.{slice_get_read}
 use Rattle.dam_hour.specs.Limits.{greatest_value}
 use Rattle.dam_blocks.specs.Selection.{value_of}
-use Rattle.dam_blocks.proofs.Steps.{sum_more, sum_same}
+use Rattle.dam_blocks.proofs.RunningSums.{sum_more, sum_same}
 use Rattle.dam_blocks.proofs.accepted.block_value.Goals as goal
 use Rattle.dam_blocks.proofs.accepted.block_value.Goals.{then-has, else-has}
 

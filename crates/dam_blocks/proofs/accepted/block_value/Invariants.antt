@@ -1,7 +1,7 @@
 -- The sum so far; each block adds at most a greatest value.
 use Rattle.dam_hour.specs.Limits.{greatest_value}
 use Rattle.dam_blocks.specs.Selection.{value_of}
-use Rattle.dam_blocks.proofs.Steps.{IsSumSoFar}
+use Rattle.dam_blocks.proofs.RunningSums.{IsSumSoFar}
 use Rattle.dam_blocks.proofs.accepted.block_value.Given as goal
 
 abbrev pub invariant-loop-place : goal.invariant-loop-place

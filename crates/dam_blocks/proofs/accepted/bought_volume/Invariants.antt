@@ -2,7 +2,7 @@
 use Rattle.std.proofs.Common.{pos}
 use Rattle.dam_book.specs.Limits.{greatest_volume}
 use Rattle.dam_blocks.specs.Selection.{bought_volume_of}
-use Rattle.dam_blocks.proofs.Steps.{IsSumSoFar}
+use Rattle.dam_blocks.proofs.RunningSums.{IsSumSoFar}
 use Rattle.dam_blocks.proofs.accepted.bought_volume.Given as goal
 
 abbrev pub invariant-loop-place : goal.invariant-loop-place

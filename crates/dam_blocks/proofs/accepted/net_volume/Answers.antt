@@ -4,7 +4,7 @@ use Rattle.std.proofs.lemmas.Int.{ints}
 use Rattle.std.proofs.lemmas.Option.{slice_get_read}
 use Rattle.dam_book.specs.Limits.{greatest_volume}
 use Rattle.dam_blocks.specs.Selection.{net_volume_of}
-use Rattle.dam_blocks.proofs.Steps.{sum_more, sum_same}
+use Rattle.dam_blocks.proofs.RunningSums.{sum_more, sum_same}
 use Rattle.dam_blocks.proofs.accepted.net_volume.Goals as goal
 use Rattle.dam_blocks.proofs.accepted.net_volume.Goals.{then-has, else-has}
 

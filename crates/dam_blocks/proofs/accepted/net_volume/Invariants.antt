@@ -1,7 +1,7 @@
 -- The sum so far; each block adds at most a greatest volume.
 use Rattle.dam_book.specs.Limits.{greatest_volume}
 use Rattle.dam_blocks.specs.Selection.{net_volume_of}
-use Rattle.dam_blocks.proofs.Steps.{IsSumSoFar}
+use Rattle.dam_blocks.proofs.RunningSums.{IsSumSoFar}
 use Rattle.dam_blocks.proofs.accepted.net_volume.Given as goal
 
 abbrev pub invariant-loop-place : goal.invariant-loop-place

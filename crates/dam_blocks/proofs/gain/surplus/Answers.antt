@@ -1,7 +1,7 @@
 -- A period more.
 use Rattle.std.proofs.Common.{arith}
 use Rattle.std.proofs.lemmas.Int.{ints}
-use Rattle.dam_blocks.proofs.Steps.{surplus_more}
+use Rattle.dam_blocks.proofs.RunningSums.{surplus_more}
 use Rattle.dam_blocks.proofs.gain.surplus.Goals as goal
 
 pub loop-place-preserved : goal.loop-place-preserved

@@ -1,5 +1,5 @@
 -- The sum over the periods so far.
-use Rattle.dam_blocks.proofs.Steps.{IsSurplusSoFar}
+use Rattle.dam_blocks.proofs.RunningSums.{IsSurplusSoFar}
 use Rattle.dam_blocks.proofs.gain.surplus.Given as goal
 
 abbrev pub invariant-loop-place : goal.invariant-loop-place

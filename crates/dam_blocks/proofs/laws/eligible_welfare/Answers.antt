@@ -1,5 +1,5 @@
 -- The laws of one period say what its price gives.
-use Rattle.dam_blocks.proofs.Gains.{welfare_at_least_zero}
+use Rattle.dam_blocks.proofs.WelfareAtLeastZero.{welfare_at_least_zero}
 use Rattle.dam_blocks.proofs.laws.eligible_welfare.Goals as goal
 
 pub returns : goal.returns

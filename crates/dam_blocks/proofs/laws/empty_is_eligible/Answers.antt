@@ -1,5 +1,5 @@
 -- The laws of one period give the prices and the welfare with no block.
-use Rattle.dam_blocks.proofs.Empty.{empty_eligible}
+use Rattle.dam_blocks.proofs.EmptySelection.{empty_eligible}
 use Rattle.dam_blocks.proofs.laws.empty_is_eligible.Goals as goal
 
 pub returns : goal.returns

@@ -1,5 +1,5 @@
 -- Eligibility is decided, and the empty selection is eligible, so that trying every choice ends with the best.
-use Rattle.dam_blocks.proofs.Existing.{result_exists}
+use Rattle.dam_blocks.proofs.ResultExists.{result_exists}
 use Rattle.dam_blocks.proofs.laws.existence.Goals as goal
 
 pub returns : goal.returns

@@ -3,7 +3,7 @@ use Rattle.std.proofs.Common.{Bool, subst, arith, rules}
 use Rattle.std.proofs.lemmas.Grind.{common_steps}
 use Rattle.std.proofs.lemmas.Option.{slice_get_read, gets}
 use Rattle.dam_blocks.specs.Selection.{Permits}
-use Rattle.dam_blocks.proofs.Permitting.{permitting_more, permitting_all}
+use Rattle.dam_blocks.proofs.OtherBlocks.{permitting_more, permitting_all}
 use Rattle.dam_blocks.proofs.links.is_allowed.Goals as goal
 use Rattle.dam_blocks.proofs.links.is_allowed.Goals.{else-at-place-via-then-at-place+else-not-permits, else-at-place-via-else-at-place}
 

@@ -1,5 +1,5 @@
 -- Each other block so far permits the one at the place.
-use Rattle.dam_blocks.proofs.Permitting.{ArePermitting}
+use Rattle.dam_blocks.proofs.OtherBlocks.{ArePermitting}
 use Rattle.dam_blocks.proofs.links.is_allowed.Given as goal
 
 abbrev pub invariant-loop-at : goal.invariant-loop-at

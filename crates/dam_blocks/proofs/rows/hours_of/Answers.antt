@@ -1,6 +1,6 @@
 -- A period more.
 use Rattle.std.proofs.Common.{◌+◌, length, ap, ◌∙◌, arith}
-use Rattle.dam_blocks.proofs.RowSteps.{hour_more, few_among}
+use Rattle.dam_blocks.proofs.RowByRow.{hour_more, few_among}
 use Rattle.dam_blocks.proofs.rows.hours_of.Goals as goal
 
 pub build-requires : goal.build-requires

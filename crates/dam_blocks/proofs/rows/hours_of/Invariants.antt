@@ -1,6 +1,6 @@
 -- The hours so far and those of the periods that are left.
 use Rattle.std.proofs.Common.{◌≡◌, ◌+◌, ◌-◌, ◌++◌}
-use Rattle.dam_blocks.specs.Making.{hours_among}
+use Rattle.dam_blocks.specs.inside.Making.{hours_among}
 use Rattle.dam_blocks.proofs.rows.hours_of.Given as goal
 
 abbrev pub invariant-loop-number : goal.invariant-loop-number

@@ -8,8 +8,8 @@ use Rattle.dam_blocks.specs.declared.problem.Block.{Block}
 use Rattle.dam_blocks.specs.declared.problem.Place.{Place}
 use Rattle.dam_blocks.specs.declared.problem.Place.TheVariants.{Block as AtBlock}
 use Rattle.dam_blocks.specs.Problem.{block_under, blocks_in}
-use Rattle.dam_blocks.specs.Making.{hour_order, hourly_in}
-use Rattle.dam_blocks.proofs.RowSteps.{IsPlacedSoFar, nothing_placed, hour_counted, block_counted, steps_small, more_some, more_none, same_block, one_longer}
+use Rattle.dam_blocks.specs.inside.Making.{hour_order, hourly_in}
+use Rattle.dam_blocks.proofs.RowByRow.{IsPlacedSoFar, nothing_placed, hour_counted, block_counted, steps_small, more_some, more_none, same_block, one_longer}
 use Rattle.dam_blocks.proofs.rows.lists_of.Goals as goal
 use Rattle.dam_blocks.proofs.rows.lists_of.Goals.{in-Hour+in_ok-push-in-Hour, in-Block+in_ok-push-in-Block}
 

@@ -1,8 +1,8 @@
 -- The rows so far have their places, and are parted by their kind.
 use Rattle.std.proofs.Common.{◌≡◌, ◌++◌, drop, length}
 use Rattle.dam_blocks.specs.Problem.{blocks_in}
-use Rattle.dam_blocks.specs.Making.{hourly_in}
-use Rattle.dam_blocks.proofs.RowSteps.{IsPlacedSoFar}
+use Rattle.dam_blocks.specs.inside.Making.{hourly_in}
+use Rattle.dam_blocks.proofs.RowByRow.{IsPlacedSoFar}
 use Rattle.dam_blocks.proofs.rows.lists_of.Given as goal
 
 abbrev pub invariant-loop-place : goal.invariant-loop-place

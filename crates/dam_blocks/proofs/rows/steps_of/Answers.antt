@@ -1,8 +1,8 @@
 -- An order more.
 use Rattle.std.proofs.Common.{rules}
 use Rattle.std.proofs.lemmas.Option.{slice_get_read}
-use Rattle.dam_blocks.specs.Making.{step_of}
-use Rattle.dam_blocks.proofs.RowSteps.{more_some, more_none}
+use Rattle.dam_blocks.specs.inside.Making.{step_of}
+use Rattle.dam_blocks.proofs.RowByRow.{more_some, more_none}
 use Rattle.dam_blocks.proofs.rows.steps_of.Goals as goal
 use Rattle.dam_blocks.proofs.rows.steps_of.Goals.{in-Some+in_ok-push, in_default}
 

@@ -1,6 +1,6 @@
 -- The steps so far and those of the orders that are left.
 use Rattle.std.proofs.Common.{◌≡◌, ◌++◌, drop}
-use Rattle.dam_blocks.specs.Making.{steps_among}
+use Rattle.dam_blocks.specs.inside.Making.{steps_among}
 use Rattle.dam_blocks.proofs.rows.steps_of.Given as goal
 
 abbrev pub invariant-loop-order : goal.invariant-loop-order

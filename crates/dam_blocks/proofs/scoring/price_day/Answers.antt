@@ -7,7 +7,7 @@ use Rattle.dam_hour.specs.declared.step.Step.{Step}
 use Rattle.dam_blocks.specs.declared.problem.Block.{Block}
 use Rattle.dam_blocks.specs.Selection.{net_volume, block_value}
 use Rattle.dam_blocks.specs.Eligible.{ArePrices, welfare_from}
-use Rattle.dam_blocks.proofs.Clearing.{period_within, cleared_more, all_prices, all_welfare, first_unbalanced}
+use Rattle.dam_blocks.proofs.PeriodByPeriod.{period_within, cleared_more, all_prices, all_welfare, first_unbalanced}
 use Rattle.dam_blocks.proofs.scoring.price_day.Goals as goal
 
 pub returns-in_default : goal.returns-in_default

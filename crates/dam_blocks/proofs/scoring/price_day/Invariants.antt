@@ -1,5 +1,5 @@
 -- The periods so far are cleared.
-use Rattle.dam_blocks.proofs.Clearing.{IsClearedSoFar}
+use Rattle.dam_blocks.proofs.PeriodByPeriod.{IsClearedSoFar}
 use Rattle.dam_blocks.proofs.scoring.price_day.Given as goal
 
 abbrev pub invariant-loop-place : goal.invariant-loop-place

@@ -5,7 +5,7 @@ use Rattle.dam_bound.proofs.Covering.{none_of_none, completed_from}
 use Rattle.dam_bound.proofs.laws.bound.Goals as goal
 
 pub returns-clause-most : goal.returns-clause-most
-returns-clause-most c problem decided sel w is e =
+returns-clause-most c problem prefix sel w is e =
     completed_from (record {
       joined = c.joining.ensures.joined;
       parted = c.joining.ensures.parted;
@@ -17,7 +17,7 @@ returns-clause-most c problem decided sel w is e =
       small = c.magnitude.ensures;
       sums = record { parted = c.sums.ensures.parted; padded = c.sums.ensures.padded };
     })
-    1 problem.blocks decided is.rest problem.hours w (ap (λ xs. welfare_from problem.blocks xs 1 problem.hours) (sym is.agrees) ∙ e)
+    1 problem.blocks prefix is.rest problem.hours w (ap (λ xs. welfare_from problem.blocks xs 1 problem.hours) (sym is.agrees) ∙ e)
 
 pub returns-clause-none : goal.returns-clause-none
-returns-clause-none c problem decided sel is = none_of_none _ _ (λ w e. returns-clause-most c problem decided sel w is e)
+returns-clause-none c problem prefix sel is = none_of_none _ _ (λ w e. returns-clause-most c problem prefix sel w is e)

@@ -6,6 +6,6 @@ use Rattle.dam_bound.proofs.Covering.{decided_welfare}
 use Rattle.dam_bound.proofs.laws.decided.Goals as goal
 
 pub returns : goal.returns
-returns c problem decided sel whole is =
-    decided_welfare (record { parted = c.sums.ensures.parted; padded = c.sums.ensures.padded }) problem.blocks decided is.rest problem.hours (drop_all (length decided) problem.blocks whole)
+returns c problem prefix sel whole is =
+    decided_welfare (record { parted = c.sums.ensures.parted; padded = c.sums.ensures.padded }) problem.blocks prefix is.rest problem.hours (drop_all (length prefix) problem.blocks whole)
     ∙ ap (λ xs. welfare_from problem.blocks xs 1 problem.hours) (sym is.agrees)

@@ -3,7 +3,7 @@ use Rattle.dam_bound.proofs.Covering.{none_of_none, welfare_extended}
 use Rattle.dam_bound.proofs.laws.extension.Goals as goal
 
 pub returns-clause-most : goal.returns-clause-most
-returns-clause-most c problem decided rest w e =
+returns-clause-most c problem prefix rest w e =
     welfare_extended (record {
       joined = c.joining.ensures.joined;
       parted = c.joining.ensures.parted;
@@ -15,7 +15,7 @@ returns-clause-most c problem decided rest w e =
       small = c.magnitude.ensures;
       sums = record { parted = c.sums.ensures.parted; padded = c.sums.ensures.padded };
     })
-    problem.blocks decided rest problem.hours w e
+    problem.blocks prefix rest problem.hours w e
 
 pub returns-clause-none : goal.returns-clause-none
-returns-clause-none c problem decided rest = none_of_none _ _ (λ w e. returns-clause-most c problem decided rest w e)
+returns-clause-none c problem prefix rest = none_of_none _ _ (λ w e. returns-clause-most c problem prefix rest w e)

@@ -10,4 +10,4 @@ returns-clause-fault g c =
     let day = c.in_ok-settled in
     journal_fault-day c.args.plan c.args.periods c.args.commands.now day.settled c.print_day.result
     day.ensures.taken day.ensures.day day.ensures.journal day.ensures.periods
-    (subst (λ (j : JournalState). IfErr c.print_day.result (IsBookFault c.args.plan j.book)) c.journal.ensures c.print_day.ensures.fault)
+    (subst (λ (j : JournalState). IfErr c.print_day.result (IsBookFault c.args.plan j.book)) c.journal.ensures.value c.print_day.ensures.fault)

@@ -1,6 +1,6 @@
 -- The holder's own commands so far are counted.
 use Rattle.std.proofs.Common.{◌≡◌, ◌+◌, ◌≤◌, length, drop}
-use Rattle.dam_gate.specs.Day.{own_commands}
+use Rattle.dam_gate.specs.inside.Entering.{own_commands}
 use Rattle.dam_gate.proofs.day.count_own.Given as goal
 
 abbrev pub invariant-loop-command : goal.invariant-loop-command

@@ -1,7 +1,7 @@
 -- The holder's own commands among those so far are entered.
 use Rattle.std.proofs.Common.{◌≡◌, ◌++◌, take}
 use Rattle.dam_book.specs.Book.{commands_of}
-use Rattle.dam_gate.specs.Day.{own_commands}
+use Rattle.dam_gate.specs.inside.Entering.{own_commands}
 use Rattle.dam_gate.proofs.day.enter.Given as goal
 
 abbrev pub invariant-loop-given : goal.invariant-loop-given

@@ -1,18 +1,21 @@
-use Rattle.std.proofs.Common.{◌≡◌, All, List, length, subst, sym, ap, ◌∙◌, arith}
+use Rattle.std.proofs.Common.{All, List, length, subst, sym, ap, ◌∙◌, arith}
 use Rattle.std.proofs.lemmas.List.{take_all}
 use Rattle.std.proofs.lemmas.List.Elements.{All-more}
-use Rattle.dam_gate.specs.Pass.{PassState, IsPass}
+use Rattle.dam_gate.specs.Pass.{PassState}
 use Rattle.dam_book.specs.declared.command.Entry.{Entry}
-use Rattle.dam_gate.specs.Day.{own_commands}
+use Rattle.dam_gate.specs.inside.Entering.{HasAll}
 use Rattle.dam_gate.proofs.day.have_all_entered.Goals as goal
 
 pub loop-pass-preserved : goal.loop-pass-preserved
 loop-pass-preserved c =
-    let P = λ (p : PassState). IsPass p × (length p.receipts ≡ length (own_commands p.holder c.args.commands.now)) in
+    let P = HasAll c.args.commands.now in
     All-more P c.args.passes.now c.loop-pass.pass-index c.pass-item.result c.loop-pass-test.true c.loop-pass.invariant
-    (subst P c.pass-item.is (c.receipts.ensures.valid, ap (λ (es : List Entry). length es) (sym c.receipts.ensures.value) ∙ c.if-receipts-count_own.false ∙ c.count_own.ensures))
+    (subst P c.pass-item.is
+    (record {
+      pass = c.receipts.ensures.valid;
+      as_many = ap (λ (es : List Entry). length es) (sym c.receipts.ensures.value) ∙ c.if-receipts-count_own.false ∙ c.count_own.ensures;
+    }))
 
 pub returns : goal.returns
 returns c = λ yes.
-    let P = λ (p : PassState). IsPass p × (length p.receipts ≡ length (own_commands p.holder c.args.commands.now)) in
-    subst (λ (ps : List PassState). All P ps) (take_all c.loop-pass.pass-index c.args.passes.now (omega arith)) c.loop-pass.invariant
+    subst (λ (ps : List PassState). All (HasAll c.args.commands.now) ps) (take_all c.loop-pass.pass-index c.args.passes.now (omega arith)) c.loop-pass.invariant

@@ -4,4 +4,4 @@ use Rattle.dam_gate.specs.Pass.{new_pass}
 use Rattle.dam_gate.proofs.day.passes_for.Given as goal
 
 abbrev pub invariant-loop-who : goal.invariant-loop-who
-invariant-loop-who g l = l.passes.items ≡ map (λ (who : List ℕ). new_pass (Some who)) (take l.who-index l.whos)
+invariant-loop-who g l = l.passes.items ≡ map (λ (who : List ℕ). new_pass (Some who)) (take l.who-index l.participants)

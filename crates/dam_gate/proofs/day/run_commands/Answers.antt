@@ -11,7 +11,7 @@ passed_on : {X : Type 0} (cs : List Command) (r : Result X DayFault) (fault : Da
 passed_on cs (Ok x) fault same is = tt
 passed_on cs (Err e) fault same is = subst (IsDayFault cs) (sym same) is
 
-pub returns-in_err-whos-clause-fault : goal.returns-in_err-whos-clause-fault
-returns-in_err-whos-clause-fault g c =
-    passed_on c.args.commands.now c.from_residual.result c.in_err-whos.field-0.0 c.from_residual.ensures.1
-    (refused-fault c.args.commands.now c.in_err-whos.field-0.0 c.if-commands-ge-MOST_ENTRIES.false c.in_err-whos.ensures.refused)
+pub returns-in_err-participants-clause-fault : goal.returns-in_err-participants-clause-fault
+returns-in_err-participants-clause-fault g c =
+    passed_on c.args.commands.now c.from_residual.result c.in_err-participants.field-0.0 c.from_residual.ensures.1
+    (refused-fault c.args.commands.now c.in_err-participants.field-0.0 c.if-commands-ge-MOST_ENTRIES.false c.in_err-participants.ensures.refused)

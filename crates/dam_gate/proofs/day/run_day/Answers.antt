@@ -2,15 +2,15 @@ use Rattle.std.proofs.Common.{ℕ, List, subst, ◌∙◌}
 use Rattle.dam_book.specs.Book.{IsLegalHistory}
 use Rattle.dam_gate.specs.Pass.{PassState}
 use Rattle.dam_gate.specs.Settled.{AreReceipts, receipts_of}
-use Rattle.dam_gate.specs.Day.{IsClosedDay}
+use Rattle.dam_gate.specs.inside.Entering.{IsClosedDay}
 use Rattle.dam_gate.proofs.Days.{day_run}
 use Rattle.dam_gate.proofs.day.run_day.Goals as goal
 
 pub returns-clause-day : goal.returns-clause-day
 returns-clause-day g c =
     let es = c.in_ok-settled.settled.entries in
-    let closed = subst (IsClosedDay c.args.periods) c.journal.ensures (c.is_closed_day.ensures c.if-not-is_closed_day.false) in
-    day_run c.args.periods c.args.commands.now c.args.whos.now es c.in_ok-passes.passes.items c.in_ok-operator.operator closed.before
-    (subst (λ (n : ℕ). IsLegalHistory n es) closed.periods_are closed.journal.legal)
+    let closed = subst (IsClosedDay c.args.periods) c.journal.ensures.value (c.is_closed_day.ensures c.if-not-is_closed_day.false) in
+    day_run c.args.periods c.args.commands.now c.args.participants.now es c.in_ok-passes.passes.items c.in_ok-operator.operator closed.before
+    (subst (λ (n : ℕ). IsLegalHistory n es) closed.periods_are closed.journal.history.legal)
     (subst (λ (ps : List PassState). AreReceipts es (receipts_of ps)) (c.deref.ensures.value ∙ c.in_ok-push.ensures.items) c.in_ok-settled.ensures.settled.received)
     c.requires.givers c.in_ok-passes.ensures.ok c.in_ok-operator.ensures.ok c.in_ok-operator.ensures.pass closed.last

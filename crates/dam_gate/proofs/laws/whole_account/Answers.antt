@@ -7,11 +7,11 @@ use Rattle.dam_gate.proofs.laws.whole_account.Goals as goal
 pub returns : goal.returns
 returns g c =
     let j : JournalState = c.args.settled.now in
-    let is : IsJournal j = subst IsJournal c.journal.ensures c.entries-journal.ensures.valid in
+    let is : IsJournal j = subst IsJournal c.journal.ensures.value c.entries-journal.ensures.valid in
     record {
-      replies = sym (c.histories_are_runs.ensures.entries j.book.periods j.entries is.legal);
+      replies = sym (c.histories_are_runs.ensures.entries j.book.periods j.entries is.history.legal);
       book = sym is.book_is;
       closed = c.requires.closed;
-      each_once = each_once 1 (empty_book j.book.periods) j.entries _ is.legal c.requires.received;
-      in_order = in_order (empty_book j.book.periods) j.entries c.args.passes.now is.legal c.requires.received c.are_passes.ensures;
+      each_once = each_once 1 (empty_book j.book.periods) j.entries _ is.history.legal c.requires.received;
+      in_order = in_order (empty_book j.book.periods) j.entries c.args.passes.now is.history.legal c.requires.received c.are_passes.ensures;
     }

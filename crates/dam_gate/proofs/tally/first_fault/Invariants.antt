@@ -1,6 +1,6 @@
 -- What is left has the first fault of all.
 use Rattle.std.proofs.Common.{◌≡◌, ◌+◌, drop}
-use Rattle.dam_gate.specs.Tally.{first_fault}
+use Rattle.dam_gate.specs.inside.Tally.{first_fault}
 use Rattle.dam_gate.proofs.tally.first_fault.Given as goal
 
 abbrev pub invariant-loop-mark : goal.invariant-loop-mark

@@ -1,5 +1,5 @@
 use Rattle.std.proofs.Common.{arith}
-use Rattle.dam_hour.proofs.Filling.{fill_more}
+use Rattle.dam_hour.proofs.VolumesInTurn.{fill_more}
 use Rattle.dam_hour.proofs.execution.fill.Goals as goal
 
 pub loop-step-preserved : goal.loop-step-preserved

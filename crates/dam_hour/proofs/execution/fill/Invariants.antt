@@ -1,5 +1,5 @@
 use Rattle.std.proofs.Common.{◌≡◌, ◌++◌, drop}
-use Rattle.dam_hour.specs.Volumes.{fill, total_on}
+use Rattle.dam_hour.specs.inside.Volumes.{fill, total_on}
 use Rattle.dam_hour.proofs.execution.fill.Given as goal
 
 abbrev pub invariant-loop-step : goal.invariant-loop-step

@@ -17,7 +17,7 @@ value_small p n r w =
     omega (arith, unsigned_abs-mul p n, mul-le (unsigned_abs p) (unsigned_abs n) greatest_price greatest_net a b)
 
 pub returns : goal.returns
-returns c =
+returns g c =
     let p : to_z w64 (of_z w64 c.from.result) ≡ c.args.price = omega (arith, ints) in
     let n : to_z w64 (of_z w64 c.args.net) ≡ c.args.net = to_z-of_z w64 c.args.net c.ranges.net in
     let product : to_z w64 (of_z w64 c.from.result) *ℤ to_z w64 (of_z w64 c.args.net) ≡ c.args.price *ℤ c.args.net = ap₂ (λ (a b : ℤ). a *ℤ b) p n in

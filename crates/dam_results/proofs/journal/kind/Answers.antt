@@ -1,5 +1,5 @@
 use Rattle.csv.specs.Records.{fields_of}
-use Rattle.dam_results.proofs.Fields.{kind_field-Some, kind_field-None}
+use Rattle.dam_results.proofs.FieldByField.{kind_field-Some, kind_field-None}
 use Rattle.dam_results.proofs.journal.kind.Goals as goal
 
 pub returns-in-Some : goal.returns-in-Some

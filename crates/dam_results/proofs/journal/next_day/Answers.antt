@@ -1,8 +1,8 @@
 use Rattle.std.proofs.Common.{inl}
 use Rattle.csv.specs.Records.{fields_of}
 use Rattle.dam_results.specs.inside.Reader.{rows_left}
-use Rattle.dam_results.proofs.Left.{rows_left-none, rows_left-takes}
-use Rattle.dam_results.proofs.Faults.{first_record}
+use Rattle.dam_results.proofs.RecordsLeft.{rows_left-none, rows_left-takes}
+use Rattle.dam_results.proofs.FaultFound.{first_record}
 use Rattle.dam_results.proofs.journal.next_day.Goals as goal
 
 pub returns-in_default : goal.returns-in_default

@@ -2,8 +2,8 @@ use Rattle.std.proofs.Common.{◌+◌, inl, arith}
 use Rattle.std.proofs.lemmas.Result.{err_from_is_err_and}
 use Rattle.csv.specs.Records.{fields_of}
 use Rattle.dam_results.specs.inside.Reader.{rows_left}
-use Rattle.dam_results.proofs.Left.{rows_left-none, rows_left-takes}
-use Rattle.dam_results.proofs.Faults.{ReadsInto-more, ReadsInto-fault, ReadsInto-all}
+use Rattle.dam_results.proofs.RecordsLeft.{rows_left-none, rows_left-takes}
+use Rattle.dam_results.proofs.FaultFound.{ReadsInto-more, ReadsInto-fault, ReadsInto-all}
 use Rattle.dam_results.proofs.journal.read_commands.Goals as goal
 
 pub returns-in_err-command : goal.returns-in_err-command

@@ -2,7 +2,7 @@
 use Rattle.std.proofs.Common.{◌≤◌, ◌+◌}
 use Rattle.dam_results.specs.Limits.{most_records}
 use Rattle.dam_results.specs.inside.Reader.{IsOpen, rows_left}
-use Rattle.dam_results.proofs.Faults.{ReadsInto}
+use Rattle.dam_results.proofs.FaultFound.{ReadsInto}
 use Rattle.dam_results.proofs.journal.read_commands.Given as goal
 
 abbrev pub invariant-loop-record : goal.invariant-loop-record

@@ -1,7 +1,7 @@
 use Rattle.std.proofs.Common.{◌≡◌, Some, refl, ◌∙◌, inr}
 use Rattle.csv.specs.Reading.{strip_bom}
 use Rattle.dam_results.specs.inside.Reader.{unread}
-use Rattle.dam_results.proofs.Left.{rows_left-start}
+use Rattle.dam_results.proofs.RecordsLeft.{rows_left-start}
 use Rattle.dam_results.proofs.journal.records.Goals as goal
 
 pub returns : goal.returns

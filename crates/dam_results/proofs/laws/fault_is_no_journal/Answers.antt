@@ -1,4 +1,4 @@
-use Rattle.dam_results.proofs.Sound.{only_memory}
+use Rattle.dam_results.proofs.JournalsHaveNoFault.{only_memory}
 use Rattle.dam_results.proofs.laws.fault_is_no_journal.Goals as goal
 
 pub returns : goal.returns

@@ -1,4 +1,4 @@
-use Rattle.dam_results.proofs.FirstFault.{faults-alike}
+use Rattle.dam_results.proofs.OneFault.{faults-alike}
 use Rattle.dam_results.proofs.laws.text_has_one_fault.Goals as goal
 
 pub returns : goal.returns

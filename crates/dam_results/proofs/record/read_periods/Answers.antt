@@ -1,30 +1,14 @@
-use Rattle.std.proofs.Common.{◌≡◌, ℕ, true, List, [], ◌∷◌, codes, refl, ◌∙◌, sym, rules, arith}
-use Rattle.std.proofs.lemmas.Grind.{common_steps}
-use Rattle.std.specs.List.{list_any}
-use Rattle.std.specs.Str.{bytes_eq}
-use Rattle.dam_results.proofs.Rules.{decimal_23, decimal_24, decimal_25, Keeps-Periods}
+-- Texts of different numbers differ, and a day's number of periods is small.
+use Rattle.std.proofs.Common.{◌≡◌, true, false, arith, sym, subst, ◌∙◌}
+use Rattle.std.proofs.lemmas.Fmt.{decimal_injective}
+use Rattle.dam_book.specs.Book.{is_day}
 use Rattle.dam_results.proofs.record.read_periods.Goals as goal
 
-abbrev IsNone : List ℕ → Type 0
-IsNone field = list_any (bytes_eq field) (codes "23" ∷ codes "24" ∷ codes "25" ∷ []) ≡ true → ⊥
-
-pub returns-in-50 : goal.returns-in-50
-returns-in-50 c = let e : c.args.field.now ≡ codes "23" = grind (arith, common_steps) in (refl, e ∙ sym decimal_23)
-
-pub returns-in-50-2 : goal.returns-in-50-2
-returns-in-50-2 c = let e : c.args.field.now ≡ codes "24" = grind (arith, common_steps) in (refl, e ∙ sym decimal_24)
-
-pub returns-in-50-3 : goal.returns-in-50-3
-returns-in-50-3 c = let e : c.args.field.now ≡ codes "25" = grind (arith, common_steps) in (refl, e ∙ sym decimal_25)
-
-pub returns-in_default : goal.returns-in_default
-returns-in_default c = let no : IsNone c.args.field.now = search rules in λ k. no (Keeps-Periods c.args.field.now k)
-
-pub returns-in_default-2 : goal.returns-in_default-2
-returns-in_default-2 c = let no : IsNone c.args.field.now = search rules in λ k. no (Keeps-Periods c.args.field.now k)
-
-pub returns-in_default-3 : goal.returns-in_default-3
-returns-in_default-3 c = let no : IsNone c.args.field.now = search rules in λ k. no (Keeps-Periods c.args.field.now k)
-
-pub returns-in_default-4 : goal.returns-in_default-4
-returns-in_default-4 c = let no : IsNone c.args.field.now = search rules in λ k. no (Keeps-Periods c.args.field.now k)
+pub returns-else-is_day : goal.returns-else-is_day
+returns-else-is_day c = λ k.
+    let small = c.days_are_short.ensures k.0 k.1 in
+    let fits = c.in_ok-periods.ensures.0 in
+    let same : k.0 ≡ c.in_ok-periods.periods = decimal_injective k.0 _ (omega (arith, small)) (omega (arith, fits)) (sym k.2 ∙ c.in_ok-periods.ensures.1) in
+    let day : is_day c.in_ok-periods.periods ≡ true = subst (λ n. is_day n ≡ true) same k.1 in
+    let no : true ≡ false = sym day ∙ sym c.is_day.ensures ∙ c.if-is_day.false in
+    absurd cc

@@ -1,5 +1,5 @@
 use Rattle.std.proofs.Common.{[], ◌∙◌, ap, sym}
-use Rattle.dam_results.proofs.WriterFacts.{wrote_none, wrote_day, wrote_more, wrote_all}
+use Rattle.dam_results.proofs.WriterLines.{wrote_none, wrote_day, wrote_more, wrote_all}
 use Rattle.dam_results.proofs.writer.journal_text.Goals as goal
 
 pub loop-entry-init : goal.loop-entry-init

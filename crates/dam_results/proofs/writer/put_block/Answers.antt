@@ -2,7 +2,7 @@ use Rattle.std.proofs.Common.{◌≡◌, ◌∷◌, [], codes}
 use Rattle.dam_book.specs.declared.order.Order.TheVariants.{Block}
 use Rattle.dam_book.specs.declared.command.Command.TheVariants.{Submit}
 use Rattle.dam_results.specs.Records.{Fields, row_of}
-use Rattle.dam_results.proofs.WriterFacts.{puts_command}
+use Rattle.dam_results.proofs.WriterLines.{puts_command}
 use Rattle.dam_results.proofs.writer.put_block.Goals as goal
 
 pub returns : goal.returns

@@ -1,7 +1,7 @@
 use Rattle.std.proofs.Common.{◌≡◌, ◌∷◌, [], codes}
 use Rattle.dam_book.specs.declared.command.Command.TheVariants.{Amend, Cancel, Close}
 use Rattle.dam_results.specs.Records.{Fields, row_of}
-use Rattle.dam_results.proofs.WriterFacts.{puts_command}
+use Rattle.dam_results.proofs.WriterLines.{puts_command}
 use Rattle.dam_results.proofs.writer.put_command.Goals as goal
 
 pub returns-in_ok-volumes-in-Amend : goal.returns-in_ok-volumes-in-Amend

@@ -2,7 +2,7 @@ use Rattle.std.proofs.Common.{◌≡◌}
 use Rattle.std.specs.Prelude.{decimal}
 use Rattle.dam_results.specs.Records.{day_row}
 use Rattle.dam_results.proofs.FieldBytes.{day_fields}
-use Rattle.dam_results.proofs.WriterFacts.{wrote_line}
+use Rattle.dam_results.proofs.WriterLines.{wrote_line}
 use Rattle.dam_results.proofs.writer.put_day.Goals as goal
 
 pub returns : goal.returns

@@ -3,7 +3,7 @@ use Rattle.dam_book.specs.Fields.{price_text, volumes_text}
 use Rattle.dam_book.specs.declared.order.Order.TheVariants.{Hour}
 use Rattle.dam_book.specs.declared.command.Command.TheVariants.{Submit}
 use Rattle.dam_results.specs.Records.{Fields, row_of, side_word}
-use Rattle.dam_results.proofs.WriterFacts.{puts_command}
+use Rattle.dam_results.proofs.WriterLines.{puts_command}
 use Rattle.dam_results.proofs.writer.put_hour.Goals as goal
 
 abbrev hour_fields : List ℕ → List ℕ → List ℕ → List ℕ → List ℕ → Fields

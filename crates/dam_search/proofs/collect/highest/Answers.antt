@@ -3,7 +3,7 @@ use Rattle.std.proofs.Common.{◌≡◌, ◌+◌, List, [], ◌∷◌, ◌++◌,
 use Rattle.std.proofs.lemmas.List.{take_more}
 use Rattle.std.proofs.lemmas.List.Elements.{All-take, All-get_or}
 use Rattle.dam_search.specs.declared.answer.PieceAnswer.{PieceAnswer}
-use Rattle.dam_search.specs.Search.{IsLong, IsHighestFound}
+use Rattle.dam_search.specs.inside.Collect.{IsLong, IsHighestFound}
 use Rattle.dam_search.proofs.Answers.{highest_step, long_from}
 use Rattle.dam_search.proofs.collect.highest.Goals as goal
 

@@ -1,6 +1,6 @@
 -- The highest of what the answers so far found.
 use Rattle.std.proofs.Common.{take}
-use Rattle.dam_search.specs.Search.{IsLong, IsHighestFound}
+use Rattle.dam_search.specs.inside.Collect.{IsLong, IsHighestFound}
 use Rattle.dam_search.proofs.collect.highest.Given as goal
 
 abbrev pub invariant-loop-answer : goal.invariant-loop-answer

@@ -15,6 +15,11 @@ returns-clause-bests c problem depth answers b is deep are reads highest =
     let reached = reached_greatest problem depth answers (zero_reached c problem is) are.sound in
     collected problem depth answers b c.existence.ensures c.choices.ensures.each c.ranking.ensures.transitive is deep are (all_reached problem answers (greatest_found answers) reached reads) highest
 
+pub returns-clause-bests_found : goal.returns-clause-bests_found
+returns-clause-bests_found c problem depth answers is deep are reads none =
+    let reached = reached_greatest problem depth answers (zero_reached c problem is) are.sound in
+    some_found problem depth answers c.existence.ensures c.choices.ensures.each is deep are (all_reached problem answers (greatest_found answers) reached reads) none
+
 pub returns-clause-first : goal.returns-clause-first
 returns-clause-first c problem depth first answers b is deep are reached_first reads highest =
     let reached = reached_greater problem first (greatest_found answers) reached_first (reached_greatest problem depth answers (zero_reached c problem is) are.sound) in
@@ -25,6 +30,6 @@ pub returns-clause-reached : goal.returns-clause-reached
 returns-clause-reached c problem depth answers b is deep are reached highest =
     collected problem depth answers b c.existence.ensures c.choices.ensures.each c.ranking.ensures.transitive is deep are reached highest
 
-pub returns-clause-found : goal.returns-clause-found
-returns-clause-found c problem depth answers is deep are reached none =
+pub returns-clause-reached_found : goal.returns-clause-reached_found
+returns-clause-reached_found c problem depth answers is deep are reached none =
     some_found problem depth answers c.existence.ensures c.choices.ensures.each is deep are reached none

@@ -3,4 +3,4 @@ use Rattle.std.proofs.Common.{◌-◌, length}
 use Rattle.dam_search.proofs.piece.+explore.Given as goal
 
 abbrev pub decreases-explore : goal.decreases-explore
-decreases-explore g l = length l.problem.now.blocks - length l.front
+decreases-explore g l = length l.problem.now.blocks - length l.prefix

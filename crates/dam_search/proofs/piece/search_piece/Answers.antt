@@ -4,49 +4,55 @@ use Rattle.dam_blocks.specs.declared.selection.Best.{Best}
 use Rattle.dam_blocks.specs.Problem.{ProblemState}
 use Rattle.dam_blocks.specs.Selection.{choice}
 use Rattle.dam_search.specs.Piece.{IsFind, IsSound, IsSpent}
-use Rattle.dam_search.specs.Walk.{Finds, Covers}
-use Rattle.dam_search.proofs.Fronts.{length-choice}
+use Rattle.dam_search.specs.inside.Walk.{Finds, Covers}
+use Rattle.dam_search.proofs.Prefixes.{length-choice}
 use Rattle.dam_search.proofs.Walks.{spent_from}
 use Rattle.dam_search.proofs.piece.search_piece.Goals as goal
 
-as_long : (front : List Bool) (depth piece : ℕ) → front ≡ choice depth piece → length front ≡ depth
-as_long front depth piece e = ap (λ (xs : List Bool). length xs) e ∙ length-choice depth piece
+as_long : (prefix : List Bool) (depth piece : ℕ) → prefix ≡ choice depth piece → length prefix ≡ depth
+as_long prefix depth piece e = ap (λ (xs : List Bool). length xs) e ∙ length-choice depth piece
 
-sound : (problem : ProblemState) (decided : List Bool) (best : Option Best) (read : ℕ) (done : Bool) → Finds problem decided None best
-    → (done ≡ true → Covers problem decided best read) → IsSound problem decided best read done
-sound problem decided best read done f covers = record {
-  found = elim f.found [ inl e ↦ subst (λ (o : Option Best). IsFind problem decided o) (sym e) tt | inr g ↦ g ];
+sound : (problem : ProblemState) (prefix : List Bool) (best : Option Best) (read : ℕ) (done : Bool) → Finds problem prefix None best
+    → (done ≡ true → Covers problem prefix best read) → IsSound problem prefix best read done
+sound problem prefix best read done f covers = record {
+  found = elim f.found [ inl e ↦ subst (λ (o : Option Best). IsFind problem prefix o) (sym e) tt | inr g ↦ g ];
   others = covers;
 }
 
-pub explore-done-requires-clause-decided : goal.explore-done-requires-clause-decided
-explore-done-requires-clause-decided g c =
-    let long = as_long c.of_piece-front.result c.args.depth c.args.piece c.of_piece-front.ensures in
+pub day-day-requires : goal.day-day-requires
+day-day-requires g c =
+    let long = as_long c.of_piece-prefix.result c.args.depth c.args.piece c.of_piece-prefix.ensures in
+    let blocks = ap (λ (p : ProblemState). length p.blocks) c.requires.same in
+    omega (arith, long, blocks, c.requires.depth)
+
+pub explore-done-requires-clause-depth : goal.explore-done-requires-clause-depth
+explore-done-requires-clause-depth g c =
+    let long = as_long c.of_piece-prefix.result c.args.depth c.args.piece c.of_piece-prefix.ensures in
     omega (arith, long, c.requires.depth)
 
 pub returns-clause-sound : goal.returns-clause-sound
 returns-clause-sound g c =
     let found = c.explore-done.new.found in
-    subst (λ (front : List Bool). IsSound c.args.problem.now front found.best found.read c.explore-done.result) c.of_piece-front.ensures
-    (sound c.args.problem.now c.of_piece-front.result found.best found.read c.explore-done.result c.explore-done.ensures.finds c.explore-done.ensures.covers)
+    subst (λ (prefix : List Bool). IsSound c.args.problem.now prefix found.best found.read c.explore-done.result) c.of_piece-prefix.ensures
+    (sound c.args.problem.now c.of_piece-prefix.result found.best found.read c.explore-done.result c.explore-done.ensures.finds c.explore-done.ensures.covers)
 
 pub returns-clause-spent : goal.returns-clause-spent
 returns-clause-spent g c =
     let told = g.I.Incumbent.told c.args.incumbent.now in let n = length c.args.problem.now.blocks in
-    let long = as_long c.of_piece-front.result c.args.depth c.args.piece c.of_piece-front.ensures in
+    let long = as_long c.of_piece-prefix.result c.args.depth c.args.piece c.of_piece-prefix.ensures in
     let visited = c.explore-done.new.found.visited in
     subst (λ (left : ℕ). IsSpent c.args.problem.now (choice c.args.depth c.args.piece) (n - left) told c.args.nodes visited c.explore-done.result) long
-    (subst (λ (front : List Bool). IsSpent c.args.problem.now front (n - length c.of_piece-front.result) told c.args.nodes visited c.explore-done.result) c.of_piece-front.ensures
-    (spent_from c.args.problem.now c.of_piece-front.result (n - length c.of_piece-front.result) told c.args.nodes visited c.explore-done.result c.explore-done.ensures.spends))
+    (subst (λ (prefix : List Bool). IsSpent c.args.problem.now prefix (n - length c.of_piece-prefix.result) told c.args.nodes visited c.explore-done.result) c.of_piece-prefix.ensures
+    (spent_from c.args.problem.now c.of_piece-prefix.result (n - length c.of_piece-prefix.result) told c.args.nodes visited c.explore-done.result c.explore-done.ensures.spends))
 
 pub returns-clause-read : goal.returns-clause-read
 returns-clause-read g c some few =
-    let long = as_long c.of_piece-front.result c.args.depth c.args.piece c.of_piece-front.ensures in
+    let long = as_long c.of_piece-prefix.result c.args.depth c.args.piece c.of_piece-prefix.ensures in
     c.explore-done.ensures.reads.asked some (omega (arith, long, few))
 
 pub returns-clause-unread : goal.returns-clause-unread
 returns-clause-unread g c h =
-    let long = as_long c.of_piece-front.result c.args.depth c.args.piece c.of_piece-front.ensures in
+    let long = as_long c.of_piece-prefix.result c.args.depth c.args.piece c.of_piece-prefix.ensures in
     elim h [
       | inl none ↦ c.explore-done.ensures.reads.unvisited none
       | inr full ↦ c.explore-done.ensures.reads.full (omega (arith, long, full))

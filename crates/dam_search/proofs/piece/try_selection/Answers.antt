@@ -1,4 +1,4 @@
--- The selection of a front that decides every block is its only completion that can be eligible.
+-- The selection of a prefix that decides every block is its only completion that can be eligible.
 use Rattle.std.proofs.Common.{ℤ, pos, List, Bool, ◌∙◌, refl, sym, subst, arith}
 use Rattle.dam_blocks.specs.Eligible.{IsEligible}
 use Rattle.dam_blocks.specs.Result.{RanksAtOrBelow}
@@ -10,13 +10,14 @@ returns-in_default g c =
     let problem = c.args.problem.now in
     let offered = c.requires.offered in
     record {
-      finds = finds_nothing problem c.args.front.now c.args.found.now.best;
+      finds = finds_nothing problem c.args.prefix.now c.args.found.now.best;
       covers = λ sel w whole e.
-          (let only = c.completions.ensures.only problem c.args.front.now sel (omega (arith, c.requires.full)) whole e.admissible in
+          (let only = c.completions.ensures.only problem c.args.prefix.now sel (omega (arith, c.requires.full)) whole e.admissible in
           let here = subst (λ (xs : List Bool). IsEligible problem xs w) (only ∙ sym c.selection-selection.ensures) e in
           absurd (c.verdict.ensures.other problem c.selection-selection.result c.score.result w c.score.ensures c.in_default.not-Eligible here));
       offered = omega (arith, offered);
       told = refl;
+      kept = refl;
       read = refl;
       visited = refl;
     }
@@ -24,7 +25,7 @@ returns-in_default g c =
 pub returns-then-surpasses-clause-covers : goal.returns-then-surpasses-clause-covers
 returns-then-surpasses-clause-covers g c sel w whole e =
     let problem = c.args.problem.now in
-    let only = c.completions.ensures.only problem c.args.front.now sel (omega (arith, c.requires.full)) whole e.admissible ∙ sym c.selection-selection.ensures in
+    let only = c.completions.ensures.only problem c.args.prefix.now sel (omega (arith, c.requires.full)) whole e.admissible ∙ sym c.selection-selection.ensures in
     let here = subst (λ (xs : List Bool). IsEligible problem xs w) only e in
     let same = c.verdict.ensures.one problem c.selection-selection.result w (pos c.in-Eligible.welfare) here c.in-Eligible.ensures in
     subst (λ (xs : List Bool). RanksAtOrBelow w xs (pos c.in-Eligible.welfare) c.selection-selection.result) (sym only)
@@ -32,4 +33,4 @@ returns-then-surpasses-clause-covers g c sel w whole e =
     (ranks_with_itself (pos c.in-Eligible.welfare) c.selection-selection.result))
 
 pub returns-else-surpasses-clause-finds : goal.returns-else-surpasses-clause-finds
-returns-else-surpasses-clause-finds g c = finds_nothing c.args.problem.now c.args.front.now c.args.found.now.best
+returns-else-surpasses-clause-finds g c = finds_nothing c.args.problem.now c.args.prefix.now c.args.found.now.best

@@ -1,9 +1,9 @@
 -- The problem of a book keeps what every book keeps.
 use Rattle.std.proofs.Common.{ℕ, length, ap, ap₂, ◌∙◌, List, rules, arith}
 use Rattle.dam_book.specs.Terms.{HourTerms}
-use Rattle.dam_blocks.specs.Making.{hours_among}
+use Rattle.dam_blocks.specs.inside.Making.{hours_among}
 use Rattle.dam_blocks.proofs.FromBook.{problem_made, problem_kept}
-use Rattle.dam_blocks.proofs.RowSteps.{among_periods, few_hourly_in}
+use Rattle.dam_blocks.proofs.RowByRow.{among_periods, few_hourly_in}
 use Rattle.dam_blocks.proofs.problem.Problem.of_book.Goals as goal
 
 pub hours_of-requires : goal.hours_of-requires

@@ -1,7 +1,7 @@
 -- What was counted before the pass, with its receipts so far, is what is counted now.
 use Rattle.std.proofs.Common.{◌≡◌, ◌++◌, List, length, take}
 use Rattle.dam_book.specs.declared.command.Entry.{Entry}
-use Rattle.dam_gate.specs.Tally.{IsTally}
+use Rattle.dam_gate.specs.inside.Tally.{IsTally}
 use Rattle.dam_gate.proofs.tally.Tally.count_pass.Given as goal
 
 abbrev pub invariant-loop-receipt : goal.invariant-loop-receipt

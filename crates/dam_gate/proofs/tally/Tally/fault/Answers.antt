@@ -1,5 +1,5 @@
 use Rattle.std.proofs.Common.{sym, ap, ◌∙◌}
-use Rattle.dam_gate.specs.Tally.{first_fault}
+use Rattle.dam_gate.specs.inside.Tally.{first_fault}
 use Rattle.dam_gate.proofs.Tallies.{fault-told, all-told, extra-told}
 use Rattle.dam_gate.proofs.tally.Tally.fault.Goals as goal
 

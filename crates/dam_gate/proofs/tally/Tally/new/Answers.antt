@@ -3,7 +3,7 @@ use Rattle.std.proofs.lemmas.List.{take_all}
 use Rattle.dam_book.specs.declared.command.Entry.{Entry}
 use Rattle.dam_gate.specs.declared.tally.Found.{Found}
 use Rattle.dam_gate.specs.declared.tally.Found.TheVariants.{Nothing}
-use Rattle.dam_gate.specs.Tally.{IsTally}
+use Rattle.dam_gate.specs.inside.Tally.{IsTally}
 use Rattle.dam_gate.proofs.Tallies.{tally-empty}
 use Rattle.dam_gate.proofs.tally.Tally.new.Goals as goal
 

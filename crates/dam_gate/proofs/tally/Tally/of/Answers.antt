@@ -2,7 +2,7 @@ use Rattle.std.proofs.Common.{◌≡◌, ◌+◌, ◌++◌, List, take, get_or, 
 use Rattle.dam_book.specs.declared.command.Entry.{Entry}
 use Rattle.dam_gate.specs.Pass.{PassState}
 use Rattle.dam_gate.specs.Settled.{receipts_of}
-use Rattle.dam_gate.specs.Tally.{IsTally}
+use Rattle.dam_gate.specs.inside.Tally.{IsTally}
 use Rattle.dam_gate.proofs.Receipts.{receipts-more}
 use Rattle.dam_gate.proofs.tally.Tally.of.Goals as goal
 

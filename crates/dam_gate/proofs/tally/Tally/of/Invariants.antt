@@ -1,7 +1,7 @@
 -- The receipts of the passes so far are counted.
 use Rattle.std.proofs.Common.{◌≡◌, length, take}
 use Rattle.dam_gate.specs.Settled.{receipts_of}
-use Rattle.dam_gate.specs.Tally.{IsTally}
+use Rattle.dam_gate.specs.inside.Tally.{IsTally}
 use Rattle.dam_gate.proofs.tally.Tally.of.Given as goal
 
 abbrev pub invariant-loop-pass : goal.invariant-loop-pass

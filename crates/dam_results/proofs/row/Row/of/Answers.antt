@@ -1,5 +1,5 @@
 use Rattle.csv.specs.Records.{fields_of}
-use Rattle.dam_results.proofs.Fields.{nine}
+use Rattle.dam_results.proofs.FieldByField.{nine}
 use Rattle.dam_results.proofs.row.Row.of.Goals as goal
 
 pub returns : goal.returns

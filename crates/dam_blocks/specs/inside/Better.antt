@@ -1,0 +1,8 @@
+-- The order of two results, as the search over all selections compares them.
+use Rattle.std.specs.Prelude.{pos}
+use Rattle.dam_blocks.specs.declared.selection.Best.{Best}
+use Rattle.dam_blocks.specs.Result.{RanksAtOrBelow}
+
+-- the first ranks at or below the second
+abbrev pub IsNoBetter : Best → Best → Type 0
+IsNoBetter a b = RanksAtOrBelow (pos a.welfare) a.selection (pos b.welfare) b.selection

@@ -1,0 +1,89 @@
+//! What a person at a terminal is shown of a run, on standard error. Where that is no terminal nothing is printed.
+
+#[cfg(test)]
+use dam_search::FreeTurn;
+use dam_search::Turnstile;
+use std::sync::{Mutex, Wait};
+
+/// Takes a terminal to the beginning of the line, and clears it.
+const CLEAR: &str = "\r\u{1b}[K";
+
+/// A turnstile that is also told where a search begins and ends.
+pub trait Watch: Turnstile {
+    /// Called before a search of so many pieces.
+    fn begin(&self, pieces: u32);
+
+    /// Called after the search, whatever it answers.
+    fn end(&self);
+}
+
+/// The pieces of a search that have ended, and all of them.
+#[derive(Drop)]
+struct Count {
+    ended: u32,
+    pieces: u32,
+}
+
+/// Shows at a terminal how many pieces of a search have ended, in one line that is written anew as each ends and taken away
+/// before anything else is printed.
+#[derive(Drop)]
+pub struct Progress<'a, R: Wait + Eprint> {
+    rt: &'a R,
+    is_shown: bool,
+    count: Mutex<Count>,
+}
+
+impl<'a, R: Wait + Eprint> Progress<'a, R> {
+    /// Shows nothing, unless `is_shown`.
+    pub fn new(rt: &'a R, is_shown: bool) -> Progress<'a, R> {
+        Progress {
+            rt,
+            is_shown,
+            count: Mutex::new(Count {
+                ended: 0,
+                pieces: 0,
+            }),
+        }
+    }
+
+    /// Writes the line anew.
+    fn show(&self, count: &Count) {
+        if self.is_shown {
+            let _ = eprint!(self.rt;
+                "{CLEAR}dam: {} of {} pieces are searched",
+                count.ended, count.pieces
+            );
+        }
+    }
+}
+
+impl<'a, R: Wait + Eprint> Turnstile for Progress<'a, R> {
+    fn before(&self, _job: u32) {}
+
+    fn after(&self, _job: u32) {
+        let mut count = self.count.lock(self.rt);
+        count.ended = count.ended.saturating_add(1);
+        self.show(&count);
+    }
+}
+
+impl<'a, R: Wait + Eprint> Watch for Progress<'a, R> {
+    fn begin(&self, pieces: u32) {
+        let mut count = self.count.lock(self.rt);
+        *count = Count { ended: 0, pieces };
+        self.show(&count);
+    }
+
+    fn end(&self) {
+        if self.is_shown {
+            let _ = eprint!(self.rt; "{CLEAR}");
+        }
+    }
+}
+
+#[cfg(test)]
+impl Watch for FreeTurn {
+    fn begin(&self, _pieces: u32) {}
+
+    fn end(&self) {}
+}

@@ -1,0 +1,93 @@
+//! The gate of the day, from its opening to the settlement.
+ghost use Rattle.std.specs.Prelude.{◌≡◌, ◌++◌, IfOk, OnOk};
+ghost use Rattle.dam_book.specs.Book.{commands_of};
+ghost use Rattle.dam_gate.specs.Headline.{IsWholeAccount};
+ghost use Rattle.dam_example.specs.Day.{AreReceiptsOf};
+
+use anyhow::{Context, Result};
+use dam_book::{Command, Name, Participant};
+use dam_gate::laws::whole_account;
+use dam_gate::{Gate, GateFault, Look, Pass, Settled, settle};
+use std::alloc::Global;
+use std::sync::Wait;
+use std::thread::{Threads, join_mut};
+
+/// A participant, and the commands that it enters.
+#[derive(Clone, Copy)]
+pub struct Trader<'a> {
+    pub who: &'a Participant,
+    pub commands: &'a [Command],
+}
+
+/// A settled day, and what went with it.
+#[derive(Drop)]
+pub struct Day {
+    pub settled: Settled,
+    /// Those of the two participants and of the operator.
+    pub passes: Vec<Pass>,
+    /// What the first participant saw of the order that it looked for, before the close.
+    pub look: Look,
+}
+
+/// Enters the commands through the pass, in their order, up to the first that the gate refuses. One that the book refuses is
+/// entered too, and its reply is in the receipt.
+fn enter(
+    rt: &impl Wait,
+    gate: &Gate,
+    pass: &mut Pass,
+    commands: &[Command],
+) -> Result<(), GateFault>
+    ensures { OnOk result
+        (commands_of pass.new.receipts ≡ commands_of pass.old.receipts ++ commands.now) }
+{
+    for command in commands {
+        let _entry = gate.call(rt, pass, command.copy())?;
+    }
+    Ok(())
+}
+
+/// Opens a gate, has two participants enter their commands side by side, looks, closes and settles.
+pub fn hold_day<R: Threads + Wait + Sync>(
+    rt: &R,
+    alloc: Global,
+    first: Trader,
+    second: Trader,
+) -> Result<Day>
+    ensures account { IfOk result (λ day. IsWholeAccount day.settled day.passes.items) }
+    ensures entered { IfOk result (λ day.
+        AreReceiptsOf first.entry.commands.now second.entry.commands.now day.passes.items) }
+{
+    let gate = Gate::begin(alloc, 24)?;
+    let mut one = gate.pass(rt, first.who.copy())?;
+    let mut other = gate.pass(rt, second.who.copy())?;
+    let (entered, beside) = join_mut(
+        rt,
+        &mut || enter(rt, &gate, &mut one, first.commands),
+        &mut || enter(rt, &gate, &mut other, second.commands),
+    );
+    entered?;
+    beside?;
+
+    let name = Name::new(b"BASE-8").context("a name")?;
+    let look = gate
+        .look(rt, &mut one, second.who, &name)
+        .context("a pass of this gate")?;
+    let mut operator = gate.operator(rt)?;
+    let _closed = gate.call(rt, &mut operator, Command::Close)?;
+
+    let mut passes = Vec::new(alloc);
+    passes.push(one)?;
+    passes.push(other)?;
+    passes.push(operator)?;
+    match settle(alloc, gate.finish(), &passes) {
+        Ok(settled) => {
+            whole_account(&settled, &passes);
+            Ok(Day {
+                settled,
+                passes,
+                look,
+            })
+        }
+        Err(unsettled) => Err(unsettled.why)?,
+    }
+}

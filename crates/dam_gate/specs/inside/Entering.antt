@@ -1,0 +1,77 @@
+-- How the participants enter a day's commands.
+use Rattle.std.specs.Prelude.{◌≡◌, ◌≢◌, ◌⊎◌, ℕ, false, List, [], ◌∷◌, ◌++◌, length, Option, Some}
+use Rattle.std.specs.List.{filter}
+use Rattle.dam_book.specs.Book.{commands_of}
+use Rattle.dam_book.specs.declared.command.Command.{Command}
+use Rattle.dam_book.specs.declared.command.Command.TheVariants.{Close}
+use Rattle.dam_gate.specs.Pass.{PassState, IsPass, is_own}
+use Rattle.dam_gate.specs.Journal.{JournalState, IsJournal}
+use Rattle.dam_gate.specs.Day.{commands_by, giver, is_one_of, refused_at, with_giver}
+use Rattle.dam_gate.specs.declared.day.DayFault.{DayFault}
+use Rattle.dam_gate.specs.declared.day.DayFault.TheVariants.{TooManyCommands, CloseGiven, TooManyParticipants, NotSettled, Memory}
+use Rattle.dam_gate.specs.declared.settlement.Mismatch.TheVariants.{Memory as NoTally}
+
+-- no two are one participant
+abbrev pub AreApart : List (List ℕ) → Type 0
+AreApart [] = Unit {0}
+AreApart (who ∷ participants) = (is_one_of participants who ≡ false) × AreApart participants
+
+-- these are the participants who give the commands, each once
+pub record AreGivers (participants : List (List ℕ)) (cs : List Command) : Type 0 where
+  pub apart : AreApart participants
+  pub all : (who : List ℕ) → is_one_of participants who ≡ false → commands_by who cs ≡ []
+
+-- the giver of the command is taken among the participants
+pub record Takes (c : Command) (before after : List (List ℕ)) : Type 0 where
+  pub who : List ℕ
+  pub gives : giver c ≡ Some who
+  pub after_is : after ≡ with_giver before who
+
+-- memory ran out, or the command at this place is refused, whatever comes after it
+abbrev pub IsRefusalAt : ℕ → List (List ℕ) → Command → DayFault → Type 0
+IsRefusalAt place participants c fault =
+    (fault ≡ Memory) ⊎ ((after : List (List ℕ) → Option DayFault) → refused_at place participants (giver c) after ≡ Some fault)
+
+-- the commands that are the holder's to give, in their order
+abbrev pub own_commands : Option (List ℕ) → List Command → List Command
+own_commands holder cs = filter (is_own holder) cs
+
+-- the pass has receipts of these commands, and then of some of its own, the first ones
+pub record HasEntered (earlier own : List Command) (p : PassState) : Type 0 where
+  pub entered : List Command
+  pub left : List Command
+  pub own_is : own ≡ entered ++ left
+  pub receipts : commands_of p.receipts ≡ earlier ++ entered
+
+-- the pass after has the holder and the receipts of the pass before, and then receipts of the first of its own commands
+pub record Enters (given : List Command) (before after : PassState) : Type 0 where
+  pub holder : after.holder ≡ before.holder
+  pub entered : HasEntered (commands_of before.receipts) (own_commands before.holder given) after
+
+-- each participant's pass has receipts of just its own commands
+abbrev pub AreServed : List Command → List (List ℕ) → List PassState → Type 0
+AreServed given [] [] = Unit {0}
+AreServed given (who ∷ participants) (p ∷ ps) =
+    (commands_of p.receipts ≡ commands_by who given) × IsPass p × AreServed given participants ps
+AreServed given [] (p ∷ ps) = ⊥
+AreServed given (who ∷ participants) [] = ⊥
+
+-- the holder has as many receipts as commands of its own
+pub record HasAll (given : List Command) (p : PassState) : Type 0 where
+  pub pass : IsPass p
+  pub as_many : length p.receipts ≡ length (own_commands p.holder given)
+
+-- a journal of this day whose last command is a close
+pub record IsClosedDay (periods : ℕ) (j : JournalState) : Type 0 where
+  pub periods_are : j.book.periods ≡ periods
+  pub journal : IsJournal j
+  pub before : List Command
+  pub last : commands_of j.entries ≡ before ++ Close ∷ []
+
+-- what a day may answer that isn't refused
+abbrev pub IsLateFault : DayFault → Type 0
+IsLateFault TooManyCommands = ⊥
+IsLateFault (CloseGiven place) = ⊥
+IsLateFault (TooManyParticipants place) = ⊥
+IsLateFault (NotSettled why) = why ≢ NoTally
+IsLateFault Memory = Unit {0}

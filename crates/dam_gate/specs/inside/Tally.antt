@@ -1,0 +1,65 @@
+-- What a tally of receipts tells of each entry.
+use Rattle.std.specs.Prelude.{◌≡◌, ◌≢◌, ℕ, suc, ◌<◌, ◌≤◌, Bool, true, false, List, [], ◌∷◌, length, Option, None, Some, MatchOption, min}
+use Rattle.dam_book.specs.declared.command.Entry.{Entry}
+use Rattle.dam_gate.specs.declared.settlement.Mismatch.{Mismatch}
+use Rattle.dam_gate.specs.declared.settlement.Mismatch.TheVariants.{Missing, Doubled, Differs}
+use Rattle.dam_gate.specs.declared.tally.Found.{Found}
+use Rattle.dam_gate.specs.declared.tally.Found.TheVariants.{Nothing, Same, Other, Several}
+use Rattle.dam_gate.specs.Settled.{AreReceipts, IsFaultOf, numbered}
+
+-- what was found of an entry, of whose number these are the receipts
+abbrev pub IsFound : Found → Entry → List Entry → Type 0
+IsFound Nothing e rs = rs ≡ []
+IsFound Same e rs = rs ≡ e ∷ []
+IsFound Other e rs = (length rs ≡ 1) × (rs ≢ e ∷ [])
+IsFound Several e rs = 2 ≤ length rs
+
+-- what is found with one receipt more, which is the entry or isn't
+abbrev pub found_with : Found → Bool → Found
+found_with Nothing true = Same
+found_with Nothing false = Other
+found_with Same same = Several
+found_with Other same = Several
+found_with Several same = Several
+
+-- what was found of the entries, the first of them having the number `n`
+abbrev pub AreFound : ℕ → List Entry → List Found → List Entry → Type 0
+AreFound n [] [] rs = Unit {0}
+AreFound n (e ∷ es) (f ∷ fs) rs = IsFound f e (numbered n rs) × AreFound (suc n) es fs rs
+AreFound n [] (f ∷ fs) rs = ⊥
+AreFound n (e ∷ es) [] rs = ⊥
+
+-- the least number above those of the entries of which there is a receipt
+abbrev pub IsLeastExtra : ℕ → List Entry → Option ℕ → Type 0
+IsLeastExtra held rs None = (n : ℕ) → held < n → numbered n rs ≡ []
+IsLeastExtra held rs (Some least) = (held < least) × (0 < length (numbered least rs)) × ((n : ℕ) → held < n → n < least → numbered n rs ≡ [])
+
+-- the lesser of two numbers, one of which there may not be
+abbrev pub lesser : Option ℕ → ℕ → Option ℕ
+lesser None n = Some n
+lesser (Some least) n = Some (min least n)
+
+-- the tally of these receipts
+pub record IsTally (es : List Entry) (found : List Found) (extra : Option ℕ) (rs : List Entry) : Type 0 where
+  pub are_found : AreFound 1 es found rs
+  pub extra_is : IsLeastExtra (length es) rs extra
+  pub positive : numbered 0 rs ≡ []
+
+-- the least fault of these receipts of these entries, or that there is none
+abbrev pub IsFirstFault : List Entry → List Entry → Option Mismatch → Type 0
+IsFirstFault es rs why = MatchOption why (AreReceipts es rs) (IsFaultOf es rs)
+
+-- the fault of the first of these that isn't as it should be
+abbrev pub fault_of : ℕ → Found → Option Mismatch
+fault_of n Nothing = Some (Missing n)
+fault_of n Same = None
+fault_of n Other = Some (Differs n)
+fault_of n Several = Some (Doubled n)
+
+abbrev pub first_of : Option Mismatch → Option Mismatch → Option Mismatch
+first_of None other = other
+first_of (Some fault) other = Some fault
+
+abbrev pub first_fault : ℕ → List Found → Option Mismatch
+first_fault n [] = None
+first_fault n (f ∷ fs) = first_of (fault_of n f) (first_fault (suc n) fs)

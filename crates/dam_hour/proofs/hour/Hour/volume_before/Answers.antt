@@ -1,0 +1,19 @@
+use Rattle.std.proofs.Common.{ℕ, ◌∙◌, subst, arith}
+use Rattle.dam_hour.specs.inside.Ladder.{IsCut}
+use Rattle.dam_hour.proofs.Ladders.{volume_before}
+use Rattle.dam_hour.proofs.Positions.{front_small}
+use Rattle.dam_hour.proofs.hour.Hour.volume_before.Goals as goal
+
+pub returns-clause-value : goal.returns-clause-value
+returns-clause-value g c =
+    let cut = subst (λ (n : ℕ). IsCut n c.place-count.result c.side-ladder.result.now) c.order_of.ensures.order c.place-count.ensures.cut in
+    c.sums.ensures.volume
+    ∙ volume_before c.args.side c.args.limit c.args.place c.place-count.result c.side-ladder.result.now c.args.self.now c.side-ladder.ensures.side c.side-ladder.ensures.steps c.order_of.ensures.limit c.requires cut
+
+pub returns-clause-small : goal.returns-clause-small
+returns-clause-small g c =
+    let hour = c.side-ladder.ensures.steps in
+    let value = returns-clause-value g c in
+    let few = hour.few in
+    let small = front_small c.args.side c.args.limit c.args.place c.args.self.now hour.in_range in
+    omega (arith, value, few, small)

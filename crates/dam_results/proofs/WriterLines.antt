@@ -1,0 +1,91 @@
+-- The lines that the writer of comma-separated values writes for fields with no mark of the format.
+use Rattle.std.proofs.Common.{◌≡◌, ◌<◌, ◌≤◌, ◌+◌, ℕ, List, [], ◌∷◌, ◌++◌, length, take, get_or, true, false, refl, sym, ap, subst, ◌∙◌, append-nil}
+use Rattle.std.specs.Prelude.{Result, Ok, Err, OnOk, Option, Some}
+use Rattle.std.specs.Io.KnownBytes.{Keeps}
+use Rattle.std.specs.List.{AllByRecursion, join_with_byte}
+use Rattle.std.specs.declared.vec.Vec.{Vec}
+use Rattle.std.proofs.lemmas.List.{take_more, take_all, map-append, flat_map_more}
+use Rattle.csv.specs.Writing.{default_writer, field_text, fields_text, is_blank, row_text, fields_written, has_written, writer_setup, writer_under, writer_pending, text_written}
+use Rattle.csv.specs.declared.writer.Writer.{Writer}
+use Rattle.dam_book.specs.declared.command.Command.{Command}
+use Rattle.dam_book.specs.declared.command.Entry.{Entry}
+use Rattle.dam_book.specs.Book.{is_day, commands_of}
+use Rattle.dam_book.specs.Limits.{most_entries}
+use Rattle.dam_results.specs.Records.{Fields, day_row, row_of}
+use Rattle.dam_results.specs.Journal.{IsCommand, ReadsAs}
+use Rattle.dam_results.specs.Written.{row_line, command_line, written, journal_text}
+use Rattle.dam_results.specs.inside.Writer.{Wrote, PutsCommand}
+use Rattle.dam_results.proofs.FieldBytes.{AreFields, limits, command_fields}
+use Rattle.dam_results.proofs.SpelledRecords.{IsPlain, ArePlain}
+use Rattle.dam_results.proofs.ReadBack.{plain_fields, reads_journal_text}
+
+bare : (x : List ℕ) → IsPlain x → field_text default_writer x ≡ x
+bare x h = rw h refl
+
+bare_fields : (x : List ℕ) (xs : Fields) → ArePlain xs → x ++ fields_text default_writer xs ≡ join_with_byte 44 (x ∷ xs)
+unfolding fields_text
+bare_fields x [] h = append-nil x
+bare_fields x (y ∷ ys) h = rw (bare y h.0) (ap (λ (bytes : List ℕ). x ++ 44 ∷ bytes) (bare_fields y ys h.1))
+
+bare_row : (x y : List ℕ) (ys : Fields) → ArePlain (x ∷ y ∷ ys) → row_text default_writer (x ∷ y ∷ ys) ≡ row_line (x ∷ y ∷ ys)
+unfolding is_blank
+bare_row x y ys h = rw (bare x h.0) (ap (λ (bytes : List ℕ). bytes ++ 10 ∷ []) (bare_fields x (y ∷ ys) h.1))
+
+pub row_text-line : (row : Fields) → AreFields limits row → row_text default_writer row ≡ row_line row
+unfolding limits
+row_text-line [] h = absurd h
+row_text-line (x ∷ []) h = absurd h.1
+row_text-line (x ∷ y ∷ ys) h = bare_row x y ys (plain_fields limits (x ∷ y ∷ ys) h)
+
+pub wrote_line : {A T E : Type 0} (before after : Writer (Vec ℕ A)) (result : Result T E) (row : Fields) → AreFields limits row
+    → OnOk result ((text : List ℕ) → Wrote before text → Wrote after (text ++ row_text default_writer row)) → OnOk result ((text : List ℕ) → Wrote before text → Wrote after (text ++ row_line row))
+wrote_line before after (Ok x) row h w = λ text at. subst (λ (line : List ℕ). Wrote after (text ++ line)) (row_text-line row h) (w text at)
+wrote_line before after (Err e) row h w = tt
+
+pub puts_command : {A T E : Type 0} (before after : Writer (Vec ℕ A)) (result : Result T E) (row : Fields) (command : Command) → IsCommand command → row ≡ row_of command
+    → OnOk result ((text : List ℕ) → Wrote before text → Wrote after (text ++ row_text default_writer row)) → OnOk result (PutsCommand before after command)
+puts_command before after (Ok x) row command h e w =
+    record { valid = h; line = λ text at. subst (λ (line : List ℕ). Wrote after (text ++ line)) (ap (row_text default_writer) e ∙ row_text-line (row_of command) (command_fields command h)) (w text at) }
+puts_command before after (Err x) row command h e w = tt
+
+-- a writer that has written nothing
+pub wrote_none : {A : Type 0} (out : Writer (Vec ℕ A)) → fields_written out ≡ 0 → has_written out ≡ false → writer_setup out ≡ default_writer → (writer_under out).items ≡ [] → writer_pending out ≡ [] → Wrote out []
+wrote_none out between clean setup under pending = record { between = between; clean = clean; setup = setup; bytes = rw (under, pending) refl }
+
+-- the entries so far, and one more
+
+valid_more : (cs : List Command) (c : Command) → AllByRecursion IsCommand cs → IsCommand c → AllByRecursion IsCommand (cs ++ c ∷ [])
+valid_more [] c h k = (k, tt)
+valid_more (d ∷ cs) c h k = (h.0, valid_more cs c h.1 k)
+
+written_more : (periods : ℕ) (cs : List Command) (c : Command) → written periods (cs ++ c ∷ []) ≡ written periods cs ++ command_line c
+written_more periods cs c = sym (flat_map_more command_line (row_line (day_row periods)) cs c)
+
+commands_more : (entries : List Entry) (i : ℕ) (e : Entry) → i < length entries → get_or entries i e ≡ e → commands_of (take (i + 1) entries) ≡ commands_of (take i entries) ++ e.command ∷ []
+commands_more entries i e within here = rw (take_more entries i e, here, map-append) refl
+
+-- what the loop over the entries keeps
+pub record WroteEntries {A : Type 0} (out : Writer (Vec ℕ A)) (periods : ℕ) (entries : List Entry) : Type 0 where
+  pub wrote : Wrote out (journal_text periods entries)
+  pub valid : AllByRecursion IsCommand (commands_of entries)
+
+pub wrote_day : {A : Type 0} (out : Writer (Vec ℕ A)) (periods : ℕ) → Wrote out (row_line (day_row periods)) → WroteEntries out periods []
+wrote_day out periods h = record { wrote = rw append-nil h; valid = tt }
+
+pub wrote_more : {A : Type 0} (before after : Writer (Vec ℕ A)) (periods : ℕ) (entries : List Entry) (i : ℕ) (e : Entry) → i < length entries → get_or entries i e ≡ e
+    → WroteEntries before periods (take i entries) → PutsCommand before after e.command → WroteEntries after periods (take (i + 1) entries)
+wrote_more before after periods entries i e within here h p =
+    let cs = commands_of (take i entries) in
+    let more : commands_of (take (i + 1) entries) ≡ cs ++ e.command ∷ [] = commands_more entries i e within here in
+    record {
+      wrote = subst (λ (text : List ℕ). Wrote after text) (sym (ap (written periods) more ∙ written_more periods cs e.command)) (p.line (journal_text periods (take i entries)) h.wrote);
+      valid = subst (λ (ds : List Command). AllByRecursion IsCommand ds) (sym more) (valid_more cs e.command h.valid p.valid);
+    }
+
+-- what the writer gives at the end reads as the day and the commands
+pub wrote_all : {A : Type 0} (out : Writer (Vec ℕ A)) (text : Vec ℕ A) (periods : ℕ) (entries : List Entry) (i : ℕ) → length entries ≤ i → is_day periods ≡ true → length entries ≤ most_entries
+    → WroteEntries out periods (take i entries) → Keeps (text_written (λ (v : Vec ℕ A). Some v.items) out) (Some text.items) → ReadsAs text.items periods (commands_of entries)
+wrote_all out text periods entries i over day few h keeps =
+    let all : WroteEntries out periods entries = rw (take_all i entries over) at h in
+    let same : text.items ≡ journal_text periods entries = subst (λ (known : Option (List ℕ)). Keeps known (Some text.items)) all.wrote.bytes keeps in
+    rw same (reads_journal_text periods entries day all.valid few)

@@ -1,0 +1,72 @@
+-- A prefix of decisions and the selection that accepts rejected other block.
+use Rattle.std.proofs.Common.{◌≡◌, ℕ, zero, suc, ◌+◌, ◌-◌, ◌^◌, ◌<◌, ◌≤◌, Bool, true, false, cond, nat_lt, List, [], ◌∷◌, ◌++◌, length, replicate, take, length-append, ap, ◌∙◌, sym, refl, arith}
+use Rattle.std.proofs.Math.ListN.{set}
+use Rattle.std.proofs.lemmas.List.{length-take-le, length-replicate}
+use Rattle.std.proofs.Math.Seq.{take-append_seam}
+use Rattle.dam_book.specs.Limits.{most_blocks}
+use Rattle.dam_blocks.specs.Selection.{padded, choice}
+
+pub length-choice : (n k : ℕ) → length (choice n k) ≡ n
+length-choice zero k = refl
+length-choice (suc n) k =
+    elim (nat_lt k (2 ^ n)) as (λ b. length (cond b (true ∷ choice n k) (false ∷ choice n (k - 2 ^ n))) ≡ suc n) [
+      | true ↦ ap suc (length-choice n k)
+      | false ↦ ap suc (length-choice n (k - 2 ^ n))
+    ]
+
+-- the first places of a padded list are the list, and pad it again
+pub prefix_is : (prefix taken : List Bool) (n : ℕ) → taken ≡ padded prefix → length prefix ≡ n → take n taken ≡ prefix
+prefix_is prefix taken n is long =
+    ap (λ (xs : List Bool). take n xs) is ∙ ap (λ (m : ℕ). take m (padded prefix)) (sym long) ∙ take-append_seam prefix (replicate (most_blocks - length prefix) false)
+
+pub prefix_kept : (prefix taken : List Bool) (n : ℕ) → taken ≡ padded prefix → length prefix ≡ n → taken ≡ padded (take n taken)
+prefix_kept prefix taken n is long = is ∙ ap padded (sym (prefix_is prefix taken n is long))
+
+pub length_more : (prefix : List Bool) (b : Bool) → length (prefix ++ b ∷ []) ≡ suc (length prefix)
+length_more prefix b = omega (arith, length-append prefix (b ∷ []))
+
+-- one decision more
+accept_next : (prefix : List Bool) (n : ℕ) → set (prefix ++ replicate (suc n) false) (length prefix) true ≡ (prefix ++ true ∷ []) ++ replicate n false
+accept_next [] n = refl
+accept_next (x ∷ prefix) n = ap (λ (xs : List Bool). x ∷ xs) (accept_next prefix n)
+
+reject_next : (prefix : List Bool) (n : ℕ) → prefix ++ replicate (suc n) false ≡ (prefix ++ false ∷ []) ++ replicate n false
+reject_next [] n = refl
+reject_next (x ∷ prefix) n = ap (λ (xs : List Bool). x ∷ xs) (reject_next prefix n)
+
+undecided : (prefix : List Bool) (b : Bool) → length prefix < most_blocks → most_blocks - length prefix ≡ suc (most_blocks - length (prefix ++ b ∷ []))
+undecided prefix b h = omega (arith, length_more prefix b)
+
+pub padded-accepted : (prefix taken : List Bool) → taken ≡ padded prefix → length prefix < most_blocks → set taken (length prefix) true ≡ padded (prefix ++ true ∷ [])
+padded-accepted prefix taken is h =
+    ap (λ (xs : List Bool). set xs (length prefix) true) is ∙ ap (λ (n : ℕ). set (prefix ++ replicate n false) (length prefix) true) (undecided prefix true h)
+    ∙ accept_next prefix (most_blocks - length (prefix ++ true ∷ []))
+
+pub padded-rejected : (prefix taken : List Bool) → taken ≡ padded prefix → length prefix < most_blocks → taken ≡ padded (prefix ++ false ∷ [])
+padded-rejected prefix taken is h =
+    is ∙ ap (λ (n : ℕ). prefix ++ replicate n false) (undecided prefix false h) ∙ reject_next prefix (most_blocks - length (prefix ++ false ∷ []))
+
+-- the prefix is as long as it is deep
+pub length-prefix : (taken : List Bool) (n : ℕ) → taken ≡ padded (take n taken) → n ≤ most_blocks → length (take n taken) ≡ n
+length-prefix taken n is few =
+    let long = ap (λ (xs : List Bool). length xs) is in
+    let parts = length-append (take n taken) (replicate (most_blocks - length (take n taken)) false) in
+    let rest = length-replicate (most_blocks - length (take n taken)) false in
+    length-take-le n taken (omega (arith, long, parts, rest))
+
+-- the selection of the prefix with the next decision
+pub taken_next : (prefix taken next : List Bool) (n : ℕ) (accept : Bool) → take n taken ≡ prefix → taken ≡ padded (take n taken) → n ≤ most_blocks → length prefix < most_blocks
+    → (accept ≡ true → next ≡ set taken n true) → (accept ≡ false → next ≡ taken) → next ≡ padded (prefix ++ accept ∷ [])
+taken_next prefix taken next n true view is few h accepted rejected =
+    let long : length prefix ≡ n = ap (λ (xs : List Bool). length xs) (sym view) ∙ length-prefix taken n is few in
+    accepted refl ∙ ap (λ (m : ℕ). set taken m true) (sym long) ∙ padded-accepted prefix taken (is ∙ ap padded view) h
+taken_next prefix taken next n false view is few h accepted rejected = rejected refl ∙ padded-rejected prefix taken (is ∙ ap padded view) h
+
+pub length_next : (prefix taken : List Bool) (n : ℕ) (accept : Bool) → take n taken ≡ prefix → taken ≡ padded (take n taken) → n ≤ most_blocks → length (prefix ++ accept ∷ []) ≡ n + 1
+length_next prefix taken n accept view is few =
+    let long : length prefix ≡ n = ap (λ (xs : List Bool). length xs) (sym view) ∙ length-prefix taken n is few in
+    omega (arith, length_more prefix accept, long)
+
+-- what a prefix's parts are to the list of its decisions
+pub prefix_of : (taken prefix : List Bool) (n : ℕ) → take n taken ≡ prefix → taken ≡ padded (take n taken) → n ≤ most_blocks → (length prefix ≡ n) × (taken ≡ padded prefix)
+prefix_of taken prefix n view is few = (ap (λ (xs : List Bool). length xs) (sym view) ∙ length-prefix taken n is few, is ∙ ap padded view)

@@ -1,0 +1,18 @@
+-- The answers so far are those about the pieces drawn so far; the seat is going on, and is the same seat.
+use Rattle.std.proofs.Common.{◌≡◌, ◌^◌, ◌-◌, ◌≤◌, length, vec_capacity}
+use Rattle.dam_search.specs.Work.{AreAnswersOf}
+use Rattle.dam_search.proofs.worker.work.Given as goal
+
+abbrev pub invariant-loop-piece : goal.invariant-loop-piece
+invariant-loop-piece g l = record {
+  answers : AreAnswersOf l.problem l.depth l.nodes 0 l.seat.seat.me.0 l.answers.items;
+  going : l.seat.seat.me.0.past ≡ 0;
+  pieces : l.seat.seat.me.0.pieces ≡ 2 ^ l.depth;
+  seats : l.seat.seat.me.0.seats ≡ l.fn.seat.seat.me.0.seats;
+  left : l.seat.seat.me.0.left ≡ l.fn.seat.seat.me.0.left;
+  table : l.seat.seat.table_id ≡ l.fn.seat.seat.table_id;
+  room : 2 ^ l.depth ≤ vec_capacity l.answers;
+}
+
+abbrev pub decreases-loop-piece : goal.decreases-loop-piece
+decreases-loop-piece g l = 2 ^ l.depth - length l.seat.seat.me.0.drawn

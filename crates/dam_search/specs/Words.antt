@@ -1,0 +1,145 @@
+-- The rule of the two words that the workers of a search share: the claim word and the
+-- incumbent word.
+use Rattle.std.specs.Prelude.{◌≡◌, ℕ, ◌+◌, ◌-◌, ◌^◌, ◌<◌, ◌≤◌, min, max, nat_lt, ◌==◌, if◌then◌else◌, List, [], ◌∷◌, ◌++◌, length, slice_index}
+use mathlib.Core.Option.{some}
+use lib.ListN.{get_elem?}
+use Rattle.atomic_table.specs.Table.{State, Me, Step}
+use Rattle.dam_search.specs.declared.view.View.{View}
+use Rattle.dam_search.specs.Limits.{most_workers, most_cut}
+
+-- a number of each view, added up
+abbrev pub total : (View → ℕ) → List View → ℕ
+total f [] = 0
+total f (v ∷ views) = f v + total f views
+
+-- a number of each view, the greatest of them, 0 where there is none
+abbrev pub greatest : (View → ℕ) → List View → ℕ
+greatest f [] = 0
+greatest f (v ∷ views) = max (f v) (greatest f views)
+
+-- how often a number stands in a list
+abbrev pub times : ℕ → List ℕ → ℕ
+times x [] = 0
+times x (y ∷ ys) = (if y == x then 1 else 0) + times x ys
+
+-- 1 where the number is under the bound, and else 0
+abbrev pub once_below : ℕ → ℕ → ℕ
+once_below x bound = if nat_lt x bound then 1 else 0
+
+-- the most pieces, and the most seats
+abbrev pub most_pieces : ℕ
+most_pieces = 2 ^ most_cut
+
+abbrev pub most_seats : ℕ
+most_seats = most_workers + 1
+
+-- ---- the views
+
+-- a new seat, which may split off so many others
+abbrev pub new_view : ℕ → ℕ → View
+new_view pieces left = record {
+  pieces = pieces;
+  drawn = [];
+  past = 0;
+  seats = 1;
+  left = left;
+  top = 0;
+  told = 0;
+}
+
+-- the first seat
+abbrev pub first_view : ℕ → View
+first_view pieces = new_view pieces most_workers
+
+-- a seat that was joined into another
+abbrev pub spent_view : View
+spent_view = record { pieces = 0; drawn = []; past = 0; seats = 0; left = 0; top = 0; told = 0 }
+
+-- a draw that found this number in the claim word
+abbrev pub drawn_after : View → ℕ → View
+drawn_after v found =
+    if nat_lt found v.pieces then record v { drawn = v.drawn ++ found ∷ [] }
+    else record v { past = v.past + 1 }
+
+-- the giver, and the seat that is split off it
+abbrev pub cut_left : View → View
+cut_left v = record v { left = v.left - 1 }
+
+abbrev pub cut_right : View → View
+cut_right v = new_view v.pieces 0
+
+-- a seat with another joined into it
+abbrev pub joined : View → View → View
+joined v w = record {
+  pieces = v.pieces;
+  drawn = v.drawn ++ w.drawn;
+  past = v.past + w.past;
+  seats = v.seats + w.seats;
+  left = v.left + w.left;
+  top = max v.top w.top;
+  told = max v.told w.told;
+}
+
+-- what neither a read nor an offer changes of a view
+abbrev pub standing : View → View
+standing v = record v { top = 0; told = 0 }
+
+-- ---- the rule
+
+-- a view at any time: the spent one, or one of a seat that knows the number of pieces; no seat
+-- drew past the end more often than the seats in it
+pub record IsFit (pieces : ℕ) (v : View) : Type 0 where
+  pub spent : v.seats ≡ 0 → v ≡ spent_view
+  pub told_pieces : 0 < v.seats → v.pieces ≡ pieces
+  pub few_past : v.past ≤ v.seats
+
+-- the two words, and all views
+pub record AreWordsOf (pieces claim incumbent : ℕ) (views : List View) : Type 0 where
+  -- what was drawn: each piece under the claim word once, and nothing else
+  pub once : (x : ℕ)
+      → total (λ (v : View). times x v.drawn) views ≡ once_below x (min claim pieces)
+  pub as_many : total (λ (v : View). length v.drawn) views ≡ min claim pieces
+  -- the claim word counts the draws
+  pub counted : claim
+      ≡ total (λ (v : View). length v.drawn) views + total (λ (v : View). v.past) views
+  pub fit : (i : ℕ) (v : View) → get_elem? views i ≡ some v → IsFit pieces v
+  pub few_seats : total (λ (v : View). v.seats + v.left) views ≤ most_seats
+  -- the incumbent word is the greatest offer, and nothing that was read exceeds it
+  pub greatest_offer : incumbent ≡ greatest (λ (v : View). v.top) views
+  pub none_above : (i : ℕ) (v : View) → get_elem? views i ≡ some v → v.told ≤ incumbent
+
+pub record AreWords (pieces : ℕ) (s : State (Unit {0}) View) : Type 0 where
+  pub few_pieces : pieces ≤ most_pieces
+  pub claim : ℕ
+  pub incumbent : ℕ
+  pub words : s.words ≡ claim ∷ incumbent ∷ []
+  pub kept : AreWordsOf pieces claim incumbent s.views
+
+-- ---- what a step tells the seat that steps: its view before, the number found, its view after
+
+-- the number found is a piece that joins those drawn, or a draw past the last one
+abbrev pub IsDrawn : Me (Unit {0}) View → ℕ → Me (Unit {0}) View → Type 0
+IsDrawn before found after =
+    (after.0 ≡ drawn_after before.0 found) × (after.1 ≡ before.1)
+    × (length after.0.drawn ≤ after.0.pieces)
+
+-- the value found is the greatest read so far
+abbrev pub IsRead : Me (Unit {0}) View → ℕ → Me (Unit {0}) View → Type 0
+IsRead before found after =
+    (before.0.told ≤ found) × (after.0 ≡ record before.0 { told = found }) × (after.1 ≡ before.1)
+
+-- the offer is among those made
+abbrev pub IsOffered : Step (Unit {0}) → Me (Unit {0}) View → ℕ → Me (Unit {0}) View → Type 0
+IsOffered step before found after =
+    (after.0 ≡ record before.0 { top = max before.0.top step.first }) × (after.1 ≡ before.1)
+
+-- ---- the close
+
+-- what the words hold at the close, where all seats were joined into the one of this view: the
+-- claim word counts its draws, which were each piece once if one was past the end; the
+-- incumbent word is its greatest offer, and it read no more than that
+pub record IsClosed (pieces : ℕ) (words : List ℕ) (v : View) : Type 0 where
+  pub claim : slice_index words 0 ≡ length v.drawn + v.past
+  pub each : 0 < v.past → (x : ℕ) → times x v.drawn ≡ once_below x pieces
+  pub incumbent : slice_index words 1 ≡ v.top
+  pub told : v.told ≤ v.top

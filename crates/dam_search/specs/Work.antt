@@ -1,0 +1,25 @@
+-- A worker's whole share of a search.
+use Rattle.std.specs.Prelude.{◌≡◌, ℕ, ◌-◌, ◌^◌, ◌<◌, ◌≤◌, max, List, map, length, All}
+use Rattle.dam_blocks.specs.Problem.{ProblemState}
+use Rattle.dam_blocks.specs.Selection.{choice}
+use Rattle.dam_search.specs.declared.answer.PieceAnswer.{PieceAnswer}
+use Rattle.dam_search.specs.declared.view.View.{View}
+use Rattle.dam_search.specs.Piece.{IsSpent}
+use Rattle.dam_search.specs.Answer.{IsSoundAnswer, greatest_found}
+
+-- an answer about a piece of the cutting that is sound and kept to the limit
+pub record IsExplored (problem : ProblemState) (depth nodes : ℕ) (a : PieceAnswer) : Type 0 where
+  pub in_cutting : a.piece < 2 ^ depth
+  pub sound : IsSoundAnswer problem depth a
+  pub spent : IsSpent problem (choice depth a.piece) (length problem.blocks - depth) 0 nodes
+      a.visited a.done
+
+-- the answers about the pieces that a seat drew, in the order of its draws; it offered the
+-- greatest welfare that they found, or what was offered besides, and none of them read more
+-- than it was told
+pub record AreAnswersOf (problem : ProblemState) (depth nodes besides : ℕ) (v : View)
+    (answers : List PieceAnswer) : Type 0 where
+  pub pieces : map (λ (a : PieceAnswer). a.piece) answers ≡ v.drawn
+  pub explored : All (λ (a : PieceAnswer). IsExplored problem depth nodes a) answers
+  pub told : All (λ (a : PieceAnswer). a.read ≤ v.told) answers
+  pub offered : v.top ≡ max besides (greatest_found answers)

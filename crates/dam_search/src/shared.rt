@@ -1,0 +1,127 @@
+ghost use Rattle.std.specs.Prelude.{◌≡◌, ◌<◌, ◌≤◌, length, [], ◌∷◌, ◌++◌, None, IfSome};
+ghost use Rattle.atomic_table.specs.Seated.{TableId};
+ghost use Rattle.dam_search.specs.declared.view.View.{View};
+ghost use Rattle.dam_search.specs.Words.{first_view, cut_left, cut_right, joined, standing};
+
+use crate::incumbent::Incumbent;
+use crate::words::{CLAIM, Cut, Draw, Glue, INCUMBENT, Offer, Read, Seat, Words};
+
+/// A worker's seat at the two words of a search, which draws pieces and is its incumbent.
+///
+/// A contract sees what it knows as `seat.me.0`.
+#[derive(Drop)]
+pub struct Shared<'a> {
+    words: &'a Words,
+    /// The right to step on the words, and what it knows of them.
+    pub seat: Seat,
+    pieces: u32,
+    ghost seated: { seat.table_id ≡ words.now.shared.table_id },
+    ghost two_words: { words.now.shared.table_id.words ≡ 2 },
+    ghost counted: { pieces ≡ seat.me.0.pieces },
+    ghost alive: { 0 < seat.me.0.seats },
+    ghost empty: { seat.me.1 ≡ [] },
+}
+
+impl<'a> Shared<'a> {
+    /// The first seat of the words.
+    pub(crate) fn first(words: &'a Words, seat: Seat, pieces: u32) -> Shared<'a>
+        requires seat { seat.table_id ≡ words.now.shared.table_id }
+        requires words { words.now.shared.table_id.words ≡ 2 }
+        requires view { seat.me ≡ (first_view pieces, []) }
+        ensures { result.seat ≡ seat }
+    {
+        Shared {
+            words,
+            seat,
+            pieces,
+        }
+    }
+
+    /// A new seat for a worker, which has drawn, read and offered nothing.
+    pub(crate) fn split(&mut self) -> Shared<'a>
+        requires { 0 < self.old.seat.me.0.left }
+        ensures table { self.new.seat.table_id ≡ self.old.seat.table_id }
+        ensures same { result.seat.table_id ≡ self.old.seat.table_id }
+        ensures left { self.new.seat.me.0 ≡ cut_left self.old.seat.me.0 }
+        ensures right { result.seat.me.0 ≡ cut_right self.old.seat.me.0 }
+    {
+        let seat = self.words.shared.split_seat::<Cut>(&mut self.seat);
+        Shared {
+            words: self.words,
+            seat,
+            pieces: self.pieces,
+        }
+    }
+
+    /// Takes in a worker's seat, with all that it drew, read and offered.
+    pub(crate) fn join(&mut self, other: Shared<'a>)
+        requires { other.seat.table_id ≡ self.old.seat.table_id }
+        ensures table { self.new.seat.table_id ≡ self.old.seat.table_id }
+        ensures view { self.new.seat.me.0 ≡ joined self.old.seat.me.0 other.entry.seat.me.0 }
+    {
+        let seat = other.into_seat();
+        self.words.shared.join_seat::<Glue>(&mut self.seat, seat);
+    }
+
+    /// The right to step on the words, once nobody needs them.
+    pub(crate) fn into_seat(self) -> Seat
+        ensures { result ≡ self.entry.seat }
+    {
+        let Shared {
+            words: _,
+            seat,
+            pieces: _,
+        } = self;
+        seat
+    }
+
+    /// The number of pieces.
+    pub fn pieces(&self) -> u32
+        ensures { result ≡ self.now.seat.me.0.pieces }
+    {
+        self.pieces
+    }
+
+    /// Draws the next piece that nobody has drawn, or `None` past the last one.
+    pub fn draw(&mut self) -> Option<u32>
+        requires { self.old.seat.me.0.past ≡ 0 }
+        ensures table { self.new.seat.table_id ≡ self.old.seat.table_id }
+        ensures piece { IfSome result (λ piece. (piece < self.old.seat.me.0.pieces)
+            × (self.new.seat.me.0 ≡ record self.old.seat.me.0 {
+              drawn = self.old.seat.me.0.drawn ++ piece ∷ [];
+            })) }
+        ensures past { result ≡ None
+            → self.new.seat.me.0 ≡ record self.old.seat.me.0 { past = 1 } }
+        ensures few { length self.new.seat.me.0.drawn ≤ self.new.seat.me.0.pieces }
+    {
+        let next = self
+            .words
+            .shared
+            .fetch_add::<Draw>(&mut self.seat, CLAIM, 1);
+        if next < u64::from(self.pieces) {
+            Some(next as u32)
+        } else {
+            None
+        }
+    }
+}
+
+impl Incumbent for Shared<'_> {
+    ghost told = { λ s. s.seat.me.0.told };
+
+    ghost top = { λ s. s.seat.me.0.top };
+
+    ghost Kept = { View × TableId };
+
+    ghost kept = { λ s. (standing s.seat.me.0, s.seat.table_id) };
+
+    fn read(&mut self) -> u64 {
+        self.words.shared.load::<Read>(&mut self.seat, INCUMBENT)
+    }
+
+    fn offer(&mut self, welfare: u64) {
+        self.words
+            .shared
+            .fetch_max::<Offer>(&mut self.seat, INCUMBENT, welfare);
+    }
+}

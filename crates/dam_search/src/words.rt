@@ -1,0 +1,105 @@
+//! The two words that the workers of a search share, and the rule that every step on them keeps.
+//!
+//! The claim word counts the draws, of pieces and past the last one; the incumbent word is the greatest
+//! welfare that was offered. `docs/WORDS.md` has the rule in words and a drawing.
+ghost use Rattle.std.specs.Prelude.{◌≡◌, ◌+◌, ◌≤◌, [], ◌∷◌, IfOk};
+ghost use Rattle.dam_search.specs.Words.{most_pieces, most_seats, AreWords, IsDrawn, IsRead, IsOffered};
+ghost use Rattle.dam_search.specs.Words.{first_view, spent_view, cut_left, cut_right, joined, IsClosed};
+
+use crate::view::View;
+use atomic_table::{Join, Play, Split, Table, TableRule};
+use std::alloc::{AllocError, Global};
+
+/// The place of the claim word.
+pub(crate) const CLAIM: usize = 0;
+
+/// The place of the incumbent word.
+pub(crate) const INCUMBENT: usize = 1;
+
+/// The rule of the two words; the table is told the number of pieces.
+pub(crate) struct WordRule;
+
+impl TableRule<(), View, u64> for WordRule {
+    ghost holds = { AreWords };
+
+    ghost first = { first_view };
+}
+
+/// The two words.
+pub(crate) type Words = Table<(), View, u64, WordRule, Global>;
+
+/// The right of one thread to step on the words, with what it knows of them.
+pub(crate) type Seat = atomic_table::Seat<(), View>;
+
+/// A draw: 1 is added to the claim word.
+pub(crate) struct Draw;
+
+impl Play<(), View> for Draw {
+    ghost then = { λ _. IsDrawn };
+}
+
+/// A load of the incumbent word.
+pub(crate) struct Read;
+
+impl Play<(), View> for Read {
+    ghost then = { λ _. IsRead };
+}
+
+/// The incumbent word becomes the greater of itself and the offer.
+pub(crate) struct Offer;
+
+impl Play<(), View> for Offer {
+    ghost then = { IsOffered };
+}
+
+/// A new seat is split off.
+pub(crate) struct Cut;
+
+impl Split<View> for Cut {
+    ghost left = { cut_left };
+
+    ghost right = { cut_right };
+}
+
+/// A seat is joined into another.
+pub(crate) struct Glue;
+
+impl Join<View> for Glue {
+    ghost both = { joined };
+
+    ghost spent = { spent_view };
+}
+
+/// The two words of a search of so many pieces, both 0, and their first seat.
+pub(crate) fn new_words(alloc: Global, pieces: u32) -> Result<(Words, Seat), AllocError>
+    requires { pieces ≤ most_pieces }
+    ensures words { IfOk result (λ made. (made.0.shared.table_id.words ≡ 2)
+        × (made.0.shared.table_id.slots ≡ 0) × (made.0.shared.key ≡ pieces)) }
+    ensures seat { IfOk result (λ made. (made.1.table_id ≡ made.0.shared.table_id)
+        × (made.1.me ≡ (first_view pieces, []))) }
+{
+    Table::of_words(alloc, &[0, 0], &u64::from(pieces))
+}
+
+/// What the two words held at the close.
+#[derive(Clone, Copy, PartialEq, Eq, Debug)]
+pub(crate) struct Totals {
+    /// How many draws there were.
+    pub(crate) draws: u64,
+    /// The greatest welfare that was offered.
+    pub(crate) offered: u64,
+}
+
+/// Closes the words, of which this seat is the only one left.
+pub(crate) fn close(words: Words, seat: Seat) -> Totals
+    requires seat { seat.table_id ≡ words.shared.table_id }
+    requires words { (words.shared.table_id.words ≡ 2) × (words.shared.table_id.slots ≡ 0) }
+    requires all { seat.me.0.seats + seat.me.0.left ≡ most_seats }
+    ensures { IsClosed words.shared.key (result.draws ∷ result.offered ∷ []) seat.me.0 }
+{
+    let closed = words.close_with(seat);
+    let draws = closed.word(CLAIM);
+    let offered = closed.word(INCUMBENT);
+    closed.free();
+    Totals { draws, offered }
+}

@@ -1,0 +1,4 @@
+pub mod Parts
+pub mod Supplying
+pub mod Stacking
+pub mod Clearing

@@ -1,0 +1,10 @@
+-- How large a welfare can be.
+use Rattle.std.specs.Prelude.{◌*◌, ◌≤◌, ℤ, pos, neg_ℤ, ◌≤ℤ◌, List, length}
+use Rattle.dam_hour.specs.Limits.{most_steps, greatest_value}
+use Rattle.dam_hour.specs.declared.step.Step.{Step}
+
+-- the size is at most what so many steps can be worth, and they are no more than a period can have
+pub record IsSmall (ss : List Step) (welfare : ℤ) : Type 0 where
+  pub few : length ss ≤ most_steps
+  pub at_least : neg_ℤ (pos (length ss * greatest_value)) ≤ℤ welfare
+  pub at_most : welfare ≤ℤ pos (length ss * greatest_value)

@@ -1,0 +1,111 @@
+"""What a run with calls refused may print: what the same run prints with none refused, or the fault's line and status."""
+
+import re
+import sys
+import threading
+from pathlib import Path
+
+from preload import Printed, Refusal
+
+sys.path.insert(0, str(Path(__file__).resolve().parents[2] / "tools"))
+
+from lib import journal, results
+
+NOTHING_REFUSED = Refusal("memory")
+MACHINE = 4  # the status of a fault of the machine
+MEMORY = Printed(MACHINE, b"", b"memory\n")
+READ = Printed(MACHINE, b"", b"device: read\n")
+WRITE = re.compile(rb"device: write(?: after (\d+) bytes)?\n")
+
+
+class Answer:
+    """What a run prints with no call refused. The text of a day is one of many, each of which is looked at once: its journal has
+    each participant's commands in their order and then the close, and its results are those that the program makes of that
+    journal."""
+
+    def __init__(self, program, words, data):
+        self.program = program
+        self.data = data
+        self.usual, _ = program.run(words, data, NOTHING_REFUSED)
+        self.is_day = words[:1] == ["day"] and self.usual.status == 0
+        self.texts = {}
+        self.lock = threading.Lock()
+
+    def is_given(self, got):
+        if not self.is_day or got.status or got.stderr:
+            return got == self.usual
+        with self.lock:
+            if got.stdout not in self.texts:
+                self.texts[got.stdout] = self.is_text_of_day(got.stdout)
+            return self.texts[got.stdout]
+
+    def is_text_of_day(self, text):
+        parted = results.split_day(text)
+        if parted is None:
+            return False
+        written, published = parted
+        try:
+            given, run = journal.read_journal(self.data), journal.read_journal(written)
+        except journal.Fault:
+            return False
+        *commands, last = run.commands or [None]
+        cleared, _ = self.program.run(["clear"], written, NOTHING_REFUSED)
+        return (
+            last == journal.Close()
+            and run.periods == given.periods
+            and by_participant(commands) == by_participant(given.commands)
+            and cleared == Printed(0, published, b"")
+        )
+
+
+def by_participant(commands):
+    lists = {}
+    for command in commands:
+        lists.setdefault(command.who, []).append(command)
+    return lists
+
+
+def memory(answer, refusal, got, calls):
+    """Want of memory: the answer as usual, or the line for memory; and where nothing is granted any more, or the fault's line is
+    what was refused, no line."""
+    if answer.is_given(got):
+        return True
+    if calls < refusal.first:
+        return False
+    if refusal.last > refusal.first and got == MEMORY._replace(stderr=b""):
+        return True
+    return got == MEMORY or answer.usual.status != 0 and got == answer.usual._replace(stderr=b"")
+
+
+def thread(answer, _refusal, got, _calls):
+    """A thread that can't be started changes no answer."""
+    return answer.is_given(got)
+
+
+def read(answer, refusal, got, calls):
+    """A failed read ends the run, and nothing is written."""
+    if calls < refusal.first:
+        return answer.is_given(got)
+    return got == READ
+
+
+def write(answer, refusal, got, calls):
+    """A failed write ends the run, and what was written is a front of the text."""
+    text = answer.usual.stdout
+    if calls < refusal.first:
+        return got == answer.usual
+    written = text[: refusal.moved_before(len(text))]
+    line = WRITE.fullmatch(got.stderr)
+    if line is None or got.status != MACHINE or got.stdout != written:
+        return False
+    return line[1] is None or int(line[1]) == len(written)
+
+
+def interrupted_write(answer, refusal, got, calls):
+    """A write that a signal interrupts is a failed one, or is begun again."""
+    return got == answer.usual or write(answer, refusal, got, calls)
+
+
+def report(answer, _refusal, got, _calls):
+    """Where the fault's line can't be written, its status stands."""
+    return answer.usual.stderr.startswith(got.stderr) and got._replace(stderr=answer.usual.stderr) == answer.usual

@@ -1,0 +1,74 @@
+"""One run of the program with calls refused, by the library of refuse.c."""
+
+import hashlib
+import subprocess
+import threading
+from pathlib import Path
+from typing import NamedTuple
+
+SECONDS = 30
+EVERY = 2**63  # above the number of any call
+NONE = -1
+
+
+class Printed(NamedTuple):
+    status: int
+    stdout: bytes
+    stderr: bytes
+
+
+class Refusal(NamedTuple):
+    """The calls of a kind that fail, by their numbers from 1, with an error number, or with 0 bytes moved where that is 0; and how
+    many bytes every other one moves at most, where that isn't 0."""
+
+    kind: str
+    first: int = EVERY
+    last: int = EVERY
+    error: int = 0
+    most: int = 0
+
+    def moved_before(self, count):
+        """How many of so many bytes the reads or writes before the first refused one move."""
+        return min(count, (self.first - 1) * (self.most or count))
+
+
+class Program:
+    """The program, and a folder for the inputs and the counts of its runs."""
+
+    def __init__(self, path, room):
+        self.path = str(Path(path).resolve())
+        self.room = Path(room)
+        self.own = threading.local()
+
+    def counts(self):
+        """The file that a run of this thread counts its calls in."""
+        if not hasattr(self.own, "calls"):
+            self.own.calls = self.room / f"calls-{threading.get_ident()}"
+        return self.own.calls
+
+    def given(self, data):
+        """The file of an input."""
+        file = self.room / f"input-{hashlib.sha256(data).hexdigest()}"
+        if not file.exists():
+            part = file.with_suffix(f".{threading.get_ident()}")
+            part.write_bytes(data)
+            part.rename(file)
+        return file
+
+    def run(self, words, data, refusal, stdout=subprocess.PIPE):
+        """What it prints, and how many calls of the refusal's kind it made."""
+        calls = self.counts()
+        calls.write_bytes(bytes(8))
+        surroundings = {
+            "LD_PRELOAD": str(self.room / "refuse.so"),
+            "HOSTILE": " ".join(map(str, refusal)),
+            "HOSTILE_CALLS": str(calls),
+        }
+        with open(self.given(data), "rb") as stdin:
+            how = {"stdin": stdin, "stdout": stdout, "stderr": subprocess.PIPE, "env": surroundings, "timeout": SECONDS}
+            try:
+                ran = subprocess.run([self.path, *words], close_fds=False, **how)
+                printed = Printed(ran.returncode, ran.stdout or b"", ran.stderr)
+            except subprocess.TimeoutExpired:
+                printed = Printed(NONE, b"", f"no answer in {SECONDS} seconds\n".encode())
+        return printed, int.from_bytes(calls.read_bytes(), "little")

@@ -1,0 +1,121 @@
+/* refuse.c: a library to preload under a program, which refuses chosen calls for memory, for a thread or of a device, and counts
+   the calls of that kind. It stands on names of the GNU C library.
+
+   HOSTILE in the environment is 'KIND FIRST LAST ERROR MOST'. KIND is memory, thread, read (of standard input), write (of
+   standard output) or report (writes to standard error). The calls of the kind whose numbers are from FIRST to LAST fail with the
+   error number ERROR; where that is 0, such a read or write moves no byte. Every other read or write of the kind moves MOST bytes
+   at most, or all where MOST is 0. The number of calls so far stands in the file that HOSTILE_CALLS names. */
+
+#define _GNU_SOURCE
+#include <dlfcn.h>
+#include <errno.h>
+#include <fcntl.h>
+#include <pthread.h>
+#include <stdatomic.h>
+#include <stdbool.h>
+#include <stdio.h>
+#include <stdlib.h>
+#include <string.h>
+#include <sys/mman.h>
+#include <sys/syscall.h>
+#include <unistd.h>
+
+extern void *__libc_malloc(size_t size);
+extern void *__libc_calloc(size_t count, size_t size);
+extern void *__libc_realloc(void *block, size_t size);
+extern void *__libc_memalign(size_t alignment, size_t size);
+
+typedef int create_thread(pthread_t *, const pthread_attr_t *, void *(*)(void *), void *);
+
+enum kind { NONE, MEMORY, THREAD, READ, WRITE, REPORT };
+
+static const char *const names[] = {"none", "memory", "thread", "read", "write", "report"};
+
+static enum kind chosen = NONE;
+static unsigned long first, last, most;
+static int error;
+static atomic_ulong *calls;
+static create_thread *create;
+
+/* Reads what is to be refused. What the program and its libraries ask for before this is granted. */
+__attribute__((constructor)) static void begin(void) {
+    const char *plan = getenv("HOSTILE"), *file = getenv("HOSTILE_CALLS");
+    char name[16];
+    create = (create_thread *)dlsym(RTLD_NEXT, "pthread_create");
+    if (plan == NULL || file == NULL || sscanf(plan, "%15s %lu %lu %d %lu", name, &first, &last, &error, &most) != 5)
+        return;
+    int shared = open(file, O_RDWR);
+    void *page = mmap(NULL, sizeof *calls, PROT_READ | PROT_WRITE, MAP_SHARED, shared, 0);
+    close(shared);
+    if (page == MAP_FAILED)
+        return;
+    calls = page;
+    for (int kind = MEMORY; kind <= REPORT; kind++)
+        if (strcmp(name, names[kind]) == 0)
+            chosen = kind;
+}
+
+/* Counts a call of this kind, and says whether it is one to refuse. */
+static bool refuses(enum kind kind) {
+    if (kind == NONE || kind != chosen)
+        return false;
+    unsigned long number = atomic_fetch_add(calls, 1) + 1;
+    return first <= number && number <= last;
+}
+
+static bool refuses_memory(void) {
+    if (!refuses(MEMORY))
+        return false;
+    errno = ENOMEM;
+    return true;
+}
+
+void *malloc(size_t size) {
+    return refuses_memory() ? NULL : __libc_malloc(size);
+}
+
+void *calloc(size_t count, size_t size) {
+    return refuses_memory() ? NULL : __libc_calloc(count, size);
+}
+
+void *realloc(void *block, size_t size) {
+    return refuses_memory() ? NULL : __libc_realloc(block, size);
+}
+
+void *aligned_alloc(size_t alignment, size_t size) {
+    return refuses_memory() ? NULL : __libc_memalign(alignment, size);
+}
+
+void *memalign(size_t alignment, size_t size) {
+    return refuses_memory() ? NULL : __libc_memalign(alignment, size);
+}
+
+int posix_memalign(void **block, size_t alignment, size_t size) {
+    if (refuses(MEMORY))
+        return ENOMEM;
+    *block = __libc_memalign(alignment, size);
+    return *block == NULL ? ENOMEM : 0;
+}
+
+int pthread_create(pthread_t *thread, const pthread_attr_t *how, void *(*work)(void *), void *given) {
+    return refuses(THREAD) ? EAGAIN : create(thread, how, work, given);
+}
+
+/* A read or write by its number, of one of the three standard streams. */
+static ssize_t moved(long number, enum kind kind, int stream, void *bytes, size_t count) {
+    if (refuses(kind)) {
+        errno = error;
+        return error == 0 ? 0 : -1;
+    }
+    size_t room = kind != NONE && kind == chosen && most != 0 && most < count ? most : count;
+    return syscall(number, stream, bytes, room);
+}
+
+ssize_t read(int stream, void *bytes, size_t count) {
+    return moved(SYS_read, stream == STDIN_FILENO ? READ : NONE, stream, bytes, count);
+}
+
+ssize_t write(int stream, const void *bytes, size_t count) {
+    enum kind kind = stream == STDOUT_FILENO ? WRITE : stream == STDERR_FILENO ? REPORT : NONE;
+    return moved(SYS_write, kind, stream, (void *)bytes, count);
+}

@@ -1,0 +1,243 @@
+"""rows.py ROOM PROGRAM [--all]: runs the program on examples with each of its calls refused in turn, by ROOM/refuse.so."""
+
+import errno
+import os
+import subprocess
+import sys
+import time
+from concurrent.futures import ThreadPoolExecutor
+from pathlib import Path
+from typing import NamedTuple
+
+sys.dont_write_bytecode = True
+
+import judge
+from preload import EVERY, SECONDS, Printed, Program, Refusal
+
+EXAMPLES = Path(__file__).resolve().parents[2] / "examples"
+SHOWN = 10  # differences of a row
+# Without --all: runs of a row; the seconds after which a row has so few runs, and those after which nothing more is run.
+FEW, MANY = 60, 500
+BOUND, LAST = 40, 5
+END = 55
+
+
+class Row(NamedTuple):
+    """Runs on one input that differ in the number of the refused call."""
+
+    about: str
+    words: list
+    data: bytes
+    kind: str
+    judge: object
+    last: object = None  # the last refused call, where that isn't the first one
+    error: int = 0
+    most: int = 0
+    runs: int = FEW
+
+    def refusal(self, number):
+        return Refusal(self.kind, number, self.last or number, self.error, self.most)
+
+
+def records(name, wanted=lambda record: True):
+    """The records of an example that are wanted, with the day's."""
+    day, *rest = (EXAMPLES / name).read_bytes().splitlines(keepends=True)
+    return b"".join([day, *filter(wanted, rest)])
+
+
+def is_command(record):
+    return not record.startswith(b"close")
+
+
+AUCTION = records("auction-day.csv")
+FIRST = records("first-day.csv")
+OPEN_AUCTION = records("auction-day.csv", is_command)
+OPEN_FIRST = records("first-day.csv", is_command)
+ONE_PARTICIPANT = records("auction-day.csv", lambda record: b",GAS," in record)
+BROKEN = AUCTION + b"amend,NORD\n"
+
+CUTTINGS = [["--workers", "1", "--cut", "0"], ["--workers", "2", "--cut", "3"], ["--workers", "8", "--cut", "8"]]
+
+
+def memory_rows():
+    """Each call for memory refused alone, and with all that come later."""
+    inputs = [
+        ("replay of the auction day", ["replay"], AUCTION, MANY),
+        ("replay of the first day", ["replay"], FIRST, FEW),
+        ("replay of a broken journal", ["replay"], BROKEN, FEW),
+        ("clear of the auction day", ["clear"], AUCTION, MANY),
+        ("clear of an open book", ["clear"], OPEN_AUCTION, FEW),
+        ("day of the auction day", ["day"], OPEN_AUCTION, MANY),
+        ("day of the first day", ["day"], OPEN_FIRST, FEW),
+        ("day with a close given", ["day"], AUCTION, FEW),
+        ("no word", [], b"", FEW),
+        ("help", ["--help"], b"", FEW),
+        ("nine workers", ["clear", "--workers", "9"], b"", FEW),
+    ]
+    inputs += [(f"{word} by {' '.join(plan)}", [word, *plan], data, FEW)
+               for plan in CUTTINGS for word, data in [("clear", AUCTION), ("day", OPEN_AUCTION)]]
+    for about, words, data, runs in inputs:
+        yield Row(f"{about}, one growth", words, data, "memory", judge.memory, runs=runs)
+        yield Row(f"{about}, all growths from one on", words, data, "memory", judge.memory, last=EVERY, runs=runs // 2)
+
+
+def thread_rows():
+    for plan in CUTTINGS:
+        for word, data in [("clear", AUCTION), ("day", OPEN_AUCTION)]:
+            about, words = f"{word} by {' '.join(plan)}", [word, *plan]
+            yield Row(f"{about}, one thread", words, data, "thread", judge.thread, error=errno.EAGAIN)
+            yield Row(f"{about}, all threads from one on", words, data, "thread", judge.thread, last=EVERY, error=errno.EAGAIN)
+
+
+def device_rows():
+    jobs = [(["replay"], FIRST), (["replay"], AUCTION), (["clear"], AUCTION), (["day"], ONE_PARTICIPANT)]
+    for words, data in jobs:
+        for most in [0, 1, 64]:
+            about = f"{words[0]} of {len(data)} bytes, " + (f"{most} at a time" if most else "as they come")
+            for error in [errno.EIO, errno.EINTR, errno.EAGAIN]:
+                named = errno.errorcode[error]
+                yield Row(f"{about}, a read with {named}", words, data, "read", judge.read, error=error, most=most)
+            yield Row(f"{about}, a read of 0 bytes", words, data, "read", end_of_input, most=most)
+            for error in [errno.EIO, errno.ENOSPC, errno.EAGAIN]:
+                named = errno.errorcode[error]
+                yield Row(f"{about}, a write with {named}", words, data, "write", judge.write, error=error, most=most)
+            yield Row(f"{about}, a write of 0 bytes", words, data, "write", judge.write, most=most)
+            yield Row(f"{about}, a write interrupted", words, data, "write", judge.interrupted_write, error=errno.EINTR, most=most)
+    for words, data in [(["replay"], BROKEN), (["clear"], OPEN_AUCTION), (["day"], AUCTION), (["clear", "--cut", "9"], b"")]:
+        for error in [errno.EIO, 0]:
+            about = f"{' '.join(words)} with a fault, its line with " + (errno.errorcode.get(error) or "0 bytes taken")
+            yield Row(about, words, data, "report", judge.report, last=EVERY, error=error, most=1)
+
+
+def end_of_input(answer, refusal, got, calls):
+    """A read of 0 bytes is the end of the input: the answer is that of the bytes before it."""
+    if calls < refusal.first:
+        return answer.is_given(got)
+    return answer.of_front(refusal.moved_before(len(answer.data))).is_given(got)
+
+
+class Runs:
+    """The runs of rows, side by side, and how many were right."""
+
+    def __init__(self, program, whole):
+        self.program = program
+        self.whole = whole
+        self.pool = ThreadPoolExecutor(os.cpu_count() or 1)
+        self.answers = {}
+        self.passed = self.failed = self.left_out = 0
+        self.begun = time.monotonic()
+
+    def answer(self, words, data):
+        key = (tuple(words), data)
+        if key not in self.answers:
+            self.answers[key] = Answer(self, words, data)
+        return self.answers[key]
+
+    def is_past(self, seconds):
+        return not self.whole and time.monotonic() > self.begun + seconds
+
+    def numbers(self, row, total):
+        """The refused calls: each, and one that no run comes to; or some of them, evenly."""
+        most = LAST if self.is_past(BOUND) else row.runs
+        if self.whole or total < most:
+            return list(range(1, total + 2))
+        return sorted({1 + at * total // (most - 1) for at in range(most)})
+
+    def difference(self, row, answer, number):
+        """What is wrong with a run, or nothing; and no answer where it is left out."""
+        if self.is_past(END):
+            return ...
+        refusal = row.refusal(number)
+        got, calls = self.program.run(row.words, row.data, refusal)
+        if row.judge(answer, refusal, got, calls):
+            return None
+        return f"differs: {row.about}: call {number}: status {got.status}, {len(got.stdout)} bytes, {got.stderr[:80]!r}"
+
+    def run(self, row):
+        if self.is_past(END):
+            self.left_out += row.runs
+            return
+        begun = time.monotonic()
+        answer = self.answer(row.words, row.data)
+        _, total = self.program.run(row.words, row.data, row.refusal(EVERY))
+        numbers = self.numbers(row, total)
+        found = list(self.pool.map(lambda number: self.difference(row, answer, number), numbers))
+        wrong = [line for line in found if isinstance(line, str)]
+        self.left_out += found.count(...)
+        self.passed += found.count(None)
+        self.failed += len(wrong)
+        if self.whole or wrong:
+            print(f"{row.about}: {len(numbers)} runs of {total + 1}, {len(wrong)} wrong, {time.monotonic() - begun:.1f} s")
+        print("\n".join(wrong[:SHOWN]), end="\n" if wrong else "", flush=True)
+
+    def run_rows(self, about, rows):
+        begun, passed, failed = time.monotonic(), self.passed, self.failed
+        for row in rows:
+            self.run(row)
+        took = time.monotonic() - begun
+        print(f"{about}: {self.passed - passed} runs right, {self.failed - failed} wrong, {took:.1f} s", flush=True)
+
+    def check(self, about, is_right):
+        self.passed += is_right
+        self.failed += not is_right
+        if not is_right:
+            print(f"differs: {about}", flush=True)
+
+
+class Answer(judge.Answer):
+    def __init__(self, runs, words, data):
+        super().__init__(runs.program, words, data)
+        self.runs = runs
+        self.words = words
+
+    def of_front(self, count):
+        """The answer on so many of the first bytes."""
+        return self.runs.answer(self.words, self.data[:count])
+
+
+def closed(program, words, data, stream):
+    """What is printed where a standard stream is closed from the start."""
+    command = ["sh", "-c", f'exec "$0" "$@" {stream}', program.path, *words]
+    with open(program.given(data), "rb") as stdin:
+        ran = subprocess.run(command, stdin=stdin, stdout=subprocess.PIPE, stderr=subprocess.PIPE, timeout=SECONDS)
+    return Printed(ran.returncode, ran.stdout, ran.stderr)
+
+
+def devices(runs):
+    """Standard streams that are closed, full, or that nobody reads."""
+    for words, data in [(["replay"], AUCTION), (["clear"], AUCTION), (["day"], OPEN_AUCTION), (["--help"], b"")]:
+        runs.check(f"{words[0]} to a closed stream", is_failed_write(closed(runs.program, words, data, ">&-")))
+        runs.check(f"{words[0]} with no standard error", closed(runs.program, words, data, ">&- 2>&-").status == judge.MACHINE)
+        if data:
+            runs.check(f"{words[0]} of a closed stream", closed(runs.program, words, data, "<&-") == judge.READ)
+        with open("/dev/full", "wb") as full:
+            got, _ = runs.program.run(words, data, judge.NOTHING_REFUSED, stdout=full)
+        runs.check(f"{words[0]} to a full device", is_failed_write(got))
+        ours, theirs = os.pipe()
+        os.close(ours)
+        got, _ = runs.program.run(words, data, judge.NOTHING_REFUSED, stdout=theirs)
+        os.close(theirs)
+        runs.check(f"{words[0]} to a closed pipe", is_failed_write(got))
+
+
+def is_failed_write(got):
+    line = judge.WRITE.fullmatch(got.stderr)
+    return line is not None and line[1] in (None, b"0") and got == Printed(judge.MACHINE, b"", got.stderr)
+
+
+def main():
+    room, program, *rest = sys.argv[1:]
+    if rest not in ([], ["--all"]):
+        sys.exit("usage: tests/hostile/run PROGRAM [--all]")
+    runs = Runs(Program(program, room), rest == ["--all"])
+    runs.run_rows("memory refused", memory_rows())
+    runs.run_rows("threads refused", thread_rows())
+    runs.run_rows("reads and writes that fail", device_rows())
+    devices(runs)
+    if runs.left_out:
+        print(f"{runs.left_out} runs or fewer were left out, since {END} seconds were over")
+    print(f"{runs.passed} passed, {runs.failed} failed")
+    return 1 if runs.failed else 0
+
+
+sys.exit(main())

@@ -1,0 +1,31 @@
+"""The page on the libraries: that what it quotes of its program stands there."""
+
+import re
+import unittest
+
+from support import TOP
+
+PAGE = TOP / "docs" / "LIBRARY.md"
+CRATE = TOP / "crates" / "dam_example"
+BLOCK = re.compile(r"^```(\w+)\n(.*?)^```$", re.MULTILINE | re.DOTALL)
+
+
+def quotes(language):
+    return [text for found, text in BLOCK.findall(PAGE.read_text()) if found == language]
+
+
+class Library(unittest.TestCase):
+    def test_code_stands_in_the_crate(self):
+        sources = ["\n" + path.read_text() for path in sorted(CRATE.glob("src/*.rt"))]
+        self.assertGreater(len(quotes("rust")), 5)
+        for quote in quotes("rust"):
+            with self.subTest(quote):
+                self.assertTrue(any("\n" + quote in source for source in sources), "no source has these lines")
+
+    def test_texts_are_the_line_of_the_crate_and_what_it_prints(self):
+        line = next(line for line in (TOP / "crates.txt").read_text().splitlines() if line.startswith("dam_example:"))
+        self.assertEqual(quotes("text"), [f"{line}\n", (CRATE / "stdout").read_text()])
+
+
+if __name__ == "__main__":
+    unittest.main()
