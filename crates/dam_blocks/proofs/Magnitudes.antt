@@ -17,7 +17,7 @@ use Rattle.dam_blocks.specs.declared.problem.Block.{Block}
 use Rattle.dam_blocks.specs.Problem.{ProblemState, hourly_orders, AreHours, AreBlocks, IsProblem}
 use Rattle.dam_blocks.specs.Selection.{volume_in, value_of, net_volume, block_value}
 use Rattle.dam_blocks.specs.Eligible.{period_welfare, welfare_from, selection_welfare}
-use Rattle.dam_blocks.specs.Magnitude.{IsWithin, greatest_block_value, greatest_selection_welfare}
+use Rattle.dam_blocks.specs.Magnitude.{IsWithin, greatest_block_value_in_period, greatest_selection_welfare}
 use Rattle.dam_blocks.proofs.WelfareAtLeastZero.{added_some, raised_some}
 
 -- ---- the hourly orders
@@ -77,7 +77,7 @@ pub record Reached : Type 0 where
   pub reached : (ss : List Step) (net w : ℤ) → greatest_welfare ss net ≡ Some w → (xs : List ℕ) × IsExecution ss xs × Balances ss net xs × (welfare_of ss xs ≡ w)
 
 period_size : Reached → (periods t : ℕ) (blocks : List Block) (sel : List Bool) (ss : List Step) (u : ℤ) → AreBlocks periods blocks → length blocks ≤ most_blocks → AreInRange ss
-    → period_welfare blocks sel t ss ≡ Some u → IsWithin (length ss * greatest_value + greatest_block_value) u
+    → period_welfare blocks sel t ss ≡ Some u → IsWithin (length ss * greatest_value + greatest_block_value_in_period) u
 period_size laws periods t blocks sel ss u are few range e =
     let parts = raised_some (greatest_welfare ss (net_volume blocks sel t)) (block_value blocks sel t) u e in
     let best = laws.reached ss (net_volume blocks sel t) parts.0 parts.1 in
@@ -87,7 +87,7 @@ period_size laws periods t blocks sel ss u are few range e =
     record { at_least = omega (arith, ints, hourly.0, l, is, sum, few); at_most = omega (arith, ints, hourly.1, h, is, sum, few) }
 
 periods_size : Reached → (periods t : ℕ) (blocks : List Block) (sel : List Bool) (hours : List (List Step)) (w : ℤ) → AreBlocks periods blocks → length blocks ≤ most_blocks → AreHours hours
-    → welfare_from blocks sel t hours ≡ Some w → IsWithin (hourly_orders hours * greatest_value + length hours * greatest_block_value) w
+    → welfare_from blocks sel t hours ≡ Some w → IsWithin (hourly_orders hours * greatest_value + length hours * greatest_block_value_in_period) w
 periods_size laws periods t blocks sel [] w are few ranges e =
     let zero : pos 0 ≡ w = cc in record { at_least = omega (arith, ints, zero); at_most = omega (arith, ints, zero) }
 periods_size laws periods t blocks sel (ss ∷ hours) w are few ranges e =

@@ -15,7 +15,7 @@ use Rattle.dam_hour.specs.Price.{AreEnds}
 use Rattle.dam_hour.specs.Best.{greatest_welfare, AreBestTotals}
 use Rattle.dam_blocks.specs.declared.problem.Block.{Block}
 use Rattle.dam_blocks.specs.Problem.{ProblemState, AreHours, hourly_orders}
-use Rattle.dam_blocks.specs.Magnitude.{greatest_block_value}
+use Rattle.dam_blocks.specs.Magnitude.{greatest_block_value_in_period}
 use Rattle.dam_blocks.specs.Selection.{net_volume, block_value}
 use Rattle.dam_blocks.specs.Eligible.{IsClearingPrice, ArePrices, added, period_welfare, welfare_from}
 use Rattle.dam_blocks.specs.Score.{IsFirstUnbalanced}
@@ -41,8 +41,8 @@ period_within hours i ss net bought sold w are few at t =
 -- ---- the periods so far
 pub record IsClearedSoFar (blocks : List Block) (sel : List Bool) (hours : List (List Step)) (place : ℕ) (welfare : ℤ) (prices : List ℤ) : Type 0 where
   pub sum : added (Some welfare) (welfare_from blocks sel (place + 1) (drop place hours)) ≡ welfare_from blocks sel 1 hours
-  pub low : neg_ℤ (pos (place * (most_hourly * greatest_value + greatest_block_value))) ≤ℤ welfare
-  pub high : welfare ≤ℤ pos (place * (most_hourly * greatest_value + greatest_block_value))
+  pub low : neg_ℤ (pos (place * (most_hourly * greatest_value + greatest_block_value_in_period))) ≤ℤ welfare
+  pub high : welfare ≤ℤ pos (place * (most_hourly * greatest_value + greatest_block_value_in_period))
   pub long : length prices ≡ last_period
   pub each : (k : ℕ) (ss : List Step) → k < place → slice_get hours k ≡ Some ss → IsClearingPrice ss (net_volume blocks sel (k + 1)) (get_or prices k (pos 0))
 
@@ -76,7 +76,7 @@ pub cleared_more : (blocks : List Block) (sel : List Bool) (hours : List (List S
     (net low high p g value after : ℤ)
     → slice_get hours place ≡ Some ss → place < last_period → t ≡ place + 1 → net ≡ net_volume blocks sel t → AreEnds ss net low high → IsClearingPrice ss net p
     → greatest_welfare ss net ≡ Some g → value ≡ block_value blocks sel t → neg_ℤ (pos (most_hourly * greatest_value)) ≤ℤ g → g ≤ℤ pos (most_hourly * greatest_value)
-    → neg_ℤ (pos greatest_block_value) ≤ℤ value → value ≤ℤ pos greatest_block_value → after ≡ welfare +ℤ (g +ℤ value)
+    → neg_ℤ (pos greatest_block_value_in_period) ≤ℤ value → value ≤ℤ pos greatest_block_value_in_period → after ≡ welfare +ℤ (g +ℤ value)
     → IsClearedSoFar blocks sel hours place welfare prices → IsClearedSoFar blocks sel hours (place + 1) after (set prices place p)
 cleared_more blocks sel hours place t welfare prices ss net low high p g value after at room period net_is ends price great value_is gl gh vl vh e so_far =
     let one : suc place ≡ place + 1 = omega arith in

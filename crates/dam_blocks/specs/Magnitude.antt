@@ -9,9 +9,17 @@ pub record IsWithin (greatest : ℕ) (z : ℤ) : Type 0 where
   pub at_least : neg_ℤ (pos greatest) ≤ℤ z
   pub at_most : z ≤ℤ pos greatest
 
+-- the value of all hourly orders of a book
+abbrev pub greatest_hourly_value : ℕ
+greatest_hourly_value = most_hourly * greatest_value
+
 -- the value of all blocks of a book in one period
+abbrev pub greatest_block_value_in_period : ℕ
+greatest_block_value_in_period = most_blocks * greatest_value
+
+-- the value of all blocks of a book over the longest day
 abbrev pub greatest_block_value : ℕ
-greatest_block_value = most_blocks * greatest_value
+greatest_block_value = last_period * greatest_block_value_in_period
 
 -- what a block gains in one period: the greatest difference of two prices, by a volume
 abbrev pub greatest_gain : ℕ
@@ -24,4 +32,4 @@ greatest_surplus = last_period * greatest_gain
 -- the welfare of a selection: every hourly order once, and every block in every period of the longest
 -- day
 abbrev pub greatest_selection_welfare : ℕ
-greatest_selection_welfare = (most_hourly + most_blocks * last_period) * greatest_value
+greatest_selection_welfare = greatest_hourly_value + greatest_block_value

@@ -6,7 +6,7 @@ ghost use Rattle.dam_hour.specs.Limits.{greatest_net, price_span, greatest_value
 ghost use Rattle.dam_hour.specs.Best.{signed};
 ghost use Rattle.dam_hour.specs.Execution.{IsNetVolume};
 ghost use Rattle.dam_blocks.specs.Selection.{volume_in, net_volume_of, bought_volume_of, value_of, net_volume, bought_volume, block_value};
-ghost use Rattle.dam_blocks.specs.Magnitude.{IsWithin, greatest_block_value, greatest_gain};
+ghost use Rattle.dam_blocks.specs.Magnitude.{IsWithin, greatest_block_value_in_period, greatest_gain};
 
 use crate::problem::Block;
 use crate::selection::Selection;
@@ -120,7 +120,7 @@ pub fn bought_volume(blocks: &[Block], selection: Selection, period: Period) -> 
 pub fn block_value(blocks: &[Block], selection: Selection, period: Period) -> i64
     requires { length blocks.now ≤ most_blocks }
     ensures value { result ≡ block_value blocks.now selection period }
-    ensures size { IsWithin greatest_block_value result }
+    ensures size { IsWithin greatest_block_value_in_period result }
 {
     let mut total = 0;
     for (place, block) in blocks.iter().enumerate() {

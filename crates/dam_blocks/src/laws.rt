@@ -11,15 +11,21 @@ ghost use Rattle.dam_blocks.specs.declared.scoring.Verdict.TheVariants.{Eligible
 ghost use Rattle.dam_blocks.specs.Problem.{ProblemState, IsProblem};
 ghost use Rattle.dam_blocks.specs.Selection.{padded, empty_selection, choice, over_accepted, IsAdmissible};
 ghost use Rattle.dam_blocks.specs.Eligible.{selection_welfare, IsEligible};
-ghost use Rattle.dam_blocks.specs.Magnitude.{IsWithin, greatest_selection_welfare};
+ghost use Rattle.dam_blocks.specs.Magnitude.{IsWithin, greatest_hourly_value, greatest_block_value, greatest_surplus, greatest_selection_welfare};
 ghost use Rattle.dam_blocks.specs.Score.{IsVerdict};
 ghost use Rattle.dam_blocks.specs.Result.{RanksAbove, RanksAtOrBelow, IsResult};
 
 use crate::problem::MOST_PERIODS;
 
-/// The exported constant is the number of its limit.
+/// The exported constant is the number of its limit, and the greatest value of all hourly orders and
+/// of all blocks, surplus of one block and welfare of a selection are these numbers of cents per MWh
+/// times tenths of a MW.
 pub fn limits()
     ensures periods { MOST_PERIODS ≡ last_period }
+    ensures hourly_value { greatest_hourly_value ≡ 159998400000000 }
+    ensures block_value { greatest_block_value ≡ 23999760000000 }
+    ensures surplus { greatest_surplus ≡ 1124988750000 }
+    ensures selection_welfare { greatest_selection_welfare ≡ 183998160000000 }
 {}
 
 /// The empty selection is eligible.
