@@ -6,9 +6,19 @@ ghost use Rattle.dam_search.specs.Words.{first_view, cut_left, cut_right, joined
 use crate::incumbent::Incumbent;
 use crate::words::{CLAIM, Cut, Draw, Glue, INCUMBENT, Offer, Read, Seat, Words};
 
-/// A worker's seat at the two words of a search, which draws pieces and is its incumbent.
+/// A worker's seat at the two words of a search: it draws pieces, and it is the incumbent that the
+/// worker's pieces are pruned by. A contract sees what it knows as `seat.me.0`.
 ///
-/// A contract sees what it knows as `seat.me.0`.
+/// In the program [`search`](crate::search) alone makes seats, as no other crate can: one for each
+/// worker is split off the first one, all are joined into it after their work, and with it the words
+/// are closed. Whoever makes them by hand, as a test does, owes as much: a seat that is dropped in
+/// place of being joined is missing at the close, which asks for all of them. And a seat that drew
+/// past the last piece draws no more.
+///
+/// A draw is one `fetch_add`, a read one load and an offer one `fetch_max`, all of them sequentially
+/// consistent. That is enough: the steps on both words so have one order, and the rule of the words
+/// is kept by each step in it. Nothing else goes from thread to thread by the words. The problem and
+/// its bounds were there before the threads began, and a thread's answers are read when it has ended.
 #[derive(Drop)]
 pub struct Shared<'a> {
     words: &'a Words,
@@ -82,7 +92,8 @@ impl<'a> Shared<'a> {
         self.pieces
     }
 
-    /// Draws the next piece that nobody has drawn, or `None` past the last one.
+    /// Draws the next piece that nobody has drawn, or `None` past the last one. Takes no memory, and
+    /// waits for nobody.
     pub fn draw(&mut self) -> Option<u32>
         requires { self.old.seat.me.0.past ≡ 0 }
         ensures table { self.new.seat.table_id ≡ self.old.seat.table_id }

@@ -16,7 +16,12 @@ use std::alloc::{AllocError, Global};
 ///
 /// It answers for just the pieces that its seat drew, in the order of the draws, with the limit
 /// `nodes` on each. Room for an answer about every piece is taken before the first draw: after a
-/// refusal nothing was drawn.
+/// refusal nothing was drawn, and nothing more is asked for later.
+///
+/// In the program [`search`](crate::search) alone calls it, once for each worker, on a thread of its
+/// own. A caller by hand owes a fresh seat, made for the pieces of a cutting of this depth, and the
+/// bounds of this very problem; and it has every piece answered only where all seats of the words
+/// have worked and none was refused. While it works it waits for nobody but the turnstile.
 pub fn work<T: Turnstile>(
     alloc: Global,
     problem: &Problem,
