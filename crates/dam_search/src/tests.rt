@@ -177,7 +177,7 @@ fn two_periods(alloc: Global) -> Result<Problem, Fail> {
 /// Six blocks for a buy of 30. The three of 10 at 4,000 are the result; the one of 30 at 4,100 is
 /// better than any one or two others, and so no pair of changes leads from it to them. The first
 /// excludes the last two.
-fn six_blocks(alloc: Global) -> Result<Problem, Fail> {
+pub(crate) fn six_blocks(alloc: Global) -> Result<Problem, Fail> {
     let group = Links {
         parent: None,
         group: Some(b"G"),

@@ -1,10 +1,16 @@
 //! The search on shared words: its seats, its draws and its close, and what no contract says of them.
 
+ghost use Rattle.std.specs.Prelude.{◌≡◌, ◌≤◌, length};
+ghost use Rattle.dam_bound.specs.Relaxed.{without_rows};
+
 use crate::shared::Shared;
-use crate::tests::{FREE, block, hour, plan_of, problem_of, two_equal_blocks};
+use crate::tests::{FREE, block, hour, plan_of, problem_of, six_blocks, two_equal_blocks};
 use crate::words::new_words;
 use crate::workers::{Task, explore_all};
-use crate::{FreeTurn, Incumbent, MOST_NODES, Turnstile, search};
+use crate::{
+    FreeTurn, Incumbent, MOST_NODES, PieceAnswer, Private, Turnstile, first_selection, search,
+    search_piece,
+};
 use dam_blocks::{Problem, best_of_all};
 use dam_book::{Book, Side};
 use dam_bound::Relaxed;
@@ -69,6 +75,14 @@ struct LastOfAll {
     met: AtomicU64,
 }
 
+fn last_of_all(others: u64) -> LastOfAll {
+    LastOfAll {
+        others,
+        over: AtomicU64::new(0),
+        met: AtomicU64::new(0),
+    }
+}
+
 impl Turnstile for LastOfAll {
     fn before(&self, job: u32) {
         if job != 0 {
@@ -91,41 +105,77 @@ impl Turnstile for LastOfAll {
 #[test]
 fn a_held_piece_holds_no_other(rt: HostRuntime) -> Result<(), Fail> {
     let problem = two_equal_blocks(rt.alloc())?;
-    let last = LastOfAll {
-        others: 3,
-        over: AtomicU64::new(0),
-        met: AtomicU64::new(0),
-    };
+    let last = last_of_all(3);
     let found = search(&rt, rt.alloc(), &problem, plan_of(2, 2, MOST_NODES)?, &last)?;
     assert_eq!(&rt; last.met.load(Ordering::SeqCst), 1);
     assert_eq!(&rt; found, best_of_all(&problem));
     Ok(())
 }
 
-/// Eight blocks that stand in each other's way, and each of which alone is better than some two
-/// others.
-fn eight_blocks(alloc: Global) -> Result<Problem, Fail> {
+/// The first of two pieces, by a worker that knows of this welfare and else of its own finds.
+fn first_half(problem: &Problem, relaxed: &Relaxed, welfare: u64) -> PieceAnswer
+    requires blocks { 1 ≤ length problem.now.blocks }
+    requires same { relaxed.now ≡ without_rows problem.now }
+{
+    let mut incumbent = Private::new();
+    incumbent.offer(welfare);
+    search_piece(problem, relaxed, 0, 1, MOST_NODES, &mut incumbent)
+}
+
+/// One worker is held at the first of two pieces until the other worker has found 59,500 in the
+/// second: the first then takes as many nodes as with that known, and not as many as without.
+#[test]
+fn a_worker_prunes_by_what_another_found(rt: HostRuntime) -> Result<(), Fail> {
+    let problem = six_blocks(rt.alloc())?;
+    let relaxed = Relaxed::build(rt.alloc(), &problem)?;
+    assert_eq!(&rt; problem.block_count(), 6);
+    let task = Task {
+        alloc: rt.alloc(),
+        problem: &problem,
+        relaxed: &relaxed,
+        depth: 1,
+        nodes: MOST_NODES,
+        workers: 2,
+        first: 0,
+    };
+    let last = last_of_all(1);
+    let explored = explore_all(&rt, &task, &last)?;
+    assert_eq!(&rt; last.met.load(Ordering::SeqCst), 1);
+    let alone = first_half(&problem, &relaxed, 0);
+    let told = first_half(&problem, &relaxed, 59_500);
+    assert!(&rt;
+        told.visited < alone.visited,
+        "{} {}",
+        told.visited,
+        alone.visited
+    );
+    assert!(&rt; explored.answers.contains(&told));
+    Ok(())
+}
+
+/// Eleven blocks of 10 at one limit, of which a buy of 60 takes any six, and one block of 60 at a
+/// greater limit, which is the first selection. So 462 selections have the greatest welfare.
+fn many_ties(alloc: Global) -> Result<Problem, Fail> {
     let mut book = Book::begin(alloc, 24)?;
     hour(&mut book, b"B1", Side::Buy, 6_000, 1, 60)?;
-    hour(&mut book, b"B2", Side::Buy, 5_500, 1, 40)?;
-    hour(&mut book, b"S1", Side::Sell, 5_400, 1, 50)?;
-    block(&mut book, b"K1", 4_000, 1, 30, FREE)?;
-    block(&mut book, b"K2", 4_010, 1, 30, FREE)?;
-    block(&mut book, b"K3", 4_020, 1, 40, FREE)?;
-    block(&mut book, b"K4", 4_030, 1, 40, FREE)?;
-    block(&mut book, b"K5", 4_040, 1, 50, FREE)?;
-    block(&mut book, b"K6", 4_050, 1, 50, FREE)?;
-    block(&mut book, b"K7", 4_060, 1, 60, FREE)?;
-    block(&mut book, b"K8", 4_070, 1, 70, FREE)?;
+    for name in [b"K1", b"K2", b"K3", b"K4", b"K5"] {
+        block(&mut book, name, 4_000, 1, 10, FREE)?;
+    }
+    block(&mut book, b"L1", 4_050, 1, 60, FREE)?;
+    for name in [b"M1", b"M2", b"M3", b"M4", b"M5", b"M6"] {
+        block(&mut book, name, 4_000, 1, 10, FREE)?;
+    }
     problem_of(alloc, book)
 }
 
-/// A hundred searches of one book, in which the workers draw 256 small pieces as fast as they
-/// can, and all of them find the same selection.
+/// A hundred searches of one book, in which the workers draw 256 pieces as fast as they can, prune
+/// within them by what they find, and all of them find the same selection.
 #[test]
 fn a_storm_of_searches(rt: HostRuntime) -> Result<(), Fail> {
-    let problem = eight_blocks(rt.alloc())?;
+    let problem = many_ties(rt.alloc())?;
     let best = best_of_all(&problem);
+    assert_eq!(&rt; first_selection(&problem).welfare, 117_000);
+    assert_eq!(&rt; best.welfare, 120_000);
     let plan = plan_of(8, 8, MOST_NODES)?;
     for _ in 0..100 {
         let found = search(&rt, rt.alloc(), &problem, plan, &FreeTurn)?;
