@@ -1,5 +1,8 @@
 """What the program must print on an input, by the rules as `tools/lib` has them, and how what it prints differs."""
 
+import functools
+import os
+import select
 import subprocess
 from typing import NamedTuple
 
@@ -18,12 +21,39 @@ class Printed(NamedTuple):
 
 
 def printed(program, words, data):
-    """What the program prints of an input."""
+    """What the program prints of an input. Its streams are files in memory: pipes would have to be served while it runs, which
+    takes longer than most runs."""
+    with in_memory(data) as stdin, in_memory() as stdout, in_memory() as stderr:
+        ran = subprocess.Popen([program, *words], stdin=stdin, stdout=stdout, stderr=stderr, close_fds=False)
+        if not ends(ran):
+            ran.kill()
+            ran.wait()
+            return Printed(-1, b"", f"no answer in {SECONDS} seconds\n".encode())
+        return Printed(ran.wait(), contents(stdout), contents(stderr))
+
+
+def in_memory(data=b""):
+    """A file in memory, at its beginning."""
+    file = open(os.memfd_create("stream"), "w+b")
+    file.write(data)
+    file.seek(0)
+    return file
+
+
+def contents(file):
+    file.seek(0)
+    return file.read()
+
+
+def ends(ran):
+    """Waits until a process has ended; not for ever."""
+    process = os.pidfd_open(ran.pid)
     try:
-        ran = subprocess.run([program, *words], input=data, capture_output=True, timeout=SECONDS)
-    except subprocess.TimeoutExpired:
-        return Printed(-1, b"", f"no answer in {SECONDS} seconds\n".encode())
-    return Printed(ran.returncode, ran.stdout, ran.stderr)
+        poll = select.poll()
+        poll.register(process, select.POLLIN)
+        return bool(poll.poll(SECONDS * 1_000))
+    finally:
+        os.close(process)
 
 
 def takes(program, words):
@@ -35,12 +65,20 @@ def refused(line):
     return Printed(1, b"", f"{line}\n".encode())
 
 
+@functools.lru_cache(maxsize=1)
+def reading(data):
+    """What the rules read an input as: a journal or a fault. The last one is kept, since several commands get the same input."""
+    try:
+        return journal.read_journal(data)
+    except journal.Fault as fault:
+        return fault
+
+
 def wanted(command, data):
     """What a command must print of an input; None where that takes too long."""
-    try:
-        read = journal.read_journal(data)
-    except journal.Fault as fault:
-        return refused(fault)
+    read = reading(data)
+    if isinstance(read, journal.Fault):
+        return refused(read)
     return {"replay": wanted_replies, "clear": wanted_results}[command](read)
 
 

@@ -52,6 +52,7 @@ class Draft:
             self.meet()
         self.participants = PARTICIPANTS[: rng.choice([1, 2, 4])]
         self.named = []  # pairs of a participant and a name that were submitted
+        self.numbers = dict.fromkeys(PARTICIPANTS, 0)  # of each participant, how many of these
         self.blocks = []  # of these, the blocks
         self.links, self.groups = rng.choice([0, 0.3, 0.8]), rng.choice([0, 0.3, 0.8])
         self.lines = [f"day,{self.periods},,,,,,,"]
@@ -72,8 +73,11 @@ class Draft:
             return self.rng.choice(self.named)
         who = self.rng.choice(self.participants)
         # A number of the participant's own: others have orders of the same names.
-        number = 1 + sum(owner == who for owner, _ in self.named)
-        return who, f"{prefix}{number}"
+        return who, f"{prefix}{1 + self.numbers[who]}"
+
+    def submitted(self, who, name):
+        self.named.append((who, name))
+        self.numbers[who] += 1
 
     def late(self):
         """A period that the day may not have."""
@@ -97,7 +101,7 @@ class Draft:
         who, name = self.name("H")
         side = self.rng.choice(["buy", "sell"])
         self.lines.append(f"submit,{who},{name},hour,{side},{self.price()},{self.period()}:{self.volume()},,")
-        self.named.append((who, name))
+        self.submitted(who, name)
 
     def submit_block(self):
         who, name = self.name("K")
@@ -111,7 +115,7 @@ class Draft:
             group = self.rng.choice("XY")
         side = self.rng.choice(["buy", "sell", "sell"])
         self.lines.append(f"submit,{who},{name},block,{side},{self.price()},{self.profile()},{parent},{group}")
-        self.named.append((who, name))
+        self.submitted(who, name)
         self.blocks.append((who, name))
 
     def some_name(self):
