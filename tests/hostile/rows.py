@@ -55,6 +55,9 @@ OPEN_AUCTION = records("auction-day.csv", is_command)
 OPEN_FIRST = records("first-day.csv", is_command)
 ONE_PARTICIPANT = records("auction-day.csv", lambda record: b",GAS," in record)
 BROKEN = AUCTION + b"amend,NORD\n"
+NOT_ASCII = b"day,24,,,,,,,\n\xff"
+QUOTED = b"".join(b'"%b"\r\n' % record.replace(b",", b'","') for record in AUCTION.splitlines())
+TWO_ORDERS = b"day,24,,,,,,,\nsubmit,A,B1,hour,buy,5000,1:10,,\nsubmit,B,S1,hour,sell,3000,1:10,,\n"
 
 CUTTINGS = [["--workers", "1", "--cut", "0"], ["--workers", "2", "--cut", "3"], ["--workers", "8", "--cut", "8"]]
 
@@ -64,11 +67,15 @@ def memory_rows():
     inputs = [
         ("replay of the auction day", ["replay"], AUCTION, MANY),
         ("replay of the first day", ["replay"], FIRST, FEW),
+        ("replay of a quoted journal", ["replay"], QUOTED, FEW),
         ("replay of a broken journal", ["replay"], BROKEN, FEW),
+        ("replay of a byte over 127", ["replay"], NOT_ASCII, FEW),
         ("clear of the auction day", ["clear"], AUCTION, MANY),
         ("clear of an open book", ["clear"], OPEN_AUCTION, FEW),
+        ("clear that ends unfinished", ["clear", "--workers", "1", "--cut", "0", "--nodes", "1"], AUCTION, FEW),
         ("day of the auction day", ["day"], OPEN_AUCTION, MANY),
         ("day of the first day", ["day"], OPEN_FIRST, FEW),
+        ("day of two orders", ["day"], TWO_ORDERS, FEW),
         ("day with a close given", ["day"], AUCTION, FEW),
         ("no word", [], b"", FEW),
         ("help", ["--help"], b"", FEW),
