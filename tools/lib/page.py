@@ -48,7 +48,7 @@ dd small { font-size: 0.75em; color: var(--soft); }
 .wide { overflow-x: auto; background: var(--paper); border: 1px solid var(--grid); border-radius: 6px; margin: 0 0 1rem; }
 .wide svg { display: block; width: 100%; min-width: 44rem; height: auto; padding: 0.75rem; }
 .wide svg text { font-family: inherit !important; }
-table { border-collapse: collapse; width: 100%; font-size: 0.87rem; font-variant-numeric: tabular-nums; }
+table { border-collapse: separate; border-spacing: 0; width: 100%; font-size: 0.87rem; font-variant-numeric: tabular-nums; }
 th, td { padding: 0.3rem 0.55rem; text-align: left; vertical-align: top; white-space: nowrap; }
 th { color: var(--soft); font-weight: 600; border-bottom: 1px solid var(--soft); }
 tbody tr + tr td { border-top: 1px solid var(--grid); }
