@@ -1,12 +1,10 @@
 -- A day, period by period.
-use Rattle.std.proofs.Common.{◌≡◌, ◌≢◌, ℕ, zero, suc, ◌+◌, ◌*◌, ◌<◌, ◌≤◌, ℤ, pos, neg_ℤ, ◌+ℤ◌, ◌≤ℤ◌, Bool, Option, Some, None, List, [], ◌∷◌, ◌++◌, length, length-append, drop, get_or, slice_set, replicate, ◌⊎◌, inl, inr, ap, ap₂, ◌∙◌, sym, subst, refl, arith}
+use Rattle.std.proofs.Common.{◌≡◌, ◌≢◌, ℕ, zero, suc, ◌+◌, ◌<◌, ◌≤◌, ℤ, pos, ◌+ℤ◌, Bool, Some, None, List, [], ◌∷◌, ◌++◌, length, length-append, drop, get_or, slice_set, replicate, inl, inr, ap, ◌∙◌, sym, subst, refl, arith}
 use Rattle.std.specs.List.{slice_get}
 use Rattle.std.proofs.lemmas.Int.{ints}
 use Rattle.std.proofs.lemmas.Bool.{cases_lt}
 use Rattle.std.proofs.lemmas.List.{get_or-set_same, get_or-set_other}
 use Rattle.std.proofs.lemmas.Option.{slice_get_within}
-use Rattle.dam_book.specs.Limits.{last_period}
-use Rattle.dam_hour.specs.Limits.{most_steps, greatest_value}
 use Rattle.dam_hour.specs.declared.step.Step.{Step}
 use Rattle.dam_blocks.specs.declared.problem.Block.{Block}
 use Rattle.dam_blocks.specs.Problem.{ProblemState}
@@ -15,7 +13,7 @@ use Rattle.dam_blocks.specs.Magnitude.{IsWithin}
 use Rattle.dam_bound.specs.declared.day.DayPeriod.{DayPeriod}
 use Rattle.dam_bound.specs.declared.day.Day.{Day}
 use Rattle.dam_bound.specs.Relaxed.{as_steps, relaxed_hours, relaxed_welfare}
-use Rattle.dam_bound.specs.Day.{IsSmallPeriod, IsPeriodOfDay, IsDay}
+use Rattle.dam_bound.specs.Day.{IsSmallPeriod, IsPeriodOfDay, IsDay, worth_of_all}
 use Rattle.dam_bound.specs.inside.Levels.{greatest_period_bound}
 use Rattle.dam_bound.proofs.Bounding.{IsBoundSoFar, nothing_bound, one_bound, none_bound, all_bound, cleared_period}
 
@@ -107,12 +105,14 @@ day_without problem left place t prefix periods ss total at period is none so_fa
     ∙ sym (none_bound problem.blocks prefix left problem.hours place t ss total at period (sym none) so_far.sum)
 
 pub whole_day : (problem : ProblemState) (left : List Block) (place : ℕ) (prefix : List Bool) (day : Day) → length problem.hours ≤ place
-    → drop (length prefix) problem.blocks ≡ left → IsDaySoFar problem.blocks left problem.hours place prefix day.periods day.total → IsDay problem prefix day
-whole_day problem left place prefix day all is so_far = record {
+    → drop (length prefix) problem.blocks ≡ left → worth_of_all (drop (length problem.hours) day.periods) ≡ pos 0
+    → IsDaySoFar problem.blocks left problem.hours place prefix day.periods day.total → IsDay problem prefix day
+whole_day problem left place prefix day all is others so_far = record {
   each = λ i ss d at.
       (let inside = slice_get_within problem.hours i ss at in
       subst (λ (bs : List Block). IsPeriodOfDay problem.blocks prefix (i + 1) (ss ++ as_steps (i + 1) bs) (get_or day.periods i d)) (sym is)
       (so_far.each i ss d (omega (arith, inside, all)) at));
+  others = others;
   total_is = all_bound problem.blocks prefix left problem.hours place day.total all so_far.sum
       ∙ ap (λ (bs : List Block). welfare_from problem.blocks prefix 1 (relaxed_hours bs 1 problem.hours)) (sym is);
 }

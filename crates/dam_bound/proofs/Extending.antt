@@ -1,5 +1,5 @@
 -- A prefix with one more decision, period by period.
-use Rattle.std.proofs.Common.{◌≡◌, ℕ, zero, suc, ◌+◌, ◌*◌, ◌<◌, ◌≤◌, ℤ, pos, neg_ℤ, ◌+ℤ◌, ◌*ℤ◌, Bool, true, false, Option, Some, None, List, [], ◌∷◌, ◌++◌, length, drop, length-append, ap, ap₂, ◌∙◌, sym, subst, refl, arith}
+use Rattle.std.proofs.Common.{◌≡◌, ℕ, ◌+◌, ◌*◌, ℤ, pos, neg_ℤ, ◌+ℤ◌, ◌*ℤ◌, Bool, true, false, Some, None, List, [], ◌∷◌, ◌++◌, length, drop, ap, ◌∙◌, sym, refl, arith}
 use Rattle.std.specs.List.{slice_get}
 use Rattle.std.proofs.lemmas.Int.{ints}
 use Rattle.dam_book.specs.declared.order.Side.{Side}
@@ -10,7 +10,7 @@ use Rattle.dam_hour.specs.Limits.{greatest_value}
 use Rattle.dam_hour.specs.declared.step.Step.{Step}
 use Rattle.dam_hour.specs.Best.{signed, greatest_welfare}
 use Rattle.dam_blocks.specs.declared.problem.Block.{Block}
-use Rattle.dam_blocks.specs.Selection.{volume_in, over_accepted, net_volume_of, value_of, net_volume, block_value}
+use Rattle.dam_blocks.specs.Selection.{volume_in, over_accepted, net_volume_of, value_of}
 use Rattle.dam_blocks.specs.Eligible.{period_welfare}
 use Rattle.dam_blocks.specs.Magnitude.{IsWithin}
 use Rattle.dam_bound.specs.declared.day.DayPeriod.{DayPeriod}
@@ -81,6 +81,14 @@ pub small_more : (depth : ℕ) (own : DayPeriod) → IsSmallPeriod depth own →
 small_more depth own s = record { net = within_more depth greatest_volume own.net s.net; value = within_more depth greatest_value own.value s.value; welfare = s.welfare }
 
 -- ---- the period with the decision
+pub net_decided : (o : BlockTerms) (t q : ℕ) (accept : Bool) (own net : ℤ) → volume_in o.volumes t ≡ q → net ≡ own +ℤ if_accepted accept (neg_ℤ (signed o.side (pos q)))
+    → net ≡ own +ℤ if_accepted accept (net_volume_of t o)
+net_decided o t q accept own net volume e = e ∙ ap (λ (n : ℕ). own +ℤ if_accepted accept (neg_ℤ (signed o.side (pos n)))) (sym volume)
+
+pub value_decided : (o : BlockTerms) (t q : ℕ) (accept : Bool) (own value : ℤ) → volume_in o.volumes t ≡ q → value ≡ own +ℤ if_accepted accept (signed o.side (o.price *ℤ pos q))
+    → value ≡ own +ℤ if_accepted accept (value_of t o)
+value_decided o t q accept own value volume e = e ∙ ap (λ (n : ℕ). own +ℤ if_accepted accept (signed o.side (o.price *ℤ pos n))) (sym volume)
+
 pub decided_period : SumLaws → (blocks : List Block) (prefix : List Bool) (accept : Bool) (t depth : ℕ) (b : Block) (ss steps : List Step) (own next : DayPeriod)
     → slice_get blocks depth ≡ Some b → length prefix ≡ depth
     → IsPeriodOfDay blocks prefix t ss own

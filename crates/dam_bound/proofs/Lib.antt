@@ -7,3 +7,6 @@ pub mod Bounding
 pub mod Periods
 pub mod Extending
 pub mod Days
+pub mod Worth
+pub mod Volumes
+pub mod Deciding

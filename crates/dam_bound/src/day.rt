@@ -1,16 +1,18 @@
-ghost use Rattle.std.specs.Prelude.{◌≡◌, ◌+◌, ◌*◌, ◌<◌, ◌≤◌, ◌+ℤ◌, List, Bool, [], ◌∷◌, ◌++◌, length, drop, IfSome, MatchOption, None};
+ghost use Rattle.std.specs.Prelude.{◌≡◌, ◌+◌, ◌*◌, ◌<◌, ◌≤◌, pos, neg_ℤ, ◌+ℤ◌, ◌*ℤ◌, ◌≤ℤ◌, List, Bool, [], ◌∷◌, ◌++◌, length, drop, slice_get, IfSome, MatchOption, Some, None};
 ghost use Rattle.dam_book.specs.Limits.{greatest_volume, most_blocks};
-ghost use Rattle.dam_hour.specs.Limits.{most_steps, greatest_value};
-ghost use Rattle.dam_blocks.specs.Selection.{net_volume_of, value_of};
+ghost use Rattle.dam_hour.specs.Limits.{most_steps, greatest_price, greatest_value};
+ghost use Rattle.dam_hour.specs.Best.{signed};
+ghost use Rattle.dam_blocks.specs.Selection.{volume_in};
 ghost use Rattle.dam_blocks.specs.Eligible.{period_welfare};
 ghost use Rattle.dam_blocks.specs.Magnitude.{IsWithin};
+ghost use Rattle.dam_blocks.specs.declared.problem.Block.{Block};
 ghost use Rattle.dam_bound.specs.Relaxed.{as_steps, relaxed_welfare};
 ghost use Rattle.dam_bound.specs.Day.{if_accepted, IsSmallPeriod, IsPeriodOfDay, IsSmallDay, IsDay};
 ghost use Rattle.dam_bound.specs.inside.Levels.{AreLevels, last_steps, AreDayLevels, problem_kept, greatest_period_bound};
 
 use crate::levels::Levels;
-use dam_blocks::{Block, MOST_PERIODS, laws, net_volume_of, value_of, volume_in};
-use dam_book::{BlockOrder, Period};
+use dam_blocks::{Block, MOST_PERIODS, laws};
+use dam_book::{BlockOrder, Period, Qty, Side};
 use std::alloc::Allocator;
 
 /// What a prefix makes of one period.
@@ -47,18 +49,47 @@ fn worth(own: DayPeriod) -> i64
     own.welfare + own.value
 }
 
-/// What becomes of the net volume and the value with a decision on a block.
-fn decided(own: DayPeriod, order: &BlockOrder, period: Period, accept: bool) -> (i64, i64)
+/// Cents per MWh times tenths of a MW.
+fn times(cents: i32, volume: u32) -> i64
+    requires at_least { neg_ℤ (pos greatest_price) ≤ℤ cents }
+    requires at_most { cents ≤ℤ pos greatest_price }
+    requires volume { volume ≤ greatest_volume }
+    ensures value { result ≡ cents *ℤ pos volume }
+    ensures size { IsWithin greatest_value result }
+{
+    i64::from(cents) * i64::from(volume)
+}
+
+/// The net volume and the value that a block adds to a period in which it has this volume.
+fn effect(order: &BlockOrder, qty: Qty) -> (i64, i64)
+    ensures net { result.0 ≡ neg_ℤ (signed order.now.side (pos qty)) }
+    ensures value { result.1 ≡ signed order.now.side (order.now.price *ℤ pos qty) }
+    ensures net_size { IsWithin greatest_volume result.0 }
+    ensures value_size { IsWithin greatest_value result.1 }
+{
+    let volume = qty.get();
+    let value = times(order.price().get(), volume);
+    match order.side() {
+        Side::Buy => (-i64::from(volume), value),
+        Side::Sell => (i64::from(volume), -value),
+    }
+}
+
+/// What becomes of the net volume and the value with a decision on a block that has this volume in
+/// the period.
+fn decided(own: DayPeriod, order: &BlockOrder, qty: Qty, accept: bool) -> (i64, i64)
     requires net { IsWithin (most_blocks * greatest_volume) own.net }
     requires value { IsWithin (most_blocks * greatest_value) own.value }
-    ensures net { result.0 ≡ own.net +ℤ if_accepted accept (net_volume_of period order.now) }
-    ensures value { result.1 ≡ own.value +ℤ if_accepted accept (value_of period order.now) }
+    ensures net { result.0
+        ≡ own.net +ℤ if_accepted accept (neg_ℤ (signed order.now.side (pos qty))) }
+    ensures value { result.1
+        ≡ own.value +ℤ if_accepted accept (signed order.now.side (order.now.price *ℤ pos qty)) }
     ensures net_step { IsWithin greatest_volume
-        (if_accepted accept (net_volume_of period order.now)) }
-    ensures value_step { IsWithin greatest_value (if_accepted accept (value_of period order.now)) }
+        (if_accepted accept (neg_ℤ (signed order.now.side (pos qty)))) }
+    ensures value_step { IsWithin greatest_value
+        (if_accepted accept (signed order.now.side (order.now.price *ℤ pos qty))) }
 {
-    let net = net_volume_of(order, period);
-    let value = value_of(order, period);
+    let (net, value) = effect(order, qty);
     if accept {
         (own.net + net, own.value + value)
     } else {
@@ -66,9 +97,8 @@ fn decided(own: DayPeriod, order: &BlockOrder, period: Period, accept: bool) -> 
     }
 }
 
-/// A period with a decision on the block at the depth; `None` where no execution balances.
-///
-/// Where the block has no volume there, nothing changes.
+/// A period with a decision on the block at the depth, which has this volume there; `None` where no
+/// execution balances.
 fn extended<A: Allocator>(
     levels: &Levels<A>,
     blocks: &[Block],
@@ -76,10 +106,13 @@ fn extended<A: Allocator>(
     depth: usize,
     accept: bool,
     period: Period,
+    qty: Qty,
 ) -> Option<DayPeriod>
     requires levels { AreLevels period (last_steps levels.now) blocks.now levels.now }
     requires depth { depth < length blocks.now }
     requires blocks { length blocks.now ≤ most_blocks }
+    requires volume { (b : Block) → slice_get blocks.now depth ≡ Some b
+        → volume_in b.order.volumes period ≡ qty }
     requires small { IsSmallPeriod depth own }
     ensures small { IfSome result (IsSmallPeriod (depth + 1)) }
     ensures period { (prefix : List Bool) → length prefix ≡ depth
@@ -91,11 +124,7 @@ fn extended<A: Allocator>(
         (last_steps levels.now ++ as_steps period (drop (depth + 1) blocks.now))) }
 {
     laws::sums();
-    let order = &blocks[depth].order;
-    if volume_in(order.volumes(), period) == 0 {
-        return Some(own);
-    }
-    let (net, value) = decided(own, order, period, accept);
+    let (net, value) = decided(own, &blocks[depth].order, qty, accept);
     let reached = levels.stack(depth + 1).welfare(net, own.near)?;
     Some(DayPeriod {
         net,
@@ -168,13 +197,19 @@ pub(crate) fn child_of<A: Allocator>(
         (relaxed_welfare (problem_kept periods.now blocks.now) (prefix ++ accept ∷ []) ≡ None)
         (IsDay (problem_kept periods.now blocks.now) (prefix ++ accept ∷ [])) }
 {
+    laws::sums();
+    let pairs = blocks[depth].order.volumes().pairs();
     let mut changed = day.periods;
-    let mut total = 0;
-    for (place, levels) in periods.iter().enumerate() {
-        let own = day.periods[place];
-        let next = extended(levels, blocks, own, depth, accept, Period::at(place))?;
+    let mut total = day.total;
+    for (period, qty) in pairs {
+        let place = usize::from(period.get()) - 1;
+        if place >= periods.len() {
+            continue;
+        }
+        let own = changed[place];
+        let next = extended(&periods[place], blocks, own, depth, accept, *period, *qty)?;
         changed[place] = next;
-        total += worth(next);
+        total += worth(next) - worth(own);
     }
     Some(Day {
         periods: changed,

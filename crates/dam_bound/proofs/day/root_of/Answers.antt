@@ -1,18 +1,23 @@
 -- A period more, and all of them.
-use Rattle.std.proofs.Common.{◌≡◌, ◌<◌, [], length, drop, map, ap, ◌∙◌, sym, refl, rules, arith}
+use Rattle.std.proofs.Common.{◌≢◌, ◌<◌, [], length, drop, map, ap, ◌∙◌, refl, rules, arith}
 use Rattle.std.proofs.lemmas.Int.{ints}
-use Rattle.std.proofs.lemmas.List.{length-map, length-set}
+use Rattle.std.proofs.lemmas.List.{length-map, length-set, get_or-set_other}
 use Rattle.std.proofs.lemmas.Option.{slice_get_read}
 use Rattle.dam_book.specs.Limits.{last_period}
 use Rattle.dam_bound.specs.inside.Levels.{last_steps, problem_kept}
 use Rattle.dam_bound.proofs.Periods.{hour_of}
-use Rattle.dam_bound.proofs.Days.{no_period_yet, all_empty_small, small_set, one_period_more, day_without, whole_day}
+use Rattle.dam_bound.specs.declared.day.DayPeriod.{DayPeriod}
+use Rattle.dam_bound.proofs.Worth.{worth_set, nothing_worth, all_empty}
+use Rattle.dam_bound.proofs.Days.{empty_period, no_period_yet, all_empty_small, small_set, one_period_more, day_without, whole_day}
 use Rattle.dam_bound.proofs.day.root_of.Goals as goal
 
 pub loop-place-init : goal.loop-place-init
 loop-place-init g c = record {
   long = refl;
+  inside = omega arith;
   small = all_empty_small 25;
+  sum = refl;
+  ahead = λ i d m l. all_empty 25 i d l;
   low = omega (arith, ints);
   high = omega (arith, ints);
   so_far = no_period_yet _ _ _ _ _;
@@ -39,8 +44,17 @@ loop-place-preserved g c =
     let low = c.loop-place.invariant.low in let high = c.loop-place.invariant.high in
     let size = c.worth-total.ensures.size in let least = size.at_least in let most = size.at_most in let value = c.worth-total.ensures.value in
     let within : c.loop-place.place < length c.loop-place.first = omega (arith, few, inside, long) in
+    let sum = c.loop-place.invariant.sum in
+    let set = worth_set c.loop-place.first c.loop-place.place c.in_ok-next.next empty_period within in
+    let empty = c.loop-place.invariant.ahead c.loop-place.place empty_period (omega arith) (omega (arith, within, long)) in
+    let no_welfare = ap (λ (o : DayPeriod). o.welfare) empty in
+    let no_value = ap (λ (o : DayPeriod). o.value) empty in
     record {
       long = length-set c.loop-place.first c.loop-place.place _ ∙ long;
+      inside = omega (arith, inside);
+      sum = omega (arith, ints, few, inside, low, high, least, most, value, sum, set, no_welfare, no_value);
+      ahead = λ i d m l. (let apart : i ≢ c.loop-place.place = omega (arith, m) in
+          get_or-set_other c.loop-place.first c.loop-place.place i _ d apart ∙ c.loop-place.invariant.ahead i d (omega (arith, m)) l);
       small = small_set 0 last_period c.loop-place.place c.loop-place.first _ within c.in_ok-next.ensures.small c.loop-place.invariant.small;
       low = omega (arith, ints, few, inside, low, high, least, most);
       high = omega (arith, ints, few, inside, low, high, least, most);
@@ -53,4 +67,5 @@ pub returns-clause-day : goal.returns-clause-day
 returns-clause-day g c =
     let all = length-map c.args.periods.now last_steps in let past = c.loop-place-test.false in
     whole_day (problem_kept c.args.periods.now c.args.blocks.now) (drop 0 c.args.blocks.now) c.loop-place.place [] _ (omega (arith, all, past))
-    refl c.loop-place.invariant.so_far
+    refl (nothing_worth _ c.loop-place.first (λ i d m l. (let inside = c.loop-place.invariant.inside in let long = c.loop-place.invariant.long in
+    c.loop-place.invariant.ahead i d (omega (arith, m, all, inside)) (omega (arith, l, long))))) c.loop-place.invariant.so_far
