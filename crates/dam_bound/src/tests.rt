@@ -1,3 +1,5 @@
+mod days;
+
 use crate::Relaxed;
 use dam_blocks::{Problem, Selection};
 use dam_book::{
