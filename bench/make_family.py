@@ -142,4 +142,5 @@ def main():
     print("close,,,,,,,,")
 
 
-main()
+if __name__ == "__main__":
+    main()

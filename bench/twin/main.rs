@@ -1,14 +1,20 @@
 //! The search for the best selection of blocks, in plain Rust over std, to compare with: the same rules for what is visited,
-//! without any proof. `twin WORKERS CUT < JOURNAL` prints the welfare, the selection, the nodes visited, and the
-//! nanoseconds a node. It takes journals that `make_family.py` prints: submits alone, each of them accepted.
+//! without any proof. `twin WORKERS CUT [TIMES] < JOURNAL` prints the welfare, the selection, and the nodes visited by the last
+//! of so many walks; and on standard error, a line each, what was timed and the nanoseconds that it took. It takes journals that
+//! `make_family.py` prints: submits alone, each of them accepted.
 //!
 //! A period's hourly orders and undecided blocks stand in one stack of supply: the sells, and each buy as supply of
 //! what of it isn't served, by rising price. With x units taken from the bottom, all buys less the net volume, the
 //! welfare is the value of all buys less the cost of these units. A node carries for each period the units taken, the row
 //! of the last one, and what the period is worth.
+//!
+//! Workers draw the pieces from one shared word, and prune by another one, the greatest welfare that any of them has found. So
+//! one worker visits them in turn, with one incumbent for all.
 
 use std::collections::HashMap;
 use std::io::Read;
+use std::sync::atomic::{AtomicI64, AtomicU32, Ordering};
+use std::thread;
 use std::time::Instant;
 
 const LOWEST: i64 = -50_000;
@@ -30,8 +36,10 @@ struct Block {
     side: Side,
     price: i64,
     volumes: Vec<(usize, i64)>,
-    parent: Option<usize>,
-    group: Option<String>,
+    /// The parent, as a set of blocks by bits.
+    parent: u32,
+    /// The earlier blocks of its group, in the same way.
+    rivals: u32,
 }
 
 struct Problem {
@@ -124,15 +132,21 @@ struct Best {
     welfare: i64,
 }
 
-struct Search<'a> {
+impl Best {
+    /// Greater welfare is above, and of equal welfare what accepts at the first place where two differ.
+    fn ranks_above(self, other: Best) -> bool {
+        let first = (self.accepted ^ other.accepted).trailing_zeros();
+        self.welfare > other.welfare || self.welfare == other.welfare && first < 32 && self.accepted >> first & 1 == 1
+    }
+}
+
+/// What the nodes of a problem are reckoned by.
+struct Relaxed<'a> {
     problem: &'a Problem,
     /// For each period its stacks, by how many of its blocks are decided.
     stacks: Vec<Vec<Stack>>,
     /// For each block and each of its periods, how many blocks of that period are decided before it.
     levels: Vec<Vec<usize>>,
-    greatest: i64,
-    best: Option<Best>,
-    visited: u64,
 }
 
 fn price_between(low: i64, high: i64) -> i64 {
@@ -145,8 +159,8 @@ fn price_between(low: i64, high: i64) -> i64 {
     }
 }
 
-impl Search<'_> {
-    fn of(problem: &Problem) -> Search<'_> {
+impl Relaxed<'_> {
+    fn of(problem: &Problem) -> Relaxed<'_> {
         let count = problem.blocks.len();
         let mut levels = vec![Vec::new(); count];
         let mut stacks = Vec::new();
@@ -169,7 +183,7 @@ impl Search<'_> {
                 levels[*place].push(level);
             }
         }
-        Search { problem, stacks, levels, greatest: 0, best: None, visited: 0 }
+        Relaxed { problem, stacks, levels }
     }
 
     /// The day on which nothing is decided; None where some period doesn't balance.
@@ -210,46 +224,7 @@ impl Search<'_> {
 
     fn admits(&self, accepted: u32, place: usize) -> bool {
         let block = &self.problem.blocks[place];
-        if let Some(parent) = block.parent {
-            if accepted & (1 << parent) == 0 {
-                return false;
-            }
-        }
-        block.group.is_none()
-            || (0..place).all(|other| accepted & (1 << other) == 0 || self.problem.blocks[other].group != block.group)
-    }
-
-    fn explore(&mut self, day: &Day, accepted: u32, depth: usize) {
-        if depth == self.problem.blocks.len() {
-            self.leaf(day, accepted);
-            return;
-        }
-        for accept in [false, true] {
-            if accept && !self.admits(accepted, depth) {
-                continue;
-            }
-            let next = if accept { accepted | 1 << depth } else { accepted };
-            self.visited += 1;
-            let full = depth + 1 == self.problem.blocks.len();
-            // at full depth nothing is read: the score is asked for
-            let least = if full { i64::MIN } else { self.greatest };
-            if let Some(child) = self.child(day, depth, accept, least) {
-                self.explore(&child, next, depth + 1);
-            }
-        }
-    }
-
-    fn leaf(&mut self, day: &Day, accepted: u32) {
-        if let Some(best) = self.best {
-            let earlier = (accepted ^ best.accepted).trailing_zeros();
-            if day.total < best.welfare || (day.total == best.welfare && (earlier == 32 || accepted >> earlier & 1 == 0)) {
-                return;
-            }
-        }
-        if !self.loses(day, accepted) {
-            self.best = Some(Best { accepted, welfare: day.total });
-            self.greatest = self.greatest.max(day.total);
-        }
+        accepted & block.parent == block.parent && accepted & block.rivals == 0
     }
 
     fn loses(&self, day: &Day, accepted: u32) -> bool {
@@ -308,31 +283,105 @@ impl Search<'_> {
             }
         }
     }
+}
 
-    /// The best of a piece: the first blocks are decided by the digits of its number, the first by the greatest digit.
-    fn piece(&mut self, number: u32, depth: usize) {
-        self.best = None;
-        let Some(mut day) = self.root() else { return };
-        let mut accepted = 0;
-        for place in 0..depth {
-            let accept = number >> (depth - 1 - place) & 1 == 0;
-            if accept && !self.admits(accepted, place) {
-                return;
-            }
-            accepted |= u32::from(accept) << place;
-            match self.child(&day, place, accept, i64::MIN) {
-                Some(child) => day = child,
-                None => {
-                    self.visited += 1;
-                    return;
-                }
-            }
+/// The words that the workers of a search share.
+struct Shared {
+    drawn: AtomicU32,
+    greatest: AtomicI64,
+}
+
+/// One worker's walk over the pieces that it draws.
+struct Walk<'a> {
+    relaxed: &'a Relaxed<'a>,
+    shared: &'a Shared,
+    /// The best of the piece at hand.
+    best: Option<Best>,
+    visited: u64,
+}
+
+impl Walk<'_> {
+    fn greatest(&self) -> i64 {
+        self.shared.greatest.load(Ordering::SeqCst)
+    }
+
+    fn explore(&mut self, day: &Day, accepted: u32, depth: usize) {
+        let count = self.relaxed.problem.blocks.len();
+        if depth == count {
+            self.leaf(day, accepted);
+            return;
         }
-        self.visited += 1;
-        if depth == self.problem.blocks.len() || day.total >= self.greatest {
-            self.explore(&day, accepted, depth);
+        for accept in [false, true] {
+            if accept && !self.relaxed.admits(accepted, depth) {
+                continue;
+            }
+            let next = if accept { accepted | 1 << depth } else { accepted };
+            self.visited += 1;
+            // at full depth nothing is read: the score is asked for
+            let least = if depth + 1 == count { i64::MIN } else { self.greatest() };
+            if let Some(child) = self.relaxed.child(day, depth, accept, least) {
+                self.explore(&child, next, depth + 1);
+            }
         }
     }
+
+    fn leaf(&mut self, day: &Day, accepted: u32) {
+        let found = Best { accepted, welfare: day.total };
+        if self.best.is_none_or(|best| found.ranks_above(best)) && !self.relaxed.loses(day, accepted) {
+            self.best = Some(found);
+            self.shared.greatest.fetch_max(day.total, Ordering::SeqCst);
+        }
+    }
+
+    /// The best of a piece: the first blocks are decided by the digits of its number, the first by the greatest digit.
+    fn piece(&mut self, number: u32, depth: usize) -> Option<Best> {
+        self.best = None;
+        let decided = |place: usize| number >> (depth - 1 - place) & 1 == 0;
+        let accepted = (0..depth).filter(|place| decided(*place)).fold(0, |accepted, place| accepted | 1 << place);
+        if !(0..depth).all(|place| !decided(place) || self.relaxed.admits(accepted & ((1 << place) - 1), place)) {
+            return None;
+        }
+        self.visited += 1;
+        let mut day = self.relaxed.root()?;
+        for place in 0..depth {
+            day = self.relaxed.child(&day, place, decided(place), i64::MIN)?;
+        }
+        if depth == self.relaxed.problem.blocks.len() || day.total >= self.greatest() {
+            self.explore(&day, accepted, depth);
+        }
+        self.best
+    }
+
+    /// The best of the pieces that are drawn, until none is left.
+    fn pieces(&mut self, depth: usize) -> Option<Best> {
+        let mut best: Option<Best> = None;
+        loop {
+            let number = self.shared.drawn.fetch_add(1, Ordering::SeqCst);
+            if number >= 1 << depth {
+                return best;
+            }
+            if let Some(found) = self.piece(number, depth) && best.is_none_or(|best| found.ranks_above(best)) {
+                best = Some(found);
+            }
+        }
+    }
+}
+
+/// The best selection, and the nodes that the workers visit, each on a thread of its own.
+fn search(relaxed: &Relaxed, workers: usize, depth: usize, first: i64) -> (Best, u64) {
+    let shared = &Shared { drawn: AtomicU32::new(0), greatest: AtomicI64::new(first) };
+    let work = || {
+        let mut walk = Walk { relaxed, shared, best: None, visited: 0 };
+        (walk.pieces(depth), walk.visited)
+    };
+    let answers: Vec<(Option<Best>, u64)> = thread::scope(|scope| {
+        let others: Vec<_> = (1..workers).map(|_| scope.spawn(work)).collect();
+        let own = work();
+        others.into_iter().map(|other| other.join().expect("an answer")).chain([own]).collect()
+    });
+    let found = answers.iter().filter_map(|answer| answer.0);
+    let best = found.reduce(|one, other| if other.ranks_above(one) { other } else { one });
+    (best.expect("some selection is eligible"), answers.iter().map(|answer| answer.1).sum())
 }
 
 fn evaluate(stack: &Stack, taken: i64, near: usize, blocks: i64) -> Option<DayPeriod> {
@@ -350,7 +399,7 @@ fn read(text: &str) -> Problem {
     let mut lines = text.lines().map(|line| line.split(',').collect::<Vec<_>>());
     let periods = lines.next().expect("a day")[1].parse().expect("periods");
     let mut problem = Problem { hours: (0..periods).map(|_| Vec::new()).collect(), blocks: Vec::new() };
-    let mut places = HashMap::new();
+    let (mut places, mut groups) = (HashMap::new(), HashMap::new());
     for fields in lines.filter(|fields| fields[0] == "submit") {
         let side = if fields[4] == "buy" { Side::Buy } else { Side::Sell };
         let price = fields[5].parse().expect("a price");
@@ -363,54 +412,45 @@ fn read(text: &str) -> Problem {
         if fields[3] == "hour" {
             problem.hours[volumes[0].0].push(Step { side, price, volume: volumes[0].1 });
         } else {
-            places.insert((fields[1].to_owned(), fields[2].to_owned()), problem.blocks.len());
-            let parent = places.get(&(fields[1].to_owned(), fields[7].to_owned())).copied();
-            let group = (!fields[8].is_empty()).then(|| format!("{} {}", fields[1], fields[8]));
-            problem.blocks.push(Block { side, price, volumes, parent, group });
+            let own: u32 = 1 << problem.blocks.len();
+            places.insert((fields[1], fields[2]), own);
+            let parent = places.get(&(fields[1], fields[7])).copied().unwrap_or(0);
+            let mut rivals = 0;
+            if !fields[8].is_empty() {
+                let members = groups.entry((fields[1], fields[8])).or_insert(0);
+                rivals = *members;
+                *members |= own;
+            }
+            problem.blocks.push(Block { side, price, volumes, parent, rivals });
         }
     }
     problem
 }
 
+/// Prints what was done, and the nanoseconds since the instant.
+fn tell(what: &str, begun: Instant) {
+    eprintln!("{what} {}", begun.elapsed().as_nanos());
+}
+
 fn main() {
     let words: Vec<usize> = std::env::args().skip(1).map(|word| word.parse().expect("a number")).collect();
-    let (workers, cut) = (words[0], words[1]);
+    let (workers, cut, times) = (words[0], words[1], words.get(2).copied().unwrap_or(1));
     let mut text = String::new();
     std::io::stdin().read_to_string(&mut text).expect("a journal");
     let problem = read(&text);
     let begun = Instant::now();
-    let depth = cut.min(problem.blocks.len());
-    let (first, scores) = Search::of(&problem).first_selection();
-    let prepared = begun.elapsed();
-    let (mut nodes, mut best): (u64, Option<Best>) = (0, None);
-    let mut longest = std::time::Duration::ZERO;
-    for worker in 0..workers {
-        let mut search = Search::of(&problem);
-        search.greatest = first;
-        let started = Instant::now();
-        for number in (worker..1 << depth).step_by(workers) {
-            search.piece(number as u32, depth);
-            let found = search.best;
-            let above = |other: Best| {
-                best.is_none_or(|best| {
-                    let earlier = (other.accepted ^ best.accepted).trailing_zeros();
-                    other.welfare > best.welfare || other.welfare == best.welfare && other.accepted >> earlier & 1 == 1
-                })
-            };
-            if found.is_some_and(above) {
-                best = found;
-            }
-        }
-        longest = longest.max(started.elapsed());
-        nodes += search.visited;
+    let relaxed = Relaxed::of(&problem);
+    tell("levels", begun);
+    let begun = Instant::now();
+    let (first, scores) = relaxed.first_selection();
+    tell("first", begun);
+    let mut found = None;
+    for _ in 0..times {
+        let begun = Instant::now();
+        found = Some(search(&relaxed, workers, cut.min(problem.blocks.len()), first));
+        tell("walk", begun);
     }
-    let best = best.expect("some selection is eligible");
+    let (best, nodes) = found.expect("a walk");
     let bits: String = (0..problem.blocks.len()).map(|place| if best.accepted >> place & 1 == 1 { '1' } else { '0' }).collect();
     println!("welfare {} selection {bits} first {first} scores {scores} nodes {nodes}", best.welfare);
-    eprintln!(
-        "prepared {:.3} ms, longest worker {:.3} ms, {:.0} ns a node with one worker",
-        prepared.as_secs_f64() * 1e3,
-        longest.as_secs_f64() * 1e3,
-        longest.as_secs_f64() * 1e9 / nodes as f64
-    );
 }

@@ -1,78 +1,193 @@
-//! Measures for the bench, each with a sum over what came out:
-//! `dam_bench clears STEPS TIMES` makes a period of so many steps and clears it at nets over the whole
-//! range; `dam_bench scores TIMES` and `dam_bench passes TIMES` read a journal from standard input, and
-//! score selections of its problem, or go once through all its hourly orders, so many times; and
-//! `dam_bench nodes WORKERS CUT` prints how many nodes the search of the journal's problem visits.
+//! Measures for the bench: `dam_bench MEASURE NUMBER..`. What a measure comes to is printed on standard
+//! output, and on standard error, a line each, what was timed and how many nanoseconds it took.
+//!
+//! - `clears STEPS TIMES` clears one period of so many steps.
+//! - `settlements TIMES` enters a journal's commands at a gate, settles it, and goes once over the
+//!   receipts beside that.
+//! - `scores TIMES` scores selections of a journal's blocks, and goes as often over its hourly orders.
+//! - `levels TIMES` builds what the bounds of a journal are read off.
+//! - `nodes WORKERS CUT TIMES` counts the nodes that a journal's search visits.
+//! - `search WORKERS CUT` searches.
+//!
+//! The journal is read from standard input.
 #![tactic(auto)]
 
 mod clears;
 mod nodes;
+mod problem;
 mod scores;
+mod settlements;
+mod words;
 
 use clears::{hour_of, sum_of_clears};
-use dam_search::{MOST_NODES, Plan};
-use nodes::nodes_of;
-use scores::{problem_of, sum_of_passes, sum_of_scores};
-use std::env::Args;
-use std::io::Read;
+use dam_blocks::{Problem, Selection};
+use dam_bound::Relaxed;
+use dam_gate::settle;
+use dam_results::read_journal;
+use dam_search::{FreeTurn, Plan, first_selection, search};
+use nodes::Cutting;
+use problem::problem_of;
+use scores::{sum_of_passes, sum_of_scores};
+use settlements::{enter_all, equal_receipts};
+use std::alloc::Global;
+use std::io::{Error, ErrorKind, Read};
+use std::sync::Wait;
+use std::thread::Threads;
+use std::time::{Clock, Instant};
 use std::{env, io};
+use words::{Measure, OfProblem, read_measure};
 
 fn main(rt: HostRuntime) -> io::Result<()> {
     let mut words = env::args(&rt)?;
     let _program = words.next();
-    let Some(measure) = words.next() else {
-        return usage(&rt);
+    let Some(measure) = read_measure(&mut words) else {
+        return Err(invalid());
     };
-    let first = number(&mut words);
-    let second = number(&mut words);
-    match (measure.as_str(), first, second) {
-        ("clears", Some(steps), Some(times)) => {
-            let hour = hour_of(rt.alloc(), steps as usize)?;
-            println!(rt; "{}", sum_of_clears(&hour, times))
-        }
-        ("scores", Some(times), None) => measure_problem(&rt, times, true),
-        ("passes", Some(times), None) => measure_problem(&rt, times, false),
-        ("nodes", Some(workers), Some(cut)) => measure_search(&rt, workers, cut),
-        _ => usage(&rt),
+    let mut text = Vec::new(rt.alloc());
+    if measure.reads_journal() {
+        rt.stdin().read_to_end(&mut text)?;
+    }
+    take(&rt, rt.alloc(), &measure, &text)
+}
+
+/// The words ask for nothing that is measured, or standard input is not what they need.
+fn invalid() -> Error {
+    ErrorKind::InvalidInput.into()
+}
+
+fn take<R: Clock + Print + Eprint + Threads + Wait + Sync>(
+    rt: &R,
+    alloc: Global,
+    measure: &Measure,
+    text: &[u8],
+) -> io::Result<()> {
+    match measure {
+        Measure::Clears { steps, times } => measure_clears(rt, alloc, *steps, *times),
+        Measure::Settlements { times } => measure_settlements(rt, alloc, text, *times),
+        Measure::OfProblem(measure) => match problem_of(alloc, text) {
+            Some(problem) => take_of_problem(rt, alloc, measure, &problem),
+            None => Err(invalid()),
+        },
     }
 }
 
-fn number(words: &mut Args) -> Option<u32> {
-    let word = words.next()?;
-    word.parse::<u32>().ok()
+fn take_of_problem<R: Clock + Print + Eprint + Threads + Sync>(
+    rt: &R,
+    alloc: Global,
+    measure: &OfProblem,
+    problem: &Problem,
+) -> io::Result<()> {
+    match measure {
+        OfProblem::Scores { times } => measure_scores(rt, problem, *times),
+        OfProblem::Levels { times } => measure_levels(rt, alloc, problem, *times),
+        OfProblem::Nodes { plan, times } => measure_nodes(rt, alloc, problem, *plan, *times),
+        OfProblem::Search { plan } => measure_search(rt, alloc, problem, *plan),
+    }
 }
 
-fn usage(rt: &HostRuntime) -> io::Result<()> {
-    eprintln!(rt;
-        "usage: dam_bench clears STEPS TIMES | scores TIMES | passes TIMES | nodes WORKERS CUT"
-    )
+/// Prints what was done, and the nanoseconds since the instant.
+fn tell<R: Clock + Eprint>(rt: &R, what: &str, begun: Instant) -> io::Result<()> {
+    let taken = begun.elapsed(rt)?.as_nanos();
+    eprintln!(rt; "{what} {taken}")
 }
 
-fn measure_problem(rt: &HostRuntime, times: u32, scores: bool) -> io::Result<()> {
-    let mut text = Vec::new(rt.alloc());
-    rt.stdin().read_to_end(&mut text)?;
-    let Some(problem) = problem_of(rt.alloc(), text.as_slice()) else {
-        return eprintln!(rt; "the journal makes no problem");
-    };
-    let sum = if scores {
-        sum_of_scores(&problem, times)
-    } else {
-        sum_of_passes(&problem, times)
-    };
+fn measure_clears<R: Clock + Print + Eprint>(
+    rt: &R,
+    alloc: Global,
+    steps: u32,
+    times: u32,
+) -> io::Result<()> {
+    let hour = hour_of(alloc, steps as usize)?;
+    let begun = Instant::now(rt)?;
+    let sum = sum_of_clears(&hour, times);
+    tell(rt, "clears", begun)?;
     println!(rt; "{sum}")
 }
 
-fn measure_search(rt: &HostRuntime, workers: u32, cut: u32) -> io::Result<()> {
-    let mut text = Vec::new(rt.alloc());
-    rt.stdin().read_to_end(&mut text)?;
-    let (Ok(workers), Ok(cut)) = (u8::try_from(workers), u8::try_from(cut)) else {
-        return usage(rt);
-    };
-    let Some(plan) = Plan::new(workers, cut, MOST_NODES) else {
-        return usage(rt);
-    };
-    let Some(problem) = problem_of(rt.alloc(), text.as_slice()) else {
-        return eprintln!(rt; "the journal makes no problem");
-    };
-    println!(rt; "{}", nodes_of(rt.alloc(), &problem, plan)?)
+/// The receipts are gone over once before a gate is settled, so that both timings find them in the cache.
+fn measure_settlements<R: Clock + Print + Eprint + Wait>(
+    rt: &R,
+    alloc: Global,
+    text: &[u8],
+    times: u32,
+) -> io::Result<()> {
+    let read = read_journal(alloc, text).map_err(|_| invalid())?;
+    let mut equal = 0usize;
+    for _ in 0..times {
+        let day = enter_all(rt, alloc, read.periods, &read.commands).ok_or(invalid())?;
+        equal = equal.wrapping_add(equal_receipts(day.journal.entries(), &day.passes));
+        let begun = Instant::now(rt)?;
+        let settled = settle(alloc, day.journal, &day.passes).map_err(|_| invalid())?;
+        tell(rt, "settle", begun)?;
+        let begun = Instant::now(rt)?;
+        equal = equal.wrapping_add(equal_receipts(settled.journal().entries(), &day.passes));
+        tell(rt, "receipts", begun)?;
+    }
+    println!(rt; "{equal}")
+}
+
+fn measure_scores<R: Clock + Print + Eprint>(
+    rt: &R,
+    problem: &Problem,
+    times: u32,
+) -> io::Result<()> {
+    let begun = Instant::now(rt)?;
+    let scored = sum_of_scores(problem, times);
+    tell(rt, "scores", begun)?;
+    let begun = Instant::now(rt)?;
+    let passed = sum_of_passes(problem, times);
+    tell(rt, "passes", begun)?;
+    println!(rt; "{scored} {passed}")
+}
+
+fn measure_levels<R: Clock + Print + Eprint>(
+    rt: &R,
+    alloc: Global,
+    problem: &Problem,
+    times: u32,
+) -> io::Result<()> {
+    let mut bounds = 0i64;
+    for _ in 0..times {
+        let begun = Instant::now(rt)?;
+        let relaxed = Relaxed::build(alloc, problem)?;
+        tell(rt, "levels", begun)?;
+        bounds = bounds.wrapping_add(relaxed.bound(Selection::none(), 0).unwrap_or(0));
+    }
+    println!(rt; "{bounds}")
+}
+
+/// Prints the last count, which is that of each time where there is one worker.
+fn measure_nodes<R: Clock + Print + Eprint + Threads + Sync>(
+    rt: &R,
+    alloc: Global,
+    problem: &Problem,
+    plan: Plan,
+    times: u32,
+) -> io::Result<()> {
+    let begun = Instant::now(rt)?;
+    let relaxed = Relaxed::build(alloc, problem)?;
+    tell(rt, "levels", begun)?;
+    let begun = Instant::now(rt)?;
+    let first = first_selection(problem).welfare;
+    tell(rt, "first", begun)?;
+    let cutting = Cutting::new(problem, &relaxed, plan.cut());
+    let mut nodes = 0u64;
+    for _ in 0..times {
+        let begun = Instant::now(rt)?;
+        nodes = cutting.nodes(rt, alloc, plan.workers(), first)?;
+        tell(rt, "walk", begun)?;
+    }
+    println!(rt; "{nodes}")
+}
+
+fn measure_search<R: Clock + Print + Eprint + Threads + Sync>(
+    rt: &R,
+    alloc: Global,
+    problem: &Problem,
+    plan: Plan,
+) -> io::Result<()> {
+    let begun = Instant::now(rt)?;
+    let best = search(rt, alloc, problem, plan, &FreeTurn).map_err(|_| invalid())?;
+    tell(rt, "search", begun)?;
+    println!(rt; "{}", best.welfare)
 }

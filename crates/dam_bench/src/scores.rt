@@ -1,23 +1,7 @@
 //! The problem of one journal, scored many times over, and a plain pass over its orders.
 
 use dam_blocks::{Problem, Selection, Verdict, score};
-use dam_book::{Book, Period, replay};
-use dam_results::read_journal;
-use std::alloc::Global;
-
-/// The problem of the book that the journal makes; `None` where it makes none.
-pub fn problem_of(alloc: Global, text: &[u8]) -> Option<Problem> {
-    let Ok(journal) = read_journal(alloc, text) else {
-        return None;
-    };
-    let Ok(book) = Book::begin(alloc, journal.periods) else {
-        return None;
-    };
-    let Ok((book, _entries)) = replay(alloc, book, journal.commands.as_slice()) else {
-        return None;
-    };
-    Problem::of_book(alloc, &book).ok()
-}
+use dam_book::Period;
 
 /// Scores selections of the blocks, so many of them, and adds up what comes out.
 pub fn sum_of_scores(problem: &Problem, scores: u32) -> u64 {

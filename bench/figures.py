@@ -1,0 +1,119 @@
+"""What the scripts of the bench share: programs run and timed by turns, and a line for each figure."""
+
+import os
+import statistics
+import subprocess
+import sys
+import tempfile
+import threading
+import time
+from typing import NamedTuple
+
+DAM = "../crates/dam_cli/out/dam_cli"
+MEASURES = "../crates/dam_bench/out/dam_bench"
+BASELINE = "out/baseline"
+TWIN = "out/twin"
+FIGURES = "out/figures.txt"
+TIME = "/usr/bin/time"
+
+# A run that takes longer, in seconds, is ended and said to have given up.
+LIMIT = float(os.environ.get("LIMIT", "60"))
+
+
+class Run(NamedTuple):
+    """What a program printed, and its seconds."""
+
+    text: bytes
+    told: bytes  # on standard error
+    wall: float
+    processor: float
+
+    def laps(self, name):
+        """The seconds of each lap of that name that the program tells."""
+        lines = (line.split() for line in self.told.decode().splitlines())
+        return [int(line[1]) / 1e9 for line in lines if line[0] == name]
+
+    def lap(self, name):
+        """Their median."""
+        return statistics.median(self.laps(name))
+
+
+def run(words, given=os.devnull, statuses=(0,)):
+    """Runs a program on a file; None where it didn't end in time. Ends this one where that fails."""
+    with open(given, "rb") as text, tempfile.TemporaryFile() as printed, tempfile.TemporaryFile() as told:
+        begun = time.perf_counter()
+        started = subprocess.Popen(words, stdin=text, stdout=printed, stderr=told)
+        clock = threading.Timer(LIMIT, started.kill)
+        clock.start()
+        _, status, used = os.wait4(started.pid, 0)
+        wall = time.perf_counter() - begun
+        clock.cancel()
+        started.returncode = os.waitstatus_to_exitcode(status)
+        printed.seek(0)
+        told.seek(0)
+        if wall >= LIMIT:
+            return None
+        if started.returncode not in statuses:
+            sys.exit(f"{' '.join(words)} < {given}: status {started.returncode}, {told.read().decode()}")
+        return Run(printed.read(), told.read(), wall, used.ru_utime + used.ru_stime)
+
+
+def by_turns(programs, given=os.devnull, most=31, seconds=5.0):
+    """Runs programs by turns: for each name its runs, at most so many, and no further one after so many seconds. A program that
+    didn't end in time has no runs."""
+    runs = {name: [] for name in programs}
+    begun = time.perf_counter()
+    for turn in range(most):
+        for name, words in programs.items():
+            if turn == 0 or runs[name]:
+                runs[name] += [each for each in [run(words, given)] if each]
+        if time.perf_counter() - begun > seconds:
+            break
+    return runs
+
+
+def peak(words, given):
+    """The peak memory of a program in MiB. (The usage that this process is told of a child has its own pages in it.)"""
+    if not os.access(TIME, os.X_OK):
+        sys.exit(f"{TIME} is missing")
+    with open(given, "rb") as text, tempfile.NamedTemporaryFile("r") as told:
+        command = [TIME, "-f", "%M", "-o", told.name, *words]
+        subprocess.run(command, stdin=text, stdout=subprocess.DEVNULL, stderr=subprocess.DEVNULL, check=True)
+        return int(told.read()) / 1024
+
+
+def seconds(value):
+    """A time with a unit that suits it."""
+    for unit, size in (("s", 1), ("ms", 1e-3), ("us", 1e-6)):
+        if value >= size:
+            return f"{value / size:.3g} {unit}"
+    return f"{value / 1e-9:.3g} ns"
+
+
+def line(what, shown, target="", holds=None, detail=""):
+    """Prints a figure. `holds` is None where there is no target."""
+    verdict = {None: "", True: "holds", False: "MISSED"}[holds]
+    text = f"{what:<76} {shown:>10}  {target:<18} {verdict:<7} {detail}".rstrip()
+    print(text, flush=True)
+    with open(FIGURES, "a") as kept:
+        print(text, file=kept)
+
+
+def at_most(what, value, target, shown=seconds, detail=""):
+    line(what, shown(value), f"at most {shown(target)}", value <= target, detail)
+
+
+def times(value):
+    return f"{value:.2f} x"
+
+
+def ratio(what, ones, others, most=None, least=None, shown=seconds):
+    """A line of how many times the others' median the ones' is; beside it stands how it is for the least of both."""
+    one, other = statistics.median(ones), statistics.median(others)
+    value = one / other
+    target = f"at most {times(most)}" if most else f"at least {times(least)}" if least else ""
+    holds = None if not target else value <= most if most else value >= least
+    detail = f"{shown(one)} beside {shown(other)}"
+    if len(ones) > 1:
+        detail += f"; of the least {times(min(ones) / min(others))}"
+    line(what, times(value), target, holds, detail)

@@ -1,0 +1,51 @@
+#!/usr/bin/env python3
+"""highs.py JOURNAL SECONDS: how long HiGHS takes to find a selection of greatest welfare of a journal's blocks, by the program of
+tools/lib/solver.py: it is asked again without each selection that turns out not to be eligible. Prints the welfare, and on
+standard error the nanoseconds that HiGHS itself took; or prints `gave up`, or `no scipy`."""
+
+import sys
+import time
+from pathlib import Path
+
+sys.dont_write_bytecode = True
+sys.path.insert(0, str(Path(__file__).resolve().parent.parent / "tools"))
+
+from lib import book, command, journal, selection
+
+
+
+def find(problem, limit):
+    """The welfare, and the seconds; None where HiGHS gave up."""
+    from lib import solver
+
+    model = solver.Model(problem)
+    model.ask(0, [], solver.ROOM)
+    begun = time.perf_counter()
+    while (left := begun + limit - time.perf_counter()) > 0:
+        try:
+            chosen = model.next(left)
+        except TimeoutError:
+            return None
+        welfare = selection.eligible(problem, chosen)
+        if welfare is not None:
+            return welfare, time.perf_counter() - begun
+        model.forbid(chosen)
+    return None
+
+
+def main():
+    command.python_with("scipy")
+    if not command.has("scipy"):
+        print("no scipy")
+        return
+    closed, _ = book.run(journal.read_journal(Path(sys.argv[1]).read_bytes()))
+    found = find(selection.Problem(closed), float(sys.argv[2]))
+    if found is None:
+        print("gave up")
+        return
+    welfare, seconds = found
+    print(welfare)
+    print("highs", round(seconds * 1e9), file=sys.stderr)
+
+
+main()

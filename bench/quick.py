@@ -1,0 +1,73 @@
+#!/usr/bin/env python3
+"""quick.py: `dam replay`, `dam clear` and `dam day` beside the baseline and one another, a settlement, clears of one period, the
+levels that bounds are read off, and scores."""
+
+import statistics
+import sys
+
+import figures
+from figures import BASELINE, DAM, MEASURES, at_most, by_turns, line, peak, ratio, run
+
+JOURNAL, HOURLY, DAY = "out/journal.csv", "out/hourly.csv", "out/day.csv"
+MIB = "{:.1f} MiB".format
+
+# Books of 4,000 hourly orders and 24 blocks: name, periods of each block, periods with hourly orders.
+SPREADS = [("evenly, blocks of 6 periods", 6, 24), ("evenly, blocks of 24", 24, 24), ("all in one period, blocks of 24", 24, 1)]
+
+
+def compare(what, words, beside, journal, most, same=False):
+    """Wall and processor time of a program beside another one."""
+    runs = by_turns({"one": words, "other": beside}, journal, seconds=30)
+    if same and len({each.text for pair in runs.values() for each in pair}) > 1:
+        sys.exit(f"{what}: they print different texts")
+    for field in ("wall", "processor"):
+        ones, others = ([getattr(each, field) for each in runs[name]] for name in ("one", "other"))
+        ratio(f"{what}, {field} time", ones, others, most)
+
+
+def journals():
+    compare("dam replay beside the baseline, 10,000 records", [DAM, "replay"], [BASELINE], JOURNAL, 1.2, same=True)
+    compare("dam clear beside dam replay, 4,000 hourly orders", [DAM, "clear"], [DAM, "replay"], HOURLY, 1.5)
+    beside = [BASELINE, "day"]
+    compare("dam day beside the baseline with threads, 9,999 commands", [DAM, "day"], beside, DAY, 2)
+    what = "dam day beside the baseline with threads, peak memory"
+    ratio(what, [peak([DAM, "day"], DAY)], [peak(beside, DAY)], 1.5, shown=MIB)
+    compare("dam day beside dam replay, 9,999 commands", [DAM, "day"], [DAM, "replay"], DAY, None)
+
+
+def settlement():
+    runs = run([MEASURES, "settlements", "31"], DAY)
+    what = "settle of 10,000 entries and 9 passes beside a plain pass"
+    ratio(what, runs.laps("settle"), runs.laps("receipts"), 3)
+
+
+def clears():
+    for steps, repeats, target in ((170, 100_000, 0.4e-6), (4_000, 100_000, 2e-6)):
+        runs = by_turns({"": [MEASURES, "clears", str(steps), str(repeats)]}, most=9)[""]
+        each = statistics.median(one.lap("clears") for one in runs) / repeats
+        at_most(f"Hour::clear, {steps:,} steps", each, target)
+
+
+def levels():
+    for name, periods, hours in SPREADS:
+        book = f"out/levels-{periods}-{hours}.csv"
+        with open(book, "wb") as made:
+            made.write(run(["./make_clearing.py", "4000", "24", str(periods), str(hours)]).text)
+        what = f"levels of 4,000 hourly orders, {name}"
+        at_most(what, run([MEASURES, "levels", "9"], book).lap("levels"), 0.05)
+        more = peak([MEASURES, "levels", "1"], book) - peak([MEASURES, "levels", "0"], book)
+        at_most(f"{what}, memory", more, 16, shown=MIB)
+
+
+def scores():
+    repeats = 2_000
+    runs = run([MEASURES, "scores", str(repeats)], "out/levels-6-24.csv")
+    for name, what in (("scores", "a score of a selection"), ("passes", "a plain pass over the hourly orders")):
+        line(f"{what}, 4,000 hourly orders and 24 blocks", figures.seconds(runs.lap(name) / repeats))
+
+
+journals()
+settlement()
+clears()
+levels()
+scores()

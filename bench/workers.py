@@ -1,0 +1,77 @@
+#!/usr/bin/env python3
+"""workers.py: how much faster several workers are than one, one worker on shared words beside one on words of its own, and the
+default plan beside one worker. Seconds are those of the search alone, medians of runs by turns."""
+
+import statistics
+
+import make_family
+from figures import LIMIT, MEASURES, by_turns, line, ratio, run, seconds
+
+CUT = "8"
+DEFAULT, ONE = ("2", "3"), ("1", "0")
+LEAST = {"2": 1.8, "4": 3.2}  # times as fast as one worker
+TEN = 10.0
+ORDERS = ("500", "4000")
+
+
+def make(family, orders, blocks="24"):
+    path = f"out/{family}-{orders}-{blocks}.csv"
+    with open(path, "wb") as made:
+        made.write(run(["./make_family.py", family, orders, blocks]).text)
+    return path
+
+
+def searched(plans, book, most):
+    """The seconds of the search under each plan, in several runs; of one that doesn't end, those after which it is given up."""
+    runs = by_turns({plan: [MEASURES, "search", *plan] for plan in plans}, book, most, seconds=60)
+    return {plan: [each.lap("search") for each in found] or [LIMIT] for plan, found in runs.items()}
+
+
+def largest(family):
+    """Of the books of a family the one that one worker searches longest."""
+    books = {f"{family} {orders}": make(family, orders) for orders in ORDERS}
+    return max(books.items(), key=lambda named: searched([ONE], named[1], most=1)[ONE][0])
+
+
+def ties():
+    """A book of `ties` of which one worker's search takes some ten seconds, and at least five."""
+    for blocks in range(16, 25):
+        book = make("ties", "500", str(blocks))
+        if searched([ONE], book, most=1)[ONE][0] > TEN / 2:
+            break
+    return f"ties, {blocks} blocks", book
+
+
+def speed(name, book):
+    plans = [(workers, CUT) for workers in ("1", *LEAST)]
+    found = searched(plans, book, most=5)
+    one = found["1", CUT]
+    line(f"{name}, cut {CUT}: the search with 1 worker", seconds(statistics.median(one)))
+    for workers, least in LEAST.items():
+        ratio(f"{name}, cut {CUT}: {workers} workers as fast as 1", one, found[workers, CUT], least=least)
+
+
+def private(name, book):
+    """One worker's whole search, and the same steps with an incumbent of its own."""
+    programs = {"shared": [MEASURES, "search", "1", CUT], "private": [MEASURES, "nodes", "1", CUT, "1"]}
+    runs = by_turns(programs, book, most=5, seconds=60)
+    shared = [each.lap("search") for each in runs["shared"]]
+    own = [sum(each.lap(name) for name in ("levels", "first", "walk")) for each in runs["private"]]
+    ratio(f"{name}, cut {CUT}: 1 worker on shared words beside its own", shared, own, 1.05)
+
+
+def default(family, orders):
+    found = searched([DEFAULT, ONE], make(family, orders), most=15)
+    ratio(f"{family} {orders}: the search by the default plan beside 1 worker", found[DEFAULT], found[ONE], 1)
+
+
+def main():
+    for name, book in (ties(), largest("spread"), largest("paradox")):
+        speed(name, book)
+        private(name, book)
+    for family in make_family.FAMILIES:
+        for orders in ORDERS:
+            default(family, orders)
+
+
+main()
