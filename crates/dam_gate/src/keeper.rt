@@ -1,9 +1,10 @@
-ghost use Rattle.std.specs.Prelude.{◌≡◌, true, false, length, MatchResult, IfOk, IfErr, OnOk, OnErr};
-ghost use Rattle.dam_book.specs.Book.{is_day};
+ghost use Rattle.std.specs.Prelude.{◌≡◌, ◌<◌, ◌≤◌, ◌+◌, ◌∷◌, ◌++◌, [], true, false, length, vec_len, vec_capacity, MatchResult, IfOk, IfErr, OnOk, OnErr};
+ghost use Rattle.dam_book.specs.Book.{book_after, is_day, reply_to};
+ghost use Rattle.dam_book.specs.Limits.{most_entries};
 ghost use Rattle.dam_gate.specs.Journal.{IsJournal, empty_journal, is_full, journal_after, next_entry};
 ghost use Rattle.dam_gate.specs.Gate.{IsKeeperFault};
 
-use dam_book::{BeginFault, Book, Command, Entry, MOST_ENTRIES};
+use dam_book::{BeginFault, Book, Command, Entry, MOST_ENTRIES, Reply};
 use std::alloc::{AllocError, Allocator, Global};
 use std::marker::Model;
 use thiserror::Error;
@@ -102,7 +103,8 @@ impl<A: Allocator + Copy> Keeper<A> {
     pub(crate) fn into_journal(self) -> Journal<A>
         ensures { result ≡ self }
     {
-        self.journal
+        let Keeper { journal } = self;
+        journal
     }
 }
 
@@ -117,6 +119,52 @@ pub(crate) fn is_full(held: u32, command: &Command) -> bool
         }
         Command::Close => held >= MOST_ENTRIES,
     }
+}
+
+/// All of a step that may be refused: the room in the journal, and then the book's step, for which the book takes its
+/// memory before it changes.
+///
+/// The entries stay, and a refusal leaves the book, too.
+fn ready<A: Allocator + Copy>(
+    entries: &mut Vec<Entry, A>,
+    book: &mut Book<A>,
+    command: &Command,
+) -> Result<Reply, KeeperFault>
+    requires { length entries.old.items ≤ most_entries }
+    ensures entries { entries.new.items ≡ entries.old.items }
+    ensures reply { IfOk result (λ reply. reply ≡ reply_to book.old command.now) }
+    ensures book { OnOk result (book.new ≡ book_after book.old command.now) }
+    ensures left { OnOk result (is_full (length entries.old.items) command.now ≡ false) }
+    ensures room { OnOk result (vec_len entries.new < vec_capacity entries.new) }
+    ensures err { OnErr result (book.new ≡ book.old) }
+    ensures fault { IfErr result (IsKeeperFault (length entries.old.items) command.now) }
+{
+    let held = entries.len() as u32;
+    if is_full(held, command) {
+        return Err(KeeperFault::JournalFull { held });
+    }
+    entries.reserve(1)?;
+    Ok(book.apply(command)?)
+}
+
+/// The rest of the step, which takes no memory and can't be refused: the entry.
+fn put<A: Allocator>(entries: &mut Vec<Entry, A>, command: Command, reply: Reply) -> Entry
+    requires few { length entries.old.items < most_entries }
+    requires room { vec_len entries.old < vec_capacity entries.old }
+    ensures entry { result ≡ record {
+      number = length entries.old.items + 1;
+      command = command;
+      reply = reply;
+    } }
+    ensures entries { entries.new.items ≡ entries.old.items ++ result ∷ [] }
+{
+    let entry = Entry {
+        number: entries.len() as u32 + 1,
+        command,
+        reply,
+    };
+    entries.push_reserved(entry.copy());
+    entry
 }
 
 /// What a gate leaves: its entries, and the book that they made.
@@ -157,19 +205,8 @@ impl<A: Allocator + Copy> Journal<A> {
         ensures err { OnErr result (self.new ≡ self.old) }
         ensures fault { IfErr result (IsKeeperFault (length self.old.entries) command) }
     {
-        let held = self.len();
-        if is_full(held, &command) {
-            return Err(KeeperFault::JournalFull { held });
-        }
-        self.entries.reserve(1)?;
-        let reply = self.book.apply(&command)?;
-        let entry = Entry {
-            number: held + 1,
-            command,
-            reply,
-        };
-        self.entries.push_reserved(entry.copy());
-        Ok(entry)
+        let reply = ready(&mut self.entries, &mut self.book, &command)?;
+        Ok(put(&mut self.entries, command, reply))
     }
 
     fn len(&self) -> u32

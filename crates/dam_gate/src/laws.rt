@@ -18,6 +18,7 @@ pub fn whole_account<A: Allocator + Copy>(settled: &Settled<A>, passes: &[Pass])
     requires { IsSettled settled.now passes.now }
     ensures { IsWholeAccount settled.now passes.now }
 {
+    // Its contract tells that these are the entries of a journal.
     let _journal = settled.journal().entries();
     are_passes(passes);
     histories_are_runs();
@@ -34,6 +35,7 @@ fn are_passes(passes: &[Pass])
     ensures { All IsPass passes.now }
 {
     for pass in passes {
+        // Its contract tells what every pass keeps.
         let _receipts = pass.receipts();
     }
 }
