@@ -12,9 +12,9 @@ use Rattle.dam_book.specs.declared.command.Command.{Command}
 use Rattle.dam_book.specs.declared.command.Command.TheVariants.{Submit, Amend, Cancel, Close}
 use Rattle.dam_book.specs.declared.command.Entry.{Entry}
 use Rattle.dam_book.specs.Book.{BookState, empty_book, book_after, commands_of, IsLegalFrom, IsLegalHistory}
-use Rattle.dam_gate.specs.Pass.{PassState, IsPass, AreInOrder, new_pass, is_own, is_from, is_close}
+use Rattle.dam_gate.specs.Pass.{PassState, IsPass, AreInOrder, holders, new_pass, is_own, is_from, is_close}
 use Rattle.dam_gate.specs.Settled.{numbered, receipts_of, AreReceipts}
-use Rattle.dam_gate.specs.Day.{commands_by, is_one_of, IsDayFault, refused, giver, with_giver, refused_at, refused_from, IsDayRun}
+use Rattle.dam_gate.specs.Day.{commands_by, is_one_of, IsDayFault, refused, giver, givers_from, with_any, with_giver, refused_at, refused_from, IsDayRun}
 use Rattle.dam_gate.specs.inside.Entering.{AreApart, AreGivers, AreServed, Enters, HasAll, HasEntered, IsLateFault, own_commands}
 use Rattle.dam_gate.specs.declared.day.DayFault.{DayFault}
 use Rattle.dam_gate.specs.declared.day.DayFault.TheVariants.{TooManyCommands, CloseGiven, TooManyParticipants, NotSettled, Memory}
@@ -253,6 +253,11 @@ left-more i participants who c cs rest end gives few next kept =
     sym (ap (λ (b : Bool). if b then Some (TooManyParticipants i) else after (with_giver participants who)) (le-ltb most_participants (length (with_giver participants who)) few))
     ∙ sym (ap (λ (g : Option (List ℕ)). refused_at i participants g after) gives) ∙ ap (refused_from i participants) (sym next) ∙ kept
 
+pub order-more : (participants : List (List ℕ)) (who : List ℕ) (c : Command) (cs rest : List Command) (end : List (List ℕ)) → giver c ≡ Some who
+    → cs ≡ c ∷ rest → givers_from participants cs ≡ end → givers_from (with_giver participants who) rest ≡ end
+order-more participants who c cs rest end gives next kept =
+    sym (ap (λ (g : Option (List ℕ)). givers_from (with_any participants g) rest) gives) ∙ ap (givers_from participants) (sym next) ∙ kept
+
 -- ---- the shares of the participants in the journal
 
 -- what of the receipts is from a participant
@@ -416,6 +421,27 @@ served-all given participants olds news new_ones as_long enters all =
     let at : get_or olds i d ≡ new_pass (Some (get_or participants i w)) =
     ap (λ (ps : List PassState). get_or ps i d) new_ones ∙ new_at participants i d w (omega (arith, within, as_long, many)) in
     served given (get_or participants i w) (get_or olds i d) (get_or news i d) at (enters i d (omega (arith, within, as_long))) (all i d within))
+
+held-from : (participants : List (List ℕ)) (ps : List PassState) → length ps ≡ length participants
+    → ((i : ℕ) (d : PassState) (w : List ℕ) → i < length ps → (get_or ps i d).holder ≡ Some (get_or participants i w))
+    → holders ps ≡ map (λ (who : List ℕ). Some who) participants
+held-from [] [] same are = refl
+held-from (who ∷ participants) (p ∷ ps) same are =
+    ap₂ (λ (h : Option (List ℕ)) (hs : List (Option (List ℕ))). h ∷ hs) (are 0 p who (omega arith))
+    (held-from participants ps (omega (arith, same)) (λ i d w within. are (suc i) d w (omega (arith, within))))
+held-from [] (p ∷ ps) same are = absurd (omega (arith, same))
+held-from (who ∷ participants) [] same are = absurd (omega (arith, same))
+
+-- the passes stay in the order in which they were made
+pub held-all : (given : List Command) (participants : List (List ℕ)) (olds news : List PassState) → olds ≡ map (λ (who : List ℕ). new_pass (Some who)) participants → length news ≡ length olds
+    → ((i : ℕ) (d : PassState) → i < length olds → Enters given (get_or olds i d) (get_or news i d)) → holders news ≡ map (λ (who : List ℕ). Some who) participants
+held-all given participants olds news new_ones as_long enters =
+    let many : length olds ≡ length participants = ap (λ (ps : List PassState). length ps) new_ones ∙ length-map participants (λ (who : List ℕ). new_pass (Some who)) in
+    held-from participants news (as_long ∙ many)
+    (λ i d w within.
+    let at : get_or olds i d ≡ new_pass (Some (get_or participants i w)) =
+    ap (λ (ps : List PassState). get_or ps i d) new_ones ∙ new_at participants i d w (omega (arith, within, as_long, many)) in
+    (enters i d (omega (arith, within, as_long))).holder ∙ ap (λ (p : PassState). p.holder) at)
 
 -- ---- the faults
 

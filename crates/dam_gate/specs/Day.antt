@@ -1,5 +1,5 @@
 -- A day of given commands: participants enter theirs side by side, and then the operator closes.
-use Rattle.std.specs.Prelude.{◌≡◌, ◌≢◌, ℕ, ◌+◌, ◌-◌, ◌<◌, Bool, nat_lt, if◌then◌else◌, List, [], ◌∷◌, ◌++◌, length, Option, None, Some}
+use Rattle.std.specs.Prelude.{◌≡◌, ◌≢◌, ℕ, ◌+◌, ◌-◌, ◌<◌, Bool, nat_lt, if◌then◌else◌, List, [], ◌∷◌, ◌++◌, length, map, Option, None, Some}
 use Rattle.std.specs.List.{filter, list_any}
 use Rattle.dam_book.specs.Limits.{most_entries}
 use Rattle.dam_book.specs.Name.{same_text}
@@ -40,6 +40,21 @@ is_one_of participants who = list_any (same_text who) participants
 -- the participants, with this one
 abbrev pub with_giver : List (List ℕ) → List ℕ → List (List ℕ)
 with_giver participants who = if is_one_of participants who then participants else participants ++ who ∷ []
+
+-- the participants, with the one who gives a command, if anybody does
+abbrev pub with_any : List (List ℕ) → Option (List ℕ) → List (List ℕ)
+with_any participants None = participants
+with_any participants (Some who) = with_giver participants who
+
+-- these participants and then those who give the commands and aren't among them, by first occurrence
+abbrev pub givers_from : List (List ℕ) → List Command → List (List ℕ)
+givers_from participants [] = participants
+givers_from participants (c ∷ cs) = givers_from (with_any participants (giver c)) cs
+
+-- who holds the passes of a day of these commands, in the order of the passes: the participants, by first occurrence, and
+-- then the operator
+abbrev pub day_holders : List Command → List (Option (List ℕ))
+day_holders cs = map (λ (who : List ℕ). Some who) (givers_from [] cs) ++ None ∷ []
 
 -- a command at this place is refused where nobody gives it or it brings one participant too many, and else what comes
 -- after it decides

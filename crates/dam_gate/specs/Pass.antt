@@ -1,5 +1,5 @@
 -- A pass: who holds it, how many entries of the journal it has seen, and the entries that its calls were answered with.
-use Rattle.std.specs.Prelude.{◌≡◌, ℕ, ◌-◌, ◌<◌, ◌≤◌, Bool, true, false, List, [], ◌∷◌, ◌++◌, Option, None, Some}
+use Rattle.std.specs.Prelude.{◌≡◌, ℕ, ◌-◌, ◌<◌, ◌≤◌, Bool, true, false, List, [], ◌∷◌, ◌++◌, map, Option, None, Some}
 use Rattle.dam_book.specs.Name.{same_text}
 use Rattle.dam_book.specs.declared.command.Command.{Command}
 use Rattle.dam_book.specs.declared.command.Command.TheVariants.{Submit, Amend, Cancel, Close}
@@ -44,6 +44,10 @@ AreOwn holder (e ∷ es) =
 pub record IsPass (p : PassState) : Type 0 where
   pub in_order : AreInOrder 0 p.seen p.receipts
   pub own : AreOwn p.holder p.receipts
+
+-- who holds each of these passes
+abbrev pub holders : List PassState → List (Option (List ℕ))
+holders passes = map (λ (p : PassState). p.holder) passes
 
 abbrev pub new_pass : Option (List ℕ) → PassState
 new_pass holder = record { holder = holder; seen = 0; receipts = [] }

@@ -1,12 +1,12 @@
 ghost use Rattle.std.specs.Option.{option_copied};
 ghost use Rattle.dam_gate.specs.Limits.{most_participants};
-ghost use Rattle.std.specs.Prelude.{◌≡◌, ◌⊎◌, ◌≤◌, ◌<◌, ◌∷◌, [], ℕ, All, true, None, Some, length, map, slice_index_or, IfOk, IfErr, OnOk};
+ghost use Rattle.std.specs.Prelude.{◌≡◌, ◌⊎◌, ◌≤◌, ◌<◌, ◌∷◌, ◌++◌, [], ℕ, All, true, None, Some, length, map, slice_index_or, IfOk, IfErr, OnOk};
 ghost use Rattle.dam_book.specs.Book.{is_day, commands_of};
 ghost use Rattle.dam_gate.specs.Journal.{IsJournal};
-ghost use Rattle.dam_gate.specs.Pass.{PassState, IsPass, new_pass};
+ghost use Rattle.dam_gate.specs.Pass.{PassState, IsPass, holders, new_pass};
 ghost use Rattle.dam_gate.specs.Settled.{IsSettled};
 ghost use Rattle.dam_gate.specs.Headline.{IsWholeAccount};
-ghost use Rattle.dam_gate.specs.Day.{IsDayFault, IsDayRun, refused, giver, is_one_of, refused_from};
+ghost use Rattle.dam_gate.specs.Day.{IsDayFault, IsDayRun, day_holders, refused, giver, givers_from, is_one_of, refused_from};
 ghost use Rattle.dam_gate.specs.inside.Entering.{AreGivers, AreServed, Enters, HasAll, IsClosedDay, IsLateFault, IsRefusalAt, Takes, own_commands};
 
 use crate::doorkeeper::Doorkeeper;
@@ -215,6 +215,8 @@ fn take_giver(
 /// The participants who give the commands, by first occurrence.
 fn givers(alloc: Global, commands: &[Command]) -> Result<Vec<Participant>, DayFault>
     ensures ok { IfOk result (λ participants. AreGivers participants.items commands.now) }
+    ensures order { IfOk result (λ participants.
+        participants.items ≡ givers_from [] commands.now) }
     ensures few { IfOk result (λ participants. length participants.items ≤ most_participants) }
     ensures given { OnOk result (refused_from 0 [] commands.now ≡ None) }
     ensures refused { IfErr result (λ fault.
@@ -249,10 +251,12 @@ fn passes_for(
 fn close(rt: &impl Wait, gate: &Gate) -> Result<Pass, DayFault>
     ensures ok { IfOk result (λ operator. commands_of operator.receipts ≡ Command.Close ∷ []) }
     ensures pass { IfOk result IsPass }
+    ensures holder { IfOk result (λ operator. operator.holder ≡ None) }
     ensures err { IfErr result (λ fault. fault ≡ DayFault.Memory) }
 {
     let mut operator = gate.operator(rt)?;
     let _entry = gate.call(rt, &mut operator, Command::Close)?;
+    // Its contract tells what every pass keeps.
     let _receipts = operator.receipts();
     Ok(operator)
 }
@@ -268,6 +272,8 @@ fn enter_day<R: Threads + Wait + Sync, D: Doorkeeper + Sync>(
 ) -> Result<Vec<Pass>, DayFault>
     requires { length participants.now ≤ most_participants }
     ensures ok { IfOk result (λ passes. AreServed commands.now participants.now passes.items) }
+    ensures holders { IfOk result (λ passes.
+        holders passes.items ≡ map (λ who. Some who) participants.now) }
     ensures err { IfErr result (λ fault. fault ≡ DayFault.Memory) }
 {
     let mut passes = passes_for(rt, alloc, gate, participants)?;
@@ -304,6 +310,8 @@ fn run_day<R: Threads + Wait + Sync, D: Doorkeeper + Sync>(
     ensures journal { IfOk result (λ day. IsJournal day.settled) }
     ensures day { IfOk result (λ day. IsDayRun periods commands.now day.settled.entries) }
     ensures settled { IfOk result (λ day. IsSettled day.settled day.passes.items) }
+    ensures passes { IfOk result (λ day.
+        holders day.passes.items ≡ map (λ who. Some who) participants.now ++ None ∷ []) }
     ensures err { IfErr result IsLateFault }
 {
     let Ok(gate) = Gate::begin(alloc, periods) else {
@@ -350,6 +358,7 @@ pub fn run_commands<R: Threads + Wait + Sync, D: Doorkeeper + Sync>(
     ensures journal { IfOk result (λ day. IsJournal day.settled) }
     ensures day { IfOk result (λ day. IsDayRun periods commands.now day.settled.entries) }
     ensures account { IfOk result (λ day. IsWholeAccount day.settled day.passes.items) }
+    ensures passes { IfOk result (λ day. holders day.passes.items ≡ day_holders commands.now) }
     ensures given { OnOk result (refused commands.now ≡ None) }
     ensures fault { IfErr result (IsDayFault commands.now) }
 {

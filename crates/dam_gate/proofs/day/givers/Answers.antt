@@ -2,7 +2,7 @@ use Rattle.std.proofs.Common.{◌≡◌, ◌+◌, ◌<◌, ◌++◌, ◌∷◌, 
 use Rattle.std.proofs.lemmas.List.{take_more}
 use Rattle.std.proofs.Math.Seq.{drop-cons}
 use Rattle.dam_book.specs.declared.command.Command.{Command}
-use Rattle.dam_gate.proofs.Days.{givers-more, left-more}
+use Rattle.dam_gate.proofs.Days.{givers-more, left-more, order-more}
 use Rattle.dam_gate.proofs.day.givers.Goals as goal
 
 pub loop-place-preserved : goal.loop-place-preserved
@@ -21,5 +21,6 @@ loop-place-preserved c =
     record {
       few = c.in_ok-take_giver.ensures.few;
       givers = rw (items, taken) (givers-more participants who item (take i cs) gives c.loop-place.invariant.givers);
+      order = rw items (order-more participants who item (drop i cs) (drop (i + 1) cs) _ gives next c.loop-place.invariant.order);
       left = rw items (left-more i participants who item (drop i cs) (drop (i + 1) cs) _ gives (rw (← items) c.in_ok-take_giver.ensures.few) next c.loop-place.invariant.left);
     }
