@@ -19,15 +19,28 @@ fn name(text: &[u8]) -> Result<Name, Fail> {
 }
 
 /// An hourly order of 1 MW in period 1.
-fn submit(who: &[u8], text: &[u8], side: Side, cents: i32) -> Result<Command, Fail> {
+fn hour(side: Side, cents: i32) -> Result<Order, Fail> {
     let price = Price::new(cents).ok_or("a price")?;
     let period = Period::new(1).ok_or("a period")?;
     let qty = Qty::new(10).ok_or("a volume")?;
+    Ok(Order::Hour(HourOrder::new(side, price, period, qty)))
+}
+
+fn submit(who: &[u8], text: &[u8], side: Side, cents: i32) -> Result<Command, Fail> {
     Ok(Command::Submit {
         who: participant(who)?,
         name: name(text)?,
-        order: Order::Hour(HourOrder::new(side, price, period, qty)),
+        order: hour(side, cents)?,
     })
+}
+
+/// What a look finds after so many entries, the book being open.
+fn found(seen: u32, order: Option<Order>) -> Look {
+    Look {
+        seen,
+        closed: false,
+        order,
+    }
 }
 
 fn cancel(who: &[u8], text: &[u8]) -> Result<Command, Fail> {

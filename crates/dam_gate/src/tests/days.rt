@@ -1,5 +1,5 @@
 use super::{cancel, participant, submit};
-use crate::{DayFault, Doorkeeper, OpenDoor, run_commands};
+use crate::{DayFault, Doorkeeper, OpenDoor, Pass, run_commands};
 use dam_book::{Command, Entry, Side};
 use std::alloc::Global;
 use std::sync::atomic::{AtomicU32, Ordering};
@@ -52,17 +52,27 @@ fn each_keeps_its_order(rt: HostRuntime) -> Result<(), Fail> {
     Ok(())
 }
 
+/// Whether the passes are those of these participants, in this order, and then the operator's.
+fn are_held_by(passes: &[Pass], codes: &[&[u8]]) -> Result<bool, Fail> {
+    for (place, code) in codes.iter().enumerate() {
+        let pass = passes.get(place).ok_or("a pass for each")?;
+        if pass.holder() != Some(participant(code)?) {
+            return Ok(false);
+        }
+    }
+    let operator = passes.last().ok_or("a pass of the operator")?;
+    Ok(passes.len() == codes.len().saturating_add(1) && operator.holder().is_none())
+}
+
 #[test]
 fn the_passes_come_back(rt: HostRuntime) -> Result<(), Fail> {
     let given = given(rt.alloc())?;
     let day = run_commands(&rt, rt.alloc(), 24, &given, &OpenDoor)?;
     assert_eq!(rt; day.passes.len(), 3);
-    assert!(rt; day.passes[0].holder() == Some(participant(b"A")?));
     assert!(rt; day.passes[0].receipts().len() == 2);
-    assert!(rt; day.passes[1].holder() == Some(participant(b"B")?));
     assert!(rt; day.passes[1].receipts().len() == 1);
-    assert!(rt; day.passes[2].holder().is_none());
     assert!(rt; day.passes[2].receipts().len() == 1 && day.passes[2].seen() == 4);
+    assert!(rt; are_held_by(&day.passes, &[b"A", b"B"])?);
     Ok(())
 }
 
@@ -147,5 +157,76 @@ fn two_participants_meet(rt: HostRuntime) -> Result<(), Fail> {
     let _day = run_commands(&rt, rt.alloc(), 24, &given(rt.alloc())?, &meeting)?;
     assert_eq!(rt; meeting.met.load(Ordering::SeqCst), 2);
     assert_eq!(rt; meeting.left.load(Ordering::SeqCst), 2);
+    Ok(())
+}
+
+/// Lets participants in one after another, the one with the greatest number first, and keeps who came and left.
+#[derive(Drop)]
+struct OneByOne {
+    /// The number whose turn it is.
+    turn: AtomicU32,
+    /// A digit for each that came, one above its number, and the same digit when it left.
+    log: AtomicU32,
+}
+
+impl OneByOne {
+    fn note(&self, participant: u32) {
+        let log = self.log.load(Ordering::SeqCst);
+        let digit = participant.wrapping_add(1);
+        self.log
+            .store(log.wrapping_mul(10).wrapping_add(digit), Ordering::SeqCst);
+    }
+}
+
+impl Doorkeeper for OneByOne {
+    fn before(&self, participant: u32) {
+        for _ in 0..100_000_000 {
+            if self.turn.load(Ordering::SeqCst) == participant {
+                self.note(participant);
+                return;
+            }
+        }
+    }
+
+    fn after(&self, participant: u32) {
+        self.note(participant);
+        self.turn
+            .store(participant.wrapping_sub(1), Ordering::SeqCst);
+    }
+}
+
+/// Cancels of these participants, one each, in this order.
+fn cancels_of(alloc: Global, codes: &[&[u8]]) -> Result<Vec<Command>, Fail> {
+    let mut commands = Vec::new(alloc);
+    for code in codes {
+        commands.push(cancel(code, b"S1")?)?;
+    }
+    Ok(commands)
+}
+
+/// Whether the entries are cancels of these participants, in this order, and then a close.
+fn are_cancels_of(entries: &[Entry], codes: &[&[u8]]) -> Result<bool, Fail> {
+    let mut left = entries.iter();
+    for code in codes {
+        let entry = left.next().ok_or("an entry for each")?;
+        if entry.command != cancel(code, b"S1")? {
+            return Ok(false);
+        }
+    }
+    let closed = left.next().map(|entry| entry.command == Command::Close) == Some(true);
+    Ok(closed && left.next().is_none())
+}
+
+#[test]
+fn a_doorkeeper_stands_round_the_commands(rt: HostRuntime) -> Result<(), Fail> {
+    let door = OneByOne {
+        turn: AtomicU32::new(2),
+        log: AtomicU32::new(0),
+    };
+    let given = cancels_of(rt.alloc(), &[b"C", b"A", b"C", b"B", b"A"])?;
+    let day = run_commands(&rt, rt.alloc(), 24, &given, &door)?;
+    assert_eq!(rt; door.log.load(Ordering::SeqCst), 332_211);
+    let entries = day.settled.journal().entries();
+    assert!(rt; are_cancels_of(entries, &[b"B", b"A", b"A", b"C", b"C"])?);
     Ok(())
 }

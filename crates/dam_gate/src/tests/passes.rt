@@ -1,4 +1,4 @@
-use super::{cancel, cancels, look, name, participant, submit};
+use super::{cancel, cancels, found, hour, look, name, participant, submit};
 use crate::{Gate, GateFault, Keeper, Pass, PassFault};
 use dam_book::{BeginFault, Command, Reason, Reply, Side};
 use std::alloc::Global;
@@ -36,11 +36,14 @@ fn a_look_sees_the_calls_of_others(rt: HostRuntime) -> Result<(), Fail> {
     let mut a = gate.pass(&rt, participant(b"A")?)?;
     let mut b = gate.pass(&rt, participant(b"B")?)?;
     gate.call(&rt, &mut a, submit(b"A", b"S1", Side::Sell, 3000)?)?;
-    let seen = look(&rt, &gate, &mut a, b"A", b"S1")?;
-    assert!(rt; seen.seen == 1 && !seen.closed && seen.order.is_some());
-    assert!(rt; look(&rt, &gate, &mut b, b"A", b"S1")? == seen && b.seen() == 1);
+    let sold = found(1, Some(hour(Side::Sell, 3000)?));
+    assert!(rt; look(&rt, &gate, &mut a, b"A", b"S1")? == sold);
+    assert!(rt; look(&rt, &gate, &mut b, b"A", b"S1")? == sold && b.seen() == 1);
     gate.call(&rt, &mut b, submit(b"B", b"B1", Side::Buy, 5000)?)?;
     assert!(rt; a.seen() == 1 && b.seen() == 2);
+    let bought = found(2, Some(hour(Side::Buy, 5000)?));
+    assert!(rt; look(&rt, &gate, &mut a, b"B", b"B1")? == bought && a.seen() == 2);
+    assert!(rt; look(&rt, &gate, &mut b, b"B", b"S1")? == found(2, None));
     Ok(())
 }
 

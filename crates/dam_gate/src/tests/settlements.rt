@@ -1,4 +1,4 @@
-use super::{cancel, cancels, look, participant, submit};
+use super::{cancel, cancels, found, hour, look, participant, submit};
 use crate::{Gate, GateFault, Journal, Mismatch, Pass, Settled, Unsettled, laws, settle};
 use dam_book::{Command, Side};
 use std::alloc::Global;
@@ -61,8 +61,8 @@ fn three_entries(rt: &impl Wait, alloc: Global) -> Result<Finished, Fail> {
 /// B submits, and A looks at the order.
 fn enter_second(rt: &impl Wait, gate: &Gate, a: &mut Pass, b: &mut Pass) -> Result<(), Fail> {
     gate.call(rt, b, submit(b"B", b"B1", Side::Buy, 5000)?)?;
-    let seen = look(rt, gate, a, b"B", b"B1")?;
-    if seen.seen == 2 && seen.order.is_some() && a.seen() == 2 {
+    let bought = found(2, Some(hour(Side::Buy, 5000)?));
+    if look(rt, gate, a, b"B", b"B1")? == bought && a.seen() == 2 {
         Ok(())
     } else {
         Err(Fail::from("another look"))

@@ -173,9 +173,9 @@ fn stands<R: Threads + Wait + Sync>(rt: &R, alloc: Global, seed: u64) -> Result<
     Ok(closed.number == 10_000 && replayed && compared && settled)
 }
 
-/// Whether all of eight days, drawn from the seeds from this one on, stand.
+/// Whether all of twelve days, drawn from the seeds from this one on, stand.
 fn all_stand<R: Threads + Wait + Sync>(rt: &R, alloc: Global, first: u64) -> Result<bool, Fail> {
-    for more in 0..8 {
+    for more in 0..12 {
         if !stands(rt, alloc, first.wrapping_add(more))? {
             return Ok(false);
         }
@@ -184,19 +184,19 @@ fn all_stand<R: Threads + Wait + Sync>(rt: &R, alloc: Global, first: u64) -> Res
 }
 
 #[test]
-fn eight_storms_settle(rt: HostRuntime) -> Result<(), Fail> {
+fn twelve_storms_settle(rt: HostRuntime) -> Result<(), Fail> {
     assert!(rt; all_stand(&rt, rt.alloc(), 0)?);
     Ok(())
 }
 
 #[test]
-fn eight_more_storms_settle(rt: HostRuntime) -> Result<(), Fail> {
-    assert!(rt; all_stand(&rt, rt.alloc(), 8)?);
+fn twelve_more_storms_settle(rt: HostRuntime) -> Result<(), Fail> {
+    assert!(rt; all_stand(&rt, rt.alloc(), 12)?);
     Ok(())
 }
 
 #[test]
-fn another_eight_storms_settle(rt: HostRuntime) -> Result<(), Fail> {
-    assert!(rt; all_stand(&rt, rt.alloc(), 16)?);
+fn another_twelve_storms_settle(rt: HostRuntime) -> Result<(), Fail> {
+    assert!(rt; all_stand(&rt, rt.alloc(), 24)?);
     Ok(())
 }

@@ -1,8 +1,8 @@
 //! Two participants at one gate, each on a thread of its own.
 
-use super::{name, participant, submit};
+use super::{hour, name, participant, submit};
 use crate::{Gate, Look, Pass, settle};
-use dam_book::{Command, Name, Participant, Side};
+use dam_book::{Command, Name, Order, Participant, Side};
 use std::alloc::Global;
 use std::sync::Wait;
 use std::test::Fail;
@@ -16,6 +16,9 @@ struct Neighbour {
     other: Participant,
     name: Name,
     offer: Option<Command>,
+    /// The order that it submits, and the other's.
+    own: Order,
+    beside: Order,
     pass: Pass,
     /// Whether it was answered as it should be.
     served: bool,
@@ -34,18 +37,30 @@ impl Neighbour {
     fn run(&mut self, rt: &impl Wait, gate: &Gate) {
         if let Some((number, own, other)) = self.enter(rt, gate) {
             let in_order = number <= own.seen && own.seen <= other.seen;
-            let finds_other = other.order.is_some() == (other.seen == 2);
-            self.served = in_order && own.order.is_some() && finds_other;
+            let finds_own = own.order.as_ref() == Some(&self.own);
+            let finds_other = match &other.order {
+                Some(order) => other.seen == 2 && *order == self.beside,
+                None => other.seen == 1,
+            };
+            self.served = in_order && finds_own && finds_other;
         }
     }
 }
 
-fn neighbour_of(rt: &impl Wait, gate: &Gate, who: &[u8], other: &[u8]) -> Result<Neighbour, Fail> {
+/// The participant who sells at one price, beside another who sells at another.
+fn neighbour_of(
+    rt: &impl Wait,
+    gate: &Gate,
+    (who, cents): (&[u8], i32),
+    (other, beside): (&[u8], i32),
+) -> Result<Neighbour, Fail> {
     Ok(Neighbour {
         who: participant(who)?,
         other: participant(other)?,
         name: name(b"S1")?,
-        offer: Some(submit(who, b"S1", Side::Sell, 3000)?),
+        offer: Some(submit(who, b"S1", Side::Sell, cents)?),
+        own: hour(Side::Sell, cents)?,
+        beside: hour(Side::Sell, beside)?,
         pass: gate.pass(rt, participant(who)?)?,
         served: false,
     })
@@ -58,8 +73,9 @@ fn both<R: Threads + Wait + Sync>(
     gate: &Gate,
 ) -> Result<Vec<Neighbour>, Fail> {
     let mut neighbours = Vec::new(alloc);
-    neighbours.push(neighbour_of(rt, gate, b"A", b"B")?)?;
-    neighbours.push(neighbour_of(rt, gate, b"B", b"A")?)?;
+    let (a, b): ((&[u8], i32), (&[u8], i32)) = ((b"A", 3000), (b"B", 5000));
+    neighbours.push(neighbour_of(rt, gate, a, b)?)?;
+    neighbours.push(neighbour_of(rt, gate, b, a)?)?;
     thread::for_each_mut(
         rt,
         &mut neighbours,
