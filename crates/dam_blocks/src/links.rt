@@ -39,8 +39,9 @@ fn permits(other: &Block, is_accepted: bool, block: &Block) -> bool
     }
 }
 
-/// Whether the place is a block's, and each other block permits it.
-fn is_allowed<A: Allocator>(problem: &Problem<A>, selection: Selection, place: usize) -> bool
+/// Whether the place, which the selection accepts, is a block's that it accepts the parent of, and no
+/// other block of its group. A selection is admissible where each of its places is allowed.
+pub fn is_allowed<A: Allocator>(problem: &Problem<A>, selection: Selection, place: usize) -> bool
     requires { accepts selection place ≡ true }
     ensures { IsTrue result ↔ IsAllowed problem.now.blocks selection place }
 {

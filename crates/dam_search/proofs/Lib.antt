@@ -2,6 +2,7 @@ pub mod Prefixes
 pub mod Ranks
 pub mod Walks
 pub mod Collecting
+pub mod LastBlock
 pub mod Answers
 pub mod Sums
 pub mod Rule

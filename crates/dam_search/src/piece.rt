@@ -1,17 +1,17 @@
-ghost use Rattle.std.specs.Prelude.{◌≡◌, ◌⊎◌, ◌-◌, ◌^◌, ◌<◌, ◌≤◌, max, ℤ, pos, true, Some, None};
-ghost use Rattle.std.specs.Prelude.{Option, List, Bool, [], length, MatchBool};
-ghost use Rattle.dam_blocks.specs.Selection.{choice};
+ghost use Rattle.std.specs.Prelude.{◌≡◌, ◌⊎◌, ◌-◌, ◌^◌, ◌<◌, ◌≤◌, max, ℤ, pos, ◌<ℤ◌, ◌≤ℤ◌, true, false, Some, None};
+ghost use Rattle.std.specs.Prelude.{Option, List, Bool, [], ◌∷◌, ◌++◌, length, MatchBool};
+ghost use Rattle.dam_blocks.specs.Selection.{choice, padded, IsAdmissible};
 ghost use Rattle.dam_blocks.specs.Eligible.{IsEligible};
 ghost use Rattle.dam_bound.specs.Prefix.{IsCompletion};
-ghost use Rattle.dam_bound.specs.Relaxed.{without_rows};
+ghost use Rattle.dam_bound.specs.Relaxed.{relaxed_welfare, without_rows};
 ghost use Rattle.dam_bound.specs.Day.{IsDayOf};
 ghost use Rattle.dam_search.specs.Piece.{IsFind, IsMatched, Rises, welfare_found, IsSound, IsSpent};
 ghost use Rattle.dam_search.specs.inside.Walk.{Finds, Covers, Spends, Reads};
 
 use crate::answer::PieceAnswer;
 use crate::incumbent::Incumbent;
-use crate::prefix::Prefix;
-use dam_blocks::{Best, Problem, Verdict, ranks_above, score};
+use crate::prefix::{Prefix, bound_of};
+use dam_blocks::{Best, Problem, Selection, Verdict, ranks_above, score};
 use dam_bound::{Day, Relaxed};
 use std::alloc::Allocator;
 
@@ -36,20 +36,38 @@ pub(crate) fn surpasses(candidate: &Best, best: &Option<Best>) -> bool
     }
 }
 
+/// Whether a selection of this welfare is the best so far, if it is eligible, and has at least what
+/// was read. An eligible one has a welfare, and none below 0.
+fn is_worth_a_score(selection: Selection, welfare: Option<i64>, found: &Found) -> bool
+    ensures { result ≡ false → (w : ℤ) → pos 0 ≤ℤ w → welfare ≡ Some w
+        → (w <ℤ pos found.now.read) ⊎ IsMatched w selection found.now.best }
+{
+    match welfare {
+        Some(welfare) if welfare >= 0 => {
+            let welfare = welfare as u64;
+            found.read <= welfare && surpasses(&Best { selection, welfare }, &found.best)
+        }
+        _ => false,
+    }
+}
+
 /// Scores the selection of a prefix that decides every block, and offers its welfare where it is
 /// the best so far.
+///
+/// Its welfare is the bound of the prefix, so that most selections need no score.
 fn try_selection<A: Allocator, I: Incumbent>(
     problem: &Problem<A>,
     prefix: &Prefix,
+    bound: Option<i64>,
     incumbent: &mut I,
     found: &mut Found,
 )
     requires full { length problem.now.blocks ≡ length prefix.now }
+    requires bound { bound ≡ relaxed_welfare problem.now prefix.now }
     requires best { IsFind problem.now [] found.old.best }
     requires offered { welfare_found found.old.best ≤ I.top incumbent.old }
     ensures finds { Finds problem.now prefix.now found.old.best found.new.best }
-    ensures covers { (sel : List Bool) (w : ℤ) → IsCompletion prefix.now sel
-        → IsEligible problem.now sel w → IsMatched w sel found.new.best }
+    ensures covers { Covers problem.now prefix.now found.new.best found.new.read }
     ensures offered { I.top incumbent.new
         ≡ max (I.top incumbent.old) (welfare_found found.new.best) }
     ensures told { I.told incumbent.new ≡ I.told incumbent.old }
@@ -58,8 +76,15 @@ fn try_selection<A: Allocator, I: Incumbent>(
     ensures visited { found.new.visited ≡ found.old.visited }
 {
     dam_blocks::laws::verdict();
+    dam_blocks::laws::eligible_welfare();
     dam_bound::laws::completions();
+    dam_bound::laws::decided();
+    // What every problem keeps, as a clause of this reader tells it.
+    let _kept = problem.periods();
     let selection = prefix.selection();
+    if !is_worth_a_score(selection, bound, found) {
+        return;
+    }
     let Verdict::Eligible(welfare) = score(problem, selection) else {
         return;
     };
@@ -88,6 +113,8 @@ fn explore<A: Allocator, B: Allocator, I: Incumbent>(
     requires same { relaxed.now ≡ without_rows problem.now }
     requires depth { length prefix ≤ length problem.now.blocks }
     requires day { IsDayOf relaxed.now prefix day.now }
+    requires front { (front : List Bool) (accept : Bool) → prefix ≡ front ++ accept ∷ []
+        → IsAdmissible problem.now.blocks (padded front) }
     requires room { found.old.visited ≤ nodes }
     requires read { found.old.read ≤ I.told incumbent.old }
     requires best { IsFind problem.now [] found.old.best }
@@ -105,7 +132,7 @@ fn explore<A: Allocator, B: Allocator, I: Incumbent>(
 {
     dam_blocks::laws::ranking();
     dam_bound::laws::completions();
-    if !prefix.is_admissible(problem) {
+    if !prefix.is_still_admissible(problem) {
         return true;
     }
     if found.visited == nodes {
@@ -113,7 +140,7 @@ fn explore<A: Allocator, B: Allocator, I: Incumbent>(
     }
     found.visited += 1;
     if prefix.depth() == problem.block_count() {
-        try_selection(problem, &prefix, incumbent, found);
+        try_selection(problem, &prefix, bound_of(day), incumbent, found);
         return true;
     }
     found.read = incumbent.read();
@@ -175,15 +202,25 @@ pub fn search_piece<A: Allocator, B: Allocator, I: Incumbent>(
         → result.read ≡ I.told incumbent.new }
     ensures unread { (result.visited ≡ 0) ⊎ (depth ≡ length problem.now.blocks) → result.read ≡ 0 }
 {
+    dam_blocks::laws::fronts();
     // What every problem keeps, as a clause of this reader tells it.
     let _kept = problem.periods();
+    let prefix = Prefix::of_piece(depth, piece);
+    if !prefix.is_admissible(problem) {
+        return PieceAnswer {
+            piece,
+            best: None,
+            read: 0,
+            visited: 0,
+            done: true,
+        };
+    }
+    let day = prefix.day(relaxed);
     let mut found = Found {
         best: None,
         read: 0,
         visited: 0,
     };
-    let prefix = Prefix::of_piece(depth, piece);
-    let day = prefix.day(relaxed);
     let done = explore(problem, relaxed, nodes, prefix, &day, incumbent, &mut found);
     PieceAnswer {
         piece,

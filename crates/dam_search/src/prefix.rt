@@ -8,7 +8,7 @@ ghost use Rattle.dam_bound.specs.Prefix.{IsCompletion};
 ghost use Rattle.dam_bound.specs.Relaxed.{relaxed_welfare, reaches};
 ghost use Rattle.dam_bound.specs.Day.{IsDayOf};
 
-use dam_blocks::{Problem, Selection, admissible};
+use dam_blocks::{Problem, Selection, admissible, is_allowed};
 use dam_bound::{Day, Relaxed};
 use std::alloc::Allocator;
 use std::marker::Model;
@@ -24,7 +24,7 @@ fn reaches(bound: Option<i64>, value: u64) -> bool
 }
 
 /// The relaxed welfare of the prefix whose day it is.
-fn bound_of(day: &Option<Day>) -> Option<i64>
+pub(crate) fn bound_of(day: &Option<Day>) -> Option<i64>
     ensures { (problem : ProblemState) (prefix : List Bool) → IsDayOf problem prefix day.now
         → result ≡ relaxed_welfare problem prefix }
 {
@@ -110,6 +110,28 @@ impl Prefix {
         // What every problem keeps, as a clause of this reader tells it.
         let _kept = problem.periods();
         admissible(problem, self.taken)
+    }
+
+    /// Whether the links and the groups admit the selection that accepts no other block, where they
+    /// admit that of the prefix without its last decision: only the last block is looked at.
+    pub(crate) fn is_still_admissible<A: Allocator>(&self, problem: &Problem<A>) -> bool
+        requires { (front : List Bool) (accept : Bool) → self.now ≡ front ++ accept ∷ []
+            → IsAdmissible problem.now.blocks (padded front) }
+        ensures value { IsTrue result ↔ IsAdmissible problem.now.blocks (padded self.now) }
+        ensures completions { result ≡ false → (sel : List Bool) → IsCompletion self.now sel
+            → ¬ (IsAdmissible problem.now.blocks sel) }
+    {
+        dam_blocks::laws::fronts();
+        // What every problem keeps, as a clause of this reader tells it.
+        let _kept = problem.periods();
+        if self.depth == 0 {
+            return true;
+        }
+        let last = self.depth - 1;
+        if !self.taken.has(last) {
+            return true;
+        }
+        is_allowed(problem, self.taken, last)
     }
 
     /// The prefix's day.

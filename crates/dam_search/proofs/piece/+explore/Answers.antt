@@ -7,6 +7,7 @@ use Rattle.dam_bound.specs.Day.{IsDayOf}
 use Rattle.dam_bound.specs.Relaxed.{without_rows, relaxed_welfare, reaches}
 use Rattle.dam_search.specs.inside.Walk.{Finds, Covers, Spends}
 use Rattle.dam_search.proofs.Ranks.{finds_nothing, finds_shorter, finds_twice, covers_both, welfare_rises}
+use Rattle.dam_search.proofs.LastBlock.{extension_front}
 use Rattle.dam_search.proofs.Walks.{spends_none, spends_one, spends_first, spends_both}
 use Rattle.dam_search.proofs.piece.+explore.Goals as goal
 
@@ -61,6 +62,7 @@ explore-requires g t c =
     let day : IsDayOf c.args.relaxed.now c.extended.result c.child-rejected.result =
     next_day c.args.relaxed.now c.extended.result c.in-Some.open c.args.prefix false c.depth-place.result c.child-rejected.result c.extended.ensures same c.depth-place.ensures.value
     (λ is. c.child-rejected.ensures c.args.prefix is c.requires.day) in
+    let front = extension_front c.args.problem.now.blocks c.args.prefix c.in-Some.open c.extended.result false c.extended.ensures same (c.is_still_admissible.ensures.value.0 (search rules)) in
     search rules
 
 pub explore-requires-then-explore : goal.explore-requires-then-explore
@@ -71,10 +73,11 @@ explore-requires-then-explore g t c =
     let day : IsDayOf c.args.relaxed.now c.extended-then-explore.result c.child-accepted.result =
     next_day c.args.relaxed.now c.extended-then-explore.result c.in-Some.open c.args.prefix true c.depth-place.result c.child-accepted.result c.extended-then-explore.ensures same c.depth-place.ensures.value
     (λ is. c.child-accepted.ensures c.args.prefix is c.requires.day) in
+    let front = extension_front c.args.problem.now.blocks c.args.prefix c.in-Some.open c.extended-then-explore.result true c.extended-then-explore.ensures same (c.is_still_admissible.ensures.value.0 (search rules)) in
     search rules
 
-pub returns-then-not-is_admissible-clause-finds : goal.returns-then-not-is_admissible-clause-finds
-returns-then-not-is_admissible-clause-finds g t c = finds_nothing c.args.problem.now c.args.prefix c.args.found.now.best
+pub returns-then-not-is_still_admissible-clause-finds : goal.returns-then-not-is_still_admissible-clause-finds
+returns-then-not-is_still_admissible-clause-finds g t c = finds_nothing c.args.problem.now c.args.prefix c.args.found.now.best
 
 pub returns-then-found-nodes-clause-finds : goal.returns-then-found-nodes-clause-finds
 returns-then-found-nodes-clause-finds g t c = finds_nothing c.args.problem.now c.args.prefix c.args.found.now.best
@@ -84,7 +87,7 @@ returns-then-found-nodes-clause-spends g t c =
     spends_none c.args.problem.now c.args.prefix (length c.args.problem.now.blocks - length c.args.prefix) (g.I.Incumbent.told c.args.incumbent.now) c.args.nodes c.args.found.now.visited c.if-found-nodes.true
 
 pub returns-then-depth-block_count-clause-covers : goal.returns-then-depth-block_count-clause-covers
-returns-then-depth-block_count-clause-covers g t c done sel w whole e = inr (c.try_selection.ensures.covers sel w whole e)
+returns-then-depth-block_count-clause-covers g t c done = c.try_selection.ensures.covers
 
 pub returns-in_default-clause-finds : goal.returns-in_default-clause-finds
 returns-in_default-clause-finds g t c = finds_nothing c.args.problem.now c.args.prefix c.args.found.now.best

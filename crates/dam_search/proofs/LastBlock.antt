@@ -1,0 +1,125 @@
+-- One block more that a selection accepts: what admits the selection looks at that block alone.
+use Rattle.std.proofs.Common.{◌≡◌, ◌≢◌, ℕ, zero, suc, ◌+◌, ◌-◌, ◌<◌, ◌≤◌, inl, inr, Bool, true, false, List, [], ◌∷◌, ◌++◌, length, length-append, replicate, set, take, slice_get, Some, append_assoc, ◌∙◌, ap, ap₂, sym, subst, refl, arith}
+use Rattle.std.proofs.lemmas.Bool.{cases_eq}
+use Rattle.std.proofs.lemmas.List.{get_or-set_same, get_or-set_other, length-replicate, length-take-le}
+use Rattle.dam_book.specs.Limits.{most_blocks}
+use Rattle.dam_blocks.specs.declared.problem.Block.{Block}
+use Rattle.dam_blocks.specs.Selection.{accepts, padded, AreOfOneGroup, Permits, IsAllowed, IsAdmissible}
+use Rattle.dam_search.proofs.Prefixes.{padded-accepted, padded-rejected}
+
+same_block : (blocks : List Block) (i : ℕ) (b other : Block) → slice_get blocks i ≡ Some b → slice_get blocks i ≡ Some other → b ≡ other
+same_block blocks i b other e f = cc
+
+turned : (a b : Block) → AreOfOneGroup a b → AreOfOneGroup b a
+turned a b h = record { who = sym h.who; group = h.group; first = h.second; second = h.first }
+
+-- an accepted block lets one that was allowed before be accepted, where it is allowed itself
+still_permits : (blocks : List Block) (sel : List Bool) (at i j : ℕ) (b other : Block) → at < length sel → i ≢ at → accepts sel i ≡ true → slice_get blocks i ≡ Some b → slice_get blocks j ≡ Some other
+    → Permits other (accepts sel j) b → IsAllowed blocks (set sel at true) at → Permits other (accepts (set sel at true) j) b
+still_permits blocks sel at i j b other inside apart acc stands here permits last =
+    elim (cases_eq j at) [
+      | inl e ↦ record {
+        parent = λ p. ap (λ (k : ℕ). accepts (set sel at true) k) e ∙ get_or-set_same sel at true false inside;
+        group = λ a one. (last.others i b apart stands).group (get_or-set_other sel at i true false apart ∙ acc)
+            (subst (λ (x : Block). AreOfOneGroup x b) (same_block blocks at other last.block (subst (λ (k : ℕ). slice_get blocks k ≡ Some other) e here) last.stands) (turned b other one));
+      }
+      | inr ne ↦ subst (λ (t : Bool). Permits other t b) (sym (get_or-set_other sel at j true false ne)) permits
+    ]
+
+still_set : (blocks : List Block) (sel : List Bool) (at : ℕ) → at < length sel → IsAdmissible blocks sel → IsAllowed blocks (set sel at true) at → IsAdmissible blocks (set sel at true)
+still_set blocks sel at inside admissible last = record {
+  each = λ i acc.
+      (elim (cases_eq i at) [
+        | inl e ↦ subst (λ (k : ℕ). IsAllowed blocks (set sel at true) k) (sym e) last
+        | inr ne ↦ (let was : accepts sel i ≡ true = sym (get_or-set_other sel at i true false ne) ∙ acc in
+            let allowed = admissible.each i was in
+            record {
+              block = allowed.block;
+              stands = allowed.stands;
+              others = λ j other apart here.
+                  still_permits blocks sel at i j allowed.block other inside ne was allowed.stands here (allowed.others j other apart here) last;
+            })
+      ]);
+}
+
+length_padded : (front : List Bool) → length front < most_blocks → length front < length (padded front)
+length_padded front few =
+    omega (arith, few, length-append front (replicate (most_blocks - length front) false), length-replicate (most_blocks - length front) false)
+
+-- the last decision accepts its block, which is allowed
+pub still_admissible : (blocks : List Block) (front : List Bool) → length front < most_blocks → IsAdmissible blocks (padded front)
+    → IsAllowed blocks (padded (front ++ true ∷ [])) (length front) → IsAdmissible blocks (padded (front ++ true ∷ []))
+still_admissible blocks front few admissible last =
+    let e = padded-accepted front (padded front) refl few in
+    subst (λ (xs : List Bool). IsAdmissible blocks xs) e
+    (still_set blocks (padded front) (length front) (length_padded front few) admissible (subst (λ (xs : List Bool). IsAllowed blocks xs (length front)) (sym e) last))
+
+-- the last decision rejects its block
+pub still_rejected : (blocks : List Block) (front : List Bool) → length front < most_blocks → IsAdmissible blocks (padded front) → IsAdmissible blocks (padded (front ++ false ∷ []))
+still_rejected blocks front few admissible = subst (λ (xs : List Bool). IsAdmissible blocks xs) (padded-rejected front (padded front) refl few) admissible
+
+accepts_none : (n i : ℕ) → accepts (replicate n false) i ≡ false
+accepts_none zero i = refl
+accepts_none (suc n) zero = refl
+accepts_none (suc n) (suc i) = accepts_none n i
+
+-- nothing is decided
+pub none_admissible : (blocks : List Block) → IsAdmissible blocks (padded [])
+none_admissible blocks = record { each = λ i acc. absurd (let e = accepts_none most_blocks i in cc) }
+
+tails : (x y : Bool) (xs ys : List Bool) → x ∷ xs ≡ y ∷ ys → xs ≡ ys
+tails x y xs ys e = cc
+
+-- a list with a last decision, and what stands before that
+pub front_is : (xs ys : List Bool) (a b : Bool) → xs ++ a ∷ [] ≡ ys ++ b ∷ [] → xs ≡ ys
+front_is [] [] a b e = refl
+front_is [] (y ∷ ys) a b e = absurd (omega (arith, ap (λ (zs : List Bool). length zs) e, length-append ys (b ∷ [])))
+front_is (x ∷ xs) [] a b e = absurd (omega (arith, ap (λ (zs : List Bool). length zs) e, length-append xs (a ∷ [])))
+front_is (x ∷ xs) (y ∷ ys) a b e = ap₂ (λ (z : Bool) (zs : List Bool). z ∷ zs) (heads x y _ _ e) (front_is xs ys a b (tails x y _ _ e))
+  where
+    heads : (x y : Bool) (xs ys : List Bool) → x ∷ xs ≡ y ∷ ys → x ≡ y
+    heads x y xs ys e = cc
+
+split_last : (p rest : List Bool) (n : ℕ) → length p ≡ suc n → p ≡ take n p ++ accepts (p ++ rest) n ∷ []
+split_last [] rest n h = absurd (omega (arith, h))
+split_last (x ∷ []) rest zero h = refl
+split_last (x ∷ y ∷ xs) rest zero h = absurd (omega (arith, h))
+split_last (x ∷ xs) rest (suc n) h = ap (λ (ys : List Bool). x ∷ ys) (split_last xs rest n (omega (arith, h)))
+
+-- the decisions before the last are admitted, whatever it is
+abbrev pub IsFrontAdmitted : List Block → List Bool → Type 0
+IsFrontAdmitted blocks p = (front : List Bool) (accept : Bool) → p ≡ front ++ accept ∷ [] → IsAdmissible blocks (padded front)
+
+last_is : (p taken : List Bool) (n : ℕ) (b : Bool) → length p ≡ suc n → taken ≡ padded p → accepts taken n ≡ b → p ≡ take n p ++ b ∷ []
+last_is p taken n b long is e =
+    split_last p (replicate (most_blocks - length p) false) n long ∙ ap (λ (x : Bool). take n p ++ x ∷ []) (ap (λ (xs : List Bool). accepts xs n) (sym is) ∙ e)
+
+front_long : (p : List Bool) (n : ℕ) → length p ≡ suc n → length (take n p) ≡ n
+front_long p n long = length-take-le n p (omega (arith, long))
+
+pub rejected_last : (blocks : List Block) (p taken : List Bool) (n : ℕ) → length p ≡ suc n → n < most_blocks → taken ≡ padded p → accepts taken n ≡ false → IsFrontAdmitted blocks p → IsAdmissible blocks (padded p)
+rejected_last blocks p taken n long few is e front =
+    let whole = last_is p taken n false long is e in
+    subst (λ (xs : List Bool). IsAdmissible blocks (padded xs)) (sym whole)
+    (still_rejected blocks (take n p) (omega (arith, front_long p n long, few)) (front (take n p) false whole))
+
+pub accepted_last : (blocks : List Block) (p taken : List Bool) (n : ℕ) → length p ≡ suc n → n < most_blocks → taken ≡ padded p → accepts taken n ≡ true → IsFrontAdmitted blocks p
+    → IsAllowed blocks taken n → IsAdmissible blocks (padded p)
+accepted_last blocks p taken n long few is e front allowed =
+    let whole = last_is p taken n true long is e in
+    let far = front_long p n long in
+    let here : IsAllowed blocks (padded (take n p ++ true ∷ [])) n = subst (λ (xs : List Bool). IsAllowed blocks xs n) (is ∙ ap padded whole) allowed in
+    subst (λ (xs : List Bool). IsAdmissible blocks (padded xs)) (sym whole)
+    (still_admissible blocks (take n p) (omega (arith, far, few)) (front (take n p) true whole) (subst (λ (k : ℕ). IsAllowed blocks (padded (take n p ++ true ∷ [])) k) (sym far) here))
+
+-- what is admitted whole is admitted before its last decision
+pub admitted_front : (blocks : List Block) (p front : List Bool) (accept : Bool) → ((rest : List Bool) → IsAdmissible blocks (front ++ rest) → IsAdmissible blocks (padded front)) → IsAdmissible blocks (padded p)
+    → p ≡ front ++ accept ∷ [] → IsAdmissible blocks (padded front)
+admitted_front blocks p front accept law whole e =
+    let rest = replicate (most_blocks - length p) false in
+    law (accept ∷ [] ++ rest) (subst (λ (xs : List Bool). IsAdmissible blocks xs) (ap (λ (xs : List Bool). xs ++ rest) e ∙ append_assoc front (accept ∷ []) rest) whole)
+
+-- the front of an extension is the prefix that it extends
+pub extension_front : (blocks : List Block) (prefix kept next : List Bool) (accept : Bool) → next ≡ kept ++ accept ∷ [] → kept ≡ prefix → IsAdmissible blocks (padded prefix) → IsFrontAdmitted blocks next
+extension_front blocks prefix kept next accept e f admissible front last g =
+    subst (λ (xs : List Bool). IsAdmissible blocks (padded xs)) (sym f ∙ front_is kept front accept last (sym e ∙ g)) admissible
