@@ -254,3 +254,15 @@ pub(crate) fn draw_with(alloc: Global, dice: &mut Dice, blocks: usize) -> Result
     carry_out(&mut drawn.book, &Command::Close)?;
     Ok(drawn)
 }
+
+/// A closed book of such a day with just so many blocks, and up to as many hourly orders.
+pub(crate) fn draw_blocks(alloc: Global, dice: &mut Dice, blocks: usize) -> Result<Drawn, Fail> {
+    let mut drawn = nothing(alloc)?;
+    let busy = dice.below(2).saturating_add(2);
+    for number in 0..blocks {
+        add_order(&mut drawn, dice, busy, number)?;
+        add_block(alloc, &mut drawn, dice, busy)?;
+    }
+    carry_out(&mut drawn.book, &Command::Close)?;
+    Ok(drawn)
+}

@@ -14,8 +14,12 @@ mod faults;
 #[cfg(test)]
 mod growth;
 #[cfg(test)]
+mod kinds;
+#[cfg(test)]
 mod plain;
 #[cfg(test)]
 mod plans;
 #[cfg(test)]
 mod support;
+#[cfg(test)]
+mod worked;

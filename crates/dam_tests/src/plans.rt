@@ -1,6 +1,7 @@
 //! The comparison of the search with that over all selections, under several plans.
 
-use crate::drawn::{Dice, MANY_BLOCKS, draw_with};
+use crate::drawn::{Dice, MANY_BLOCKS, draw_blocks, draw_with};
+use crate::kinds::Counts;
 use dam_blocks::{Problem, Verdict, best_of_all, score};
 use dam_search::{FreeTurn, MOST_NODES, Plan, first_selection, search};
 use std::alloc::Global;
@@ -11,21 +12,28 @@ use std::thread::Threads;
 /// The number of books that are drawn from one seed.
 const BOOKS: u32 = 250;
 
+/// The number of books of one number of blocks that are drawn from one seed.
+const DEEP_BOOKS: u32 = 24;
+
 /// Numbers of workers, each with a depth of the cutting.
 const PLANS: [(u8, u8); 5] = [(1, 0), (1, 8), (2, 3), (4, 2), (8, 8)];
 
-/// Compares the search of one problem, and the selection that it begins with.
+/// Eight workers at the deepest cuttings.
+const DEEP: [(u8, u8); 2] = [(8, 7), (8, 8)];
+
+/// Compares the search of one problem under these plans, and the selection that it begins with.
 fn compare<R: Abort + Threads + Sync>(
     rt: &R,
     alloc: Global,
     problem: &Problem,
+    plans: &[(u8, u8)],
 ) -> Result<(), Fail> {
     let best = best_of_all(problem);
     let first = first_selection(problem);
     let verdict = score(problem, first.selection);
     assert_eq!(rt; verdict, Verdict::Eligible(first.welfare));
-    for (workers, cut) in PLANS {
-        let plan = Plan::new(workers, cut, MOST_NODES).ok_or("a plan")?;
+    for (workers, cut) in plans {
+        let plan = Plan::new(*workers, *cut, MOST_NODES).ok_or("a plan")?;
         let found = search(rt, alloc, problem, plan, &FreeTurn)?;
         assert_eq!(rt; found, best);
     }
@@ -35,10 +43,34 @@ fn compare<R: Abort + Threads + Sync>(
 /// Compares books that are drawn from a seed.
 fn books_of<R: Abort + Threads + Sync>(rt: &R, alloc: Global, seed: u64) -> Result<(), Fail> {
     let mut dice = Dice::seeded(seed);
+    let mut counts = Counts::none();
     for _ in 0..BOOKS {
         let drawn = draw_with(alloc, &mut dice, MANY_BLOCKS)?;
-        compare(rt, alloc, &Problem::of_book(alloc, &drawn.book)?)?;
+        let problem = Problem::of_book(alloc, &drawn.book)?;
+        compare(rt, alloc, &problem, &PLANS)?;
+        counts = counts.with(alloc, &problem)?;
     }
+    assert!(rt; counts.are_above(10));
+    Ok(())
+}
+
+/// Compares books of just so many blocks, more than the deepest cutting decides.
+fn deep_books_of<R: Abort + Threads + Sync>(
+    rt: &R,
+    alloc: Global,
+    seed: u64,
+    blocks: usize,
+) -> Result<(), Fail> {
+    let mut dice = Dice::seeded(seed);
+    let mut counts = Counts::none();
+    for _ in 0..DEEP_BOOKS {
+        let drawn = draw_blocks(alloc, &mut dice, blocks)?;
+        let problem = Problem::of_book(alloc, &drawn.book)?;
+        assert_eq!(rt; problem.block_count(), blocks);
+        compare(rt, alloc, &problem, &DEEP)?;
+        counts = counts.with(alloc, &problem)?;
+    }
+    assert!(rt; counts.are_above(3));
     Ok(())
 }
 
@@ -60,4 +92,14 @@ fn still_more_books_under_five_plans(rt: HostRuntime) -> Result<(), Fail> {
 #[test]
 fn the_last_books_under_five_plans(rt: HostRuntime) -> Result<(), Fail> {
     books_of(&rt, rt.alloc(), 2031)
+}
+
+#[test]
+fn books_of_nine_blocks_cut_deep(rt: HostRuntime) -> Result<(), Fail> {
+    deep_books_of(&rt, rt.alloc(), 2032, 9)
+}
+
+#[test]
+fn books_of_ten_blocks_cut_deep(rt: HostRuntime) -> Result<(), Fail> {
+    deep_books_of(&rt, rt.alloc(), 2033, MANY_BLOCKS)
 }

@@ -1,0 +1,220 @@
+//! The worked clearings under every number of workers and every cutting.
+
+use crate::support::commands;
+use dam_blocks::{Best, Problem, Selection};
+use dam_book::{Book, replay};
+use dam_search::{FreeTurn, MOST_CUT, MOST_NODES, MOST_WORKERS, Plan, search};
+use std::alloc::Global;
+use std::process::Abort;
+use std::test::Fail;
+use std::thread::Threads;
+
+/// A journal's records without the day's and the close, whether each of its blocks is accepted, and the
+/// welfare.
+type Worked = (&'static str, &'static [bool], u64);
+
+const HOURLY: [Worked; 8] = [
+    ("", &[], 0),
+    (
+        "submit,A,B1,hour,buy,5000,1:10,,
+submit,A,S1,hour,sell,3000,1:10,,
+",
+        &[],
+        20_000,
+    ),
+    (
+        "submit,A,S1,hour,sell,-3,1:10,,
+submit,A,B1,hour,buy,0,1:10,,
+",
+        &[],
+        30,
+    ),
+    (
+        "submit,A,B1,hour,buy,4000,1:10,,
+submit,A,B2,hour,buy,4000,1:10,,
+submit,A,S1,hour,sell,4000,1:15,,
+",
+        &[],
+        0,
+    ),
+    (
+        "submit,A,B1,hour,buy,4000,1:10,,
+submit,A,B2,hour,buy,4000,1:10,,
+submit,A,S1,hour,sell,4000,1:15,,
+amend,A,B1,,,4000,1:12,,
+",
+        &[],
+        0,
+    ),
+    (
+        "submit,A,B1,hour,buy,4000,1:10,,
+submit,A,B2,hour,buy,4000,1:10,,
+submit,A,S1,hour,sell,4000,1:15,,
+amend,A,B1,,,4000,1:6;2:6,,
+",
+        &[],
+        0,
+    ),
+    (
+        "submit,A,B1,hour,buy,4000,1:10,,
+submit,A,B2,hour,buy,4000,1:10,,
+submit,A,S1,hour,sell,4000,1:15,,
+cancel,A,B1,,,,,,
+submit,A,B1,hour,buy,4000,1:10,,
+",
+        &[],
+        0,
+    ),
+    (
+        "submit,A,B1,hour,buy,400000,1:99999,,
+submit,A,S1,hour,sell,-50000,1:99999,,
+",
+        &[],
+        44_999_550_000,
+    ),
+];
+
+const BLOCKS: [Worked; 9] = [
+    (
+        "submit,A,B1,hour,buy,6000,1:20,,
+submit,A,S1,hour,sell,5000,1:20,,
+submit,A,B2,hour,buy,6000,2:20,,
+submit,A,S2,hour,sell,5000,2:20,,
+submit,A,K1,block,sell,4000,1:10;2:10,,
+",
+        &[true],
+        60_000,
+    ),
+    (
+        "submit,A,B1,hour,buy,6000,1:10,,
+submit,A,B2,hour,buy,5200,1:10,,
+submit,A,S1,hour,sell,5000,1:15,,
+submit,A,K1,block,sell,5050,1:10,,
+",
+        &[false],
+        11_000,
+    ),
+    (
+        "submit,A,B1,hour,buy,6000,1:10,,
+submit,A,S1,hour,sell,5000,1:10,,
+submit,A,K1,block,sell,4000,1:10,,
+",
+        &[true],
+        20_000,
+    ),
+    (
+        "submit,A,B1,hour,buy,6000,1:10,,
+submit,A,S1,hour,sell,5000,1:10,,
+submit,A,K1,block,sell,4000,1:10,,
+submit,A,K2,block,sell,4000,1:10,,
+",
+        &[true, false],
+        20_000,
+    ),
+    (
+        "submit,A,S1,hour,sell,1000,1:20,,
+submit,A,B1,hour,buy,3000,1:10,,
+submit,A,K1,block,buy,2500,1:10,,
+",
+        &[true],
+        35_000,
+    ),
+    (
+        "submit,A,B1,hour,buy,6000,1:20,,
+submit,A,S1,hour,sell,5000,1:20,,
+submit,A,B2,hour,buy,6000,2:20,,
+submit,A,S2,hour,sell,5000,2:20,,
+submit,A,K1,block,sell,5200,1:10,,
+submit,A,K2,block,sell,3000,2:10,K1,
+",
+        &[false, false],
+        40_000,
+    ),
+    (
+        "submit,A,B1,hour,buy,6000,1:20,,
+submit,A,K1,block,sell,1000,1:30,,
+",
+        &[false],
+        0,
+    ),
+    (
+        "submit,A,B1,hour,buy,6000,1:20,,
+submit,A,S1,hour,sell,5000,1:20,,
+submit,A,K1,block,sell,4000,1:5,,G
+submit,A,K2,block,sell,4000,1:10,,G
+",
+        &[false, true],
+        30_000,
+    ),
+    (
+        "submit,A,B1,hour,buy,6000,1:20,,
+submit,A,S1,hour,sell,5000,1:20,,
+submit,A,K1,block,sell,4000,1:5,,
+submit,A,K2,block,sell,4000,1:10,,
+",
+        &[true, true],
+        35_000,
+    ),
+];
+
+/// The selection with these acceptances.
+fn selection_of(accepted: &[bool]) -> Selection {
+    let mut selection = Selection::none();
+    for place in 0..4 {
+        if accepted.get(place) == Some(&true) {
+            selection = selection.with(place);
+        }
+    }
+    selection
+}
+
+/// The problem of a journal with these records and then a close.
+fn problem_of(alloc: Global, records: &str) -> Result<Problem, Fail> {
+    let text = format!(in alloc; "{records}close,,,,,,,,\n")?;
+    let commands = commands(alloc, &text)?;
+    let (book, _entries) = replay(alloc, Book::begin(alloc, 24)?, &commands)?;
+    Ok(Problem::of_book(alloc, &book)?)
+}
+
+/// Searches under every plan.
+fn check<R: Abort + Threads + Sync>(
+    rt: &R,
+    alloc: Global,
+    problem: &Problem,
+    want: Best,
+) -> Result<(), Fail> {
+    for workers in 1..=MOST_WORKERS {
+        for cut in 0..=MOST_CUT {
+            let plan = Plan::new(workers, cut, MOST_NODES).ok_or("a plan")?;
+            assert_eq!(rt; search(rt, alloc, problem, plan, &FreeTurn)?, want);
+        }
+    }
+    Ok(())
+}
+
+fn check_all<R: Abort + Threads + Sync>(
+    rt: &R,
+    alloc: Global,
+    clearings: &[Worked],
+) -> Result<(), Fail> {
+    for (records, accepted, welfare) in clearings {
+        let problem = problem_of(alloc, records)?;
+        let want = Best {
+            selection: selection_of(accepted),
+            welfare: *welfare,
+        };
+        assert_eq!(rt; problem.block_count(), accepted.len());
+        check(rt, alloc, &problem, want)?;
+    }
+    Ok(())
+}
+
+#[test]
+fn hourly_orders_under_every_plan(rt: HostRuntime) -> Result<(), Fail> {
+    check_all(&rt, rt.alloc(), &HOURLY)
+}
+
+#[test]
+fn blocks_under_every_plan(rt: HostRuntime) -> Result<(), Fail> {
+    check_all(&rt, rt.alloc(), &BLOCKS)
+}
