@@ -1,0 +1,177 @@
+use super::{FAMILY, MIXED, REFUSED, TRIES, TWO, are_equal, run_of};
+use crate::support::commands;
+use dam_book::{Command, Participant};
+use dam_gate::{Gate, Journal, Keeper, KeeperFault, Mismatch, Pass, Settled, Unsettled, settle};
+use limited_alloc::RefusesNth;
+use std::alloc::{Allocator, Global};
+use std::process::Abort;
+use std::sync::Wait;
+use std::test::Fail;
+
+/// Whether the two hold equal journals and books.
+fn are_keepers_equal<A: Allocator + Copy>(keeper: &Keeper<A>, ample: &Keeper) -> bool {
+    keeper.entries() == ample.entries() && are_equal(keeper.book(), ample.book())
+}
+
+/// Applies a command to two equal keepers, of which the first may be refused a growth, and then is as the
+/// second before the command.
+fn apply_to_both<A: Allocator + Copy>(
+    rt: &impl Abort,
+    keeper: &mut Keeper<A>,
+    ample: &mut Keeper,
+    command: &Command,
+) -> Result<(), Fail> {
+    match keeper.apply(command.copy()) {
+        Ok(entry) => assert_eq!(rt; entry, ample.apply(command.copy())?),
+        Err(fault) => {
+            assert_eq!(rt; fault, KeeperFault::Memory);
+            assert!(rt; are_keepers_equal(keeper, ample));
+            assert_eq!(rt; keeper.apply(command.copy())?, ample.apply(command.copy())?);
+        }
+    }
+    Ok(())
+}
+
+/// Applies the commands with a growth refused, and says whether that came.
+fn is_apply_refused(
+    rt: &impl Abort,
+    alloc: Global,
+    commands: &[Command],
+    nth: u64,
+) -> Result<bool, Fail> {
+    let heap = RefusesNth::new(alloc, nth);
+    let mut keeper = Keeper::begin(&heap, 24)?;
+    let mut ample = Keeper::begin(alloc, 24)?;
+    for command in commands {
+        apply_to_both(rt, &mut keeper, &mut ample, command)?;
+    }
+    assert!(rt; are_keepers_equal(&keeper, &ample));
+    Ok(heap.has_refused())
+}
+
+/// Applies the commands with each growth refused in turn.
+fn check_apply(rt: &impl Abort, alloc: Global, records: &str, least: u64) -> Result<(), Fail> {
+    let commands = commands(alloc, records)?;
+    for nth in 1..TRIES {
+        if !is_apply_refused(rt, alloc, &commands, nth)? {
+            assert!(rt; nth > least);
+            return Ok(());
+        }
+    }
+    Err(Fail::from("more growths than were tried"))
+}
+
+#[test]
+fn each_refused_growth_leaves_the_keeper(rt: HostRuntime) -> Result<(), Fail> {
+    check_apply(&rt, rt.alloc(), TWO, 4)?;
+    check_apply(&rt, rt.alloc(), MIXED, 10)?;
+    check_apply(&rt, rt.alloc(), REFUSED, 3)?;
+    check_apply(&rt, rt.alloc(), FAMILY, 5)
+}
+
+/// A gate's journal, and the passes of A, of B and of the operator.
+#[derive(Drop)]
+struct Finished {
+    journal: Journal,
+    passes: Vec<Pass>,
+}
+
+fn participant(code: &[u8]) -> Result<Participant, Fail> {
+    Ok(Participant::new(code).ok_or("a participant")?)
+}
+
+/// A pass of A, one of B, and the operator's.
+fn passes_of(rt: &impl Wait, alloc: Global, gate: &Gate) -> Result<Vec<Pass>, Fail> {
+    let mut passes = Vec::new(alloc);
+    passes.push(gate.pass(rt, participant(b"A")?)?)?;
+    passes.push(gate.pass(rt, participant(b"B")?)?)?;
+    passes.push(gate.operator(rt)?)?;
+    Ok(passes)
+}
+
+/// The place of the pass that a command of A, of B or of the operator is given by.
+fn place_of(command: &Command) -> usize {
+    match command {
+        Command::Submit { who, .. } | Command::Amend { who, .. } | Command::Cancel { who, .. } => {
+            if who.as_bytes() == b"A".as_slice() {
+                0
+            } else {
+                1
+            }
+        }
+        Command::Close => 2,
+    }
+}
+
+/// The commands of these records, each by its giver's pass, through a gate.
+fn through_gate(rt: &impl Wait, alloc: Global, records: &str) -> Result<Finished, Fail> {
+    let gate = Gate::begin(alloc, 24)?;
+    let mut passes = passes_of(rt, alloc, &gate)?;
+    for command in &commands(alloc, records)? {
+        let pass = passes.get_mut(place_of(command)).ok_or("a pass")?;
+        gate.call(rt, pass, command.copy())?;
+    }
+    let journal = gate.finish();
+    Ok(Finished { journal, passes })
+}
+
+/// Why a settlement failed, where it did.
+fn why(answer: Result<Settled, Unsettled>) -> Option<Mismatch> {
+    match answer {
+        Ok(_) => None,
+        Err(unsettled) => Some(unsettled.why),
+    }
+}
+
+/// Settles a journal and the first passes with a growth refused, and says whether that came: the journal
+/// is then handed back as it was, and settled again.
+fn is_settle_refused<R: Abort + Wait>(
+    rt: &R,
+    alloc: Global,
+    nth: u64,
+    count: usize,
+    wanted: Option<Mismatch>,
+) -> Result<bool, Fail> {
+    let (book, entries) = run_of(alloc, TWO)?;
+    let Finished { journal, passes } = through_gate(rt, alloc, TWO)?;
+    let given = passes.get(..count).unwrap_or(&[]);
+    let heap = RefusesNth::new(alloc, nth);
+    let answer = settle(&heap, journal, given);
+    if !heap.has_refused() {
+        assert_eq!(rt; why(answer), wanted);
+        return Ok(false);
+    }
+    let Err(unsettled) = answer else {
+        return Err(Fail::from("settled without memory"));
+    };
+    let Unsettled {
+        why: reason,
+        journal,
+    } = unsettled;
+    assert_eq!(rt; reason, Mismatch::Memory);
+    assert!(rt; journal.entries() == entries.as_slice() && are_equal(journal.book(), &book));
+    assert_eq!(rt; why(settle(&heap, journal, given)), wanted);
+    Ok(true)
+}
+
+/// Settles with each growth refused in turn.
+fn check_settle<R: Abort + Wait>(
+    rt: &R,
+    alloc: Global,
+    count: usize,
+    wanted: Option<Mismatch>,
+) -> Result<(), Fail> {
+    for nth in 1..TRIES {
+        if !is_settle_refused(rt, alloc, nth, count, wanted)? {
+            assert!(rt; nth > 1);
+            return Ok(());
+        }
+    }
+    Err(Fail::from("more growths than were tried"))
+}
+
+#[test]
+fn each_refused_growth_of_a_settlement(rt: HostRuntime) -> Result<(), Fail> {
+    check_settle(&rt, rt.alloc(), 3, None)?;
+    check_settle(&rt, rt.alloc(), 1, Some(Mismatch::Missing(2)))
+}
