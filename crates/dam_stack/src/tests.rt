@@ -84,27 +84,35 @@ fn answer(stack: &Stack, net: i64, near: usize) -> Option<Line> {
     Some((reached.welfare, low.get(), high.get()))
 }
 
-/// Compares the stack with the hour and with the units one by one, at nets from -30 to 30, whatever
-/// row the look-up begins from.
+/// Compares what the stack answers at a net volume, whatever row the look-up begins from, and what its
+/// hour clears at, with the wanted line.
+fn compare_at(rt: &impl Abort, stack: &Stack, net: i64, want: Option<Line>) {
+    for near in 0..14 {
+        assert_eq!(rt; answer(stack, net, near), want);
+    }
+    assert_eq!(rt; answer(stack, net, usize::MAX), want);
+    assert!(rt; -GREATEST_NET <= net && net <= GREATEST_NET);
+    let cleared = stack.hour().clear(net);
+    assert_eq!(rt;
+        cleared.map(|c| (c.welfare, c.low.get(), c.high.get())),
+        want
+    );
+}
+
+/// Compares the stack with the units one by one, at nets from -30 to 30.
+fn compare_at_each_net(rt: &impl Abort, stack: &Stack, units: &[i32], buys: (i64, i64)) {
+    for net in -30..=30 {
+        compare_at(rt, stack, net, plain(units, buys, net));
+    }
+}
+
+/// Compares the stack of the steps with its hour and with the units one by one.
 fn compare(rt: &impl Abort, alloc: Global, steps: &[Step]) -> Result<(), AllocError> {
     assert!(rt; steps.len() <= MOST_STEPS);
     let stack = Stack::of(alloc, Hour::build(alloc, steps)?)?;
     assert_eq!(rt; stack.hour().len(), steps.len());
     let units = units_of(alloc, steps)?;
-    let buys = buys_of(steps);
-    for net in -30..=30 {
-        let want = plain(&units, buys, net);
-        for near in 0..14 {
-            assert_eq!(rt; answer(&stack, net, near), want);
-        }
-        assert_eq!(rt; answer(&stack, net, usize::MAX), want);
-        assert!(rt; -GREATEST_NET <= net && net <= GREATEST_NET);
-        let cleared = stack.hour().clear(net);
-        assert_eq!(rt;
-            cleared.map(|c| (c.welfare, c.low.get(), c.high.get())),
-            want
-        );
-    }
+    compare_at_each_net(rt, &stack, &units, buys_of(steps));
     Ok(())
 }
 
@@ -112,7 +120,7 @@ fn compare(rt: &impl Abort, alloc: Global, steps: &[Step]) -> Result<(), AllocEr
 fn answers_as_the_hour(rt: HostRuntime) -> Result<(), Fail> {
     let alloc = rt.alloc();
     let mut seed = 1;
-    for number in 0..200 {
+    for number in 0..1000 {
         let mut steps = Vec::new(alloc);
         for _ in 0..number % 13 {
             seed = next(seed);
