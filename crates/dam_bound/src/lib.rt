@@ -1,9 +1,19 @@
 //! The bound of a search over the blocks of a problem: how great the welfare of a selection can be
 //! that agrees with a prefix of decisions on the first blocks.
 //!
+//! ```
+//! let relaxed = Relaxed::build(alloc, &problem)?;
+//! let bound = relaxed.bound(Selection::none().with(0), 2); // block 0 accepted, block 1 not, the others open
+//! ```
+//!
+//! A walk down the tree of prefixes asks for a [`Day`] of each, from that of the prefix before it
+//! (`root` and `child`): the same welfare, with only the periods of the last block looked up anew.
+//!
 //! What these words mean stands in `specs/`: prefixes and their completions, the relaxed welfare,
 //! the live count. A contract sees a [`Relaxed`] as the problem that it was built of, without its
-//! rows. That want of memory has a cause is only tested.
+//! rows. Only tested is that memory isn't said to have run out where it hasn't.
+//!
+//! The crate knows nothing of which selections are eligible.
 #![tactic(auto)]
 
 mod day;

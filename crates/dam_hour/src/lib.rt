@@ -14,6 +14,9 @@
 //! assert_eq!(hour.executed(0, 1), Some(10));
 //! ```
 //!
+//! A contract sees an hour as the list of its steps, in book order. Only tested is that memory isn't said
+//! to have run out where it hasn't.
+//!
 //! The crate knows nothing of blocks, books and the other periods.
 #![tactic(auto)]
 

@@ -1,10 +1,17 @@
 //! The search for the best selection of blocks: its pieces, and the workers that explore them.
 //!
+//! ```
+//! let plan = Plan::new(2, 3, 67_108_864)?; // workers, depth of the cutting, nodes of a piece
+//! let best = search(rt, alloc, &problem, plan, &FreeTurn)?;
+//! ```
+//!
 //! What these words mean stands in `specs/`: a plan, a piece and a sound answer about it, and what
 //! the answers of the workers come to. A contract sees a [`Plan`] as its three numbers, an
 //! [`Incumbent`] as the greatest value read of it and the greatest welfare offered to it, and a
-//! selection as its list of acceptances. That pieces are explored side by side, and that want of
-//! memory has a cause, is only tested.
+//! selection as its list of acceptances. Only tested is that pieces are explored side by side, that
+//! one worker reads what another offered, and that memory isn't said to have run out where it hasn't.
+//!
+//! The crate knows nothing of prices and of texts.
 #![tactic(auto)]
 
 mod answer;
