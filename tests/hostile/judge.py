@@ -15,7 +15,7 @@ NOTHING_REFUSED = Refusal("memory")
 MACHINE = 4  # the status of a fault of the machine
 MEMORY = Printed(MACHINE, b"", b"memory\n")
 READ = Printed(MACHINE, b"", b"device: read\n")
-WRITE = re.compile(rb"device: write(?: after (\d+) bytes)?\n")
+WRITE = re.compile(rb"device: write after (\d+) bytes\n")
 
 
 class Answer:
@@ -90,20 +90,18 @@ def read(answer, refusal, got, calls):
 
 
 def write(answer, refusal, got, calls):
-    """A failed write ends the run, and what was written is a front of the text."""
+    """A failed write ends the run, what was written is a front of the text, and the line tells its length."""
     text = answer.usual.stdout
     if calls < refusal.first:
         return got == answer.usual
     written = text[: refusal.moved_before(len(text))]
     line = WRITE.fullmatch(got.stderr)
-    if line is None or got.status != MACHINE or got.stdout != written:
-        return False
-    return line[1] is None or int(line[1]) == len(written)
+    return line is not None and int(line[1]) == len(written) and got == Printed(MACHINE, written, got.stderr)
 
 
-def interrupted_write(answer, refusal, got, calls):
-    """A write that a signal interrupts is a failed one, or is begun again."""
-    return got == answer.usual or write(answer, refusal, got, calls)
+def interrupted_write(answer, _refusal, got, _calls):
+    """A write that a signal interrupts is made again."""
+    return got == answer.usual
 
 
 def report(answer, _refusal, got, _calls):

@@ -229,7 +229,7 @@ def devices(runs):
 
 def is_failed_write(got):
     line = judge.WRITE.fullmatch(got.stderr)
-    return line is not None and line[1] in (None, b"0") and got == Printed(judge.MACHINE, b"", got.stderr)
+    return line is not None and line[1] == b"0" and got == Printed(judge.MACHINE, b"", got.stderr)
 
 
 def main():

@@ -76,7 +76,7 @@ book_fault-day plan periods commands entries (Mismatch why) taken day is = absur
 book_fault-day plan periods commands entries (Unfinished piece visited) taken day is = record { taken = taken; entries = entries; day_run = day; cut = is }
 book_fault-day plan periods commands entries (Collected piece) taken day is = absurd is
 book_fault-day plan periods commands entries Memory taken day is = tt
-book_fault-day plan periods commands entries Write taken day is = absurd is
+book_fault-day plan periods commands entries (Write written) taken day is = absurd is
 
 pub journal_fault-day : {X : Type 0} (plan : PlanTerms) (periods : ℕ) (commands : List Command) (j : JournalState) (result : Result X RunFault)
     → refused commands ≡ None → IsDayRun periods commands j.entries → IsJournal j → j.book.periods ≡ periods
@@ -96,7 +96,7 @@ early_fault-commands plan periods commands (Mismatch why) is = is
 early_fault-commands plan periods commands (Unfinished piece visited) is = absurd is
 early_fault-commands plan periods commands (Collected piece) is = absurd is
 early_fault-commands plan periods commands Memory is = tt
-early_fault-commands plan periods commands Write is = absurd is
+early_fault-commands plan periods commands (Write written) is = absurd is
 
 -- what commands are answered, a run over their journal answers
 pub commands_fault-run : (plan : PlanTerms) (periods : ℕ) (commands : List Command) (fault : RunFault) → IsCommandsFault plan periods commands fault → IsFaultOnDay plan periods commands fault
@@ -110,7 +110,7 @@ commands_fault-run plan periods commands (Mismatch why) is = is
 commands_fault-run plan periods commands (Unfinished piece visited) is = is
 commands_fault-run plan periods commands (Collected piece) is = absurd is
 commands_fault-run plan periods commands Memory is = tt
-commands_fault-run plan periods commands Write is = absurd is
+commands_fault-run plan periods commands (Write written) is = absurd is
 
 -- what the commands of a text's journal are answered, the text is answered
 pub commands_fault-text : (plan : PlanTerms) (text : List ℕ) (fault : RunFault) → IsMadeFrom (IsCommandsFault plan) text fault → IsDayTextFault plan text fault
@@ -124,7 +124,7 @@ commands_fault-text plan text (Mismatch why) is = is
 commands_fault-text plan text (Unfinished piece visited) is = is
 commands_fault-text plan text (Collected piece) is = is
 commands_fault-text plan text Memory is = tt
-commands_fault-text plan text Write is = is
+commands_fault-text plan text (Write written) is = is
 
 made-given : (plan : PlanTerms) (given : List ℕ) (fault : RunFault) → IsMadeFrom (IsCommandsFault plan) (take most_read given) fault → IsMadeFrom (IsCommandsFault plan) given fault
 made-given plan given fault is = (is.0, is.1, reads-given given is.0 is.1 is.2, is.3)
@@ -140,8 +140,8 @@ day_fault-given plan given (Mismatch why) is = made-given plan given (Mismatch w
 day_fault-given plan given (Unfinished piece visited) is = made-given plan given (Unfinished piece visited) is
 day_fault-given plan given (Collected piece) is = made-given plan given (Collected piece) is
 day_fault-given plan given Memory is = tt
-day_fault-given plan given Write is = absurd is.3
+day_fault-given plan given (Write written) is = absurd is.3
 
 -- where it is the text of a day, the journal's commands aren't refused
-pub day_text-taken : (plan : PlanTerms) (printed given : List ℕ) → IsDayTextTo (take most_read given) printed → IsRunDayFault plan given Write
-day_text-taken plan printed given are = (are.0, are.1, reads-given given are.0 are.1 are.2, are.3.taken)
+pub day_text-taken : (plan : PlanTerms) (printed given : List ℕ) → IsDayTextTo (take most_read given) printed → (written : ℕ) → IsRunDayFault plan given (Write written)
+day_text-taken plan printed given are written = (are.0, are.1, reads-given given are.0 are.1 are.2, are.3.taken)

@@ -53,7 +53,7 @@ fault-on_given given (Mismatch why) is = absurd is
 fault-on_given given (Unfinished piece visited) is = absurd is
 fault-on_given given (Collected piece) is = absurd is
 fault-on_given given Memory is = tt
-fault-on_given given Write is = absurd is
+fault-on_given given (Write written) is = absurd is
 
 pub clear_fault-given : (plan : PlanTerms) (given : List ℕ) (fault : RunFault) → IsClearTextFault plan (take most_read given) fault → IsClearFault plan given fault
 clear_fault-given plan given Read is = tt
@@ -66,7 +66,7 @@ clear_fault-given plan given (Mismatch why) is = absurd is
 clear_fault-given plan given (Unfinished piece visited) is = (is.0, is.1, reads-given given is.0 is.1 is.2, is.3)
 clear_fault-given plan given (Collected piece) is = absurd is
 clear_fault-given plan given Memory is = tt
-clear_fault-given plan given Write is = absurd is
+clear_fault-given plan given (Write written) is = absurd is
 
 -- what a book is answered, a run answers that makes it
 pub book_fault-run : (plan : PlanTerms) (book : BookState) (fault : RunFault) → IsBookFault plan book fault → IsFaultOnBook plan book fault
@@ -80,7 +80,7 @@ book_fault-run plan book (Mismatch why) is = absurd is
 book_fault-run plan book (Unfinished piece visited) is = is
 book_fault-run plan book (Collected piece) is = absurd is
 book_fault-run plan book Memory is = tt
-book_fault-run plan book Write is = absurd is
+book_fault-run plan book (Write written) is = absurd is
 
 -- what the search of a closed book's problem answers, the book is answered
 pub search_fault-book : (plan : PlanTerms) (book : BookState) (fault : SearchFault) → book.closed ≡ true

@@ -1,5 +1,6 @@
 pub mod Readings
 pub mod Fronts
+pub mod Cuts
 pub mod Runs
 pub mod Results
 pub mod DayFaults

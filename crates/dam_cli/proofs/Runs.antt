@@ -1,12 +1,13 @@
 -- What is known of the given text, which may be unknown, from what is known of the text that was read.
-use Rattle.std.proofs.Common.{◌≡◌, ℕ, List, take, Option, Some, None, IfSome, Result, IfErr, OnOk, MatchResult, subst, sym}
+use Rattle.std.proofs.Common.{◌≡◌, ℕ, List, take, Option, Some, None, IfSome, Result, IfErr, OnOk, MatchResult, refl, subst}
 use Rattle.std.proofs.lemmas.Result.{MatchResult-from_both, on_ok_weaker, IfErr-weaker}
 use Rattle.std.specs.Io.KnownBytes.{Appends}
 use Rattle.dam_book.specs.declared.command.Command.{Command}
 use Rattle.dam_results.specs.Journal.{IsMadeFrom, ReadsAs}
 use Rattle.dam_cli.specs.declared.fault.RunFault.{RunFault}
 use Rattle.dam_cli.specs.declared.fault.RunFault.TheVariants.{Write}
-use Rattle.dam_cli.specs.Engine.{most_read, Writes}
+use Rattle.dam_cli.specs.Engine.{most_read, CutsOff, IsCutOff, Writes}
+use Rattle.dam_cli.proofs.Cuts.{cut-told, cut-off, uncut}
 use Rattle.dam_cli.proofs.Fronts.{reads-given, reads-front}
 
 -- the text is the front that is read of the given bytes
@@ -31,11 +32,34 @@ known-failed Fails Told known text fault periods commands weaker =
     (λ given failed reads. weaker fault (failed (reads-front given periods commands reads)))
 
 -- where the writer failed, what its text shows of the given bytes lets it be told
-pub known-write : (P : List ℕ → Type 0) (Q : List ℕ → RunFault → Type 0) (known : Option (List ℕ)) (text : List ℕ) (result : Result (Unit {0}) RunFault)
-    → ((given : List ℕ) → P (take most_read given) → Q given Write) → IsFrontOf known text → IfErr result (λ fault. fault ≡ Write) → P text
+pub known-write : (P : List ℕ → Type 0) (Q : List ℕ → RunFault → Type 0) (known : Option (List ℕ)) (text : List ℕ)
+    (old new : Option (List ℕ)) (sent : List ℕ) (result : Result (Unit {0}) RunFault)
+    → ((given : List ℕ) → P (take most_read given) → (written : ℕ) → Q given (Write written)) → IsFrontOf known text → IfErr result (IsCutOff old new sent) → P text
     → IfErr result (λ fault. IfSome known (λ given. Q given fault))
-known-write P Q known text result carries front failed holds =
-    IfErr-weaker result _ _ (λ fault is. known-front P (λ bs. Q bs fault) known text (λ given shown. subst (Q given) (sym is) (carries given shown)) front holds) failed
+known-write P Q known text old new sent result carries front cut holds =
+    IfErr-weaker result _ _ (λ fault is. known-front P (λ bs. Q bs fault) known text (λ given shown. cut-told (Q given) old new sent (carries given shown) fault is) front holds) cut
+
+-- where the writer failed, it took just the first bytes of a text for the given one
+pub known-cut : (Prints : ℕ → List Command → List ℕ → Type 0) (old new : Option (List ℕ))
+    (known : Option (List ℕ)) (text sent printed : List ℕ) (result : Result (Unit {0}) RunFault)
+    → IsFrontOf known text → sent ≡ printed → IfErr result (IsCutOff old new sent)
+    → IsMadeFrom Prints text printed → IfErr result (λ fault. IfSome known (λ given. CutsOff old new (IsMadeFrom Prints given) fault))
+known-cut Prints old new known text sent printed result front same cut are =
+    IfErr-weaker result _ _ (λ fault is. known-front (λ bs. IsMadeFrom Prints bs printed) (λ bs. CutsOff old new (IsMadeFrom Prints bs) fault) known text
+    (λ given made. cut-off (IsMadeFrom Prints given) old new printed (made.0, made.1, reads-given given made.0 made.1 made.2, made.3) fault
+    (subst (λ bs. IsCutOff old new bs fault) same is)) front are) cut
+
+-- another fault than that the writer failed says nothing of what it took
+pub known-uncut : (Fails : RunFault → Type 0) (IsPrinted : List ℕ → List ℕ → Type 0) (old new known : Option (List ℕ)) (fault : RunFault)
+    → ((written : ℕ) → ¬ (Fails (Write written))) → Fails fault → IfSome known (λ given. CutsOff old new (IsPrinted given) fault)
+known-uncut Fails IsPrinted old new None fault none is = tt
+known-uncut Fails IsPrinted old new (Some given) fault none is = uncut Fails old new (IsPrinted given) none fault is
+
+-- only where the writer failed did it take bytes
+pub unwritten : (Kept : Type 0) (old new : Option (List ℕ)) (sent : List ℕ) (result : Result (Unit {0}) RunFault)
+    → IfErr result (IsCutOff old new sent) → IfErr result (λ fault. ((written : ℕ) → ¬ (fault ≡ Write written)) → Kept)
+unwritten Kept old new sent result cut =
+    IfErr-weaker result _ _ (cut-told (λ fault. ((written : ℕ) → ¬ (fault ≡ Write written)) → Kept) old new sent (λ written none. absurd (none written refl))) cut
 
 -- what was sent is what was printed
 pub writes : (IsPrinted : List ℕ → Type 0) (old new : Option (List ℕ)) (sent printed : List ℕ) (result : Result (Unit {0}) RunFault)
@@ -52,12 +76,12 @@ known-done Prints old new known text sent printed result front same wrote are =
     (λ given is. (printed, (is.0, is.1, reads-given given is.0 is.1 is.2, is.3), subst (Appends old new) same appended)) front are) wrote
 
 -- where the given text is a journal, its own text is printed
-pub known-exact : (IsItsOwn Told : Type 0) (Fails : RunFault → Type 0)
+pub known-exact : (IsItsOwn Told : Type 0) (Fails : RunFault → Type 0) (old new : Option (List ℕ)) (sent : List ℕ)
     (known : Option (List ℕ)) (text : List ℕ) (result : Result (Unit {0}) RunFault) (periods : ℕ) (commands : List Command)
-    → IsFrontOf known text → (IsItsOwn → OnOk result Told) → (IsItsOwn → Fails Write) → IfErr result (λ fault. fault ≡ Write)
+    → IsFrontOf known text → (IsItsOwn → OnOk result Told) → (IsItsOwn → (written : ℕ) → Fails (Write written)) → IfErr result (IsCutOff old new sent)
     → (ReadsAs text periods commands → IsItsOwn)
     → IfSome known (λ given. ReadsAs given periods commands → MatchResult result (λ _. Told) Fails)
-known-exact IsItsOwn Told Fails known text result periods commands front told may failed are =
+known-exact IsItsOwn Told Fails old new sent known text result periods commands front told may cut are =
     known-front (λ bs. ReadsAs bs periods commands → IsItsOwn) (λ bs. ReadsAs bs periods commands → MatchResult result (λ _. Told) Fails) known text
     (λ given own reads. let is_own = own (reads-front given periods commands reads) in
-    MatchResult-from_both result _ _ (told is_own) (IfErr-weaker result _ _ (λ fault is. subst Fails (sym is) (may is_own)) failed)) front are
+    MatchResult-from_both result _ _ (told is_own) (IfErr-weaker result _ _ (cut-told Fails old new sent (may is_own)) cut)) front are

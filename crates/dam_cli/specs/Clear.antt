@@ -56,7 +56,7 @@ IsBookFault plan book fault = ⊥
 -- what a run whose journal makes this book can answer: what the book can be answered, that the reader failed, or, where the book is closed, that the writer did
 abbrev pub IsFaultOnBook : PlanTerms → BookState → RunFault → Type 0
 IsFaultOnBook plan book Read = Unit {0}
-IsFaultOnBook plan book Write = book.closed ≡ true
+IsFaultOnBook plan book (Write written) = book.closed ≡ true
 IsFaultOnBook plan book fault = IsBookFault plan book fault
 
 -- what a text can be answered that was read: its first fault, or what the book of its journal can be answered
@@ -68,5 +68,5 @@ IsClearTextFault plan text fault = IsTextFault text fault
 -- what a run over a text can answer: what its text can be answered, that the reader failed, or, where the text is a journal whose book is closed, that the writer did
 abbrev pub IsClearFault : PlanTerms → List ℕ → RunFault → Type 0
 IsClearFault plan text Read = Unit {0}
-IsClearFault plan text Write = IsClosedJournal text
+IsClearFault plan text (Write written) = IsClosedJournal text
 IsClearFault plan text fault = IsClearTextFault plan text fault

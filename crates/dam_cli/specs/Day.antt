@@ -68,7 +68,7 @@ IsCommandsFault plan periods commands fault = IsEarlyFault commands fault
 -- aren't refused, that the writer did
 abbrev pub IsFaultOnDay : PlanTerms → ℕ → List Command → RunFault → Type 0
 IsFaultOnDay plan periods commands Read = Unit {0}
-IsFaultOnDay plan periods commands Write = refused commands ≡ None
+IsFaultOnDay plan periods commands (Write written) = refused commands ≡ None
 IsFaultOnDay plan periods commands fault = IsCommandsFault plan periods commands fault
 
 -- what a text can be answered that was read: its first fault, what the commands of its journal can be answered, or that
@@ -82,5 +82,5 @@ IsDayTextFault plan text fault = IsMadeFrom (IsCommandsFault plan) text fault
 -- whose commands aren't refused, that the writer did
 abbrev pub IsRunDayFault : PlanTerms → List ℕ → RunFault → Type 0
 IsRunDayFault plan text Read = Unit {0}
-IsRunDayFault plan text Write = IsMadeFrom (IsFaultOnDay plan) text Write
+IsRunDayFault plan text (Write written) = IsMadeFrom (IsFaultOnDay plan) text (Write written)
 IsRunDayFault plan text fault = IsDayTextFault plan text fault

@@ -43,7 +43,7 @@ fault_text (Mismatch why) = mismatch_text why
 fault_text (Unfinished piece visited) = codes "unfinished: piece " ++ (decimal piece ++ (codes " after " ++ (decimal visited ++ codes " nodes")))
 fault_text (Collected piece) = codes "mismatch: Collected " ++ decimal piece
 fault_text Memory = codes "memory"
-fault_text Write = codes "device: write"
+fault_text (Write written) = codes "device: write after " ++ (decimal written ++ codes " bytes")
 
 -- 1 where the text that was read is at fault, 4 where the machine is
 abbrev pub input_status : JournalFault → ℕ
@@ -76,7 +76,7 @@ fault_status (Mismatch why) = mismatch_status why
 fault_status (Unfinished piece visited) = 3
 fault_status (Collected piece) = 5
 fault_status Memory = 4
-fault_status Write = 4
+fault_status (Write written) = 4
 
 -- the fault of a run whose input has that fault
 abbrev pub run_fault_of : JournalFault → RunFault

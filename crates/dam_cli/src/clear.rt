@@ -2,7 +2,7 @@ ghost use Rattle.std.specs.Prelude.{◌≡◌, ◌≢◌, ◌↔◌, ℕ, List, 
 ghost use Rattle.dam_book.specs.Book.{run};
 ghost use Rattle.dam_book.specs.declared.command.Command.{Command};
 ghost use Rattle.dam_results.specs.Journal.{ReadsAs};
-ghost use Rattle.dam_cli.specs.Engine.{IsTextFault, Writes};
+ghost use Rattle.dam_cli.specs.Engine.{CutsOff, IsTextFault, Writes};
 ghost use Rattle.dam_cli.specs.Clear.{AreResultsTo, IsBookFault, IsClearedAs, IsClearFault, IsClearTextFault, IsFaultOnBook};
 
 use crate::fault::RunFault;
@@ -39,7 +39,10 @@ pub fn run_clear<H: Threads + Sync, R: Read, W: Write, T: Watch + Sync>(
         Writes (W.contents writer.old) (W.contents writer.new) (AreResultsTo given))) }
     ensures fault { IfErr result (λ fault.
         IfSome (R.remaining reader.old) (λ given. IsClearFault plan given fault)) }
-    ensures unwritten { IfErr result (λ fault. fault ≢ RunFault.Write → writer.new ≡ writer.old) }
+    ensures unwritten { IfErr result (λ fault.
+        ((written : ℕ) → fault ≢ RunFault.Write written) → writer.new ≡ writer.old) }
+    ensures cut { IfErr result (λ fault. IfSome (R.remaining reader.old) (λ given.
+        CutsOff (W.contents writer.old) (W.contents writer.new) (AreResultsTo given) fault)) }
     ensures exact { (periods : ℕ) (commands : List Command) → IfSome (R.remaining reader.old)
         (λ given. ReadsAs given periods commands → MatchResult result
         (λ _. Writes (W.contents writer.old) (W.contents writer.new) (IsClearedAs (run periods commands)))

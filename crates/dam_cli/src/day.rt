@@ -4,7 +4,7 @@ ghost use Rattle.dam_book.specs.declared.command.Command.{Command};
 ghost use Rattle.dam_gate.specs.Day.{IsDayRun, refused};
 ghost use Rattle.dam_gate.specs.Journal.{IsJournal};
 ghost use Rattle.dam_results.specs.Journal.{ReadsAs};
-ghost use Rattle.dam_cli.specs.Engine.{Writes};
+ghost use Rattle.dam_cli.specs.Engine.{CutsOff, Writes};
 ghost use Rattle.dam_cli.specs.Clear.{IsBookFault, IsClearedAs};
 ghost use Rattle.dam_cli.specs.Day.{IsCommandsFault, IsDayText, IsDayTextFault, IsDayTextTo, IsEarlyFault, IsFaultOnDay, IsRunDayFault, with_results};
 
@@ -48,7 +48,10 @@ pub fn run_day<H: Threads + Wait + Sync, R: Read, W: Write, T: Watch + Sync, U: 
         Writes (W.contents writer.old) (W.contents writer.new) (IsDayTextTo given))) }
     ensures fault { IfErr result (λ fault.
         IfSome (R.remaining reader.old) (λ given. IsRunDayFault plan given fault)) }
-    ensures unwritten { IfErr result (λ fault. fault ≢ RunFault.Write → writer.new ≡ writer.old) }
+    ensures unwritten { IfErr result (λ fault.
+        ((written : ℕ) → fault ≢ RunFault.Write written) → writer.new ≡ writer.old) }
+    ensures cut { IfErr result (λ fault. IfSome (R.remaining reader.old) (λ given.
+        CutsOff (W.contents writer.old) (W.contents writer.new) (IsDayTextTo given) fault)) }
     ensures exact { (periods : ℕ) (commands : List Command) → IfSome (R.remaining reader.old)
         (λ given. ReadsAs given periods commands → MatchResult result
         (λ _. Writes (W.contents writer.old) (W.contents writer.new) (IsDayText periods commands))

@@ -35,8 +35,8 @@ pub enum RunFault {
     Collected { piece: u32 },
     /// Memory ran out.
     Memory,
-    /// The writer failed; a part of the text, or all of it, may have been written.
-    Write,
+    /// The writer failed when it had taken so many bytes of the text: all, where it failed to flush them.
+    Write { written: usize },
 }
 
 impl fmt::Display for RunFault {
@@ -85,7 +85,7 @@ impl fmt::Display for RunFault {
             RunFault::Input(JournalFault::Memory)
             | RunFault::Mismatch(Mismatch::Memory)
             | RunFault::Memory => f.write_str("memory"),
-            RunFault::Write => f.write_str("device: write"),
+            RunFault::Write { written } => write!(f, "device: write after {written} bytes"),
         }
     }
 }
@@ -159,7 +159,7 @@ pub fn status(fault: &RunFault) -> u8
         | RunFault::TooManyParticipants(_)
         | RunFault::StillOpen => 1,
         RunFault::Unfinished { .. } => 3,
-        RunFault::Read | RunFault::Memory | RunFault::Write => 4,
+        RunFault::Read | RunFault::Memory | RunFault::Write { .. } => 4,
         RunFault::Mismatch(_) | RunFault::Collected { .. } => 5,
     }
 }

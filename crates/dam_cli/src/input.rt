@@ -1,5 +1,5 @@
-ghost use Rattle.std.specs.Prelude.{◌≡◌, ◌≢◌, take, IfOk, IfErr, IfSome};
-ghost use Rattle.dam_cli.specs.Engine.{most_read, IsMachineFault};
+ghost use Rattle.std.specs.Prelude.{◌≡◌, take, IfOk, IfErr, IfSome};
+ghost use Rattle.dam_cli.specs.Engine.{most_read, IsReadingFault};
 
 use crate::fault::RunFault;
 use dam_results::MOST_BYTES;
@@ -19,8 +19,7 @@ const CHUNK: usize = 65_536;
 pub fn read_input<R: Read>(alloc: Global, reader: &mut R) -> Result<Vec<u8>, RunFault>
     ensures text { IfOk result (λ text.
         IfSome (R.remaining reader.old) (λ given. text.items ≡ take most_read given)) }
-    ensures fault { IfErr result IsMachineFault }
-    ensures no_write { result ≢ Err RunFault.Write }
+    ensures fault { IfErr result IsReadingFault }
 {
     let mut text = Vec::new(alloc);
     let mut chunk = [0; CHUNK];

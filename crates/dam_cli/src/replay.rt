@@ -2,7 +2,7 @@ ghost use Rattle.std.specs.Prelude.{◌≡◌, ◌≢◌, ℕ, List, IfOk, IfErr
 ghost use Rattle.std.specs.Io.KnownBytes.{Appends};
 ghost use Rattle.dam_book.specs.declared.command.Command.{Command};
 ghost use Rattle.dam_results.specs.Journal.{ReadsAs};
-ghost use Rattle.dam_cli.specs.Engine.{IsFaultOn, IsMachineFault, IsTextFault, Writes};
+ghost use Rattle.dam_cli.specs.Engine.{CutsOff, IsFaultOn, IsMachineFault, IsTextFault, Writes};
 ghost use Rattle.dam_results.specs.Replies.{replies_to};
 ghost use Rattle.dam_cli.specs.Replay.{AreRepliesTo};
 
@@ -31,7 +31,10 @@ pub fn run_replay<R: Read, W: Write>(
         Writes (W.contents writer.old) (W.contents writer.new) (AreRepliesTo given))) }
     ensures fault { IfErr result (λ fault.
         IfSome (R.remaining reader.old) (λ given. IsFaultOn given fault)) }
-    ensures unwritten { IfErr result (λ fault. fault ≢ RunFault.Write → writer.new ≡ writer.old) }
+    ensures unwritten { IfErr result (λ fault.
+        ((written : ℕ) → fault ≢ RunFault.Write written) → writer.new ≡ writer.old) }
+    ensures cut { IfErr result (λ fault. IfSome (R.remaining reader.old) (λ given.
+        CutsOff (W.contents writer.old) (W.contents writer.new) (AreRepliesTo given) fault)) }
     ensures exact { (periods : ℕ) (commands : List Command) → IfSome (R.remaining reader.old)
         (λ given. ReadsAs given periods commands → MatchResult result
         (λ _. Appends (W.contents writer.old) (W.contents writer.new) (replies_to periods commands))

@@ -60,28 +60,71 @@ impl<R: Read> Read for Dripping<R> {
     }
 }
 
-/// How a writer fails.
+/// How a writer breaks.
 #[derive(Clone, Copy, PartialEq)]
 enum Breakage {
     Refuses,
     TakesNothing,
+    IsInterrupted,
     LosesAtFlush,
 }
 
+/// One of two ways to fail, by turns.
+fn failure(number: usize) -> Breakage {
+    if number % 2 == 0 {
+        Breakage::Refuses
+    } else {
+        Breakage::TakesNothing
+    }
+}
+
+/// A writer that takes a byte a call, and breaks at the call of number `failing`, counted from 1, or at
+/// its flush.
 #[derive(Drop)]
-struct Broken(Breakage);
+struct Broken {
+    taken: Vec<u8>,
+    called: usize,
+    flushed: usize,
+    failing: usize,
+    breakage: Breakage,
+}
+
+impl Broken {
+    /// A writer that breaks once it has taken so many bytes.
+    fn behind(alloc: Global, bytes: usize, breakage: Breakage) -> Broken {
+        Broken {
+            taken: Vec::new(alloc),
+            called: 0,
+            flushed: 0,
+            failing: bytes.saturating_add(1),
+            breakage,
+        }
+    }
+}
 
 impl Write for Broken {
     fn write(&mut self, buf: &[u8]) -> io::Result<usize> {
-        match self.0 {
-            Breakage::Refuses => Err(io::Error::from(io::ErrorKind::BrokenPipe)),
-            Breakage::TakesNothing => Ok(0),
-            Breakage::LosesAtFlush => Ok(buf.len()),
+        self.called = self.called.saturating_add(1);
+        if self.called == self.failing {
+            match self.breakage {
+                Breakage::Refuses => return Err(io::Error::from(io::ErrorKind::BrokenPipe)),
+                Breakage::TakesNothing => return Ok(0),
+                Breakage::IsInterrupted => {
+                    return Err(io::Error::from(io::ErrorKind::Interrupted));
+                }
+                Breakage::LosesAtFlush => {}
+            }
         }
+        let room = buf.len().min(1);
+        self.taken.write(&buf[..room])
     }
 
     fn flush(&mut self) -> io::Result<()> {
-        Err(io::Error::from(io::ErrorKind::Other))
+        self.flushed = self.flushed.saturating_add(1);
+        if self.breakage == Breakage::LosesAtFlush {
+            return Err(io::Error::from(io::ErrorKind::Other));
+        }
+        Ok(())
     }
 }
 
@@ -196,7 +239,11 @@ fn each_fault_has_its_line_and_status(rt: HostRuntime) -> Result<(), Fail> {
             5,
         ),
         (RunFault::Memory, "memory\n", 4),
-        (RunFault::Write, "device: write\n", 4),
+        (
+            RunFault::Write { written: 82 },
+            "device: write after 82 bytes\n",
+            4,
+        ),
     ];
     for (fault, line, number) in table {
         assert_eq!(rt; fault_line(rt.alloc(), &fault)?.as_slice(), line.as_bytes());
@@ -247,16 +294,41 @@ fn a_failed_read_ends_the_run(rt: HostRuntime) -> Result<(), Fail> {
 }
 
 #[test]
-fn a_failed_write_is_answered(rt: HostRuntime) {
-    for breakage in [
-        Breakage::Refuses,
-        Breakage::TakesNothing,
-        Breakage::LosesAtFlush,
-    ] {
-        let mut reader = STORED_RUN;
-        let result = run_replay(rt.alloc(), &mut reader, &mut Broken(breakage));
-        assert_eq!(rt; result, Err(RunFault::Write));
+fn the_bytes_before_a_failed_write_are_told(rt: HostRuntime) {
+    for breakage in [Breakage::Refuses, Breakage::TakesNothing] {
+        for written in 0..STORED_REPLIES.len() {
+            let mut reader = STORED_RUN;
+            let mut writer = Broken::behind(rt.alloc(), written, breakage);
+            let result = run_replay(rt.alloc(), &mut reader, &mut writer);
+            assert_eq!(rt; result, Err(RunFault::Write { written }));
+            assert_eq!(rt; writer.taken.as_slice(), &STORED_REPLIES[..written]);
+            assert_eq!(rt; writer.called, writer.failing);
+            assert_eq!(rt; writer.flushed, 0);
+        }
     }
+}
+
+#[test]
+fn an_interrupted_write_is_made_again(rt: HostRuntime) {
+    for written in 0..STORED_REPLIES.len() {
+        let mut reader = STORED_RUN;
+        let mut writer = Broken::behind(rt.alloc(), written, Breakage::IsInterrupted);
+        assert_eq!(rt; run_replay(rt.alloc(), &mut reader, &mut writer), Ok(()));
+        assert_eq!(rt; writer.taken.as_slice(), STORED_REPLIES);
+        assert_eq!(rt; writer.called, STORED_REPLIES.len() + 1);
+        assert_eq!(rt; writer.flushed, 1);
+    }
+}
+
+#[test]
+fn all_bytes_stand_before_a_failed_flush(rt: HostRuntime) {
+    let mut reader = STORED_RUN;
+    let mut writer = Broken::behind(rt.alloc(), 0, Breakage::LosesAtFlush);
+    let result = run_replay(rt.alloc(), &mut reader, &mut writer);
+    let written = STORED_REPLIES.len();
+    assert_eq!(rt; result, Err(RunFault::Write { written }));
+    assert_eq!(rt; writer.taken.as_slice(), STORED_REPLIES);
+    assert_eq!(rt; writer.flushed, 1);
 }
 
 #[test]

@@ -1,4 +1,4 @@
-use super::{Breakage, Broken, Dripping, Holding};
+use super::{Breakage, Broken, Dripping, Holding, failure};
 use crate::clear::run_clear;
 use crate::fault::RunFault;
 use dam_search::{FreeTurn, MOST_NODES, Plan};
@@ -141,14 +141,24 @@ fn a_failed_read_ends_a_clearing(rt: HostRuntime) {
 }
 
 #[test]
-fn a_failed_write_of_results_is_answered(rt: HostRuntime) {
-    for breakage in [
-        Breakage::Refuses,
-        Breakage::TakesNothing,
-        Breakage::LosesAtFlush,
-    ] {
+fn the_results_before_a_failed_write_are_told(rt: HostRuntime) {
+    for written in 0..EMPTY_RESULTS.len() {
         let mut reader = EMPTY_DAY;
-        let result = cleared(&rt, rt.alloc(), &mut reader, &mut Broken(breakage));
-        assert_eq!(rt; result, Err(RunFault::Write));
+        let mut writer = Broken::behind(rt.alloc(), written, failure(written));
+        let result = cleared(&rt, rt.alloc(), &mut reader, &mut writer);
+        assert_eq!(rt; result, Err(RunFault::Write { written }));
+        assert_eq!(rt; writer.taken.as_slice(), &EMPTY_RESULTS[..written]);
+        assert_eq!(rt; writer.called, writer.failing);
     }
+}
+
+#[test]
+fn all_results_stand_before_a_failed_flush(rt: HostRuntime) {
+    let mut reader = BLOCK_DAY;
+    let mut writer = Broken::behind(rt.alloc(), 0, Breakage::LosesAtFlush);
+    let result = cleared(&rt, rt.alloc(), &mut reader, &mut writer);
+    let written = BLOCK_RESULTS.len();
+    assert_eq!(rt; result, Err(RunFault::Write { written }));
+    assert_eq!(rt; writer.taken.as_slice(), BLOCK_RESULTS);
+    assert_eq!(rt; writer.flushed, 1);
 }

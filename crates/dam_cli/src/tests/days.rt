@@ -1,4 +1,4 @@
-use super::{Breakage, Broken, Dripping, Holding};
+use super::{Breakage, Broken, Dripping, Holding, failure};
 use crate::day::run_day;
 use crate::fault::RunFault;
 use dam_search::{FreeTurn, MOST_NODES, Plan, Turnstile};
@@ -238,16 +238,30 @@ fn a_failed_read_ends_a_day(rt: HostRuntime) {
 }
 
 #[test]
-fn a_failed_write_of_a_day_is_answered(rt: HostRuntime) {
-    for breakage in [
-        Breakage::Refuses,
-        Breakage::TakesNothing,
-        Breakage::LosesAtFlush,
-    ] {
+fn the_bytes_of_a_day_before_a_failed_write_are_told(rt: HostRuntime) -> Result<(), Fail> {
+    let text = one_participants_text(rt.alloc())?;
+    for written in 0..text.len() {
         let mut reader = ONE_PARTICIPANT;
-        let result = ran(&rt, rt.alloc(), &mut reader, &mut Broken(breakage));
-        assert_eq!(rt; result, Err(RunFault::Write));
+        let mut writer = Broken::behind(rt.alloc(), written, failure(written));
+        let result = ran(&rt, rt.alloc(), &mut reader, &mut writer);
+        assert_eq!(rt; result, Err(RunFault::Write { written }));
+        assert_eq!(rt; writer.taken.as_slice(), &text[..written]);
+        assert_eq!(rt; writer.called, writer.failing);
     }
+    Ok(())
+}
+
+#[test]
+fn a_whole_day_stands_before_a_failed_flush(rt: HostRuntime) -> Result<(), Fail> {
+    let text = one_participants_text(rt.alloc())?;
+    let mut reader = ONE_PARTICIPANT;
+    let mut writer = Broken::behind(rt.alloc(), 0, Breakage::LosesAtFlush);
+    let result = ran(&rt, rt.alloc(), &mut reader, &mut writer);
+    let written = text.len();
+    assert_eq!(rt; result, Err(RunFault::Write { written }));
+    assert_eq!(rt; writer.taken.as_slice(), text.as_slice());
+    assert_eq!(rt; writer.flushed, 1);
+    Ok(())
 }
 
 #[test]

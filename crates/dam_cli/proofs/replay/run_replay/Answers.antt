@@ -7,7 +7,7 @@ use Rattle.dam_cli.specs.Engine.{IsFaultOn, IsMachineFault, IsTextFault}
 use Rattle.dam_results.specs.Replies.{AreReplies}
 use Rattle.dam_cli.specs.Replay.{AreRepliesTo}
 use Rattle.dam_cli.proofs.Fronts.{fault-on_given, printed-journal}
-use Rattle.dam_cli.proofs.Runs.{known-fault, known-failed, known-done, known-exact, known-write}
+use Rattle.dam_cli.proofs.Runs.{known-fault, known-failed, known-done, known-exact, known-write, known-cut, known-uncut, unwritten}
 use Rattle.dam_cli.proofs.replay.run_replay.Goals as goal
 
 pub returns-in_err-replies-clause-fault : goal.returns-in_err-replies-clause-fault
@@ -30,10 +30,23 @@ returns-clause-done g c =
 pub returns-clause-fault : goal.returns-clause-fault
 returns-clause-fault g c =
     let done = rw c.as_slice.ensures.value at c.in_ok-replies.ensures.done in
-    known-write (λ text. AreRepliesTo text c.in_ok-replies.replies.items) IsFaultOn _ _ _ (printed-journal AreReplies c.in_ok-replies.replies.items) c.in_ok-text.ensures.text c.write_text.ensures.fault done
+    known-write (λ text. AreRepliesTo text c.in_ok-replies.replies.items) IsFaultOn _ _ _ _ _ _ (λ given is written. printed-journal AreReplies c.in_ok-replies.replies.items given is) c.in_ok-text.ensures.text c.write_text.ensures.fault done
 
 pub returns-clause-exact : goal.returns-clause-exact
 returns-clause-exact g c = λ periods commands.
     let exact = rw c.as_slice.ensures.value at c.in_ok-replies.ensures.exact periods commands in
-    known-exact (AreReplies periods commands _) _ IsMachineFault _ _ _ periods commands c.in_ok-text.ensures.text
-    (λ is. on_ok_weaker _ (subst (Appends _ _) (c.as_slice-2.ensures.value ∙ is)) c.write_text.ensures.done) (λ _. tt) c.write_text.ensures.fault exact
+    known-exact (AreReplies periods commands _) _ IsMachineFault _ _ _ _ _ _ periods commands c.in_ok-text.ensures.text
+    (λ is. on_ok_weaker _ (subst (Appends _ _) (c.as_slice-2.ensures.value ∙ is)) c.write_text.ensures.done) (λ _ written. tt) c.write_text.ensures.fault exact
+
+pub returns-in_err-replies-clause-cut : goal.returns-in_err-replies-clause-cut
+returns-in_err-replies-clause-cut g c =
+    let p = err_from_is_err_and c.from_residual-in_err-replies.result c.from_residual-in_err-replies.ensures.1 in
+    rw (p.1, p.2) (known-uncut (IsTextFault c.as_slice.result.now) AreRepliesTo _ _ _ _ (λ written is. is) c.in_err-replies.ensures.fault)
+
+pub returns-clause-unwritten : goal.returns-clause-unwritten
+returns-clause-unwritten g c = unwritten _ _ _ _ _ c.write_text.ensures.fault
+
+pub returns-clause-cut : goal.returns-clause-cut
+returns-clause-cut g c =
+    let done = rw c.as_slice.ensures.value at c.in_ok-replies.ensures.done in
+    known-cut AreReplies _ _ _ _ _ _ _ c.in_ok-text.ensures.text c.as_slice-2.ensures.value c.write_text.ensures.fault done
