@@ -49,7 +49,24 @@ fn hour(
     submit(book, name, Order::Hour(order))
 }
 
-/// Submits a block with one volume in each of the periods from `first` to `last`.
+/// The volumes of so many tenths of a MW in each of the periods from `first` to `last`.
+fn volumes_of(alloc: Global, periods: (u8, u8), tenths: u32) -> Result<Volumes, Fail> {
+    let mut pairs = Vec::new(alloc);
+    for number in periods.0..=periods.1 {
+        pairs.push((period_of(number)?, qty_of(tenths)?))?;
+    }
+    Ok(Volumes::new(&pairs)?)
+}
+
+fn name_if_any(text: Option<&[u8]>) -> Result<Option<Name>, Fail> {
+    match text {
+        Some(text) => Ok(Some(name_of(text)?)),
+        None => Ok(None),
+    }
+}
+
+/// Submits a block with one volume in each of the periods from `first` to `last`, with its parent and
+/// its group.
 fn block(
     alloc: Global,
     book: &mut Book,
@@ -60,27 +77,45 @@ fn block(
     tenths: u32,
     links: (Option<&[u8]>, Option<&[u8]>),
 ) -> Result<(), Fail> {
-    let mut pairs = Vec::new(alloc);
-    for number in periods.0..=periods.1 {
-        pairs.push((period_of(number)?, qty_of(tenths)?))?;
-    }
-    let volumes = Volumes::new(&pairs)?;
-    let parent = match links.0 {
-        Some(parent) => Some(name_of(parent)?),
-        None => None,
-    };
-    let group = match links.1 {
-        Some(group) => Some(name_of(group)?),
-        None => None,
-    };
-    let order = BlockOrder::new(side, price_of(cents)?, volumes, parent, group);
+    let volumes = volumes_of(alloc, periods, tenths)?;
+    let price = price_of(cents)?;
+    let parent = name_if_any(links.0)?;
+    let group = name_if_any(links.1)?;
+    let order = BlockOrder::new(side, price, volumes, parent, group);
     submit(book, name, Order::Block(order))
 }
 
-/// Two orders of 20 at 6,000 and 5,000 in a period.
-fn market(book: &mut Book, buy: &[u8], sell: &[u8], period: u8) -> Result<(), Fail> {
-    hour(book, buy, BUY, 6_000, period, 20)?;
-    hour(book, sell, SELL, 5_000, period, 20)
+/// Submits a block that sells, with no parent and no group.
+fn selling_block(
+    alloc: Global,
+    book: &mut Book,
+    name: &[u8],
+    cents: i32,
+    periods: (u8, u8),
+    tenths: u32,
+) -> Result<(), Fail> {
+    block(
+        alloc,
+        book,
+        name,
+        SELL,
+        cents,
+        periods,
+        tenths,
+        (None, None),
+    )
+}
+
+/// A buy at 6,000 and a sell at 5,000 in a period, each of so many tenths of a MW.
+fn market(book: &mut Book, buy: &[u8], sell: &[u8], period: u8, tenths: u32) -> Result<(), Fail> {
+    hour(book, buy, BUY, 6_000, period, tenths)?;
+    hour(book, sell, SELL, 5_000, period, tenths)
+}
+
+/// The markets of periods 1 and 2.
+fn two_markets(book: &mut Book) -> Result<(), Fail> {
+    market(book, b"B1", b"S1", 1, 20)?;
+    market(book, b"B2", b"S2", 2, 20)
 }
 
 fn problem_of(alloc: Global, mut book: Book) -> Result<Problem, Fail> {
@@ -144,45 +179,36 @@ fn hourly_orders_alone(rt: HostRuntime) -> Result<(), Fail> {
     Ok(())
 }
 
+/// Two markets, and a block that sells in both.
+fn block_in_two_markets(alloc: Global) -> Result<Problem, Fail> {
+    let mut book = Book::begin(alloc, 24)?;
+    two_markets(&mut book)?;
+    selling_block(alloc, &mut book, b"K1", 4_000, (1, 2), 10)?;
+    problem_of(alloc, book)
+}
+
 #[test]
 fn block_over_two_hours(rt: HostRuntime) -> Result<(), Fail> {
-    let mut book = Book::begin(rt.alloc(), 24)?;
-    market(&mut book, b"B1", b"S1", 1)?;
-    market(&mut book, b"B2", b"S2", 2)?;
-    block(
-        rt.alloc(),
-        &mut book,
-        b"K1",
-        SELL,
-        4_000,
-        (1, 2),
-        10,
-        (None, None),
-    )?;
-    let problem = problem_of(rt.alloc(), book)?;
+    let problem = block_in_two_markets(rt.alloc())?;
     assert_eq!(rt; problem.rows().len(), 5);
     assert_eq!(rt; problem.rows()[4].at, Place::Block(0));
     check(&rt, &problem, 60_000, &[true]);
     Ok(())
 }
 
-#[test]
-fn paradoxically_rejected(rt: HostRuntime) -> Result<(), Fail> {
-    let mut book = Book::begin(rt.alloc(), 24)?;
+/// A block whose limit is above the price that its own volume makes.
+fn paradox(alloc: Global) -> Result<Problem, Fail> {
+    let mut book = Book::begin(alloc, 24)?;
     hour(&mut book, b"B1", BUY, 6_000, 1, 10)?;
     hour(&mut book, b"B2", BUY, 5_200, 1, 10)?;
     hour(&mut book, b"S1", SELL, 5_000, 1, 15)?;
-    block(
-        rt.alloc(),
-        &mut book,
-        b"K1",
-        SELL,
-        5_050,
-        (1, 1),
-        10,
-        (None, None),
-    )?;
-    let problem = problem_of(rt.alloc(), book)?;
+    selling_block(alloc, &mut book, b"K1", 5_050, (1, 1), 10)?;
+    problem_of(alloc, book)
+}
+
+#[test]
+fn paradoxically_rejected(rt: HostRuntime) -> Result<(), Fail> {
+    let problem = paradox(rt.alloc())?;
     check(&rt, &problem, 11_000, &[false]);
     assert_eq!(rt;
         score(&problem, Selection::none().with(0)),
@@ -191,32 +217,42 @@ fn paradoxically_rejected(rt: HostRuntime) -> Result<(), Fail> {
     Ok(())
 }
 
-#[test]
-fn two_equal_blocks(rt: HostRuntime) -> Result<(), Fail> {
-    let mut book = Book::begin(rt.alloc(), 24)?;
-    hour(&mut book, b"B1", BUY, 6_000, 1, 10)?;
-    hour(&mut book, b"S1", SELL, 5_000, 1, 10)?;
+/// A market of so many tenths of a MW, and two blocks that sell at 4,000, in one group or in none.
+fn market_with_two_blocks(
+    alloc: Global,
+    market_tenths: u32,
+    block_tenths: (u32, u32),
+    group: Option<&[u8]>,
+) -> Result<Problem, Fail> {
+    let mut book = Book::begin(alloc, 24)?;
+    market(&mut book, b"B1", b"S1", 1, market_tenths)?;
+    let (first, second) = block_tenths;
     block(
-        rt.alloc(),
+        alloc,
         &mut book,
         b"K1",
         SELL,
         4_000,
         (1, 1),
-        10,
-        (None, None),
+        first,
+        (None, group),
     )?;
     block(
-        rt.alloc(),
+        alloc,
         &mut book,
         b"K2",
         SELL,
         4_000,
         (1, 1),
-        10,
-        (None, None),
+        second,
+        (None, group),
     )?;
-    let problem = problem_of(rt.alloc(), book)?;
+    problem_of(alloc, book)
+}
+
+#[test]
+fn two_equal_blocks(rt: HostRuntime) -> Result<(), Fail> {
+    let problem = market_with_two_blocks(rt.alloc(), 10, (10, 10), None)?;
     check(&rt, &problem, 20_000, &[true, false]);
     let both = Selection::none().with(0).with(1);
     assert_eq!(rt; score(&problem, both), Verdict::Unbalanced(period_of(1)?));
@@ -231,38 +267,19 @@ fn two_equal_blocks(rt: HostRuntime) -> Result<(), Fail> {
 fn block_too_large(rt: HostRuntime) -> Result<(), Fail> {
     let mut book = Book::begin(rt.alloc(), 24)?;
     hour(&mut book, b"B1", BUY, 6_000, 1, 20)?;
-    block(
-        rt.alloc(),
-        &mut book,
-        b"K1",
-        SELL,
-        1_000,
-        (1, 1),
-        30,
-        (None, None),
-    )?;
+    selling_block(rt.alloc(), &mut book, b"K1", 1_000, (1, 1), 30)?;
     let problem = problem_of(rt.alloc(), book)?;
     check(&rt, &problem, 0, &[false]);
     Ok(())
 }
 
-#[test]
-fn child_with_losing_parent(rt: HostRuntime) -> Result<(), Fail> {
-    let mut book = Book::begin(rt.alloc(), 24)?;
-    market(&mut book, b"B1", b"S1", 1)?;
-    market(&mut book, b"B2", b"S2", 2)?;
+/// Two markets, a block that loses in the first, and its child in the second.
+fn losing_parent(alloc: Global) -> Result<Problem, Fail> {
+    let mut book = Book::begin(alloc, 24)?;
+    two_markets(&mut book)?;
+    selling_block(alloc, &mut book, b"K1", 5_200, (1, 1), 10)?;
     block(
-        rt.alloc(),
-        &mut book,
-        b"K1",
-        SELL,
-        5_200,
-        (1, 1),
-        10,
-        (None, None),
-    )?;
-    block(
-        rt.alloc(),
+        alloc,
         &mut book,
         b"K2",
         SELL,
@@ -271,8 +288,19 @@ fn child_with_losing_parent(rt: HostRuntime) -> Result<(), Fail> {
         10,
         (Some(b"K1"), None),
     )?;
-    let problem = problem_of(rt.alloc(), book)?;
+    problem_of(alloc, book)
+}
+
+#[test]
+fn child_with_losing_parent(rt: HostRuntime) -> Result<(), Fail> {
+    let problem = losing_parent(rt.alloc())?;
     check(&rt, &problem, 40_000, &[false, false]);
+    Ok(())
+}
+
+#[test]
+fn scores_of_a_child_and_its_losing_parent(rt: HostRuntime) -> Result<(), Fail> {
+    let problem = losing_parent(rt.alloc())?;
     assert_eq!(rt;
         score(&problem, Selection::none().with(1)),
         Verdict::NotAdmissible
@@ -290,29 +318,7 @@ fn child_with_losing_parent(rt: HostRuntime) -> Result<(), Fail> {
 
 #[test]
 fn exclusive_group(rt: HostRuntime) -> Result<(), Fail> {
-    let mut book = Book::begin(rt.alloc(), 24)?;
-    market(&mut book, b"B1", b"S1", 1)?;
-    block(
-        rt.alloc(),
-        &mut book,
-        b"K1",
-        SELL,
-        4_000,
-        (1, 1),
-        5,
-        (None, Some(b"G")),
-    )?;
-    block(
-        rt.alloc(),
-        &mut book,
-        b"K2",
-        SELL,
-        4_000,
-        (1, 1),
-        10,
-        (None, Some(b"G")),
-    )?;
-    let problem = problem_of(rt.alloc(), book)?;
+    let problem = market_with_two_blocks(rt.alloc(), 20, (5, 10), Some(b"G"))?;
     check(&rt, &problem, 30_000, &[false, true]);
     let both = Selection::none().with(0).with(1);
     assert_eq!(rt; score(&problem, both), Verdict::NotAdmissible);
@@ -321,29 +327,7 @@ fn exclusive_group(rt: HostRuntime) -> Result<(), Fail> {
 
 #[test]
 fn no_group(rt: HostRuntime) -> Result<(), Fail> {
-    let mut book = Book::begin(rt.alloc(), 24)?;
-    market(&mut book, b"B1", b"S1", 1)?;
-    block(
-        rt.alloc(),
-        &mut book,
-        b"K1",
-        SELL,
-        4_000,
-        (1, 1),
-        5,
-        (None, None),
-    )?;
-    block(
-        rt.alloc(),
-        &mut book,
-        b"K2",
-        SELL,
-        4_000,
-        (1, 1),
-        10,
-        (None, None),
-    )?;
-    let problem = problem_of(rt.alloc(), book)?;
+    let problem = market_with_two_blocks(rt.alloc(), 20, (5, 10), None)?;
     check(&rt, &problem, 35_000, &[true, true]);
     Ok(())
 }
