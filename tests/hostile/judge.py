@@ -99,11 +99,6 @@ def write(answer, refusal, got, calls):
     return line is not None and int(line[1]) == len(written) and got == Printed(MACHINE, written, got.stderr)
 
 
-def interrupted_write(answer, _refusal, got, _calls):
-    """A write that a signal interrupts is made again."""
-    return got == answer.usual
-
-
 def report(answer, _refusal, got, _calls):
     """Where the fault's line can't be written, its status stands."""
     return answer.usual.stderr.startswith(got.stderr) and got._replace(stderr=answer.usual.stderr) == answer.usual

@@ -105,11 +105,10 @@ def device_rows():
                 named = errno.errorcode[error]
                 yield Row(f"{about}, a read with {named}", words, data, "read", judge.read, error=error, most=most)
             yield Row(f"{about}, a read of 0 bytes", words, data, "read", end_of_input, most=most)
-            for error in [errno.EIO, errno.ENOSPC, errno.EAGAIN]:
+            for error in [errno.EIO, errno.ENOSPC, errno.EINTR, errno.EAGAIN]:
                 named = errno.errorcode[error]
                 yield Row(f"{about}, a write with {named}", words, data, "write", judge.write, error=error, most=most)
             yield Row(f"{about}, a write of 0 bytes", words, data, "write", judge.write, most=most)
-            yield Row(f"{about}, a write interrupted", words, data, "write", judge.interrupted_write, error=errno.EINTR, most=most)
     for words, data in [(["replay"], BROKEN), (["clear"], OPEN_AUCTION), (["day"], AUCTION), (["clear", "--cut", "9"], b"")]:
         for error in [errno.EIO, 0]:
             about = f"{' '.join(words)} with a fault, its line with " + (errno.errorcode.get(error) or "0 bytes taken")

@@ -295,7 +295,11 @@ fn a_failed_read_ends_the_run(rt: HostRuntime) -> Result<(), Fail> {
 
 #[test]
 fn the_bytes_before_a_failed_write_are_told(rt: HostRuntime) {
-    for breakage in [Breakage::Refuses, Breakage::TakesNothing] {
+    for breakage in [
+        Breakage::Refuses,
+        Breakage::TakesNothing,
+        Breakage::IsInterrupted,
+    ] {
         for written in 0..STORED_REPLIES.len() {
             let mut reader = STORED_RUN;
             let mut writer = Broken::behind(rt.alloc(), written, breakage);
@@ -305,18 +309,6 @@ fn the_bytes_before_a_failed_write_are_told(rt: HostRuntime) {
             assert_eq!(rt; writer.called, writer.failing);
             assert_eq!(rt; writer.flushed, 0);
         }
-    }
-}
-
-#[test]
-fn an_interrupted_write_is_made_again(rt: HostRuntime) {
-    for written in 0..STORED_REPLIES.len() {
-        let mut reader = STORED_RUN;
-        let mut writer = Broken::behind(rt.alloc(), written, Breakage::IsInterrupted);
-        assert_eq!(rt; run_replay(rt.alloc(), &mut reader, &mut writer), Ok(()));
-        assert_eq!(rt; writer.taken.as_slice(), STORED_REPLIES);
-        assert_eq!(rt; writer.called, STORED_REPLIES.len() + 1);
-        assert_eq!(rt; writer.flushed, 1);
     }
 }
 

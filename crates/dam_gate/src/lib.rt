@@ -18,8 +18,10 @@
 //! A contract sees a journal, a [`Keeper`] and a [`Settled`] as their entries with the book that these make,
 //! and a [`Pass`] as its holder, the number of entries that it has seen, and its receipts. What these words
 //! mean stands in `specs/`. Of what lies under the lock it sees only what is true of any gate. So only
-//! tested is that a call journals at this gate and just once, that `finish` hands over the journal of these
-//! calls, and that a gate gives nine passes; besides, that memory isn't said to have run out where it hasn't.
+//! tested is that a gate begins with its day and no entry, that a call journals at this gate and just once,
+//! or, refused, not at all, that a look shows this gate's book, that calls are refused and looks are `None`
+//! only where they should be, that `finish` hands over the journal of these calls, and that a gate gives nine
+//! passes; besides, that memory isn't said to have run out where it hasn't.
 //!
 //! The crate knows nothing of texts, of prices that clear, and of how the best selection is found.
 #![tactic(auto)]

@@ -13,8 +13,8 @@ pub struct PieceAnswer {
     /// The greatest value that was read of the incumbent on the way, in cents per MWh times tenths
     /// of a MW; 0 where none was.
     pub read: u64,
-    /// How many nodes were visited: prefixes whose bound was asked for, and selections that were
-    /// scored.
+    /// How many nodes were visited: prefixes whose bound was compared with what was read, and
+    /// selections whose welfare was looked at.
     pub visited: u32,
     /// Whether no node is left to visit. It is only false where `visited` is the limit.
     pub done: bool,

@@ -173,9 +173,10 @@ fn explore<A: Allocator, B: Allocator, I: Incumbent>(
 /// selection of the piece, apart from those with less welfare than what was read of the incumbent.
 ///
 /// In piece j the block at place i is accepted where the digit of j of weight 2 to the power
-/// `depth` - 1 - i is 0. A node is a prefix that extends the piece's; it is visited when its bound
-/// is asked for, or, where it decides every block, when it is scored. No node is visited twice, and
-/// the answer isn't `done` where one more than `nodes` had to be. It takes no memory.
+/// `depth` - 1 - i is 0. A node is a prefix that extends the piece's and that the links and the groups
+/// admit; it is visited when its bound is compared with what was read, or, where it decides every block,
+/// when its welfare is looked at. No node is visited twice, and the answer isn't `done` where one more
+/// than `nodes` had to be. It takes no memory.
 pub fn search_piece<A: Allocator, B: Allocator, I: Incumbent>(
     problem: &Problem<A>,
     relaxed: &Relaxed<B>,

@@ -220,7 +220,8 @@ pub fn search<R: Threads + Sync, T: Turnstile + Sync>(
         → IsUnfinished problem.now (min plan.cut (length problem.now.blocks))
         plan.nodes piece visited }
 
-    // Which piece a fault names, and in what order they come.
+    // Some answers of workers come to this: a fault names a piece that they lack, repeat or left
+    // unfinished, the least such.
     ensures searched { IsErrOf result SearchFault.Memory
         ⊎ IsSearched problem.now (min plan.cut (length problem.now.blocks)) plan.nodes result }
 
