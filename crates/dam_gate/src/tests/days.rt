@@ -180,7 +180,7 @@ impl OneByOne {
 
 impl Doorkeeper for OneByOne {
     fn before(&self, participant: u32) {
-        for _ in 0..100_000_000 {
+        for _ in 0..10_000_000_000_u64 {
             if self.turn.load(Ordering::SeqCst) == participant {
                 self.note(participant);
                 return;
