@@ -58,7 +58,8 @@ pub fn verdict()
     ensures other { (problem : ProblemState) (sel : List Bool) (verdict : Verdict) (w : ℤ)
         → IsVerdict problem sel verdict → ((n : ℕ) → verdict ≢ Eligible n)
         → ¬ (IsEligible problem sel w) }
-    ensures one { (problem : ProblemState) (sel : List Bool) (v w : ℤ) → IsEligible problem sel v
+    ensures one { (problem : ProblemState) (sel : List Bool) (v w : ℤ)
+        → IsEligible problem sel v
         → IsEligible problem sel w → v ≡ w }
 {}
 
@@ -125,10 +126,12 @@ pub fn fronts()
 /// Every list of acceptances is just one of the numbered choices over so many places, and an
 /// admissible selection is one of the choices over the problem's blocks.
 pub fn choices()
-    ensures each { (xs : List Bool) → (k : ℕ) × (k < 2 ^ length xs) × (choice (length xs) k ≡ xs) }
+    ensures each { (xs : List Bool)
+        → (k : ℕ) × (k < 2 ^ length xs) × (choice (length xs) k ≡ xs) }
     ensures admissible { (problem : ProblemState) (sel : List Bool) → IsProblem problem
         → length sel ≡ most_blocks → IsAdmissible problem.blocks sel
         → (k : ℕ) × (k < 2 ^ length problem.blocks)
         × (padded (choice (length problem.blocks) k) ≡ sel) }
-    ensures once { (n j k : ℕ) → j < 2 ^ n → k < 2 ^ n → choice n j ≡ choice n k → j ≡ k }
+    ensures once { (n j k : ℕ) → j < 2 ^ n → k < 2 ^ n → choice n j ≡ choice n k
+        → j ≡ k }
 {}

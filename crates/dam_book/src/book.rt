@@ -57,7 +57,8 @@ impl<A: Allocator> Model for Book<A> {
 impl<A: Allocator + Copy> Book<A> {
     /// The empty book of a day of 23, 24 or 25 periods, open.
     pub fn begin(alloc: A, periods: u8) -> Result<Book<A>, BeginFault>
-        ensures { MatchResult result (λ book. (is_day periods ≡ true) × (book ≡ empty_book periods))
+        ensures { MatchResult result
+            (λ book. (is_day periods ≡ true) × (book ≡ empty_book periods))
             (λ _. is_day periods ≡ false) }
     {
         if !period::is_day(periods) {
@@ -103,7 +104,8 @@ impl<A: Allocator + Copy> Book<A> {
 
     /// The order at a place, counted from 0 in book order, with its participant and name.
     pub fn row(&self, place: usize) -> Option<(Participant, Name, &Order)>
-        ensures { option_map (λ r. ((r.0, r.1), r.2.now)) result ≡ slice_get self.now.rows place }
+        ensures { option_map (λ r. ((r.0, r.1), r.2.now)) result
+            ≡ slice_get self.now.rows place }
     {
         let ((who, name), order) = self.orders.get_index(place)?;
         Some((who.copy(), name.copy(), order.get()))
@@ -205,7 +207,8 @@ impl<A: Allocator + Copy> Book<A> {
 
     // The reasons that look at the parent of a new block and at the room for it.
     fn block_refusal(&self, who: &Participant, block: &BlockOrder) -> Option<Reason>
-        ensures { (name : _) → let command = Command.Submit who.now name (Order.Block block.now) in
+        ensures { (name : _) → let command = Command.Submit who.now name
+            (Order.Block block.now) in
             result ≡ find (applies self.now command) later_reasons }
     {
         if let Some(parent) = block.parent() {

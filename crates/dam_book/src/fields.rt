@@ -77,7 +77,8 @@ fn parse_pair(text: &str) -> Option<(Period, Qty)>
 }
 
 fn parse_pairs(text: &str) -> Option<ArrayVec<(Period, Qty), MOST_VOLUMES>>
-    ensures { MatchOption result ((ps : List Pair) → IsVolumes ps → text.now ≢ volumes_text ps)
+    ensures { MatchOption result ((ps : List Pair) → IsVolumes ps
+        → text.now ≢ volumes_text ps)
         (λ a. ArePairs a.items × (0 < length a.items) × (text.now ≡ volumes_text a.items)) }
 {
     let mut pairs = ArrayVec::new();

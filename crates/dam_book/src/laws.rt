@@ -28,17 +28,20 @@ use crate::quantity::GREATEST_VOLUME;
 
 /// No two prices have the same text.
 pub fn price_texts_differ()
-    ensures { (p q : ℤ) → IsPrice p → IsPrice q → price_text p ≡ price_text q → p ≡ q }
+    ensures { (p q : ℤ) → IsPrice p → IsPrice q → price_text p ≡ price_text q
+        → p ≡ q }
 {}
 
 /// No two volumes of one period have the same text.
 pub fn qty_texts_differ()
-    ensures { (p q : ℕ) → IsQuantity p → IsQuantity q → qty_text p ≡ qty_text q → p ≡ q }
+    ensures { (p q : ℕ) → IsQuantity p → IsQuantity q → qty_text p ≡ qty_text q
+        → p ≡ q }
 {}
 
 /// No two lists of volumes have the same text.
 pub fn volumes_texts_differ()
-    ensures { (v w : List Pair) → IsVolumes v → IsVolumes w → volumes_text v ≡ volumes_text w
+    ensures { (v w : List Pair) → IsVolumes v → IsVolumes w
+        → volumes_text v ≡ volumes_text w
         → v ≡ w }
 {}
 
@@ -73,7 +76,8 @@ pub fn histories_are_runs()
 
 /// The entry at a place of a legal history, counted from 0, has the number one above its place.
 pub fn entries_are_numbered()
-    ensures { (periods : ℕ) (es : List Entry) (place : ℕ) (e : Entry) → IsLegalHistory periods es
+    ensures { (periods : ℕ) (es : List Entry) (place : ℕ) (e : Entry)
+        → IsLegalHistory periods es
         → slice_get es place ≡ Some e → e.number ≡ place + 1 }
 {}
 
@@ -105,8 +109,10 @@ pub fn runs_grow()
 /// Of two values of these types `==` is true exactly where they are equal.
 pub fn equality()
     ensures volumes { (a b : List Pair) → Decides ((volumes_are.ghosts).eq a b) (a ≡ b) }
-    ensures hour_orders { (a b : HourTerms) → Decides ((hour_orders_are.ghosts).eq a b) (a ≡ b) }
-    ensures block_orders { (a b : BlockTerms) → Decides ((block_orders_are.ghosts).eq a b) (a ≡ b) }
+    ensures hour_orders { (a b : HourTerms)
+        → Decides ((hour_orders_are.ghosts).eq a b) (a ≡ b) }
+    ensures block_orders { (a b : BlockTerms)
+        → Decides ((block_orders_are.ghosts).eq a b) (a ≡ b) }
     ensures orders { (a b : Order) → Decides ((orders_are.ghosts).eq a b) (a ≡ b) }
     ensures commands { (a b : Command) → Decides ((commands_are.ghosts).eq a b) (a ≡ b) }
     ensures replies { (a b : Reply) → Decides ((replies_are.ghosts).eq a b) (a ≡ b) }

@@ -119,7 +119,8 @@ impl<A: Allocator> Levels<A> {
     /// The hour at a depth.
     pub(crate) fn hour(&self, depth: usize) -> &Hour<A>
         requires { (steps : List Step) × IsAtDepth self.now depth steps }
-        ensures value { (steps : List Step) → IsAtDepth self.now depth steps → result.now ≡ steps }
+        ensures value { (steps : List Step) → IsAtDepth self.now depth steps
+            → result.now ≡ steps }
         ensures steps { IsHour result.now }
     {
         let hour = self.stack(depth).hour();

@@ -138,7 +138,8 @@ impl<A: Allocator> Relaxed<A> {
     pub fn child(&self, day: &Option<Day>, depth: usize, accept: bool) -> Option<Day>
         requires depth { depth < length self.now.blocks }
         requires small { IfSome day.now (IsSmallDay depth) }
-        ensures { (prefix : List Bool) → length prefix ≡ depth → IsDayOf self.now prefix day.now
+        ensures { (prefix : List Bool) → length prefix ≡ depth
+            → IsDayOf self.now prefix day.now
             → IsDayOf self.now (prefix ++ accept ∷ []) result }
     {
         crate::laws::extension();

@@ -162,7 +162,8 @@ fn print_day<H: Threads + Sync, T: Watch + Sync>(
     plan: Plan,
     turnstile: &T,
 ) -> Result<Vec<u8>, RunFault>
-    ensures done { IfOk result (λ text. (results : List ℕ) × IsClearedAs journal.now.book results
+    ensures done { IfOk result (λ text. (results : List ℕ)
+        × IsClearedAs journal.now.book results
         × (text.items ≡ with_results journal.now.book.periods journal.now.entries results)) }
     ensures fault { IfErr result (IsBookFault plan journal.now.book) }
 {

@@ -124,7 +124,8 @@ pub struct Gate {
 impl Gate {
     /// The gate of a day of 23, 24 or 25 periods, with an empty journal.
     pub fn begin(alloc: Global, periods: u8) -> Result<Gate, BeginFault>
-        ensures { MatchResult result (λ _. is_day periods ≡ true) (λ _. is_day periods ≡ false) }
+        ensures { MatchResult result (λ _. is_day periods ≡ true)
+            (λ _. is_day periods ≡ false) }
     {
         Ok(Gate {
             alloc,

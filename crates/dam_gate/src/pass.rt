@@ -139,7 +139,8 @@ impl Pass {
         ensures look { IfSome result (IsLookAt keeper.now (who.now, name.now)) }
         ensures legal { IfSome result (IsLook self.old.seen (who.now, name.now)) }
         ensures later { OnSome result (self.old.seen ≤ length keeper.now.entries) }
-        ensures seen { OnSome result (self.new ≡ having_seen self.old (length keeper.now.entries)) }
+        ensures seen { OnSome result
+            (self.new ≡ having_seen self.old (length keeper.now.entries)) }
         ensures none { IfNone result (length keeper.now.entries < self.old.seen) }
         ensures kept { IfNone result (self.new ≡ self.old) }
     {

@@ -256,7 +256,8 @@ impl<A: Allocator> Hour<A> {
         ensures none { IfNone result (IsUnbalanced self.now net) }
         ensures ends { IfSome result (λ c. AreEnds self.now net c.low c.high) }
         ensures price { IfSome result (λ c. c.price ≡ price_between c.low c.high) }
-        ensures totals { IfSome result (λ c. AreBestTotals self.now net c.bought c.sold c.welfare) }
+        ensures totals { IfSome result
+            (λ c. AreBestTotals self.now net c.bought c.sold c.welfare) }
         ensures small { IfSome result (λ c. AreSmall (length self.now) c.bought c.sold c.welfare) }
         ensures welfare { greatest_welfare self.now net ≡ option_map (λ c. c.welfare) result }
     {
@@ -281,7 +282,8 @@ impl<A: Allocator> Hour<A> {
     /// `None` exactly where `clear` is `None` or no step stands there. Takes no memory.
     pub fn executed(&self, net: i64, place: usize) -> Option<u32>
         requires { IsNetVolume net }
-        ensures best { (xs : List ℕ) → IsBest self.now net xs → result ≡ slice_get xs place }
+        ensures best { (xs : List ℕ) → IsBest self.now net xs
+            → result ≡ slice_get xs place }
         ensures none { IsUnbalanced self.now net → result ≡ None }
     {
         let steps = self.steps();

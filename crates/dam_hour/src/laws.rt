@@ -65,8 +65,10 @@ pub fn uniqueness()
 pub fn price()
     ensures between { (low high : ℤ) → low ≤ℤ high
         → (low ≤ℤ price_between low high) × (price_between low high ≤ℤ high) }
-    ensures low_open { (high : ℤ) → high <ℤ highest_price → price_between lowest_price high ≡ high }
-    ensures high_open { (low : ℤ) → lowest_price <ℤ low → price_between low highest_price ≡ low }
+    ensures low_open { (high : ℤ) → high <ℤ highest_price
+        → price_between lowest_price high ≡ high }
+    ensures high_open { (low : ℤ) → lowest_price <ℤ low
+        → price_between low highest_price ≡ low }
     ensures inside { (low high : ℤ) → lowest_price <ℤ low → high <ℤ highest_price
         → price_between low high ≡ int_div_euclid (low +ℤ high) (pos 2) }
     ensures all_open { price_between lowest_price highest_price ≡ pos 175000 }

@@ -34,7 +34,8 @@ impl Bounds {
 fn value_at(price: Price, volume: u64) -> i64
     requires { volume ≤ most_steps * greatest_volume }
     ensures value { result ≡ price *ℤ pos volume }
-    ensures at_least { neg_ℤ (pos (greatest_price * (most_steps * greatest_volume))) ≤ℤ result }
+    ensures at_least { neg_ℤ (pos (greatest_price * (most_steps * greatest_volume)))
+        ≤ℤ result }
     ensures at_most { result ≤ℤ pos (greatest_price * (most_steps * greatest_volume)) }
 {
     i64::from(price.get()) * volume as i64

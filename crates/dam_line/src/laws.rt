@@ -17,7 +17,8 @@ pub fn exactness()
 pub fn examples()
     ensures replay { AsksFor (codes "replay" ∷ []) Job.Replay }
     ensures defaults { AsksFor (codes "clear" ∷ []) (Job.Clear (plan_of 2 3 67108864)) }
-    ensures options { AsksFor (codes "day" ∷ codes "--cut" ∷ codes "0" ∷ codes "--workers=8" ∷ [])
+    ensures options { AsksFor (codes "day" ∷ codes "--cut" ∷ codes "0"
+        ∷ codes "--workers=8" ∷ [])
         (Job.Day (plan_of 8 0 67108864)) }
     ensures help { AreRefused (codes "clear" ∷ codes "--help" ∷ []) true }
     ensures unknown { AreRefused (codes "sell" ∷ []) false }

@@ -19,7 +19,8 @@ use itoa::Buffer;
 // rule.
 
 fn check(kept: bool, field: usize) -> Result<(), usize>
-    ensures { MatchResult result (λ _. kept ≡ true) (λ broken. (broken ≡ field) × (kept ≡ false)) }
+    ensures { MatchResult result (λ _. kept ≡ true)
+        (λ broken. (broken ≡ field) × (kept ≡ false)) }
 {
     if kept { Ok(()) } else { Err(field) }
 }

@@ -111,7 +111,8 @@ pub(crate) fn collected<A: Allocator>(
     requires worked { All (λ a. IsWorked problem.now depth nodes a) answers.now }
     ensures ok { IfOk result (λ best. IsResult problem.now best.selection (pos best.welfare)) }
     ensures collected { IsCollected depth answers.now result }
-    ensures unfinished { (piece visited : ℕ) → IsErrOf result (SearchFault.Unfinished piece visited)
+    ensures unfinished { (piece visited : ℕ)
+        → IsErrOf result (SearchFault.Unfinished piece visited)
         → IsUnfinished problem.now depth nodes piece visited }
 {
     laws::collecting();

@@ -194,14 +194,16 @@ pub fn search_piece<A: Allocator, B: Allocator, I: Incumbent>(
         (I.told incumbent.old) nodes result.visited result.done }
 
     // What becomes of the incumbent.
-    ensures offered { I.top incumbent.new ≡ max (I.top incumbent.old) (welfare_found result.best) }
+    ensures offered { I.top incumbent.new
+        ≡ max (I.top incumbent.old) (welfare_found result.best) }
     ensures told { I.told incumbent.new ≡ max (I.told incumbent.old) result.read }
     ensures kept { I.kept incumbent.new ≡ I.kept incumbent.old }
 
     // The greatest value read in the call: the incumbent is read at each node under full depth.
     ensures read { 0 < result.visited → depth < length problem.now.blocks
         → result.read ≡ I.told incumbent.new }
-    ensures unread { (result.visited ≡ 0) ⊎ (depth ≡ length problem.now.blocks) → result.read ≡ 0 }
+    ensures unread { (result.visited ≡ 0) ⊎ (depth ≡ length problem.now.blocks)
+        → result.read ≡ 0 }
 {
     dam_blocks::laws::fronts();
     // What every problem keeps, as a clause of this reader tells it.

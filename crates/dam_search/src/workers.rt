@@ -216,7 +216,8 @@ pub fn search<R: Threads + Sync, T: Turnstile + Sync>(
     turnstile: &T,
 ) -> Result<Best, SearchFault>
     ensures ok { IfOk result (λ best. IsResult problem.now best.selection (pos best.welfare)) }
-    ensures unfinished { (piece visited : ℕ) → IsErrOf result (SearchFault.Unfinished piece visited)
+    ensures unfinished { (piece visited : ℕ)
+        → IsErrOf result (SearchFault.Unfinished piece visited)
         → IsUnfinished problem.now (min plan.cut (length problem.now.blocks))
         plan.nodes piece visited }
 

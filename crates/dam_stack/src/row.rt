@@ -97,7 +97,8 @@ fn down_to(rows: &[Row], unit: u32, near: usize) -> usize
 fn up_from(rows: &[Row], unit: u32, near: usize) -> usize
     requires near { near + 1 < length rows.now }
     requires under { (d : Row) → (slice_index_or rows.now near d).before < unit }
-    requires last { (d : Row) → unit ≤ (slice_index_or rows.now (length rows.now - 1) d).before }
+    requires last { (d : Row)
+        → unit ≤ (slice_index_or rows.now (length rows.now - 1) d).before }
     ensures place { result + 1 < length rows.now }
     ensures under { (d : Row) → (slice_index_or rows.now result d).before < unit }
     ensures holds { (d : Row) → unit ≤ (slice_index_or rows.now (result + 1) d).before }
@@ -114,7 +115,8 @@ fn up_from(rows: &[Row], unit: u32, near: usize) -> usize
 pub(crate) fn place_of(rows: &[Row], unit: u32, near: usize) -> usize
     requires rows { 2 ≤ length rows.now }
     requires first { (d : Row) → (slice_index_or rows.now 0 d).before < unit }
-    requires last { (d : Row) → unit ≤ (slice_index_or rows.now (length rows.now - 1) d).before }
+    requires last { (d : Row)
+        → unit ≤ (slice_index_or rows.now (length rows.now - 1) d).before }
     ensures place { result + 1 < length rows.now }
     ensures under { (d : Row) → (slice_index_or rows.now result d).before < unit }
     ensures holds { (d : Row) → unit ≤ (slice_index_or rows.now (result + 1) d).before }
