@@ -16,8 +16,9 @@ TWIN = "out/twin"
 FIGURES = "out/figures.txt"
 TIME = "/usr/bin/time"
 
-# A run that takes longer, in seconds, is ended and said to have given up.
+# A run that takes longer, in seconds, is ended and said to have given up; and so long HiGHS is given for a book.
 LIMIT = float(os.environ.get("LIMIT", "60"))
+HIGHS_LIMIT = float(os.environ.get("HIGHS_LIMIT", "20"))
 
 
 class Run(NamedTuple):
@@ -38,12 +39,12 @@ class Run(NamedTuple):
         return statistics.median(self.laps(name))
 
 
-def run(words, given=os.devnull, statuses=(0,)):
+def run(words, given=os.devnull, statuses=(0,), limit=LIMIT):
     """Runs a program on a file; None where it didn't end in time. Ends this one where that fails."""
     with open(given, "rb") as text, tempfile.TemporaryFile() as printed, tempfile.TemporaryFile() as told:
         begun = time.perf_counter()
         started = subprocess.Popen(words, stdin=text, stdout=printed, stderr=told)
-        clock = threading.Timer(LIMIT, started.kill)
+        clock = threading.Timer(limit, started.kill)
         clock.start()
         _, status, used = os.wait4(started.pid, 0)
         wall = time.perf_counter() - begun
@@ -51,7 +52,7 @@ def run(words, given=os.devnull, statuses=(0,)):
         started.returncode = os.waitstatus_to_exitcode(status)
         printed.seek(0)
         told.seek(0)
-        if wall >= LIMIT:
+        if wall >= limit:
             return None
         if started.returncode not in statuses:
             sys.exit(f"{' '.join(words)} < {given}: status {started.returncode}, {told.read().decode()}")

@@ -13,7 +13,6 @@ sys.path.insert(0, str(Path(__file__).resolve().parent.parent / "tools"))
 from lib import book, command, journal, selection
 
 
-
 def find(problem, limit):
     """The welfare, and the seconds; None where HiGHS gave up."""
     from lib import solver
@@ -27,8 +26,9 @@ def find(problem, limit):
         except TimeoutError:
             return None
         welfare = selection.eligible(problem, chosen)
-        if welfare is not None:
-            return welfare, time.perf_counter() - begun
+        taken = time.perf_counter() - begun
+        if welfare is not None and taken < limit:  # at its limit HiGHS offers what it has, the best or not
+            return welfare, taken
         model.forbid(chosen)
     return None
 

@@ -23,7 +23,7 @@ def make(family, orders, blocks="24"):
 
 def searched(plans, book, most):
     """The seconds of the search under each plan, in several runs; of one that doesn't end, those after which it is given up."""
-    runs = by_turns({plan: [MEASURES, "search", *plan] for plan in plans}, book, most, seconds=60)
+    runs = by_turns({plan: [MEASURES, "search", *plan] for plan in plans}, book, most, seconds=20)
     return {plan: [each.lap("search") for each in found] or [LIMIT] for plan, found in runs.items()}
 
 
@@ -54,14 +54,14 @@ def speed(name, book):
 def private(name, book):
     """One worker's whole search, and the same steps with an incumbent of its own."""
     programs = {"shared": [MEASURES, "search", "1", CUT], "private": [MEASURES, "nodes", "1", CUT, "1"]}
-    runs = by_turns(programs, book, most=5, seconds=60)
+    runs = by_turns(programs, book, most=5, seconds=20)
     shared = [each.lap("search") for each in runs["shared"]]
     own = [sum(each.lap(name) for name in ("levels", "first", "walk")) for each in runs["private"]]
     ratio(f"{name}, cut {CUT}: 1 worker on shared words beside its own", shared, own, 1.05)
 
 
 def default(family, orders):
-    found = searched([DEFAULT, ONE], make(family, orders), most=15)
+    found = searched([DEFAULT, ONE], make(family, orders), most=9)
     ratio(f"{family} {orders}: the search by the default plan beside 1 worker", found[DEFAULT], found[ONE], 1)
 
 

@@ -10,8 +10,11 @@ from lib import best, book, check, journal, results, rules, selection
 
 # A program that tries all selections takes twice the time with each block.
 MOST_BLOCKS = 10
-SECONDS = 60
+# So long the program may take for an answer, in seconds.
+wait = 60.0
 COMMAND_LINE = 2  # the program's status
+ENDED = -1  # that of a program which took too long
+LATE = "no answer in time"
 
 
 class Printed(NamedTuple):
@@ -25,11 +28,16 @@ def printed(program, words, data):
     takes longer than most runs."""
     with in_memory(data) as stdin, in_memory() as stdout, in_memory() as stderr:
         ran = subprocess.Popen([program, *words], stdin=stdin, stdout=stdout, stderr=stderr, close_fds=False)
-        if not ends(ran):
-            ran.kill()
-            ran.wait()
-            return Printed(-1, b"", f"no answer in {SECONDS} seconds\n".encode())
-        return Printed(ran.wait(), contents(stdout), contents(stderr))
+        try:
+            wait_for(ran)
+        finally:
+            status = ran.poll()
+            if status is None:
+                ran.kill()
+                ran.wait()
+        if status is None:
+            return Printed(ENDED, b"", f"{LATE}\n".encode())
+        return Printed(status, contents(stdout), contents(stderr))
 
 
 def in_memory(data=b""):
@@ -45,13 +53,13 @@ def contents(file):
     return file.read()
 
 
-def ends(ran):
+def wait_for(ran):
     """Waits until a process has ended; not for ever."""
     process = os.pidfd_open(ran.pid)
     try:
         poll = select.poll()
         poll.register(process, select.POLLIN)
-        return bool(poll.poll(SECONDS * 1_000))
+        poll.poll(wait * 1_000)
     finally:
         os.close(process)
 
@@ -118,6 +126,8 @@ def day_faults(read):
 def day_differences(data, got):
     """What is wrong with what `dam day` printed. Its participants' commands may come in any order that keeps each one's own,
     so that no one text is right."""
+    if got.status == ENDED:
+        return [LATE]
     try:
         given = journal.read_journal(data)
         fault = day_faults(given)
@@ -154,8 +164,8 @@ def by_participant(commands):
 
 
 def differences(program, command, words, data):
-    """What is wrong with what a command prints of an input; nothing where all is right. A reading of the rules that fails is a
-    difference too."""
+    """What is wrong with what a command prints of an input; nothing where all is right, and LATE alone where it was ended. A
+    reading of the rules that fails is a difference too."""
     try:
         return found_differences(program, command, words, data)
     except Exception as fault:
@@ -170,4 +180,6 @@ def found_differences(program, command, words, data):
     if right is None:
         return []
     got = printed(program, [command, *words], data)
+    if got.status == ENDED:
+        return [LATE]
     return [f"{part} differs" for part, one, other in zip(Printed._fields, right, got) if one != other]

@@ -239,4 +239,4 @@ def better(problem, accepted, welfare, seconds):
             if value is not None and selection.ranks_above(len(problem.blocks), value, other, welfare, accepted):
                 return best.Found(other, value), "found by HiGHS"
             model.forbid(other)
-    return None, f"HiGHS has none to offer but {looked} that are forbidden or of less welfare"
+    return None, f"HiGHS offers no other, but for {looked} that aren't eligible or rank below" if looked else "HiGHS offers no other"

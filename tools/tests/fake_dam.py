@@ -4,6 +4,7 @@
 import os
 import random
 import sys
+import time
 
 sys.dont_write_bytecode = True
 
@@ -37,6 +38,8 @@ def main():
     command, data = sys.argv[1], sys.stdin.buffer.read()
     answer = day(data) if command == "day" else compare.wanted(command, data)
     defect = os.environ.get("DAM_DEFECT")
+    if defect == "late" and data:
+        time.sleep(60)
     if defect == "price" and b"period,1,175000" in answer.stdout:
         answer = answer._replace(stdout=answer.stdout.replace(b"period,1,175000", b"period,1,175001"))
     if defect == "status" and answer.status:

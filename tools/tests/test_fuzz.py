@@ -43,6 +43,12 @@ class Fuzz(unittest.TestCase):
         status, out, _ = self.fuzz("--count", "3", "--seed", "c", "--commands", "day", defect="order")
         self.assertEqual((status, "in their order" in out), (1, True))
 
+    def test_a_program_that_takes_too_long_is_ended_and_its_input_kept(self):
+        words = ["--count", "1", "--wait", "1", "--seed", "check", "--commands", "replay"]
+        status, out, kept = self.fuzz(*words, defect="late")
+        self.assertEqual((status, "no answer in time" in out, len(kept)), (1, True, 1), out)
+        self.assertEqual(out.splitlines()[-1], "0 passed, 1 failed")
+
 
 if __name__ == "__main__":
     unittest.main()
