@@ -10,3 +10,4 @@ pub mod Days
 pub mod Worth
 pub mod Volumes
 pub mod Deciding
+pub mod Gains

@@ -7,7 +7,7 @@ ghost use Rattle.std.specs.Prelude.{List, [], ◌∷◌, ◌++◌, Bool, length}
 ghost use Rattle.dam_book.specs.Limits.{most_blocks};
 ghost use Rattle.dam_blocks.specs.Problem.{ProblemState, IsProblem};
 ghost use Rattle.dam_blocks.specs.Selection.{padded, IsAdmissible};
-ghost use Rattle.dam_blocks.specs.Eligible.{selection_welfare};
+ghost use Rattle.dam_blocks.specs.Eligible.{selection_welfare, ArePrices};
 ghost use Rattle.dam_blocks.specs.Magnitude.{IsWithin, greatest_selection_welfare};
 ghost use Rattle.dam_bound.specs.Prefix.{IsCompletion};
 ghost use Rattle.dam_bound.specs.Relaxed.{relaxed_welfare};
@@ -81,4 +81,15 @@ pub fn magnitude()
     dam_hour::laws::welfare();
     dam_hour::laws::magnitude();
     dam_blocks::laws::sums();
+}
+
+/// A selection with which every period balances has a price in each of them.
+pub fn prices()
+    ensures { (problem : ProblemState) (sel : List Bool) (w : ℤ) → IsProblem problem
+        → selection_welfare problem sel ≡ Some w
+        → (prices : List ℤ) × ArePrices problem.blocks sel 1 problem.hours prices }
+{
+    dam_hour::laws::welfare();
+    dam_hour::laws::balance();
+    dam_hour::laws::existence();
 }

@@ -17,6 +17,7 @@
 #![tactic(auto)]
 
 mod day;
+mod gain;
 pub mod laws;
 mod levels;
 mod relaxed;

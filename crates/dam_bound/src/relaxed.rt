@@ -1,14 +1,15 @@
-ghost use Rattle.std.specs.Prelude.{◌≡◌, ◌<◌, ◌≤◌, [], ◌∷◌, ◌++◌, List, Bool, length, drop, map, IfOk, IfSome};
+ghost use Rattle.std.specs.Prelude.{ℤ, ◌≡◌, ◌<◌, ◌≤◌, [], ◌∷◌, ◌++◌, List, Bool, length, drop, map, IfOk, IfSome};
 ghost use Rattle.dam_book.specs.Limits.{most_blocks};
 ghost use Rattle.dam_blocks.specs.Selection.{padded};
-ghost use Rattle.dam_blocks.specs.Eligible.{period_welfare};
+ghost use Rattle.dam_blocks.specs.Eligible.{period_welfare, ArePrices, gain_at};
 ghost use Rattle.dam_blocks.specs.Magnitude.{IsWithin};
 ghost use Rattle.dam_bound.specs.Relaxed.{as_steps, relaxed_welfare, without_rows};
-ghost use Rattle.dam_bound.specs.Day.{IsSmallDay, IsDayOf};
+ghost use Rattle.dam_bound.specs.Day.{IsSmallDay, IsDay, IsDayOf};
 ghost use Rattle.dam_bound.specs.inside.Levels.{AreLevels, last_steps, AreDayLevels};
 ghost use Rattle.dam_bound.specs.inside.Levels.{greatest_period_bound};
 
 use crate::day::{Day, child_of, root_of};
+use crate::gain::gain_of;
 use crate::levels::Levels;
 use dam_blocks::{Block, Problem, Selection, block_value, laws, net_volume};
 use dam_book::Period;
@@ -147,5 +148,21 @@ impl<A: Allocator> Relaxed<A> {
             Some(day) => child_of(&self.periods, &self.blocks, day, depth, accept),
             None => None,
         }
+    }
+
+    /// What the block at a place gains at the prices of a day on which every block is decided, in cents
+    /// per MWh times tenths of a MW; below 0 where it loses.
+    ///
+    /// Only the prices of the block's own periods are asked for, each from the row at which the day has
+    /// its welfare. Takes no memory.
+    pub fn gain(&self, day: &Day, place: usize) -> i64
+        requires place { place < length self.now.blocks }
+        requires small { IsSmallDay (length self.now.blocks) day.now }
+        ensures { (prefix : List Bool) (prices : List ℤ) → length prefix ≡ length self.now.blocks
+            → IsDay self.now prefix day.now
+            → ArePrices self.now.blocks (padded prefix) 1 self.now.hours prices
+            → result ≡ gain_at self.now.blocks (padded prefix) prices place }
+    {
+        gain_of(&self.periods, &self.blocks, day, place)
     }
 }

@@ -7,3 +7,4 @@ pub mod Answers
 pub mod Sums
 pub mod Rule
 pub mod Shares
+pub mod Leaf

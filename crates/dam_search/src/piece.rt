@@ -1,5 +1,5 @@
 ghost use Rattle.std.specs.Prelude.{◌≡◌, ◌⊎◌, ◌-◌, ◌^◌, ◌<◌, ◌≤◌, max, ℤ, pos, ◌<ℤ◌, ◌≤ℤ◌, true, false, Some, None};
-ghost use Rattle.std.specs.Prelude.{Option, List, Bool, [], ◌∷◌, ◌++◌, length, MatchBool};
+ghost use Rattle.std.specs.Prelude.{Option, List, Bool, [], ◌∷◌, ◌++◌, length, MatchBool, IfSome, IfNone};
 ghost use Rattle.dam_blocks.specs.Selection.{choice, padded, IsAdmissible};
 ghost use Rattle.dam_blocks.specs.Eligible.{IsEligible};
 ghost use Rattle.dam_bound.specs.Prefix.{IsCompletion};
@@ -10,8 +10,8 @@ ghost use Rattle.dam_search.specs.inside.Walk.{Finds, Covers, Spends, Reads};
 
 use crate::answer::PieceAnswer;
 use crate::incumbent::Incumbent;
-use crate::prefix::{Prefix, bound_of};
-use dam_blocks::{Best, Problem, Selection, Verdict, ranks_above, score};
+use crate::prefix::Prefix;
+use dam_blocks::{Best, Problem, Selection, ranks_above};
 use dam_bound::{Day, Relaxed};
 use std::alloc::Allocator;
 
@@ -36,34 +36,45 @@ pub(crate) fn surpasses(candidate: &Best, best: &Option<Best>) -> bool
     }
 }
 
-/// Whether a selection of this welfare is the best so far, if it is eligible, and has at least what
-/// was read. An eligible one has a welfare, and none below 0.
-fn is_worth_a_score(selection: Selection, welfare: Option<i64>, found: &Found) -> bool
-    ensures { result ≡ false → (w : ℤ) → pos 0 ≤ℤ w → welfare ≡ Some w
-        → (w <ℤ pos found.now.read) ⊎ IsMatched w selection found.now.best }
+/// The selection with its welfare, where it is the best so far if it is eligible, and has at least what
+/// was read. An eligible one has no welfare below 0.
+fn candidate(selection: Selection, welfare: i64, found: &Found) -> Option<Best>
+    ensures none { IfNone result
+        ((welfare <ℤ pos found.now.read) ⊎ IsMatched welfare selection found.now.best) }
+    ensures some { IfSome result (λ b. (b.selection ≡ selection) × (pos b.welfare ≡ welfare)
+        × Rises found.now.best (Some b)) }
 {
-    match welfare {
-        Some(welfare) if welfare >= 0 => {
-            let welfare = welfare as u64;
-            found.read <= welfare && surpasses(&Best { selection, welfare }, &found.best)
-        }
-        _ => false,
+    if welfare < 0 {
+        return None;
+    }
+    let best = Best {
+        selection,
+        welfare: welfare as u64,
+    };
+    if found.read <= best.welfare && surpasses(&best, &found.best) {
+        Some(best)
+    } else {
+        None
     }
 }
 
-/// Scores the selection of a prefix that decides every block, and offers its welfare where it is
-/// the best so far.
+/// Takes the selection of a prefix that decides every block and that the links and the groups admit,
+/// and offers its welfare, where it is eligible and the best so far.
 ///
-/// Its welfare is the bound of the prefix, so that most selections need no score.
-fn try_selection<A: Allocator, I: Incumbent>(
+/// The prefix's day tells its verdict: the welfare is the bound, and that is looked at first; prices
+/// are asked for only where it may be the best, and only in the periods of accepted blocks.
+fn try_selection<A: Allocator, B: Allocator, I: Incumbent>(
     problem: &Problem<A>,
+    relaxed: &Relaxed<B>,
     prefix: &Prefix,
-    bound: Option<i64>,
+    day: &Option<Day>,
     incumbent: &mut I,
     found: &mut Found,
 )
+    requires same { relaxed.now ≡ without_rows problem.now }
     requires full { length problem.now.blocks ≡ length prefix.now }
-    requires bound { bound ≡ relaxed_welfare problem.now prefix.now }
+    requires day { IsDayOf relaxed.now prefix.now day.now }
+    requires admissible { IsAdmissible problem.now.blocks (padded prefix.now) }
     requires best { IsFind problem.now [] found.old.best }
     requires offered { welfare_found found.old.best ≤ I.top incumbent.old }
     ensures finds { Finds problem.now prefix.now found.old.best found.new.best }
@@ -75,24 +86,24 @@ fn try_selection<A: Allocator, I: Incumbent>(
     ensures read { found.new.read ≡ found.old.read }
     ensures visited { found.new.visited ≡ found.old.visited }
 {
-    dam_blocks::laws::verdict();
-    dam_blocks::laws::eligible_welfare();
     dam_bound::laws::completions();
     dam_bound::laws::decided();
+    dam_bound::laws::prices();
     // What every problem keeps, as a clause of this reader tells it.
     let _kept = problem.periods();
-    let selection = prefix.selection();
-    if !is_worth_a_score(selection, bound, found) {
-        return;
-    }
-    let Verdict::Eligible(welfare) = score(problem, selection) else {
+    let Some(day) = day else {
         return;
     };
-    let candidate = Best { selection, welfare };
-    if surpasses(&candidate, &found.best) {
-        found.best = Some(candidate);
-        incumbent.offer(welfare);
+    let welfare = day.total;
+    let Some(best) = candidate(prefix.selection(), welfare, found) else {
+        return;
+    };
+    if prefix.has_loss(relaxed, day) {
+        return;
     }
+    let welfare = best.welfare;
+    found.best = Some(best);
+    incumbent.offer(welfare);
 }
 
 /// Visits the prefix and what extends it, as far as the limit on nodes allows; whether no node is
@@ -140,7 +151,7 @@ fn explore<A: Allocator, B: Allocator, I: Incumbent>(
     }
     found.visited += 1;
     if prefix.depth() == problem.block_count() {
-        try_selection(problem, &prefix, bound_of(day), incumbent, found);
+        try_selection(problem, relaxed, &prefix, day, incumbent, found);
         return true;
     }
     found.read = incumbent.read();

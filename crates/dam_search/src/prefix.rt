@@ -3,10 +3,10 @@ ghost use Rattle.std.specs.Prelude.{List, Bool, [], ◌∷◌, ◌++◌, length,
 ghost use Rattle.dam_book.specs.Limits.{most_blocks};
 ghost use Rattle.dam_blocks.specs.Problem.{ProblemState};
 ghost use Rattle.dam_blocks.specs.Selection.{choice, padded, IsAdmissible};
-ghost use Rattle.dam_blocks.specs.Eligible.{selection_welfare};
+ghost use Rattle.dam_blocks.specs.Eligible.{ArePrices, HasNoLoss, selection_welfare};
 ghost use Rattle.dam_bound.specs.Prefix.{IsCompletion};
 ghost use Rattle.dam_bound.specs.Relaxed.{relaxed_welfare, reaches};
-ghost use Rattle.dam_bound.specs.Day.{IsDayOf};
+ghost use Rattle.dam_bound.specs.Day.{IsDay, IsSmallDay, IsDayOf};
 
 use dam_blocks::{Problem, Selection, admissible, is_allowed};
 use dam_bound::{Day, Relaxed};
@@ -24,7 +24,7 @@ fn reaches(bound: Option<i64>, value: u64) -> bool
 }
 
 /// The relaxed welfare of the prefix whose day it is.
-pub(crate) fn bound_of(day: &Option<Day>) -> Option<i64>
+fn bound_of(day: &Option<Day>) -> Option<i64>
     ensures { (problem : ProblemState) (prefix : List Bool) → IsDayOf problem prefix day.now
         → result ≡ relaxed_welfare problem prefix }
 {
@@ -144,6 +144,24 @@ impl Prefix {
             day = relaxed.child(&day, place, self.taken.has(place));
         }
         day
+    }
+
+    /// Whether some accepted block loses at the prices of the prefix's day, on which every block is
+    /// decided.
+    pub(crate) fn has_loss<A: Allocator>(&self, relaxed: &Relaxed<A>, day: &Day) -> bool
+        requires full { length self.now ≡ length relaxed.now.blocks }
+        requires day { IsDay relaxed.now self.now day.now }
+        requires small { IsSmallDay (length self.now) day.now }
+        ensures { (prices : List ℤ)
+            → ArePrices relaxed.now.blocks (padded self.now) 1 relaxed.now.hours prices
+            → (result ≡ false) ↔ HasNoLoss relaxed.now.blocks (padded self.now) prices }
+    {
+        for place in 0..self.depth {
+            if self.taken.has(place) && relaxed.gain(day, place) < 0 {
+                return true;
+            }
+        }
+        false
     }
 
     /// The prefix, where its bound is at least the value; nothing where it has no bound or a lesser

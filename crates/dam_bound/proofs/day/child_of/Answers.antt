@@ -1,5 +1,5 @@
 -- A period more, and all of them.
-use Rattle.std.proofs.Common.{◌≡◌, ◌+◌, ◌-◌, ◌<◌, true, pos, Some, List, [], ◌∷◌, ◌++◌, length, drop, map, ap, ◌∙◌, sym, subst, refl, rules, arith}
+use Rattle.std.proofs.Common.{◌≡◌, ◌+◌, ◌-◌, ◌<◌, pos, Some, List, [], ◌∷◌, ◌++◌, length, drop, map, ap, ◌∙◌, sym, subst, refl, rules, arith}
 use Rattle.std.proofs.lemmas.Int.{ints}
 use Rattle.std.proofs.lemmas.List.{length-map, length-set, drop_all}
 use Rattle.std.proofs.lemmas.Option.{slice_get_read}

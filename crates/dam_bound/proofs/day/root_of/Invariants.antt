@@ -1,5 +1,5 @@
 -- The periods so far are those with no decision, and their welfares are summed.
-use Rattle.std.proofs.Common.{◌≡◌, ℕ, ◌*◌, ◌<◌, ◌≤◌, ℤ, pos, neg_ℤ, ◌≤ℤ◌, [], length, drop, map, slice_index_or}
+use Rattle.std.proofs.Common.{◌≡◌, ℕ, ◌*◌, ◌<◌, ◌≤◌, pos, neg_ℤ, ◌≤ℤ◌, [], length, drop, map, slice_index_or}
 use Rattle.dam_book.specs.Limits.{last_period}
 use Rattle.dam_bound.specs.declared.day.DayPeriod.{DayPeriod}
 use Rattle.dam_bound.specs.Day.{IsSmallPeriod, worth_of_all}

@@ -1,5 +1,5 @@
 -- One node, and the walks from its two extensions.
-use Rattle.std.proofs.Common.{◌≡◌, ◌≢◌, ℕ, ◌+◌, ◌-◌, ◌≤◌, ◌<◌, true, false, inr, Option, List, Bool, [], ◌∷◌, ◌++◌, length, length-append, ◌∙◌, ap, sym, subst, refl, rules, arith}
+use Rattle.std.proofs.Common.{◌≡◌, ◌≢◌, ℕ, ◌+◌, ◌-◌, ◌≤◌, ◌<◌, true, false, Option, List, Bool, [], ◌∷◌, ◌++◌, length, length-append, ◌∙◌, ap, sym, subst, refl, rules, arith}
 use Rattle.dam_book.specs.Limits.{most_blocks}
 use Rattle.dam_blocks.specs.Problem.{ProblemState}
 use Rattle.dam_bound.specs.declared.day.Day.{Day}
@@ -151,3 +151,6 @@ returns-else-explore-clause-spends g t c =
     (subst (λ (v : ℕ). Spends problem (prefix ++ false ∷ []) (n - length (prefix ++ false ∷ [])) v c.args.nodes (c.args.found.now.visited + 1) after false) before
     (subst (λ (xs : List Bool). Spends problem xs (n - length xs) (told c.read-found.new.self) c.args.nodes (c.args.found.now.visited + 1) after false) e first)) in
     subst (λ (b : Bool). Spends problem prefix (n - length prefix) (told c.args.incumbent.now) c.args.nodes c.args.found.now.visited after b) (sym c.if-explore.false) here
+
+pub try_selection-requires-clause-admissible : goal.try_selection-requires-clause-admissible
+try_selection-requires-clause-admissible g t c = c.is_still_admissible.ensures.value.0 (search rules)

@@ -1,59 +1,72 @@
 -- The selection of a prefix that decides every block is its only completion that can be eligible.
-use Rattle.std.proofs.Common.{◌≡◌, ◌⊎◌, inr, Some, ℤ, pos, ◌<ℤ◌, List, Bool, ◌∙◌, refl, sym, subst, rules, arith}
+use Rattle.std.proofs.Common.{◌⊎◌, ◌≤◌, inr, ℤ, pos, ◌<ℤ◌, List, Bool, length, ◌∙◌, sym, subst, rules, arith}
+use Rattle.std.proofs.lemmas.Int.{to_z-of_z}
+use mir.Syntax.{w64}
+use mir.Val.{SFits}
+use Rattle.dam_book.specs.Limits.{most_blocks}
+use Rattle.dam_blocks.specs.Selection.{padded}
 use Rattle.dam_blocks.specs.Eligible.{IsEligible}
-use Rattle.dam_blocks.specs.Result.{RanksAtOrBelow}
 use Rattle.dam_search.specs.Piece.{IsMatched}
-use Rattle.dam_search.proofs.Ranks.{finds_nothing, ranks_with_itself}
+use Rattle.dam_search.proofs.Ranks.{finds_nothing}
+use Rattle.dam_search.proofs.Leaf.{tells_of, own_day, welfare_is_total, no_welfare, same_welfare, losing, not_losing, finds_selection, ranks_found}
 use Rattle.dam_search.proofs.piece.try_selection.Goals as goal
 
-pub returns-in_default : goal.returns-in_default
-returns-in_default g c =
-    let problem = c.args.problem.now in
-    let offered = c.requires.offered in
-    record {
-      finds = finds_nothing problem c.args.prefix.now c.args.found.now.best;
-      covers = λ sel w whole e.
-          (let only = c.completions.ensures.only problem c.args.prefix.now sel (omega (arith, c.requires.full)) whole e.admissible in
-          let here = subst (λ (xs : List Bool). IsEligible problem xs w) (only ∙ sym c.selection-selection.ensures) e in
-          absurd (c.verdict.ensures.other problem c.selection-selection.result c.score.result w c.score.ensures c.in_default.not-Eligible here));
-      offered = omega (arith, offered);
-      told = refl;
-      kept = refl;
-      read = refl;
-      visited = refl;
-    }
+pub returns-in_default-clause-finds : goal.returns-in_default-clause-finds
+returns-in_default-clause-finds g c = finds_nothing c.args.problem.now c.args.prefix.now c.args.found.now.best
 
-pub returns-then-surpasses-clause-covers : goal.returns-then-surpasses-clause-covers
-returns-then-surpasses-clause-covers g c sel w whole e =
-    let problem = c.args.problem.now in
-    let only = c.completions.ensures.only problem c.args.prefix.now sel (omega (arith, c.requires.full)) whole e.admissible ∙ sym c.selection-selection.ensures in
-    let here = subst (λ (xs : List Bool). IsEligible problem xs w) only e in
-    let same = c.verdict.ensures.one problem c.selection-selection.result w (pos c.in-Eligible.welfare) here c.in-Eligible.ensures in
-    inr (subst (λ (xs : List Bool). RanksAtOrBelow w xs (pos c.in-Eligible.welfare) c.selection-selection.result) (sym only)
-    (subst (λ (v : ℤ). RanksAtOrBelow v c.selection-selection.result (pos c.in-Eligible.welfare) c.selection-selection.result) (sym same)
-    (ranks_with_itself (pos c.in-Eligible.welfare) c.selection-selection.result)))
+pub returns-in_default-clause-covers : goal.returns-in_default-clause-covers
+returns-in_default-clause-covers g c sel w whole e =
+    absurd (no_welfare c.args.problem.now c.args.relaxed.now c.args.prefix.now sel c.args.day.now w c.requires.same c.in_default.is c.requires.day
+    (c.decided.ensures c.args.problem.now c.args.prefix.now sel (omega (arith, c.requires.full)) whole) e.welfare_is)
 
-pub returns-then-not-is_worth_a_score-clause-finds : goal.returns-then-not-is_worth_a_score-clause-finds
-returns-then-not-is_worth_a_score-clause-finds g c = finds_nothing c.args.problem.now c.args.prefix.now c.args.found.now.best
+pub returns-in_default-candidate-clause-finds : goal.returns-in_default-candidate-clause-finds
+returns-in_default-candidate-clause-finds g c = finds_nothing c.args.problem.now c.args.prefix.now c.args.found.now.best
 
--- its welfare is the prefix's bound
-pub returns-then-not-is_worth_a_score-clause-covers : goal.returns-then-not-is_worth_a_score-clause-covers
-returns-then-not-is_worth_a_score-clause-covers g c sel w whole e =
-    let problem = c.args.problem.now in
-    let prefix = c.args.prefix.now in
-    let only = c.completions.ensures.only problem prefix sel (omega (arith, c.requires.full)) whole e.admissible ∙ sym c.selection-selection.ensures in
-    let bound : c.args.bound ≡ Some w = c.requires.bound ∙ c.decided.ensures problem prefix sel (omega (arith, c.requires.full)) whole ∙ e.welfare_is in
+pub returns-in_default-candidate-clause-covers : goal.returns-in_default-candidate-clause-covers
+returns-in_default-candidate-clause-covers g c sel w whole e =
+    let problem = c.args.problem.now in let prefix = c.args.prefix.now in
+    let only = c.completions.ensures.only problem prefix sel (omega (arith, c.requires.full)) whole e.admissible ∙ sym c.selection.ensures in
+    let day = (own_day c.args.relaxed.now prefix c.args.day.now c.in-Some.day c.in-Some.is c.requires.day).0 in
+    let total = welfare_is_total problem c.args.relaxed.now prefix sel c.in-Some.day c.requires.same day (c.decided.ensures problem prefix sel (omega (arith, c.requires.full)) whole) in
+    let same = same_welfare _ w c.in-Some.day.total e.welfare_is total in
+    let fits : SFits w64 c.in-Some.day.total = search rules in
+    let value = to_z-of_z w64 c.in-Some.day.total fits in
     subst (λ (xs : List Bool). (w <ℤ pos c.args.found.now.read) ⊎ IsMatched w xs c.args.found.now.best) (sym only)
-    (c.is_worth_a_score.ensures (search rules) w (c.eligible_welfare.ensures problem sel w c.periods-kept.ensures.valid e) bound)
+    (subst (λ (z : ℤ). (z <ℤ pos c.args.found.now.read) ⊎ IsMatched z c.selection.result c.args.found.now.best) (value ∙ sym same) c.in_default-candidate.ensures.none)
 
-pub returns-else-surpasses-clause-covers : goal.returns-else-surpasses-clause-covers
-returns-else-surpasses-clause-covers g c sel w whole e =
-    let problem = c.args.problem.now in
-    let only = c.completions.ensures.only problem c.args.prefix.now sel (omega (arith, c.requires.full)) whole e.admissible ∙ sym c.selection-selection.ensures in
-    let here = subst (λ (xs : List Bool). IsEligible problem xs w) only e in
-    let same = c.verdict.ensures.one problem c.selection-selection.result w (pos c.in-Eligible.welfare) here c.in-Eligible.ensures in
-    inr (subst (λ (xs : List Bool). IsMatched w xs c.args.found.now.best) (sym only)
-    (subst (λ (v : ℤ). IsMatched v c.selection-selection.result c.args.found.now.best) (sym same) c.if-surpasses.ensures))
+pub returns-then-has_loss-clause-finds : goal.returns-then-has_loss-clause-finds
+returns-then-has_loss-clause-finds g c = finds_nothing c.args.problem.now c.args.prefix.now c.args.found.now.best
 
-pub returns-else-surpasses-clause-finds : goal.returns-else-surpasses-clause-finds
-returns-else-surpasses-clause-finds g c = finds_nothing c.args.problem.now c.args.prefix.now c.args.found.now.best
+pub returns-then-has_loss-clause-covers : goal.returns-then-has_loss-clause-covers
+returns-then-has_loss-clause-covers g c sel w whole e =
+    let problem = c.args.problem.now in let prefix = c.args.prefix.now in
+    let only = c.completions.ensures.only problem prefix sel (omega (arith, c.requires.full)) whole e.admissible in
+    absurd (losing problem prefix c.has_loss.result w c.if-has_loss.true (tells_of problem c.args.relaxed.now prefix c.has_loss.result c.requires.same c.has_loss.ensures)
+    (subst (λ (xs : List Bool). IsEligible problem xs w) only e))
+
+pub returns-clause-finds : goal.returns-clause-finds
+returns-clause-finds g c =
+    let problem = c.args.problem.now in let prefix = c.args.prefix.now in
+    let full = c.requires.full in let blocks = c.periods-kept.ensures.valid.few_blocks in
+    let few : length prefix ≤ most_blocks = omega (arith, full, blocks) in
+    let whole = c.completions.ensures.padded prefix few in
+    let day = (own_day c.args.relaxed.now prefix c.args.day.now c.in-Some.day c.in-Some.is c.requires.day).0 in
+    let total = welfare_is_total problem c.args.relaxed.now prefix (padded prefix) c.in-Some.day c.requires.same day (c.decided.ensures problem prefix (padded prefix) (omega (arith, full)) whole) in
+    let fits : SFits w64 c.in-Some.day.total = search rules in
+    let value = to_z-of_z w64 c.in-Some.day.total fits in
+    let found = c.in-Some-candidate.ensures.some in
+    let is = not_losing problem prefix c.has_loss.result c.in-Some.day.total c.if-has_loss.false (tells_of problem c.args.relaxed.now prefix c.has_loss.result c.requires.same c.has_loss.ensures)
+    whole c.requires.admissible total (c.prices.ensures problem (padded prefix) c.in-Some.day.total c.periods-kept.ensures.valid total) in
+    finds_selection problem prefix c.args.found.now.best c.in-Some-candidate.best c.in-Some.day.total (found.0 ∙ c.selection.ensures) (found.1 ∙ value) whole is found.2
+
+pub returns-clause-covers : goal.returns-clause-covers
+returns-clause-covers g c sel w whole e =
+    let problem = c.args.problem.now in let prefix = c.args.prefix.now in
+    let only = c.completions.ensures.only problem prefix sel (omega (arith, c.requires.full)) whole e.admissible in
+    let day = (own_day c.args.relaxed.now prefix c.args.day.now c.in-Some.day c.in-Some.is c.requires.day).0 in
+    let total = welfare_is_total problem c.args.relaxed.now prefix sel c.in-Some.day c.requires.same day (c.decided.ensures problem prefix sel (omega (arith, c.requires.full)) whole) in
+    let same = same_welfare _ w c.in-Some.day.total e.welfare_is total in
+    let fits : SFits w64 c.in-Some.day.total = search rules in
+    let value = to_z-of_z w64 c.in-Some.day.total fits in
+    let found = c.in-Some-candidate.ensures.some in
+    inr (ranks_found sel prefix w c.in-Some.day.total c.in-Some-candidate.best (found.0 ∙ c.selection.ensures) (found.1 ∙ value) only same)

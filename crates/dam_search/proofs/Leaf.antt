@@ -1,0 +1,78 @@
+-- The verdict on a selection, told by the day of its decisions.
+use Rattle.std.proofs.Common.{◌≡◌, inr, ◌↔◌, ℤ, pos, Bool, true, false, Option, Some, None, List, length, ◌∙◌, ap, sym, subst}
+use Rattle.dam_blocks.specs.declared.selection.Best.{Best}
+use Rattle.dam_blocks.specs.Problem.{ProblemState}
+use Rattle.dam_blocks.specs.Selection.{padded, IsAdmissible}
+use Rattle.dam_blocks.specs.Eligible.{ArePrices, HasNoLoss, selection_welfare, IsEligible}
+use Rattle.dam_blocks.specs.Result.{RanksAtOrBelow}
+use Rattle.dam_bound.specs.declared.day.Day.{Day}
+use Rattle.dam_bound.specs.Day.{IsDay, IsSmallDay, IsDayOf}
+use Rattle.dam_bound.specs.Prefix.{IsCompletion}
+use Rattle.dam_bound.specs.Relaxed.{relaxed_welfare, without_rows}
+use Rattle.dam_search.specs.Piece.{Rises}
+use Rattle.dam_search.specs.inside.Walk.{Finds}
+use Rattle.dam_search.proofs.Ranks.{ranks_with_itself}
+
+-- what says whether some accepted block loses
+abbrev pub TellsLoss : ProblemState → List Bool → Bool → Type 0
+TellsLoss problem prefix loss =
+    (prices : List ℤ) → ArePrices problem.blocks (padded prefix) 1 problem.hours prices → (loss ≡ false) ↔ HasNoLoss problem.blocks (padded prefix) prices
+
+pub tells_of : (problem relaxed : ProblemState) (prefix : List Bool) (loss : Bool) → relaxed ≡ without_rows problem → TellsLoss relaxed prefix loss → TellsLoss problem prefix loss
+tells_of problem relaxed prefix loss same tells = subst (λ (p : ProblemState). TellsLoss p prefix loss) same tells
+
+-- the day that there is
+pub own_day : (relaxed : ProblemState) (prefix : List Bool) (o : Option Day) (day : Day) → o ≡ Some day → IsDayOf relaxed prefix o → IsDay relaxed prefix day × IsSmallDay (length prefix) day
+own_day relaxed prefix o day e is = subst (λ (x : Option Day). IsDayOf relaxed prefix x) e is
+
+-- the total of the day is the welfare of each completion
+pub welfare_is_total : (problem relaxed : ProblemState) (prefix sel : List Bool) (day : Day) → relaxed ≡ without_rows problem → IsDay relaxed prefix day
+    → relaxed_welfare problem prefix ≡ selection_welfare problem sel → selection_welfare problem sel ≡ Some day.total
+welfare_is_total problem relaxed prefix sel day same is decided =
+    sym (is.total_is ∙ ap (λ (p : ProblemState). relaxed_welfare p prefix) same ∙ decided)
+
+-- no day, no welfare
+pub no_welfare : (problem relaxed : ProblemState) (prefix sel : List Bool) (o : Option Day) (w : ℤ) → relaxed ≡ without_rows problem → o ≡ None → IsDayOf relaxed prefix o
+    → relaxed_welfare problem prefix ≡ selection_welfare problem sel → selection_welfare problem sel ≡ Some w → ⊥
+no_welfare problem relaxed prefix sel o w same e is decided known =
+    let none : relaxed_welfare relaxed prefix ≡ None = subst (λ (x : Option Day). IsDayOf relaxed prefix x) e is in
+    let both : None ≡ Some w = sym none ∙ ap (λ (p : ProblemState). relaxed_welfare p prefix) same ∙ decided ∙ known in
+    absurd (cc)
+
+pub same_welfare : (x : Option ℤ) (v w : ℤ) → x ≡ Some v → x ≡ Some w → v ≡ w
+same_welfare x v w e f = let both : Some v ≡ Some w = sym e ∙ f in cc
+
+-- a loss is told of no eligible selection
+pub losing : (problem : ProblemState) (prefix : List Bool) (loss : Bool) (w : ℤ) → loss ≡ true → TellsLoss problem prefix loss → IsEligible problem (padded prefix) w → ⊥
+losing problem prefix loss w e tells is = let none : loss ≡ false = (tells is.prices is.are_prices).1 is.no_loss in absurd (cc)
+
+-- where none is told, the selection is eligible
+pub not_losing : (problem : ProblemState) (prefix : List Bool) (loss : Bool) (w : ℤ) → loss ≡ false → TellsLoss problem prefix loss → IsCompletion prefix (padded prefix)
+    → IsAdmissible problem.blocks (padded prefix) → selection_welfare problem (padded prefix) ≡ Some w
+    → (prices : List ℤ) × ArePrices problem.blocks (padded prefix) 1 problem.hours prices → IsEligible problem (padded prefix) w
+not_losing problem prefix loss w e tells whole admissible welfare prices = record {
+  as_long = whole.as_long;
+  admissible = admissible;
+  prices = prices.0;
+  are_prices = prices.1;
+  no_loss = (tells prices.0 prices.1).0 e;
+  welfare_is = welfare;
+}
+
+-- the selection is found
+pub finds_selection : (problem : ProblemState) (prefix : List Bool) (before : Option Best) (best : Best) (total : ℤ) → best.selection ≡ padded prefix → pos best.welfare ≡ total
+    → IsCompletion prefix (padded prefix) → IsEligible problem (padded prefix) total → Rises before (Some best) → Finds problem prefix before (Some best)
+finds_selection problem prefix before best total e f whole is rises = record {
+  found = inr (
+    subst (λ (xs : List Bool). IsCompletion prefix xs) (sym e) whole,
+    subst (λ (xs : List Bool). IsEligible problem xs (pos best.welfare)) (sym e) (subst (λ (z : ℤ). IsEligible problem (padded prefix) z) (sym f) is),
+  );
+  rises = rises;
+}
+
+-- it ranks with itself
+pub ranks_found : (sel prefix : List Bool) (w total : ℤ) (best : Best) → best.selection ≡ padded prefix → pos best.welfare ≡ total → sel ≡ padded prefix → w ≡ total
+    → RanksAtOrBelow w sel (pos best.welfare) best.selection
+ranks_found sel prefix w total best e f g h =
+    subst (λ (xs : List Bool). RanksAtOrBelow w xs (pos best.welfare) best.selection) (e ∙ sym g)
+    (subst (λ (z : ℤ). RanksAtOrBelow z best.selection (pos best.welfare) best.selection) (f ∙ sym h) (ranks_with_itself (pos best.welfare) best.selection))
