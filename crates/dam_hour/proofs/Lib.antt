@@ -7,6 +7,8 @@ pub mod Ladders
 pub mod Positions
 pub mod VolumesInTurn
 pub mod Supporting
+pub mod Edges
+pub mod Rungs
 pub mod Existence
 pub mod Enumeration
 pub mod Midpoint

@@ -84,7 +84,7 @@ margin_less Buy k l p h = omega (arith, ints, h)
 margin_less Sell k l p h = omega (arith, ints, h)
 
 -- what is not worse than a better limit is better than the price
-not_worse_is_better : (side : Side) (l p : ℤ) (ss : List Step) → pos 0 <ℤ margin_of side l p → better_volume side l ss + at_volume side l ss ≤ better_volume side p ss
+pub not_worse_is_better : (side : Side) (l p : ℤ) (ss : List Step) → pos 0 <ℤ margin_of side l p → better_volume side l ss + at_volume side l ss ≤ better_volume side p ss
 not_worse_is_better side l p [] h = omega arith
 not_worse_is_better side l p (s ∷ ss) h =
     let here = on_own_le side s.side (λ own. if_better (margin_of own s.price l) s.qty + if_at (margin_of own s.price l) s.qty) (λ own. if_better (margin_of own s.price p) s.qty)

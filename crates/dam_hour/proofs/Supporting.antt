@@ -65,7 +65,7 @@ above_own Sell Sell l p q m k h f = f h
 above_own Buy Sell l p q m k h f = omega arith
 above_own Sell Buy l p q m k h f = omega arith
 
-better_volume_above : (side : Side) (p q : ℤ) (ss : List Step) → Above side p q → better_volume side p ss ≤ better_volume side q ss
+pub better_volume_above : (side : Side) (p q : ℤ) (ss : List Step) → Above side p q → better_volume side p ss ≤ better_volume side q ss
 better_volume_above side p q [] h = omega arith
 better_volume_above side p q (s ∷ ss) h =
     let here = above_own side s.side s.price p q (if_better (margin_of s.side s.price p) s.qty) (if_better (margin_of s.side s.price q) s.qty) h
@@ -78,7 +78,7 @@ not_worse_sum : (side own : Side) (m : ℤ) (q : ℕ)
     → volume_on side own (if_better m q + if_at m q) ≡ volume_on side own (if_better m q) + volume_on side own (if_at m q)
 not_worse_sum side own m q = volume_on_sum side own (if_better m q + if_at m q) (if_better m q) (if_at m q) refl
 
-not_worse_above : (side : Side) (p q : ℤ) (ss : List Step) → Above side p q
+pub not_worse_above : (side : Side) (p q : ℤ) (ss : List Step) → Above side p q
     → better_volume side p ss + at_volume side p ss ≤ better_volume side q ss + at_volume side q ss
 not_worse_above side p q [] h = omega arith
 not_worse_above side p q (s ∷ ss) h =
@@ -184,7 +184,7 @@ margin_other_end Sell Sell l r q m e = let a = r.at_most in none_worse (margin_o
 margin_other_end Buy Sell l r q m e = refl
 margin_other_end Sell Buy l r q m e = refl
 
-end_not_worse : (side : Side) (ss : List Step) → AreInRange ss
+pub end_not_worse : (side : Side) (ss : List Step) → AreInRange ss
     → offered_volume side ss ≡ better_volume side (other_end_of side) ss + at_volume side (other_end_of side) ss
 end_not_worse side [] r = refl
 end_not_worse side (s ∷ ss) r =

@@ -1,3 +1,4 @@
 -- What only contracts inside this crate cite.
 pub mod Volumes
 pub mod Ladder
+pub mod Edge

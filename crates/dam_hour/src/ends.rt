@@ -1,32 +1,39 @@
-ghost use Rattle.std.specs.Prelude.{◌≡◌, ◌≤◌, ◌↔◌, pos, ◌+ℤ◌, ◌-ℤ◌, IsTrue};
-ghost use Rattle.std.specs.Int.{int_div_euclid};
-ghost use Rattle.dam_book.specs.Limits.{lowest_price, highest_price};
-ghost use Rattle.dam_hour.specs.Limits.{price_span};
+ghost use Rattle.std.specs.Prelude.{◌≡◌, ◌≤◌, ◌*◌, ◌↔◌, pos, ◌+ℤ◌, ◌-ℤ◌, IsTrue};
+ghost use Rattle.std.specs.Int.{int_div_euclid, int_min, int_max};
+ghost use Rattle.dam_book.specs.Limits.{lowest_price, highest_price, greatest_volume};
+ghost use Rattle.dam_hour.specs.Limits.{most_steps};
 ghost use Rattle.dam_hour.specs.Execution.{IsHour, IsNetVolume, IsWithinOffers};
 ghost use Rattle.dam_hour.specs.Price.{price_between};
-ghost use Rattle.dam_hour.specs.inside.Volumes.{IsHighEnough, IsLowEnough, IsLeastHighEnough, IsGreatestLowEnough};
+ghost use Rattle.dam_hour.specs.inside.Volumes.{IsLeastHighEnough, IsGreatestLowEnough};
+ghost use Rattle.dam_hour.specs.inside.Edge.{IsServed, IsEdge, IsLimitOfSell};
 
 use crate::hour::Hour;
 use dam_book::{HIGHEST_PRICE, LOWEST_PRICE, Price, Side};
 use std::alloc::Allocator;
 
-/// The number of cents from the least price to the greatest.
-const SPAN: u32 = (HIGHEST_PRICE - LOWEST_PRICE) as u32;
-
-/// The price so many cents above the least one.
-fn price_above(cents: u32) -> Price
-    requires { cents ≤ price_span }
-    ensures { result ≡ lowest_price +ℤ pos cents }
-{
-    Price::new(LOWEST_PRICE + cents as i32).unwrap()
+/// Where the best execution ends among the buys, which are served from the greatest limit down.
+#[derive(Clone, Copy)]
+pub(crate) struct Edge {
+    /// The limit of the last buy that is served, or the greatest price where none is.
+    pub(crate) last: Price,
+    /// The limit of the first buy that isn't served, or the least price where each is.
+    pub(crate) next: Price,
+    /// The volume of the buys that are served, of the last one too in full, in tenths of a MW.
+    pub(crate) volume: u64,
 }
 
-/// The price so many cents below the greatest one.
-fn price_below(cents: u32) -> Price
-    requires { cents ≤ price_span }
-    ensures { result ≡ highest_price -ℤ pos cents }
+/// The least price of the range.
+fn lowest() -> Price
+    ensures { result ≡ lowest_price }
 {
-    Price::new(HIGHEST_PRICE - cents as i32).unwrap()
+    Price::new(LOWEST_PRICE).unwrap()
+}
+
+/// The greatest price of the range.
+fn highest() -> Price
+    ensures { result ≡ highest_price }
+{
+    Price::new(HIGHEST_PRICE).unwrap()
 }
 
 /// Whether some execution balances: the net volume is at most all buys, and takes at most all sells.
@@ -40,69 +47,109 @@ pub(crate) fn is_within_offers<A: Allocator>(hour: &Hour<A>, net: i64) -> bool
     -sells <= net && net <= buys
 }
 
-/// Whether the buys that are better than the price find sells that are not worse, or net volume.
-///
-/// Where a price is high enough, so is every higher one.
-fn is_high_enough<A: Allocator>(hour: &Hour<A>, net: i64, price: Price) -> bool
+/// Whether a buy is served: what stands before it leaves it some of the net volume, or of the sells that
+/// aren't worse than its limit.
+fn is_served<A: Allocator>(hour: &Hour<A>, net: i64, limit: Price, before: u64) -> bool
     requires net { IsNetVolume net }
-    ensures { IsTrue result ↔ IsHighEnough hour.now net price }
+    requires before { before ≤ most_steps * greatest_volume }
+    ensures { IsTrue result ↔ IsServed hour.now net limit before }
 {
-    let buys = hour.better(Side::Buy, price).volume;
-    let sells = hour.not_worse(Side::Sell, price);
-    buys as i64 <= sells as i64 + net
+    let sells = hour.not_worse(Side::Sell, limit);
+    (before as i64) < sells as i64 + net
 }
 
-/// Whether the sells that are better than the price, and the net volume, find buys that are not worse.
-///
-/// Where a price is low enough, so is every lower one; and of two neighbours the lower is high enough
-/// or the higher is low enough.
-fn is_low_enough<A: Allocator>(hour: &Hour<A>, net: i64, price: Price) -> bool
-    requires net { IsNetVolume net }
-    ensures { IsTrue result ↔ IsLowEnough hour.now net price }
-{
-    let buys = hour.not_worse(Side::Buy, price);
-    let sells = hour.better(Side::Sell, price).volume;
-    sells as i64 + net <= buys as i64
-}
-
-/// The least price that is high enough, by bisection: it is the least supporting price.
-pub(crate) fn low_end<A: Allocator>(hour: &Hour<A>, net: i64) -> Price
-    requires steps { IsHour hour.now }
-    requires net { IsNetVolume net }
-    requires within { IsWithinOffers hour.now net }
-    ensures { IsLeastHighEnough hour.now net result }
-{
-    let mut from = 0;
-    let mut to = SPAN;
-    while from < to {
-        let middle = from + (to - from) / 2;
-        if is_high_enough(hour, net, price_above(middle)) {
-            to = middle;
-        } else {
-            from = middle + 1;
+impl Edge {
+    /// The edge at a net volume, by bisection over the buys.
+    pub(crate) fn of<A: Allocator>(hour: &Hour<A>, net: i64) -> Edge
+        requires net { IsNetVolume net }
+        ensures edge { IsEdge hour.now net result.last result.next result.volume }
+        ensures small { result.volume ≤ most_steps * greatest_volume }
+    {
+        let buys = hour.side(Side::Buy);
+        let mut last = highest();
+        let mut next = lowest();
+        let mut from = 0;
+        let mut to = buys.len();
+        while from < to {
+            let middle = from + (to - from) / 2;
+            let (limit, before) = buys.rung(middle);
+            if is_served(hour, net, limit, before) {
+                last = limit;
+                from = middle + 1;
+            } else {
+                next = limit;
+                to = middle;
+            }
+        }
+        Edge {
+            last,
+            next,
+            volume: buys.sums(from).volume,
         }
     }
-    price_above(to)
+
+    /// The sells that are taken where the last buy is served in full, in tenths of a MW; below 0 where the
+    /// net volume is more.
+    fn sells(&self, net: i64) -> i64
+        requires net { IsNetVolume net }
+        requires small { self.now.volume ≤ most_steps * greatest_volume }
+        ensures { result ≡ pos self.now.volume -ℤ net }
+    {
+        self.volume as i64 - net
+    }
+
+    /// The least price that is high enough: it is the least supporting price.
+    pub(crate) fn low<A: Allocator>(&self, hour: &Hour<A>, net: i64) -> Price
+        requires steps { IsHour hour.now }
+        requires net { IsNetVolume net }
+        requires within { IsWithinOffers hour.now net }
+        requires edge { IsEdge hour.now net self.now.last self.now.next self.now.volume }
+        requires small { self.now.volume ≤ most_steps * greatest_volume }
+        ensures { IsLeastHighEnough hour.now net result }
+    {
+        let sell = limit_of_sell(hour, self.sells(net));
+        lesser(self.last, greater(self.next, sell))
+    }
+
+    /// The greatest price that is low enough: it is the greatest supporting price.
+    pub(crate) fn high<A: Allocator>(&self, hour: &Hour<A>, net: i64) -> Price
+        requires steps { IsHour hour.now }
+        requires net { IsNetVolume net }
+        requires within { IsWithinOffers hour.now net }
+        requires edge { IsEdge hour.now net self.now.last self.now.next self.now.volume }
+        requires small { self.now.volume ≤ most_steps * greatest_volume }
+        ensures { IsGreatestLowEnough hour.now net result }
+    {
+        lesser(self.last, limit_of_sell(hour, self.sells(net) + 1))
+    }
 }
 
-/// The greatest price that is low enough, by bisection: it is the greatest supporting price.
-pub(crate) fn high_end<A: Allocator>(hour: &Hour<A>, net: i64) -> Price
-    requires steps { IsHour hour.now }
-    requires net { IsNetVolume net }
-    requires within { IsWithinOffers hour.now net }
-    ensures { IsGreatestLowEnough hour.now net result }
+/// The limit of the sell that holds a unit, counted from 1 at the least limit; the least price of the range
+/// for a unit under 1, and the greatest one where all sells are less.
+fn limit_of_sell<A: Allocator>(hour: &Hour<A>, unit: i64) -> Price
+    ensures { IsLimitOfSell hour.now unit result }
 {
-    let mut from = 0;
-    let mut to = SPAN;
-    while from < to {
-        let middle = from + (to - from) / 2;
-        if is_low_enough(hour, net, price_below(middle)) {
-            to = middle;
-        } else {
-            from = middle + 1;
-        }
+    let sells = hour.side(Side::Sell);
+    if unit < 1 {
+        return lowest();
     }
-    price_below(to)
+    if unit as u64 > sells.all().volume {
+        return highest();
+    }
+    let (limit, _) = sells.rung(sells.holding(unit as u64));
+    limit
+}
+
+fn lesser(one: Price, other: Price) -> Price
+    ensures { result ≡ int_min one other }
+{
+    if one.get() <= other.get() { one } else { other }
+}
+
+fn greater(one: Price, other: Price) -> Price
+    ensures { result ≡ int_max one other }
+{
+    if one.get() <= other.get() { other } else { one }
 }
 
 /// Half of the sum of two prices, rounded down, also below zero.

@@ -8,8 +8,9 @@ ghost use Rattle.dam_hour.specs.Price.{AreEnds, price_between};
 ghost use Rattle.dam_hour.specs.Best.{signed, IsBest, AreBestTotals, AreSmall, greatest_welfare};
 ghost use Rattle.dam_hour.specs.inside.Volumes.{better_volume, at_volume, full_surplus, total_on, IsLeastHighEnough, AreTotals};
 ghost use Rattle.dam_hour.specs.inside.Ladder.{AreOfSide, gain_of};
+ghost use Rattle.dam_hour.specs.inside.Edge.{IsEdge};
 
-use crate::ends::{high_end, is_within_offers, low_end, price_between};
+use crate::ends::{Edge, is_within_offers, price_between};
 use crate::execution::{Left, fill};
 use crate::ladder::{Ladder, Sums, order_of};
 use crate::step::Step;
@@ -81,14 +82,16 @@ struct Totals {
 
 impl Totals {
     /// At the least supporting price the side that is short executes all that is not worse than it.
-    fn of<A: Allocator>(hour: &Hour<A>, net: i64) -> Totals
+    fn of<A: Allocator>(hour: &Hour<A>, net: i64, edge: &Edge) -> Totals
         requires steps { IsHour hour.now }
         requires net { IsNetVolume net }
         requires within { IsWithinOffers hour.now net }
+        requires edge { IsEdge hour.now net edge.now.last edge.now.next edge.now.volume }
+        requires small { edge.now.volume ≤ most_steps * greatest_volume }
         ensures low { IsLeastHighEnough hour.now net result.low }
         ensures totals { AreTotals hour.now net result.low result.bought result.sold }
     {
-        let low = low_end(hour, net);
+        let low = edge.low(hour, net);
         let buys = Bounds::of(hour, Side::Buy, low);
         let sells = Bounds::of(hour, Side::Sell, low);
         let supply = sells.most as i64 + net;
@@ -264,8 +267,9 @@ impl<A: Allocator> Hour<A> {
         if !is_within_offers(self, net) {
             return None;
         }
-        let totals = Totals::of(self, net);
-        let high = high_end(self, net);
+        let edge = Edge::of(self, net);
+        let totals = Totals::of(self, net, &edge);
+        let high = edge.high(self, net);
         Some(Cleared {
             low: totals.low,
             high,
@@ -291,7 +295,8 @@ impl<A: Allocator> Hour<A> {
         if !is_within_offers(self, net) {
             return None;
         }
-        let totals = Totals::of(self, net);
+        let edge = Edge::of(self, net);
+        let totals = Totals::of(self, net, &edge);
         let before = self.volume_before(step.side, step.price, place);
         let left = totals.on(step.side).saturating_sub(before);
         Some(step.volume().min(left) as u32)
@@ -313,7 +318,8 @@ impl<A: Allocator> Hour<A> {
         if !is_within_offers(self, net) {
             return Ok(None);
         }
-        let totals = Totals::of(self, net);
+        let edge = Edge::of(self, net);
+        let totals = Totals::of(self, net, &edge);
         let volumes = fill(alloc, self.steps(), totals.low, totals.left(self))?;
         Ok(Some(volumes))
     }

@@ -18,9 +18,9 @@ returns-then-not-is_within_offers-clause-welfare g c =
 
 pub returns-clause-ends : goal.returns-clause-ends
 returns-clause-ends g c =
-    ends_answer c.args.self.now c.args.self.now c.args.net (to_z w64 (of_z w64 c.args.net)) c.of-totals.result.low c.high_end-high.result
+    ends_answer c.args.self.now c.args.self.now c.args.net (to_z w64 (of_z w64 c.args.net)) c.of-totals.result.low c.high-high.result
     refl (to_z-of_z w64 c.args.net c.ranges.net) c.if-not-is_within_offers.ensures.steps (c.if-not-is_within_offers.ensures.within.0 refl)
-    c.of-totals.ensures.low c.high_end-high.ensures
+    c.of-totals.ensures.low c.high-high.ensures
 
 pub returns-clause-totals : goal.returns-clause-totals
 returns-clause-totals g c =
