@@ -58,27 +58,29 @@ pub fn run_day<H: Threads + Wait + Sync, R: Read, W: Write, T: Watch + Sync, U: 
         (IsFaultOnDay plan periods commands)) }
 {
     let text = read_input(alloc, reader)?;
-    let day = day_text(rt, alloc, text.as_slice(), plan, turnstile, entrance)?;
+    let day = day_text(rt, alloc, text, plan, turnstile, entrance)?;
     write_text(writer, day.as_slice())
 }
 
-/// What is printed of a day of the commands of a journal's text.
+/// What is printed of a day of the commands of a journal's text. The text is freed before they are
+/// entered.
 fn day_text<H: Threads + Wait + Sync, T: Watch + Sync, U: Turnstile + Sync>(
     rt: &H,
     alloc: Global,
-    text: &[u8],
+    text: Vec<u8>,
     plan: Plan,
     turnstile: &T,
     entrance: &U,
 ) -> Result<Vec<u8>, RunFault>
-    ensures done { IfOk result (λ day. IsDayTextTo text.now day.items) }
-    ensures fault { IfErr result (IsDayTextFault plan text.now) }
-    ensures exact { (periods : ℕ) (commands : List Command) → ReadsAs text.now periods commands
+    ensures done { IfOk result (λ day. IsDayTextTo text.items day.items) }
+    ensures fault { IfErr result (IsDayTextFault plan text.items) }
+    ensures exact { (periods : ℕ) (commands : List Command) → ReadsAs text.items periods commands
         → MatchResult result
         (λ day. IsDayText periods commands day.items)
         (IsCommandsFault plan periods commands) }
 {
-    let journal = read_journal(alloc, text)?;
+    let journal = read_journal(alloc, text.as_slice())?;
+    drop(text);
     let commands = journal.commands.as_slice();
     day_of_commands(
         rt,

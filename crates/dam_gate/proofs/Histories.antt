@@ -3,7 +3,7 @@ use Rattle.std.proofs.Common.{◌≡◌, ℕ, suc, ◌+◌, ◌-◌, ◌<◌, �
 use Rattle.dam_book.specs.declared.command.Command.{Command}
 use Rattle.dam_book.specs.declared.command.Command.TheVariants.{Submit, Amend, Cancel, Close}
 use Rattle.dam_book.specs.declared.command.Entry.{Entry}
-use Rattle.dam_book.specs.Book.{BookState, Key, order_at, empty_book, is_day, carried_out, refusal, book_after, reply_to, run, run_from, commands_of, IsLegalFrom, IsLegalHistory}
+use Rattle.dam_book.specs.Book.{BookState, Key, order_at, empty_book, carried_out, refusal, book_after, reply_to, run, run_from, commands_of, IsLegalFrom}
 use Rattle.dam_book.specs.Limits.{most_entries}
 use Rattle.dam_gate.specs.Journal.{JournalState, IsHistory, IsJournal, FoundRoom, next_entry, journal_after, is_full}
 use Rattle.dam_gate.specs.Gate.{EndsHistory, IsLook}

@@ -229,12 +229,13 @@ fn givers(alloc: Global, commands: &[Command]) -> Result<Vec<Participant>, DayFa
     Ok(participants)
 }
 
-/// A pass for each participant.
+/// A pass for each participant, with room for the receipts of its commands.
 fn passes_for(
     rt: &impl Wait,
     alloc: Global,
     gate: &Gate,
     participants: &[Participant],
+    commands: &[Command],
 ) -> Result<Vec<Pass>, DayFault>
     ensures ok { IfOk result (λ passes.
         passes.items ≡ map (λ who. new_pass (Some who)) participants.now) }
@@ -242,7 +243,9 @@ fn passes_for(
 {
     let mut passes = Vec::with_capacity(alloc, participants.len() + 1)?;
     for who in participants {
-        passes.push(gate.pass(rt, who.copy())?)?;
+        let mut pass = gate.pass(rt, who.copy())?;
+        pass.make_room(count_own(&pass, commands))?;
+        passes.push(pass)?;
     }
     Ok(passes)
 }
@@ -276,7 +279,9 @@ fn enter_day<R: Threads + Wait + Sync, D: Doorkeeper + Sync>(
         holders passes.items ≡ map (λ who. Some who) participants.now) }
     ensures err { IfErr result (λ fault. fault ≡ DayFault.Memory) }
 {
-    let mut passes = passes_for(rt, alloc, gate, participants)?;
+    let mut passes = passes_for(rt, alloc, gate, participants, commands)?;
+    // So that a journal which grows isn't copied.
+    gate.make_room(rt, commands.len() + 1)?;
     enter_all(rt, gate, doorkeeper, &mut passes, commands);
     if !have_all_entered(&passes, commands) {
         return Err(DayFault::Memory);

@@ -190,6 +190,11 @@ impl Gate {
         pass.look(&self.desk.lock(rt).keeper, who, name)
     }
 
+    /// Makes room in the journal for so many entries more.
+    pub(crate) fn make_room(&self, rt: &impl Wait, entries: usize) -> Result<(), AllocError> {
+        self.desk.lock(rt).keeper.make_room(entries)
+    }
+
     /// The journal, once nobody uses the gate any more.
     pub fn finish(self) -> Journal
         ensures { IsJournal result }

@@ -100,6 +100,13 @@ impl<A: Allocator + Copy> Keeper<A> {
         self.journal.book()
     }
 
+    /// Makes room for so many entries more.
+    pub(crate) fn make_room(&mut self, entries: usize) -> Result<(), AllocError>
+        ensures { self.new ≡ self.old }
+    {
+        self.journal.make_room(entries)
+    }
+
     pub(crate) fn into_journal(self) -> Journal<A>
         ensures { result ≡ self }
     {
@@ -196,6 +203,12 @@ impl<A: Allocator + Copy> Journal<A> {
             book: Book::begin(alloc, periods)?,
             entries: Vec::new(alloc),
         })
+    }
+
+    fn make_room(&mut self, entries: usize) -> Result<(), AllocError>
+        ensures { self.new ≡ self.old }
+    {
+        self.entries.reserve(entries)
     }
 
     fn append(&mut self, command: Command) -> Result<Entry, KeeperFault>

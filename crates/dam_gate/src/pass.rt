@@ -103,6 +103,13 @@ impl Pass {
         }
     }
 
+    /// Makes room for so many receipts more.
+    pub(crate) fn make_room(&mut self, receipts: usize) -> Result<(), AllocError>
+        ensures { self.new ≡ self.old }
+    {
+        self.receipts.reserve(receipts)
+    }
+
     /// A call's step under the lock.
     ///
     /// The room for the receipt is made before the journal's step, so that a refused call changes nothing.

@@ -8,40 +8,40 @@ use Rattle.dam_cli.proofs.day.run_day.Goals as goal
 pub returns-in_err-day-clause-fault : goal.returns-in_err-day-clause-fault
 returns-in_err-day-clause-fault g c =
     let p = err_from_is_err_and c.from_residual-in_err-day.result c.from_residual-in_err-day.ensures.1 in
-    let fault = rw c.as_slice.ensures.value at c.in_err-day.ensures.fault in
+    let fault = c.in_err-day.ensures.fault in
     rw (p.1, p.2) (known-fault (IsDayTextFault c.args.plan) (IsRunDayFault c.args.plan) _ _ _ (day_fault-given c.args.plan) c.in_ok-text.ensures.text fault)
 
 pub returns-in_err-day-clause-exact : goal.returns-in_err-day-clause-exact
 returns-in_err-day-clause-exact g c = λ periods commands.
     let p = err_from_is_err_and c.from_residual-in_err-day.result c.from_residual-in_err-day.ensures.1 in
-    let failed = rw c.as_slice.ensures.value at c.in_err-day.ensures.exact periods commands in
+    let failed = c.in_err-day.ensures.exact periods commands in
     rw (p.1, p.2) (known-failed (IsCommandsFault c.args.plan periods commands) (IsFaultOnDay c.args.plan periods commands) _ _ _ periods commands (commands_fault-run c.args.plan periods commands) c.in_ok-text.ensures.text failed)
 
 pub returns-clause-done : goal.returns-clause-done
 returns-clause-done g c =
-    let done = rw c.as_slice.ensures.value at c.in_ok-day.ensures.done in
-    known-done IsDayText _ _ _ _ _ _ _ c.in_ok-text.ensures.text c.as_slice-2.ensures.value c.write_text.ensures.done done
+    let done = c.in_ok-day.ensures.done in
+    known-done IsDayText _ _ _ _ _ _ _ c.in_ok-text.ensures.text c.as_slice.ensures.value c.write_text.ensures.done done
 
 pub returns-clause-fault : goal.returns-clause-fault
 returns-clause-fault g c =
-    let done = rw c.as_slice.ensures.value at c.in_ok-day.ensures.done in
+    let done = c.in_ok-day.ensures.done in
     known-write (λ text. IsDayTextTo text c.in_ok-day.day.items) (IsRunDayFault c.args.plan) _ _ _ _ _ _ (day_text-taken c.args.plan c.in_ok-day.day.items) c.in_ok-text.ensures.text c.write_text.ensures.fault done
 
 pub returns-clause-exact : goal.returns-clause-exact
 returns-clause-exact g c = λ periods commands.
-    let exact = rw c.as_slice.ensures.value at c.in_ok-day.ensures.exact periods commands in
+    let exact = c.in_ok-day.ensures.exact periods commands in
     known-exact (IsDayText periods commands _) _ (IsFaultOnDay c.args.plan periods commands) _ _ _ _ _ _ periods commands c.in_ok-text.ensures.text
-    (writes (IsDayText periods commands) _ _ _ _ _ c.as_slice-2.ensures.value c.write_text.ensures.done) (λ is written. is.taken) c.write_text.ensures.fault exact
+    (writes (IsDayText periods commands) _ _ _ _ _ c.as_slice.ensures.value c.write_text.ensures.done) (λ is written. is.taken) c.write_text.ensures.fault exact
 
 pub returns-in_err-day-clause-cut : goal.returns-in_err-day-clause-cut
 returns-in_err-day-clause-cut g c =
     let p = err_from_is_err_and c.from_residual-in_err-day.result c.from_residual-in_err-day.ensures.1 in
-    rw (p.1, p.2) (known-uncut (IsDayTextFault c.args.plan c.as_slice.result.now) IsDayTextTo _ _ _ _ (λ written is. is.3) c.in_err-day.ensures.fault)
+    rw (p.1, p.2) (known-uncut (IsDayTextFault c.args.plan c.in_ok-text.text.items) IsDayTextTo _ _ _ _ (λ written is. is.3) c.in_err-day.ensures.fault)
 
 pub returns-clause-unwritten : goal.returns-clause-unwritten
 returns-clause-unwritten g c = unwritten _ _ _ _ _ c.write_text.ensures.fault
 
 pub returns-clause-cut : goal.returns-clause-cut
 returns-clause-cut g c =
-    let done = rw c.as_slice.ensures.value at c.in_ok-day.ensures.done in
-    known-cut IsDayText _ _ _ _ _ _ _ c.in_ok-text.ensures.text c.as_slice-2.ensures.value c.write_text.ensures.fault done
+    let done = c.in_ok-day.ensures.done in
+    known-cut IsDayText _ _ _ _ _ _ _ c.in_ok-text.ensures.text c.as_slice.ensures.value c.write_text.ensures.fault done
