@@ -48,8 +48,8 @@ fn gain_at_price(order: &BlockOrder, price: Price, qty: Qty) -> i64
     }
 }
 
-/// What a block gains in a period where it has this volume, at the price of the period with every block
-/// decided; 0 where no execution balances.
+/// What a block gains in a period where it has this volume, at the price of the period with every
+/// block decided; 0 where no execution balances.
 fn gain_in<A: Allocator>(
     levels: &Levels<A>,
     depth: usize,
@@ -70,8 +70,8 @@ fn gain_in<A: Allocator>(
     }
 }
 
-/// What the block at the place gains at the prices of the day, on which every block is decided. Only the
-/// prices of its own periods are asked for.
+/// What the block at the place gains at the prices of the day, on which every block is decided. Only
+/// the prices of its own periods are asked for.
 pub(crate) fn gain_of<A: Allocator>(
     periods: &[Levels<A>],
     blocks: &[Block],

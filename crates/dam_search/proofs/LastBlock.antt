@@ -1,5 +1,5 @@
 -- One block more that a selection accepts: what admits the selection looks at that block alone.
-use Rattle.std.proofs.Common.{◌≡◌, ◌≢◌, ℕ, zero, suc, ◌-◌, ◌<◌, inl, inr, Bool, true, false, List, [], ◌∷◌, ◌++◌, length, length-append, replicate, set, take, slice_get, Some, append_assoc, ◌∙◌, ap, ap₂, sym, subst, refl, arith}
+use Rattle.std.proofs.Common.{◌≡◌, ◌≢◌, ℕ, zero, suc, ◌-◌, ◌<◌, inl, inr, Bool, true, false, List, [], ◌∷◌, ◌++◌, length, length-append, replicate, set, take, slice_get, Some, ◌∙◌, ap, ap₂, sym, subst, refl, arith}
 use Rattle.std.proofs.lemmas.Bool.{cases_eq}
 use Rattle.std.proofs.lemmas.List.{get_or-set_same, get_or-set_other, length-replicate, length-take-le}
 use Rattle.dam_book.specs.Limits.{most_blocks}
@@ -111,13 +111,6 @@ accepted_last blocks p taken n long few is e front allowed =
     let here : IsAllowed blocks (padded (take n p ++ true ∷ [])) n = subst (λ (xs : List Bool). IsAllowed blocks xs n) (is ∙ ap padded whole) allowed in
     subst (λ (xs : List Bool). IsAdmissible blocks (padded xs)) (sym whole)
     (still_admissible blocks (take n p) (omega (arith, far, few)) (front (take n p) true whole) (subst (λ (k : ℕ). IsAllowed blocks (padded (take n p ++ true ∷ [])) k) (sym far) here))
-
--- what is admitted whole is admitted before its last decision
-pub admitted_front : (blocks : List Block) (p front : List Bool) (accept : Bool) → ((rest : List Bool) → IsAdmissible blocks (front ++ rest) → IsAdmissible blocks (padded front)) → IsAdmissible blocks (padded p)
-    → p ≡ front ++ accept ∷ [] → IsAdmissible blocks (padded front)
-admitted_front blocks p front accept law whole e =
-    let rest = replicate (most_blocks - length p) false in
-    law (accept ∷ [] ++ rest) (subst (λ (xs : List Bool). IsAdmissible blocks xs) (ap (λ (xs : List Bool). xs ++ rest) e ∙ append_assoc front (accept ∷ []) rest) whole)
 
 -- the front of an extension is the prefix that it extends
 pub extension_front : (blocks : List Block) (prefix kept next : List Bool) (accept : Bool) → next ≡ kept ++ accept ∷ [] → kept ≡ prefix → IsAdmissible blocks (padded prefix) → IsFrontAdmitted blocks next

@@ -43,6 +43,20 @@ spends_none problem prefix left told nodes before e =
       over_live = λ f v h. omega (arith, e);
     }
 
+-- no node was visited
+pub spends_nothing : (problem : ProblemState) (prefix : List Bool) (left told nodes before : ℕ) → before ≤ nodes → Spends problem prefix left told nodes before before true
+spends_nothing problem prefix left told nodes before h =
+    let some = two_or_more left in
+    record {
+      grows = omega arith;
+      within = h;
+      all = omega (arith, some);
+      live = λ v m. omega arith;
+      unfinished = λ f. absurd (cc);
+      over_all = λ f. absurd (cc);
+      over_live = λ f v m. absurd (cc);
+    }
+
 -- the node alone was visited
 pub spends_one : (problem : ProblemState) (prefix : List Bool) (left told nodes before : ℕ) → before < nodes → Spends problem prefix left told nodes before (before + 1) true
 spends_one problem prefix left told nodes before h =

@@ -106,12 +106,12 @@ fn try_selection<A: Allocator, B: Allocator, I: Incumbent>(
     incumbent.offer(welfare);
 }
 
-/// Visits the prefix and what extends it, as far as the limit on nodes allows; whether no node is
-/// left.
+/// Visits the prefix, which the links and the groups admit, and what extends it, as far as the limit on
+/// nodes allows; whether no node is left.
 ///
-/// A prefix that the links and the groups don't admit is passed over without a visit, and one whose
-/// bound is less than what was read, after its own visit. 'Rejected' is explored before 'accepted',
-/// which finds good selections sooner.
+/// A prefix whose bound is less than what was read is passed over after its own visit. 'Rejected' is
+/// explored before 'accepted', which finds good selections sooner; where the links and the groups don't
+/// admit the next block, that is passed over without a visit, and no day is made of it.
 fn explore<A: Allocator, B: Allocator, I: Incumbent>(
     problem: &Problem<A>,
     relaxed: &Relaxed<B>,
@@ -124,8 +124,7 @@ fn explore<A: Allocator, B: Allocator, I: Incumbent>(
     requires same { relaxed.now ≡ without_rows problem.now }
     requires depth { length prefix ≤ length problem.now.blocks }
     requires day { IsDayOf relaxed.now prefix day.now }
-    requires front { (front : List Bool) (accept : Bool) → prefix ≡ front ++ accept ∷ []
-        → IsAdmissible problem.now.blocks (padded front) }
+    requires admissible { IsAdmissible problem.now.blocks (padded prefix) }
     requires room { found.old.visited ≤ nodes }
     requires read { found.old.read ≤ I.told incumbent.old }
     requires best { IsFind problem.now [] found.old.best }
@@ -143,9 +142,6 @@ fn explore<A: Allocator, B: Allocator, I: Incumbent>(
 {
     dam_blocks::laws::ranking();
     dam_bound::laws::completions();
-    if !prefix.is_still_admissible(problem) {
-        return true;
-    }
     if found.visited == nodes {
         return false;
     }
@@ -159,24 +155,26 @@ fn explore<A: Allocator, B: Allocator, I: Incumbent>(
         return true;
     };
     let place = open.depth();
-    let rejected = relaxed.child(day, place, false);
-    let accepted = relaxed.child(day, place, true);
+    let rejected = open.extended(false);
+    let day_without = relaxed.child(day, place, false);
+    if !explore(
+        problem,
+        relaxed,
+        nodes,
+        rejected,
+        &day_without,
+        incumbent,
+        found,
+    ) {
+        return false;
+    }
+    let accepted = open.extended(true);
+    if !accepted.is_still_admissible(problem) {
+        return true;
+    }
+    let day_with = relaxed.child(day, place, true);
     explore(
-        problem,
-        relaxed,
-        nodes,
-        open.extended(false),
-        &rejected,
-        incumbent,
-        found,
-    ) && explore(
-        problem,
-        relaxed,
-        nodes,
-        open.extended(true),
-        &accepted,
-        incumbent,
-        found,
+        problem, relaxed, nodes, accepted, &day_with, incumbent, found,
     )
 }
 

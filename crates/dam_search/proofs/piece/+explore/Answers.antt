@@ -1,14 +1,16 @@
 -- One node, and the walks from its two extensions.
-use Rattle.std.proofs.Common.{◌≡◌, ◌≢◌, ℕ, ◌+◌, ◌-◌, ◌≤◌, ◌<◌, true, false, Option, List, Bool, [], ◌∷◌, ◌++◌, length, length-append, ◌∙◌, ap, sym, subst, refl, rules, arith}
+use Rattle.std.proofs.Common.{◌≡◌, ◌≢◌, inl, Some, None, IfSome, ℕ, ◌+◌, ◌-◌, ◌≤◌, ◌<◌, true, false, Option, List, Bool, [], ◌∷◌, ◌++◌, length, length-append, ◌∙◌, ap, sym, subst, refl, rules, arith}
 use Rattle.dam_book.specs.Limits.{most_blocks}
 use Rattle.dam_blocks.specs.Problem.{ProblemState}
 use Rattle.dam_bound.specs.declared.day.Day.{Day}
-use Rattle.dam_bound.specs.Day.{IsDayOf}
+use Rattle.dam_blocks.specs.Selection.{padded, IsAdmissible}
+use Rattle.dam_blocks.specs.Eligible.{selection_welfare}
+use Rattle.dam_bound.specs.Day.{IsSmallDay, IsDayOf}
 use Rattle.dam_bound.specs.Relaxed.{without_rows, relaxed_welfare, reaches}
 use Rattle.dam_search.specs.inside.Walk.{Finds, Covers, Spends}
 use Rattle.dam_search.proofs.Ranks.{finds_nothing, finds_shorter, finds_twice, covers_both, welfare_rises}
-use Rattle.dam_search.proofs.LastBlock.{extension_front}
-use Rattle.dam_search.proofs.Walks.{spends_none, spends_one, spends_first, spends_both}
+use Rattle.dam_search.proofs.LastBlock.{extension_front, still_rejected}
+use Rattle.dam_search.proofs.Walks.{spends_none, spends_nothing, spends_one, spends_first, spends_both}
 use Rattle.dam_search.proofs.piece.+explore.Goals as goal
 
 -- the walk is of a problem with its relaxation
@@ -39,45 +41,19 @@ next_day : (problem : ProblemState) (next kept prefix : List Bool) (accept : Boo
 next_day problem next kept prefix accept place day e f is g =
     subst (λ (xs : List Bool). IsDayOf problem xs day) (sym (next_is next kept prefix accept e f)) (g (sym (is ∙ ap (λ (xs : List Bool). length xs) f)))
 
-pub child-rejected-requires-clause-depth : goal.child-rejected-requires-clause-depth
-child-rejected-requires-clause-depth g t c =
+small_of : (relaxed : ProblemState) (prefix : List Bool) (o : Option Day) (place : ℕ) → place ≡ length prefix → IsDayOf relaxed prefix o → IfSome o (IsSmallDay place)
+small_of relaxed prefix None place e is = tt
+small_of relaxed prefix (Some day) place e is = subst (λ (n : ℕ). IsSmallDay n day) (sym e) is.1
+
+pub child-day_without-requires-clause-depth : goal.child-day_without-requires-clause-depth
+child-day_without-requires-clause-depth g t c =
     next_inside c.in-Some.open c.args.prefix c.depth-place.result (length c.args.problem.now.blocks) c.args.problem.now c.args.relaxed.now (c.in-Some.ensures c.args.relaxed.now c.requires.day).0 c.depth-place.ensures.value refl c.requires.same
     (undecided c.args.prefix c.depth.result c.block_count.result (length c.args.problem.now.blocks) c.depth.ensures.value c.block_count.ensures.value c.requires.depth c.if-depth-block_count.false)
 
-pub child-accepted-requires-clause-depth : goal.child-accepted-requires-clause-depth
-child-accepted-requires-clause-depth g t c =
+pub child-day_with-requires-clause-depth : goal.child-day_with-requires-clause-depth
+child-day_with-requires-clause-depth g t c =
     next_inside c.in-Some.open c.args.prefix c.depth-place.result (length c.args.problem.now.blocks) c.args.problem.now c.args.relaxed.now (c.in-Some.ensures c.args.relaxed.now c.requires.day).0 c.depth-place.ensures.value refl c.requires.same
     (undecided c.args.prefix c.depth.result c.block_count.result (length c.args.problem.now.blocks) c.depth.ensures.value c.block_count.ensures.value c.requires.depth c.if-depth-block_count.false)
-
-pub extended-requires : goal.extended-requires
-extended-requires g t c =
-    let long = ap (λ (xs : List Bool). length xs) (c.in-Some.ensures c.args.relaxed.now c.requires.day).0 in
-    omega (arith, long, (undecided c.args.prefix c.depth.result c.block_count.result (length c.args.problem.now.blocks) c.depth.ensures.value c.block_count.ensures.value c.requires.depth c.if-depth-block_count.false), c.block_count.ensures.valid.few_blocks)
-
-pub explore-requires : goal.explore-requires
-explore-requires g t c =
-    let same : c.in-Some.open ≡ c.args.prefix = (c.in-Some.ensures c.args.relaxed.now c.requires.day).0 in
-    let long : length c.extended.result ≡ length c.args.prefix + 1 = omega (arith, ap (λ (xs : List Bool). length xs) c.extended.ensures, ap (λ (xs : List Bool). length xs) same, length-append c.in-Some.open (false ∷ [])) in
-    let inside : length c.args.prefix < length c.args.problem.now.blocks = undecided c.args.prefix c.depth.result c.block_count.result (length c.args.problem.now.blocks) c.depth.ensures.value c.block_count.ensures.value c.requires.depth c.if-depth-block_count.false in
-    let day : IsDayOf c.args.relaxed.now c.extended.result c.child-rejected.result =
-    next_day c.args.relaxed.now c.extended.result c.in-Some.open c.args.prefix false c.depth-place.result c.child-rejected.result c.extended.ensures same c.depth-place.ensures.value
-    (λ is. c.child-rejected.ensures c.args.prefix is c.requires.day) in
-    let front = extension_front c.args.problem.now.blocks c.args.prefix c.in-Some.open c.extended.result false c.extended.ensures same (c.is_still_admissible.ensures.value.0 (search rules)) in
-    search rules
-
-pub explore-requires-then-explore : goal.explore-requires-then-explore
-explore-requires-then-explore g t c =
-    let same : c.in-Some.open ≡ c.args.prefix = (c.in-Some.ensures c.args.relaxed.now c.requires.day).0 in
-    let long : length c.extended-then-explore.result ≡ length c.args.prefix + 1 = omega (arith, ap (λ (xs : List Bool). length xs) c.extended-then-explore.ensures, ap (λ (xs : List Bool). length xs) same, length-append c.in-Some.open (true ∷ [])) in
-    let inside : length c.args.prefix < length c.args.problem.now.blocks = undecided c.args.prefix c.depth.result c.block_count.result (length c.args.problem.now.blocks) c.depth.ensures.value c.block_count.ensures.value c.requires.depth c.if-depth-block_count.false in
-    let day : IsDayOf c.args.relaxed.now c.extended-then-explore.result c.child-accepted.result =
-    next_day c.args.relaxed.now c.extended-then-explore.result c.in-Some.open c.args.prefix true c.depth-place.result c.child-accepted.result c.extended-then-explore.ensures same c.depth-place.ensures.value
-    (λ is. c.child-accepted.ensures c.args.prefix is c.requires.day) in
-    let front = extension_front c.args.problem.now.blocks c.args.prefix c.in-Some.open c.extended-then-explore.result true c.extended-then-explore.ensures same (c.is_still_admissible.ensures.value.0 (search rules)) in
-    search rules
-
-pub returns-then-not-is_still_admissible-clause-finds : goal.returns-then-not-is_still_admissible-clause-finds
-returns-then-not-is_still_admissible-clause-finds g t c = finds_nothing c.args.problem.now c.args.prefix c.args.found.now.best
 
 pub returns-then-found-nodes-clause-finds : goal.returns-then-found-nodes-clause-finds
 returns-then-found-nodes-clause-finds g t c = finds_nothing c.args.problem.now c.args.prefix c.args.found.now.best
@@ -96,61 +72,134 @@ pub returns-in_default-clause-spends : goal.returns-in_default-clause-spends
 returns-in_default-clause-spends g t c =
     spends_one c.args.problem.now c.args.prefix (length c.args.problem.now.blocks - length c.args.prefix) (g.I.Incumbent.told c.args.incumbent.now) c.args.nodes c.args.found.now.visited (unmet c.args.found.now.visited c.args.nodes c.requires.room c.if-found-nodes.false)
 
-pub returns-then-explore-clause-finds : goal.returns-then-explore-clause-finds
-returns-then-explore-clause-finds g t c =
-    let problem = c.args.problem.now in let prefix = c.args.prefix in let a = c.args.found.now.best in let b = c.explore.new.found.best in let z = c.explore-then-explore.new.found.best in
-    let first = subst (λ (xs : List Bool). Finds problem xs a b) (next_is c.extended.result c.in-Some.open prefix false c.extended.ensures (c.in-Some.ensures c.args.relaxed.now c.requires.day).0) c.explore.ensures.finds in
-    let second = subst (λ (xs : List Bool). Finds problem xs b z) (next_is c.extended-then-explore.result c.in-Some.open prefix true c.extended-then-explore.ensures (c.in-Some.ensures c.args.relaxed.now c.requires.day).0) c.explore-then-explore.ensures.finds in
+pub returns-clause-finds : goal.returns-clause-finds
+returns-clause-finds g t c =
+    let problem = c.args.problem.now in let prefix = c.args.prefix in let a = c.args.found.now.best in let b = c.explore.new.found.best in let z = c.explore-2.new.found.best in
+    let first = subst (λ (xs : List Bool). Finds problem xs a b) (next_is c.extended-rejected.result c.in-Some.open prefix false c.extended-rejected.ensures (c.in-Some.ensures c.args.relaxed.now c.requires.day).0) c.explore.ensures.finds in
+    let second = subst (λ (xs : List Bool). Finds problem xs b z) (next_is c.extended-accepted.result c.in-Some.open prefix true c.extended-accepted.ensures (c.in-Some.ensures c.args.relaxed.now c.requires.day).0) c.explore-2.ensures.finds in
     finds_twice problem prefix a b z c.ranking.ensures.transitive c.requires.best (finds_shorter problem prefix (false ∷ []) a b first) (finds_shorter problem prefix (true ∷ []) b z second)
 
-pub returns-then-explore-clause-covers : goal.returns-then-explore-clause-covers
-returns-then-explore-clause-covers g t c done =
-    let problem = c.args.problem.now in let prefix = c.args.prefix in let a = c.args.found.now.best in let b = c.explore.new.found.best in let z = c.explore-then-explore.new.found.best in
-    let e = next_is c.extended.result c.in-Some.open prefix false c.extended.ensures (c.in-Some.ensures c.args.relaxed.now c.requires.day).0 in
-    let f = next_is c.extended-then-explore.result c.in-Some.open prefix true c.extended-then-explore.ensures (c.in-Some.ensures c.args.relaxed.now c.requires.day).0 in
+pub returns-clause-covers : goal.returns-clause-covers
+returns-clause-covers g t c done =
+    let problem = c.args.problem.now in let prefix = c.args.prefix in let a = c.args.found.now.best in let b = c.explore.new.found.best in let z = c.explore-2.new.found.best in
+    let e = next_is c.extended-rejected.result c.in-Some.open prefix false c.extended-rejected.ensures (c.in-Some.ensures c.args.relaxed.now c.requires.day).0 in
+    let f = next_is c.extended-accepted.result c.in-Some.open prefix true c.extended-accepted.ensures (c.in-Some.ensures c.args.relaxed.now c.requires.day).0 in
     let few : length prefix < most_blocks = omega (arith, (undecided prefix c.depth.result c.block_count.result (length c.args.problem.now.blocks) c.depth.ensures.value c.block_count.ensures.value c.requires.depth c.if-depth-block_count.false), c.block_count.ensures.valid.few_blocks) in
-    covers_both problem prefix a b z c.explore.new.found.read c.explore-then-explore.new.found.read c.ranking.ensures.transitive c.completions.ensures.extended few c.requires.best
+    covers_both problem prefix a b z c.explore.new.found.read c.explore-2.new.found.read c.ranking.ensures.transitive c.completions.ensures.extended few c.requires.best
     (subst (λ (xs : List Bool). Finds problem xs a b) e c.explore.ensures.finds)
-    (subst (λ (xs : List Bool). Covers problem xs b c.explore.new.found.read) e (c.explore.ensures.covers c.if-explore.true))
-    (subst (λ (xs : List Bool). Finds problem xs b z) f c.explore-then-explore.ensures.finds)
-    (subst (λ (xs : List Bool). Covers problem xs z c.explore-then-explore.new.found.read) f (c.explore-then-explore.ensures.covers done))
-    c.explore-then-explore.ensures.reads.grows
+    (subst (λ (xs : List Bool). Covers problem xs b c.explore.new.found.read) e (c.explore.ensures.covers c.if-not-explore.false))
+    (subst (λ (xs : List Bool). Finds problem xs b z) f c.explore-2.ensures.finds)
+    (subst (λ (xs : List Bool). Covers problem xs z c.explore-2.new.found.read) f (c.explore-2.ensures.covers done))
+    c.explore-2.ensures.reads.grows
 
-pub returns-then-explore-clause-spends : goal.returns-then-explore-clause-spends
-returns-then-explore-clause-spends g t c =
+pub returns-clause-spends : goal.returns-clause-spends
+returns-clause-spends g t c =
     let problem = c.args.problem.now in let prefix = c.args.prefix in let n = length problem.blocks in let told = g.I.Incumbent.told in
-    let e = next_is c.extended.result c.in-Some.open prefix false c.extended.ensures (c.in-Some.ensures c.args.relaxed.now c.requires.day).0 in
-    let f = next_is c.extended-then-explore.result c.in-Some.open prefix true c.extended-then-explore.ensures (c.in-Some.ensures c.args.relaxed.now c.requires.day).0 in
+    let e = next_is c.extended-rejected.result c.in-Some.open prefix false c.extended-rejected.ensures (c.in-Some.ensures c.args.relaxed.now c.requires.day).0 in
+    let f = next_is c.extended-accepted.result c.in-Some.open prefix true c.extended-accepted.ensures (c.in-Some.ensures c.args.relaxed.now c.requires.day).0 in
     let least = c.read-found.result in let later = told c.explore.new.incumbent in let middle = c.explore.new.found.visited in
     let before = c.read-found.ensures.told in let raised = c.explore.ensures.reads.told in
-    let first = subst (λ (b : Bool). Spends problem c.extended.result (n - length c.extended.result) (told c.read-found.new.self) c.args.nodes (c.args.found.now.visited + 1) middle b) c.if-explore.true c.explore.ensures.spends in
+    let first = subst (λ (b : Bool). Spends problem c.extended-rejected.result (n - length c.extended-rejected.result) (told c.read-found.new.self) c.args.nodes (c.args.found.now.visited + 1) middle b) c.if-not-explore.false c.explore.ensures.spends in
     spends_both problem prefix n (told c.args.incumbent.now) least later c.args.nodes c.args.found.now.visited middle
-    c.explore-then-explore.new.found.visited c.explore-then-explore.result (undecided prefix c.depth.result c.block_count.result (length c.args.problem.now.blocks) c.depth.ensures.value c.block_count.ensures.value c.requires.depth c.if-depth-block_count.false) c.read-found.ensures.rises (omega (arith, before, raised)) (alive_here c.args.problem.now c.args.relaxed.now prefix c.read-found.result c.requires.same (c.in-Some.ensures c.args.relaxed.now c.requires.day).1)
+    c.explore-2.new.found.visited c.explore-2.result (undecided prefix c.depth.result c.block_count.result (length c.args.problem.now.blocks) c.depth.ensures.value c.block_count.ensures.value c.requires.depth c.if-depth-block_count.false) c.read-found.ensures.rises (omega (arith, before, raised)) (alive_here c.args.problem.now c.args.relaxed.now prefix c.read-found.result c.requires.same (c.in-Some.ensures c.args.relaxed.now c.requires.day).1)
     (subst (λ (v : ℕ). Spends problem (prefix ++ false ∷ []) (n - length (prefix ++ false ∷ [])) v c.args.nodes (c.args.found.now.visited + 1) middle true) before
     (subst (λ (xs : List Bool). Spends problem xs (n - length xs) (told c.read-found.new.self) c.args.nodes (c.args.found.now.visited + 1) middle true) e first))
-    (subst (λ (xs : List Bool). Spends problem xs (n - length xs) later c.args.nodes middle c.explore-then-explore.new.found.visited c.explore-then-explore.result) f c.explore-then-explore.ensures.spends)
+    (subst (λ (xs : List Bool). Spends problem xs (n - length xs) later c.args.nodes middle c.explore-2.new.found.visited c.explore-2.result) f c.explore-2.ensures.spends)
 
-pub returns-then-explore-clause-offered : goal.returns-then-explore-clause-offered
-returns-then-explore-clause-offered g t c =
-    let rises = welfare_rises c.explore.new.found.best c.explore-then-explore.new.found.best c.explore-then-explore.ensures.finds.rises in
-    omega (arith, rises, c.explore.ensures.offered, c.explore-then-explore.ensures.offered, c.read-found.ensures.top)
+pub returns-clause-offered : goal.returns-clause-offered
+returns-clause-offered g t c =
+    let rises = welfare_rises c.explore.new.found.best c.explore-2.new.found.best c.explore-2.ensures.finds.rises in
+    omega (arith, rises, c.explore.ensures.offered, c.explore-2.ensures.offered, c.read-found.ensures.top)
 
-pub returns-else-explore-clause-finds : goal.returns-else-explore-clause-finds
-returns-else-explore-clause-finds g t c =
+pub returns-then-not-explore-clause-finds : goal.returns-then-not-explore-clause-finds
+returns-then-not-explore-clause-finds g t c =
     let problem = c.args.problem.now in let prefix = c.args.prefix in let a = c.args.found.now.best in let b = c.explore.new.found.best in
     finds_shorter problem prefix (false ∷ []) a b
-    (subst (λ (xs : List Bool). Finds problem xs a b) (next_is c.extended.result c.in-Some.open prefix false c.extended.ensures (c.in-Some.ensures c.args.relaxed.now c.requires.day).0) c.explore.ensures.finds)
+    (subst (λ (xs : List Bool). Finds problem xs a b) (next_is c.extended-rejected.result c.in-Some.open prefix false c.extended-rejected.ensures (c.in-Some.ensures c.args.relaxed.now c.requires.day).0) c.explore.ensures.finds)
 
-pub returns-else-explore-clause-spends : goal.returns-else-explore-clause-spends
-returns-else-explore-clause-spends g t c =
+pub returns-then-not-explore-clause-spends : goal.returns-then-not-explore-clause-spends
+returns-then-not-explore-clause-spends g t c =
     let problem = c.args.problem.now in let prefix = c.args.prefix in let n = length problem.blocks in let told = g.I.Incumbent.told in
-    let e = next_is c.extended.result c.in-Some.open prefix false c.extended.ensures (c.in-Some.ensures c.args.relaxed.now c.requires.day).0 in
+    let e = next_is c.extended-rejected.result c.in-Some.open prefix false c.extended-rejected.ensures (c.in-Some.ensures c.args.relaxed.now c.requires.day).0 in
     let before = c.read-found.ensures.told in let after = c.explore.new.found.visited in
-    let first = subst (λ (b : Bool). Spends problem c.extended.result (n - length c.extended.result) (told c.read-found.new.self) c.args.nodes (c.args.found.now.visited + 1) after b) c.if-explore.false c.explore.ensures.spends in
+    let first = subst (λ (b : Bool). Spends problem c.extended-rejected.result (n - length c.extended-rejected.result) (told c.read-found.new.self) c.args.nodes (c.args.found.now.visited + 1) after b) c.if-not-explore.true c.explore.ensures.spends in
     let here = spends_first problem prefix n (told c.args.incumbent.now) c.read-found.result c.args.nodes c.args.found.now.visited after (undecided prefix c.depth.result c.block_count.result (length c.args.problem.now.blocks) c.depth.ensures.value c.block_count.ensures.value c.requires.depth c.if-depth-block_count.false) c.read-found.ensures.rises (alive_here c.args.problem.now c.args.relaxed.now prefix c.read-found.result c.requires.same (c.in-Some.ensures c.args.relaxed.now c.requires.day).1)
     (subst (λ (v : ℕ). Spends problem (prefix ++ false ∷ []) (n - length (prefix ++ false ∷ [])) v c.args.nodes (c.args.found.now.visited + 1) after false) before
     (subst (λ (xs : List Bool). Spends problem xs (n - length xs) (told c.read-found.new.self) c.args.nodes (c.args.found.now.visited + 1) after false) e first)) in
-    subst (λ (b : Bool). Spends problem prefix (n - length prefix) (told c.args.incumbent.now) c.args.nodes c.args.found.now.visited after b) (sym c.if-explore.false) here
+    here
 
-pub try_selection-requires-clause-admissible : goal.try_selection-requires-clause-admissible
-try_selection-requires-clause-admissible g t c = c.is_still_admissible.ensures.value.0 (search rules)
+pub returns-in_default-clause-covers : goal.returns-in_default-clause-covers
+returns-in_default-clause-covers g t c done sel w whole e =
+    inl (c.in_default.ensures c.args.relaxed.now c.requires.day sel w whole (subst (λ (p : ProblemState). selection_welfare p sel ≡ Some w) (sym c.requires.same) e.welfare_is))
+
+pub extended-rejected-requires : goal.extended-rejected-requires
+extended-rejected-requires g t c =
+    let long = ap (λ (xs : List Bool). length xs) (c.in-Some.ensures c.args.relaxed.now c.requires.day).0 in
+    omega (arith, long, (undecided c.args.prefix c.depth.result c.block_count.result (length c.args.problem.now.blocks) c.depth.ensures.value c.block_count.ensures.value c.requires.depth c.if-depth-block_count.false), c.block_count.ensures.valid.few_blocks)
+
+pub explore-requires : goal.explore-requires
+explore-requires g t c =
+    let same : c.in-Some.open ≡ c.args.prefix = (c.in-Some.ensures c.args.relaxed.now c.requires.day).0 in
+    let long : length c.extended-rejected.result ≡ length c.args.prefix + 1 = omega (arith, ap (λ (xs : List Bool). length xs) c.extended-rejected.ensures, ap (λ (xs : List Bool). length xs) same, length-append c.in-Some.open (false ∷ [])) in
+    let inside : length c.args.prefix < length c.args.problem.now.blocks = (undecided c.args.prefix c.depth.result c.block_count.result (length c.args.problem.now.blocks) c.depth.ensures.value c.block_count.ensures.value c.requires.depth c.if-depth-block_count.false) in
+    let few : length c.args.prefix < most_blocks = omega (arith, inside, c.block_count.ensures.valid.few_blocks) in
+    let day : IsDayOf c.args.relaxed.now c.extended-rejected.result c.child-day_without.result =
+    next_day c.args.relaxed.now c.extended-rejected.result c.in-Some.open c.args.prefix false c.depth-place.result c.child-day_without.result c.extended-rejected.ensures same c.depth-place.ensures.value
+    (λ is. c.child-day_without.ensures c.args.prefix is c.requires.day) in
+    let admissible : IsAdmissible c.args.problem.now.blocks (padded c.extended-rejected.result) =
+    subst (λ (xs : List Bool). IsAdmissible c.args.problem.now.blocks (padded xs)) (sym (next_is c.extended-rejected.result c.in-Some.open c.args.prefix false c.extended-rejected.ensures same))
+    (still_rejected c.args.problem.now.blocks c.args.prefix few c.requires.admissible) in
+    search rules
+
+pub is_still_admissible-requires : goal.is_still_admissible-requires
+is_still_admissible-requires g t c =
+    extension_front c.args.problem.now.blocks c.args.prefix c.in-Some.open c.extended-accepted.result true c.extended-accepted.ensures (c.in-Some.ensures c.args.relaxed.now c.requires.day).0 c.requires.admissible
+
+pub child-day_with-requires-clause-small : goal.child-day_with-requires-clause-small
+child-day_with-requires-clause-small g t c =
+    small_of c.args.relaxed.now c.args.prefix c.args.day.now c.depth-place.result (c.depth-place.ensures.value ∙ ap (λ (xs : List Bool). length xs) (c.in-Some.ensures c.args.relaxed.now c.requires.day).0) c.requires.day
+
+pub explore-requires-2 : goal.explore-requires-2
+explore-requires-2 g t c =
+    let same : c.in-Some.open ≡ c.args.prefix = (c.in-Some.ensures c.args.relaxed.now c.requires.day).0 in
+    let long : length c.extended-accepted.result ≡ length c.args.prefix + 1 = omega (arith, ap (λ (xs : List Bool). length xs) c.extended-accepted.ensures, ap (λ (xs : List Bool). length xs) same, length-append c.in-Some.open (true ∷ [])) in
+    let inside : length c.args.prefix < length c.args.problem.now.blocks = (undecided c.args.prefix c.depth.result c.block_count.result (length c.args.problem.now.blocks) c.depth.ensures.value c.block_count.ensures.value c.requires.depth c.if-depth-block_count.false) in
+    let day : IsDayOf c.args.relaxed.now c.extended-accepted.result c.child-day_with.result =
+    next_day c.args.relaxed.now c.extended-accepted.result c.in-Some.open c.args.prefix true c.depth-place.result c.child-day_with.result c.extended-accepted.ensures same c.depth-place.ensures.value
+    (λ is. c.child-day_with.ensures c.args.prefix is c.requires.day) in
+    let admissible : IsAdmissible c.args.problem.now.blocks (padded c.extended-accepted.result) = c.is_still_admissible.ensures.value.0 (search rules) in
+    search rules
+
+-- the next block isn't admitted
+pub returns-then-not-is_still_admissible-clause-finds : goal.returns-then-not-is_still_admissible-clause-finds
+returns-then-not-is_still_admissible-clause-finds g t c =
+    let problem = c.args.problem.now in let prefix = c.args.prefix in let a = c.args.found.now.best in let b = c.explore.new.found.best in
+    finds_shorter problem prefix (false ∷ []) a b
+    (subst (λ (xs : List Bool). Finds problem xs a b) (next_is c.extended-rejected.result c.in-Some.open prefix false c.extended-rejected.ensures (c.in-Some.ensures c.args.relaxed.now c.requires.day).0) c.explore.ensures.finds)
+
+pub returns-then-not-is_still_admissible-clause-covers : goal.returns-then-not-is_still_admissible-clause-covers
+returns-then-not-is_still_admissible-clause-covers g t c done =
+    let problem = c.args.problem.now in let prefix = c.args.prefix in let a = c.args.found.now.best in let b = c.explore.new.found.best in
+    let e = next_is c.extended-rejected.result c.in-Some.open prefix false c.extended-rejected.ensures (c.in-Some.ensures c.args.relaxed.now c.requires.day).0 in
+    let f = next_is c.extended-accepted.result c.in-Some.open prefix true c.extended-accepted.ensures (c.in-Some.ensures c.args.relaxed.now c.requires.day).0 in
+    let few : length prefix < most_blocks = omega (arith, (undecided c.args.prefix c.depth.result c.block_count.result (length c.args.problem.now.blocks) c.depth.ensures.value c.block_count.ensures.value c.requires.depth c.if-depth-block_count.false), c.block_count.ensures.valid.few_blocks) in
+    let none : Covers problem c.extended-accepted.result b c.explore.new.found.read = λ sel w whole is. absurd (c.is_still_admissible.ensures.completions c.if-not-is_still_admissible.true sel whole is.admissible) in
+    covers_both problem prefix a b b c.explore.new.found.read c.explore.new.found.read c.ranking.ensures.transitive c.completions.ensures.extended few c.requires.best
+    (subst (λ (xs : List Bool). Finds problem xs a b) e c.explore.ensures.finds)
+    (subst (λ (xs : List Bool). Covers problem xs b c.explore.new.found.read) e (c.explore.ensures.covers c.if-not-explore.false))
+    (finds_nothing problem (prefix ++ true ∷ []) b)
+    (subst (λ (xs : List Bool). Covers problem xs b c.explore.new.found.read) f none)
+    (omega arith)
+
+pub returns-then-not-is_still_admissible-clause-spends : goal.returns-then-not-is_still_admissible-clause-spends
+returns-then-not-is_still_admissible-clause-spends g t c =
+    let problem = c.args.problem.now in let prefix = c.args.prefix in let n = length problem.blocks in let told = g.I.Incumbent.told in
+    let e = next_is c.extended-rejected.result c.in-Some.open prefix false c.extended-rejected.ensures (c.in-Some.ensures c.args.relaxed.now c.requires.day).0 in
+    let least = c.read-found.result in let later = told c.explore.new.incumbent in let middle = c.explore.new.found.visited in
+    let before = c.read-found.ensures.told in let raised = c.explore.ensures.reads.told in
+    let first = subst (λ (b : Bool). Spends problem c.extended-rejected.result (n - length c.extended-rejected.result) (told c.read-found.new.self) c.args.nodes (c.args.found.now.visited + 1) middle b) c.if-not-explore.false c.explore.ensures.spends in
+    spends_both problem prefix n (told c.args.incumbent.now) least later c.args.nodes c.args.found.now.visited middle middle true (undecided c.args.prefix c.depth.result c.block_count.result (length c.args.problem.now.blocks) c.depth.ensures.value c.block_count.ensures.value c.requires.depth c.if-depth-block_count.false) c.read-found.ensures.rises (omega (arith, before, raised))
+    (alive_here c.args.problem.now c.args.relaxed.now prefix c.read-found.result c.requires.same (c.in-Some.ensures c.args.relaxed.now c.requires.day).1)
+    (subst (λ (v : ℕ). Spends problem (prefix ++ false ∷ []) (n - length (prefix ++ false ∷ [])) v c.args.nodes (c.args.found.now.visited + 1) middle true) before
+    (subst (λ (xs : List Bool). Spends problem xs (n - length xs) (told c.read-found.new.self) c.args.nodes (c.args.found.now.visited + 1) middle true) e first))
+    (spends_nothing problem (prefix ++ true ∷ []) (n - length (prefix ++ true ∷ [])) later c.args.nodes middle c.explore.ensures.spends.within)

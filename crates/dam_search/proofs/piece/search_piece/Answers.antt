@@ -6,7 +6,6 @@ use Rattle.dam_blocks.specs.Selection.{choice}
 use Rattle.dam_search.specs.Piece.{IsFind, IsSound, IsSpent}
 use Rattle.dam_search.specs.inside.Walk.{Finds, Covers}
 use Rattle.dam_search.proofs.Prefixes.{length-choice}
-use Rattle.dam_search.proofs.LastBlock.{admitted_front}
 use Rattle.dam_search.proofs.Walks.{spent_from}
 use Rattle.dam_search.proofs.piece.search_piece.Goals as goal
 
@@ -31,10 +30,8 @@ explore-done-requires-clause-depth g c =
     let long = as_long c.of_piece-prefix.result c.args.depth c.args.piece c.of_piece-prefix.ensures in
     omega (arith, long, c.requires.depth)
 
-pub explore-done-requires-clause-front : goal.explore-done-requires-clause-front
-explore-done-requires-clause-front g c front accept =
-    admitted_front c.args.problem.now.blocks c.of_piece-prefix.result front accept (λ rest. c.fronts.ensures c.args.problem.now front rest c.periods-kept.ensures.valid)
-    (c.is_admissible.ensures.value.0 (search rules))
+pub explore-done-requires-clause-admissible : goal.explore-done-requires-clause-admissible
+explore-done-requires-clause-admissible g c = c.is_admissible.ensures.value.0 (search rules)
 
 pub returns-clause-sound : goal.returns-clause-sound
 returns-clause-sound g c =
