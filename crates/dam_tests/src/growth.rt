@@ -8,12 +8,49 @@ mod gate;
 mod texts;
 
 use crate::support::commands;
-use dam_book::{Book, Entry, replay};
-use std::alloc::{Allocator, Global};
+use dam_book::{Book, Command, Entry, replay};
+use limited_alloc::RefusesNth;
+use std::alloc::{AllocError, Allocator, Global};
+use std::process::Abort;
 use std::test::Fail;
+
+/// A call that takes memory, with what it has to give.
+trait Call {
+    /// Makes the call, and says whether it gave that; the `Err` is its answer for memory.
+    fn is_right<A: Allocator + Copy>(&self, alloc: A) -> Result<bool, AllocError>;
+}
 
 /// The most growths of an example.
 const TRIES: u64 = 1_000;
+
+/// Makes the call with each growth refused in turn; it has more growths than the least number.
+fn check_each<C: Call>(rt: &impl Abort, alloc: Global, call: &C, least: u64) -> Result<(), Fail> {
+    for nth in 1..TRIES {
+        if !is_refused(rt, alloc, call, nth)? {
+            assert!(rt; nth > least);
+            return Ok(());
+        }
+    }
+    Err(Fail::from("more growths than were tried"))
+}
+
+/// Makes the call with a growth refused, and says whether that came: made again, it then gives what it
+/// has to.
+fn is_refused<C: Call>(rt: &impl Abort, alloc: Global, call: &C, nth: u64) -> Result<bool, Fail> {
+    let heap = RefusesNth::new(alloc, nth);
+    let answer = call.is_right(&heap);
+    assert_eq!(rt; answer.is_err(), heap.has_refused());
+    match answer {
+        Ok(is_right) => {
+            assert!(rt; is_right);
+            Ok(false)
+        }
+        Err(_) => {
+            assert!(rt; call.is_right(&heap)?);
+            Ok(true)
+        }
+    }
+}
 
 /// Every kind of command but the close, some of them refused, and orders enough that each list grows twice.
 const MIXED: &str = "submit,A,B1,hour,buy,5000,1:10,,
@@ -86,4 +123,37 @@ fn is_row_equal<A: Allocator + Copy, B: Allocator + Copy>(
 fn run_of(alloc: Global, records: &str) -> Result<(Book, Vec<Entry>), Fail> {
     let commands = commands(alloc, records)?;
     Ok(replay(alloc, Book::begin(alloc, 24)?, &commands)?)
+}
+
+/// A journal's commands, with the book and the entries of their run.
+#[derive(Drop)]
+struct Run {
+    commands: Vec<Command>,
+    book: Book,
+    entries: Vec<Entry>,
+}
+
+/// The run of a journal of these records, with memory enough.
+fn whole_run(alloc: Global, records: &str) -> Result<Run, Fail> {
+    let commands = commands(alloc, records)?;
+    let (book, entries) = replay(alloc, Book::begin(alloc, 24)?, &commands)?;
+    Ok(Run {
+        commands,
+        book,
+        entries,
+    })
+}
+
+/// The book and the entries of the run of a hundred commands at most; none of more.
+fn run_over<A: Allocator + Copy>(
+    alloc: A,
+    commands: &[Command],
+) -> Result<Option<(Book<A>, Vec<Entry, A>)>, AllocError> {
+    if commands.len() > 100 {
+        return Ok(None);
+    }
+    match Book::begin(alloc, 24) {
+        Ok(book) => Ok(Some(replay(alloc, book, commands)?)),
+        Err(_) => Ok(None),
+    }
 }

@@ -20,6 +20,8 @@ mod plain;
 #[cfg(test)]
 mod plans;
 #[cfg(test)]
+mod storm;
+#[cfg(test)]
 mod support;
 #[cfg(test)]
 mod worked;

@@ -7,6 +7,7 @@ use dam_book::{
     Price, Reason, Reply, Volumes,
 };
 use std::alloc::{AllocError, Global};
+use std::process::Abort;
 use std::test::Fail;
 
 fn is_hour(order: &Order) -> bool {
@@ -44,13 +45,21 @@ fn amended(order: &Order, price: Price, volumes: &Volumes) -> Order {
 }
 
 #[derive(Drop)]
-struct PlainBook {
+pub(crate) struct PlainBook {
     periods: u8,
     rows: Vec<(Participant, Name, Order)>,
     closed: bool,
 }
 
 impl PlainBook {
+    pub(crate) fn new(alloc: Global) -> PlainBook {
+        PlainBook {
+            periods: 24,
+            rows: Vec::new(alloc),
+            closed: false,
+        }
+    }
+
     fn place(&self, who: &Participant, name: &Name) -> Option<usize> {
         self.rows
             .iter()
@@ -132,7 +141,7 @@ impl PlainBook {
         }
     }
 
-    fn apply(&mut self, command: &Command) -> Result<Reply, AllocError> {
+    pub(crate) fn apply(&mut self, command: &Command) -> Result<Reply, AllocError> {
         if let Some(reason) = self.refusal(command) {
             return Ok(Reply::Refused(reason));
         }
@@ -160,7 +169,7 @@ impl PlainBook {
         Ok(Reply::Done)
     }
 
-    fn is_like(&self, book: &Book) -> bool {
+    pub(crate) fn is_like(&self, book: &Book) -> bool {
         let mut rows = self.rows.iter().enumerate();
         self.closed == book.is_closed()
             && self.rows.len() == book.len()
@@ -171,7 +180,7 @@ impl PlainBook {
     }
 }
 
-const POOL: &str = "submit,A,A,hour,buy,100,1:5,,
+pub(crate) const POOL: &str = "submit,A,A,hour,buy,100,1:5,,
 submit,A,B,hour,sell,100,24:5,,
 submit,A,C,hour,buy,100,25:5,,
 submit,A,A,block,sell,200,1:10;24:10,,
@@ -195,32 +204,51 @@ cancel,A,D,,,,,,
 cancel,B,A,,,,,,
 ";
 
-#[test]
-fn the_book_is_as_the_plain_one(rt: HostRuntime) -> Result<(), Fail> {
-    let alloc: Global = rt.alloc();
-    let pool = commands(alloc, POOL)?;
-    let mut book = Book::begin(alloc, 24)?;
-    let mut plain = PlainBook {
-        periods: 24,
-        rows: Vec::new(alloc),
-        closed: false,
-    };
+/// A command of the pool, by the next number of the generator.
+pub(crate) fn drawn<'a>(pool: &'a [Command], state: &mut u32) -> Option<&'a Command> {
+    *state = state.wrapping_mul(1_664_525).wrapping_add(1_013_904_223);
+    pool.get((*state / 65_536) as usize % pool.len().max(1))
+}
+
+/// Applies a command to both books, and answers the reply of both.
+fn apply_to_both(
+    rt: &impl Abort,
+    book: &mut Book,
+    plain: &mut PlainBook,
+    command: &Command,
+) -> Result<Reply, AllocError> {
+    let reply = book.apply(command)?;
+    assert_eq!(rt; reply, plain.apply(command)?);
+    assert!(rt; plain.is_like(book));
+    Ok(reply)
+}
+
+/// Applies commands of the pool to both books, and counts those that were carried out.
+fn apply_many(
+    rt: &impl Abort,
+    pool: &[Command],
+    book: &mut Book,
+    plain: &mut PlainBook,
+) -> Result<u32, Fail> {
     let mut state = 1u32;
     let mut carried_out = 0u32;
     for _ in 0..3000 {
-        state = state.wrapping_mul(1_664_525).wrapping_add(1_013_904_223);
-        let Some(command) = pool.get((state / 65_536) as usize % 22) else {
-            return Err(Fail::from("a command"));
-        };
-        let reply = book.apply(command)?;
-        assert_eq!(rt; reply, plain.apply(command)?);
-        assert!(rt; plain.is_like(&book));
-        if reply == Reply::Done {
+        let command = drawn(pool, &mut state).ok_or("a command")?;
+        if apply_to_both(rt, book, plain, command)? == Reply::Done {
             carried_out = carried_out.saturating_add(1);
         }
     }
+    Ok(carried_out)
+}
+
+#[test]
+fn the_book_is_as_the_plain_one(rt: HostRuntime) -> Result<(), Fail> {
+    let pool = commands(rt.alloc(), POOL)?;
+    let mut book = Book::begin(rt.alloc(), 24)?;
+    let mut plain = PlainBook::new(rt.alloc());
+    assert_eq!(rt; pool.len(), 22);
+    let carried_out = apply_many(&rt, &pool, &mut book, &mut plain)?;
     assert!(rt; carried_out > 500 && carried_out < 2500);
-    assert_eq!(rt; book.apply(&Command::Close)?, plain.apply(&Command::Close)?);
-    assert!(rt; plain.is_like(&book));
+    apply_to_both(&rt, &mut book, &mut plain, &Command::Close)?;
     Ok(())
 }

@@ -1,11 +1,11 @@
-use super::{FAMILY, MIXED, REFUSED, TRIES, are_equal, run_of};
+use super::{Call, FAMILY, MIXED, REFUSED, Run, TRIES, are_equal, check_each, run_over, whole_run};
 use crate::support::commands;
 use dam_book::{
-    Book, Command, read_price, read_qty, read_volumes, replay, write_price, write_qty,
+    Book, Command, Price, Qty, Volumes, read_price, read_qty, read_volumes, write_price, write_qty,
     write_volumes,
 };
 use limited_alloc::RefusesNth;
-use std::alloc::{Allocator, Global};
+use std::alloc::{AllocError, Allocator, Global};
 use std::process::Abort;
 use std::test::Fail;
 
@@ -16,13 +16,28 @@ fn apply_to_both<A: Allocator + Copy>(
     book: &mut Book<A>,
     ample: &mut Book,
     command: &Command,
-) -> Result<(), Fail> {
+) -> Result<(), AllocError> {
     let Ok(reply) = book.apply(command) else {
         assert!(rt; are_equal(book, ample));
         assert_eq!(rt; book.apply(command)?, ample.apply(command)?);
         return Ok(());
     };
     assert_eq!(rt; reply, ample.apply(command)?);
+    Ok(())
+}
+
+/// Applies the commands to two books, of which the first may be refused growths.
+fn apply_all<A: Allocator + Copy>(
+    rt: &impl Abort,
+    alloc: A,
+    commands: &[Command],
+    mut ample: Book,
+) -> Result<(), Fail> {
+    let mut book = Book::begin(alloc, 24)?;
+    for command in commands {
+        apply_to_both(rt, &mut book, &mut ample, command)?;
+    }
+    assert!(rt; are_equal(&book, &ample));
     Ok(())
 }
 
@@ -34,12 +49,7 @@ fn is_apply_refused(
     nth: u64,
 ) -> Result<bool, Fail> {
     let heap = RefusesNth::new(alloc, nth);
-    let mut book = Book::begin(&heap, 24)?;
-    let mut ample = Book::begin(alloc, 24)?;
-    for command in commands {
-        apply_to_both(rt, &mut book, &mut ample, command)?;
-    }
-    assert!(rt; are_equal(&book, &ample));
+    apply_all(rt, &heap, commands, Book::begin(alloc, 24)?)?;
     Ok(heap.has_refused())
 }
 
@@ -62,85 +72,121 @@ fn each_refused_growth_leaves_the_book(rt: HostRuntime) -> Result<(), Fail> {
     check_apply(&rt, rt.alloc(), FAMILY, 4)
 }
 
-/// Copies the book of a journal whose growths are refused from the first one of the copy on, and says
-/// whether the refusal came.
-fn is_copy_refused(rt: &impl Abort, alloc: Global, nth: u64) -> Result<bool, Fail> {
-    let (ample, _) = run_of(alloc, FAMILY)?;
-    let commands = commands(alloc, FAMILY)?;
-    let heap = RefusesNth::new(alloc, nth);
-    let Ok((book, _)) = replay(alloc, Book::begin(&heap, 24)?, &commands) else {
-        assert!(rt; heap.has_refused());
-        return Ok(true);
-    };
-    match book.try_copy() {
-        Err(_) => {
-            assert!(rt; heap.has_refused() && are_equal(&book, &ample));
-            assert!(rt; are_equal(&book.try_copy()?, &ample));
-            Ok(true)
+/// A copy of a run's book.
+#[derive(Drop)]
+struct Copied {
+    run: Run,
+}
+
+impl Call for Copied {
+    fn is_right<A: Allocator + Copy>(&self, alloc: A) -> Result<bool, AllocError> {
+        match run_over(alloc, &self.run.commands)? {
+            Some((book, _)) => is_copied(&book, &self.run.book),
+            None => Ok(false),
         }
-        Ok(copy) => {
-            assert!(rt; !heap.has_refused() && are_equal(&book, &ample));
-            assert!(rt; are_equal(&copy, &ample));
-            Ok(false)
-        }
+    }
+}
+
+/// Whether a copy of a book is as it has to be. A refused copy leaves the book, and is then made.
+fn is_copied<A: Allocator + Copy>(book: &Book<A>, ample: &Book) -> Result<bool, AllocError> {
+    let copy = book.try_copy();
+    if !are_equal(book, ample) {
+        return Ok(false);
+    }
+    match copy {
+        Ok(copy) => Ok(are_equal(&copy, ample)),
+        Err(fault) if are_equal(&book.try_copy()?, ample) => Err(fault),
+        Err(_) => Ok(false),
     }
 }
 
 #[test]
 fn each_refused_growth_of_a_copy(rt: HostRuntime) -> Result<(), Fail> {
-    for nth in 1..TRIES {
-        if !is_copy_refused(&rt, rt.alloc(), nth)? {
-            assert!(rt; nth > 4);
-            return Ok(());
+    let run = whole_run(rt.alloc(), FAMILY)?;
+    check_each(&rt, rt.alloc(), &Copied { run }, 4)
+}
+
+/// A run of commands.
+#[derive(Drop)]
+struct Replayed {
+    run: Run,
+}
+
+impl Call for Replayed {
+    fn is_right<A: Allocator + Copy>(&self, alloc: A) -> Result<bool, AllocError> {
+        let wanted = &self.run;
+        match run_over(alloc, &wanted.commands)? {
+            Some((book, entries)) => Ok(
+                are_equal(&book, &wanted.book) && entries.as_slice() == wanted.entries.as_slice(),
+            ),
+            None => Ok(false),
         }
     }
-    Err(Fail::from("more growths than were tried"))
 }
 
 #[test]
 fn each_refused_growth_of_a_replay(rt: HostRuntime) -> Result<(), Fail> {
-    let (ample, wanted) = run_of(rt.alloc(), MIXED)?;
-    let commands = commands(rt.alloc(), MIXED)?;
-    for nth in 1..TRIES {
-        let heap = RefusesNth::new(rt.alloc(), nth);
-        match replay(&heap, Book::begin(&heap, 24)?, &commands) {
-            Err(_) => {
-                assert!(rt; heap.has_refused());
-                let (book, entries) = replay(&heap, Book::begin(&heap, 24)?, &commands)?;
-                assert!(rt; are_equal(&book, &ample) && entries.as_slice() == wanted.as_slice());
-            }
-            Ok((book, entries)) => {
-                assert!(rt; are_equal(&book, &ample) && entries.as_slice() == wanted.as_slice());
-                assert!(rt; !heap.has_refused() && nth > 9);
-                return Ok(());
-            }
-        }
+    let run = whole_run(rt.alloc(), MIXED)?;
+    check_each(&rt, rt.alloc(), &Replayed { run }, 9)
+}
+
+/// A price, a volume and volumes.
+#[derive(Drop)]
+struct Fields {
+    price: Price,
+    qty: Qty,
+    volumes: Volumes,
+}
+
+impl Fields {
+    fn new() -> Option<Fields> {
+        Some(Fields {
+            price: read_price(b"-50000")?,
+            qty: read_qty(b"99999")?,
+            volumes: read_volumes(b"1:10;2:20;25:99999")?,
+        })
     }
-    Err(Fail::from("more growths than were tried"))
+
+    /// Writes the fields one behind another. A refused one leaves the text, and is then written.
+    fn write<A: Allocator>(
+        &self,
+        rt: &impl Abort,
+        text: &mut Vec<u8, A>,
+    ) -> Result<(), AllocError> {
+        if write_price(text, self.price).is_err() {
+            assert!(rt; text.is_empty());
+            write_price(text, self.price)?;
+        }
+        if write_qty(text, self.qty).is_err() {
+            assert!(rt; text.as_slice() == b"-50000".as_slice());
+            write_qty(text, self.qty)?;
+        }
+        if write_volumes(text, &self.volumes).is_err() {
+            assert!(rt; text.as_slice() == b"-5000099999".as_slice());
+            write_volumes(text, &self.volumes)?;
+        }
+        assert!(rt; text.as_slice() == b"-50000999991:10;2:20;25:99999".as_slice());
+        Ok(())
+    }
+}
+
+/// Writes the fields with a growth refused, and says whether that came.
+fn is_write_refused(
+    rt: &impl Abort,
+    alloc: Global,
+    fields: &Fields,
+    nth: u64,
+) -> Result<bool, AllocError> {
+    let heap = RefusesNth::new(alloc, nth);
+    fields.write(rt, &mut Vec::new(&heap))?;
+    Ok(heap.has_refused())
 }
 
 #[test]
 fn each_refused_growth_of_a_field(rt: HostRuntime) -> Result<(), Fail> {
-    let price = read_price(b"-50000").ok_or("a price")?;
-    let qty = read_qty(b"99999").ok_or("a volume")?;
-    let volumes = read_volumes(b"1:10;2:20;25:99999").ok_or("volumes")?;
+    let fields = Fields::new().ok_or("fields")?;
     for nth in 1..TRIES {
-        let heap = RefusesNth::new(rt.alloc(), nth);
-        let mut text = Vec::new(&heap);
-        if write_price(&mut text, price).is_err() {
-            assert!(rt; text.is_empty());
-            write_price(&mut text, price)?;
-        }
-        if write_qty(&mut text, qty).is_err() {
-            assert!(rt; text.as_slice() == b"-50000".as_slice());
-            write_qty(&mut text, qty)?;
-        }
-        if write_volumes(&mut text, &volumes).is_err() {
-            assert!(rt; text.as_slice() == b"-5000099999".as_slice());
-            write_volumes(&mut text, &volumes)?;
-        }
-        assert!(rt; text.as_slice() == b"-50000999991:10;2:20;25:99999".as_slice());
-        if !heap.has_refused() {
+        if !is_write_refused(&rt, rt.alloc(), &fields, nth)? {
             assert!(rt; nth > 1);
             return Ok(());
         }

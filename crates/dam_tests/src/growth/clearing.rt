@@ -1,7 +1,7 @@
 ghost use Rattle.std.specs.Prelude.{◌≡◌};
 ghost use Rattle.dam_bound.specs.Relaxed.{without_rows};
 
-use super::{MIXED, TRIES, run_of};
+use super::{Call, MIXED, check_each, run_of};
 use dam_blocks::{Problem, ProblemFault, Selection, Verdict, best_of_all, score};
 use dam_book::{Book, Period, Side, read_price, read_qty};
 use dam_bound::Relaxed;
@@ -9,7 +9,6 @@ use dam_hour::{Hour, Step};
 use dam_search::{MOST_NODES, Private, first_selection, search_piece};
 use limited_alloc::RefusesNth;
 use std::alloc::{AllocError, Allocator};
-use std::process::Abort;
 use std::test::Fail;
 
 /// Two blocks of one group.
@@ -21,55 +20,54 @@ close,,,,,,,,
 ";
 
 /// Nine equal buys of 1 MW.
-fn nine_steps() -> Result<[Step; 9], Fail> {
+fn nine_steps() -> Option<[Step; 9]> {
     let step = Step {
         side: Side::Buy,
-        price: read_price(b"5000").ok_or("a price")?,
-        qty: read_qty(b"10").ok_or("a volume")?,
+        price: read_price(b"5000")?,
+        qty: read_qty(b"10")?,
     };
-    Ok([step; 9])
+    Some([step; 9])
+}
+
+/// The hour of nine steps.
+#[derive(Drop)]
+struct Built {
+    steps: [Step; 9],
+}
+
+impl Call for Built {
+    fn is_right<A: Allocator + Copy>(&self, alloc: A) -> Result<bool, AllocError> {
+        let hour = Hour::build(alloc, &self.steps)?;
+        Ok(hour.steps() == self.steps.as_slice())
+    }
 }
 
 #[test]
 fn each_refused_growth_of_an_hour(rt: HostRuntime) -> Result<(), Fail> {
-    let steps = nine_steps()?;
-    for nth in 1..TRIES {
-        let heap = RefusesNth::new(rt.alloc(), nth);
-        match Hour::build(&heap, &steps) {
-            Err(_) => {
-                assert!(rt; heap.has_refused());
-                assert!(rt; Hour::build(&heap, &steps)?.steps() == steps.as_slice());
-            }
-            Ok(hour) => {
-                assert!(rt; !heap.has_refused() && hour.steps() == steps.as_slice() && nth > 1);
-                return Ok(());
-            }
+    let steps = nine_steps().ok_or("steps")?;
+    check_each(&rt, rt.alloc(), &Built { steps }, 1)
+}
+
+/// The execution of an hour of nine steps, at a net volume of one and a half of them.
+#[derive(Drop)]
+struct Executed {
+    hour: Hour,
+}
+
+impl Call for Executed {
+    fn is_right<A: Allocator + Copy>(&self, alloc: A) -> Result<bool, AllocError> {
+        match self.hour.execution(alloc, 15)? {
+            Some(volumes) => Ok(volumes.as_slice() == [10, 5, 0, 0, 0, 0, 0, 0, 0].as_slice()),
+            None => Ok(false),
         }
     }
-    Err(Fail::from("more growths than were tried"))
 }
 
 #[test]
 fn each_refused_growth_of_an_execution(rt: HostRuntime) -> Result<(), Fail> {
-    let hour = Hour::build(rt.alloc(), &nine_steps()?)?;
-    let wanted = [10, 5, 0, 0, 0, 0, 0, 0, 0];
-    for nth in 1..TRIES {
-        let heap = RefusesNth::new(rt.alloc(), nth);
-        match hour.execution(&heap, 15) {
-            Err(_) => {
-                assert!(rt; heap.has_refused());
-                let executed = hour.execution(&heap, 15)?.ok_or("an execution")?;
-                assert!(rt; executed.as_slice() == wanted.as_slice());
-            }
-            Ok(found) => {
-                let executed = found.ok_or("an execution")?;
-                assert!(rt; !heap.has_refused() && nth > 1);
-                assert!(rt; executed.as_slice() == wanted.as_slice());
-                return Ok(());
-            }
-        }
-    }
-    Err(Fail::from("more growths than were tried"))
+    let steps = nine_steps().ok_or("steps")?;
+    let hour = Hour::build(rt.alloc(), &steps)?;
+    check_each(&rt, rt.alloc(), &Executed { hour }, 1)
 }
 
 /// Whether the two problems have the same orders in a period.
@@ -95,97 +93,123 @@ fn are_problems_equal<A: Allocator, B: Allocator>(
         && (1..=problem.periods()).all(|number| are_steps_equal(problem, other, number))
 }
 
+/// The problem of a book; none of an open one.
+fn problem_over<A: Allocator + Copy>(
+    alloc: A,
+    book: &Book,
+) -> Result<Option<Problem<A>>, AllocError> {
+    match Problem::of_book(alloc, book) {
+        Ok(problem) => Ok(Some(problem)),
+        Err(ProblemFault::StillOpen) => Ok(None),
+        Err(ProblemFault::Memory) => Err(AllocError),
+    }
+}
+
+/// The problem of a book.
+#[derive(Drop)]
+struct Stated {
+    book: Book,
+    problem: Problem,
+}
+
+impl Call for Stated {
+    fn is_right<A: Allocator + Copy>(&self, alloc: A) -> Result<bool, AllocError> {
+        match problem_over(alloc, &self.book)? {
+            Some(problem) => Ok(are_problems_equal(&problem, &self.problem)),
+            None => Ok(false),
+        }
+    }
+}
+
 #[test]
 fn each_refused_growth_of_a_problem(rt: HostRuntime) -> Result<(), Fail> {
     let (book, _) = run_of(rt.alloc(), MIXED)?;
-    let ample = Problem::of_book(rt.alloc(), &book)?;
-    for nth in 1..TRIES {
-        let heap = RefusesNth::new(rt.alloc(), nth);
-        match Problem::of_book(&heap, &book) {
-            Err(fault) => {
-                assert!(rt; heap.has_refused() && fault == ProblemFault::Memory);
-                assert!(rt; are_problems_equal(&Problem::of_book(&heap, &book)?, &ample));
-            }
-            Ok(problem) => {
-                assert!(rt; !heap.has_refused() && nth > 4);
-                assert!(rt; are_problems_equal(&problem, &ample));
-                return Ok(());
-            }
-        }
-    }
-    Err(Fail::from("more growths than were tried"))
+    let problem = Problem::of_book(rt.alloc(), &book)?;
+    check_each(&rt, rt.alloc(), &Stated { book, problem }, 4)
+}
+
+/// Why a book has no problem, if it has none.
+fn fault_over<A: Allocator + Copy>(alloc: A, book: &Book) -> Option<ProblemFault> {
+    Problem::of_book(alloc, book).err()
 }
 
 #[test]
 fn an_open_book_asks_for_no_memory(rt: HostRuntime) -> Result<(), Fail> {
     let heap = RefusesNth::new(rt.alloc(), 1);
     let open = Book::begin(rt.alloc(), 24)?;
-    let fault = Problem::of_book(&heap, &open).err();
-    assert_eq!(rt; fault, Some(ProblemFault::StillOpen));
+    assert_eq!(rt; fault_over(&heap, &open), Some(ProblemFault::StillOpen));
     assert!(rt; !heap.has_refused());
     Ok(())
 }
 
-/// The bounds of two blocks at the depths 0 and 1.
-fn bounds<A: Allocator>(rt: &impl Abort, problem: &Problem, relaxed: &Relaxed<A>)
+/// Whether the bounds of two blocks are as they have to be, at the depths 0 and 1.
+fn are_bounds_right<A: Allocator>(problem: &Problem, relaxed: &Relaxed<A>) -> bool
     requires { relaxed.now ≡ without_rows problem.now }
 {
-    assert_eq!(rt; problem.block_count(), 2);
+    if problem.block_count() != 2 {
+        return false;
+    }
     let none = Selection::none();
-    assert_eq!(rt; relaxed.bound(none, 0), Some(35_000));
-    assert_eq!(rt; relaxed.bound(none.with(0), 1), Some(35_000));
-    assert_eq!(rt; relaxed.bound(none, 1), Some(30_000));
+    relaxed.bound(none, 0) == Some(35_000)
+        && relaxed.bound(none.with(0), 1) == Some(35_000)
+        && relaxed.bound(none, 1) == Some(30_000)
+}
+
+/// The relaxed levels of a problem.
+#[derive(Drop)]
+struct Levels {
+    problem: Problem,
+}
+
+impl Call for Levels {
+    fn is_right<A: Allocator + Copy>(&self, alloc: A) -> Result<bool, AllocError> {
+        let relaxed = Relaxed::build(alloc, &self.problem)?;
+        Ok(are_bounds_right(&self.problem, &relaxed))
+    }
 }
 
 #[test]
 fn each_refused_growth_of_the_relaxed_levels(rt: HostRuntime) -> Result<(), Fail> {
     let (book, _) = run_of(rt.alloc(), GROUP)?;
     let problem = Problem::of_book(rt.alloc(), &book)?;
-    for nth in 1..TRIES {
-        let heap = RefusesNth::new(rt.alloc(), nth);
-        match Relaxed::build(&heap, &problem) {
-            Err(_) => {
-                assert!(rt; heap.has_refused());
-                bounds(&rt, &problem, &Relaxed::build(&heap, &problem)?);
-            }
-            Ok(relaxed) => {
-                bounds(&rt, &problem, &relaxed);
-                assert!(rt; !heap.has_refused() && nth > 50);
-                return Ok(());
-            }
-        }
-    }
-    Err(Fail::from("more growths than were tried"))
+    check_each(&rt, rt.alloc(), &Levels { problem }, 50)
 }
 
-/// Searches a problem of two blocks on one thread.
-fn search_alone<A: Allocator + Copy>(
-    rt: &impl Abort,
-    alloc: A,
-    problem: &Problem<A>,
-) -> Result<(), AllocError> {
-    let relaxed = Relaxed::build(alloc, problem)?;
+/// Whether the search of a problem of two blocks on one thread finds the best selection.
+fn finds_the_best<A: Allocator, B: Allocator>(problem: &Problem<A>, relaxed: &Relaxed<B>) -> bool
+    requires { relaxed.now ≡ without_rows problem.now }
+{
+    let piece = search_piece(problem, relaxed, 0, 0, MOST_NODES, &mut Private::new());
+    piece.best == Some(best_of_all(problem))
+}
+
+/// Whether the first selection of the problem is the best, of this welfare.
+fn begins_with_the_best<A: Allocator>(problem: &Problem<A>) -> bool {
     let best = best_of_all(problem);
-    let piece = search_piece(problem, &relaxed, 0, 0, MOST_NODES, &mut Private::new());
-    assert_eq!(rt; piece.best, Some(best));
-    assert_eq!(rt; first_selection(problem), best);
-    assert_eq!(rt; score(problem, best.selection), Verdict::Eligible(30_000));
-    Ok(())
+    first_selection(problem) == best && score(problem, best.selection) == Verdict::Eligible(30_000)
+}
+
+/// A problem, its levels, and a search that asks for no memory.
+#[derive(Drop)]
+struct Searched {
+    book: Book,
+}
+
+impl Call for Searched {
+    fn is_right<A: Allocator + Copy>(&self, alloc: A) -> Result<bool, AllocError> {
+        match problem_over(alloc, &self.book)? {
+            Some(problem) => {
+                let relaxed = Relaxed::build(alloc, &problem)?;
+                Ok(finds_the_best(&problem, &relaxed) && begins_with_the_best(&problem))
+            }
+            None => Ok(false),
+        }
+    }
 }
 
 /// The growth that would be refused is the one behind the last of the problem and its levels.
 #[test]
 fn a_search_on_one_thread_asks_for_no_memory(rt: HostRuntime) -> Result<(), Fail> {
     let (book, _) = run_of(rt.alloc(), GROUP)?;
-    for nth in 1..TRIES {
-        let heap = RefusesNth::new(rt.alloc(), nth);
-        let Ok(problem) = Problem::of_book(&heap, &book) else {
-            continue;
-        };
-        if search_alone(&rt, &heap, &problem).is_ok() {
-            assert!(rt; !heap.has_refused() && nth > 50);
-            return Ok(());
-        }
-    }
-    Err(Fail::from("more growths than were tried"))
+    check_each(&rt, rt.alloc(), &Searched { book }, 50)
 }

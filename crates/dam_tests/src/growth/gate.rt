@@ -1,7 +1,7 @@
 use super::{FAMILY, MIXED, REFUSED, TRIES, TWO, are_equal, run_of};
 use crate::support::commands;
 use dam_book::{Command, Participant};
-use dam_gate::{Gate, Journal, Keeper, KeeperFault, Mismatch, Pass, Settled, Unsettled, settle};
+use dam_gate::{Gate, Journal, Keeper, KeeperFault, Mismatch, Pass, Unsettled, settle};
 use limited_alloc::RefusesNth;
 use std::alloc::{Allocator, Global};
 use std::process::Abort;
@@ -32,6 +32,21 @@ fn apply_to_both<A: Allocator + Copy>(
     Ok(())
 }
 
+/// Applies the commands to two keepers, of which the first may be refused growths.
+fn apply_all<A: Allocator + Copy>(
+    rt: &impl Abort,
+    alloc: A,
+    commands: &[Command],
+    mut ample: Keeper,
+) -> Result<(), Fail> {
+    let mut keeper = Keeper::begin(alloc, 24)?;
+    for command in commands {
+        apply_to_both(rt, &mut keeper, &mut ample, command)?;
+    }
+    assert!(rt; are_keepers_equal(&keeper, &ample));
+    Ok(())
+}
+
 /// Applies the commands with a growth refused, and says whether that came.
 fn is_apply_refused(
     rt: &impl Abort,
@@ -40,12 +55,7 @@ fn is_apply_refused(
     nth: u64,
 ) -> Result<bool, Fail> {
     let heap = RefusesNth::new(alloc, nth);
-    let mut keeper = Keeper::begin(&heap, 24)?;
-    let mut ample = Keeper::begin(alloc, 24)?;
-    for command in commands {
-        apply_to_both(rt, &mut keeper, &mut ample, command)?;
-    }
-    assert!(rt; are_keepers_equal(&keeper, &ample));
+    apply_all(rt, &heap, commands, Keeper::begin(alloc, 24)?)?;
     Ok(heap.has_refused())
 }
 
@@ -115,12 +125,25 @@ fn through_gate(rt: &impl Wait, alloc: Global, records: &str) -> Result<Finished
     Ok(Finished { journal, passes })
 }
 
-/// Why a settlement failed, where it did.
-fn why(answer: Result<Settled, Unsettled>) -> Option<Mismatch> {
-    match answer {
-        Ok(_) => None,
-        Err(unsettled) => Some(unsettled.why),
+/// Why a settlement failed, if it did; where memory was refused, the journal that was handed back.
+fn settle_once<A: Allocator>(
+    alloc: A,
+    journal: Journal,
+    passes: &[Pass],
+) -> Result<Option<Mismatch>, Journal> {
+    let Err(Unsettled { why, journal }) = settle(alloc, journal, passes) else {
+        return Ok(None);
+    };
+    if why == Mismatch::Memory {
+        return Err(journal);
     }
+    Ok(Some(why))
+}
+
+/// Whether the journal is that of the run of these records.
+fn is_journal_of(alloc: Global, journal: &Journal, records: &str) -> Result<bool, Fail> {
+    let (book, entries) = run_of(alloc, records)?;
+    Ok(journal.entries() == entries.as_slice() && are_equal(journal.book(), &book))
 }
 
 /// Settles a journal and the first passes with a growth refused, and says whether that came: the journal
@@ -132,26 +155,22 @@ fn is_settle_refused<R: Abort + Wait>(
     count: usize,
     wanted: Option<Mismatch>,
 ) -> Result<bool, Fail> {
-    let (book, entries) = run_of(alloc, TWO)?;
     let Finished { journal, passes } = through_gate(rt, alloc, TWO)?;
     let given = passes.get(..count).unwrap_or(&[]);
     let heap = RefusesNth::new(alloc, nth);
-    let answer = settle(&heap, journal, given);
-    if !heap.has_refused() {
-        assert_eq!(rt; why(answer), wanted);
-        return Ok(false);
+    let first = settle_once(&heap, journal, given);
+    assert_eq!(rt; first.is_err(), heap.has_refused());
+    match first {
+        Ok(why) => {
+            assert_eq!(rt; why, wanted);
+            Ok(false)
+        }
+        Err(journal) => {
+            assert!(rt; is_journal_of(alloc, &journal, TWO)?);
+            assert_eq!(rt; settle_once(&heap, journal, given).ok(), Some(wanted));
+            Ok(true)
+        }
     }
-    let Err(unsettled) = answer else {
-        return Err(Fail::from("settled without memory"));
-    };
-    let Unsettled {
-        why: reason,
-        journal,
-    } = unsettled;
-    assert_eq!(rt; reason, Mismatch::Memory);
-    assert!(rt; journal.entries() == entries.as_slice() && are_equal(journal.book(), &book));
-    assert_eq!(rt; why(settle(&heap, journal, given)), wanted);
-    Ok(true)
 }
 
 /// Settles with each growth refused in turn.

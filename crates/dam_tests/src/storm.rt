@@ -1,0 +1,104 @@
+//! Eight threads at one gate until its journal is full, and each entry compared with the plain book.
+
+use crate::plain::{POOL, PlainBook, drawn};
+use crate::support::commands;
+use dam_book::{Command, Participant};
+use dam_gate::{Gate, Journal, Pass};
+use std::alloc::{AllocError, Global};
+use std::sync::Wait;
+use std::test::Fail;
+use std::thread;
+use std::thread::Threads;
+
+/// A participant's pass, and the commands that it draws from.
+#[derive(Drop)]
+struct Trader {
+    pass: Pass,
+    pool: Vec<Command>,
+    state: u32,
+}
+
+impl Trader {
+    /// Gives commands until one is refused a place in the journal.
+    fn trade(&mut self, rt: &impl Wait, gate: &Gate) {
+        for _ in 0..20_000 {
+            let Some(command) = drawn(&self.pool, &mut self.state) else {
+                return;
+            };
+            if gate.call(rt, &mut self.pass, command.copy()).is_err() {
+                return;
+            }
+        }
+    }
+}
+
+/// The same command, given by this participant.
+fn given_by(who: &Participant, command: &Command) -> Command {
+    let mut given = command.copy();
+    match &mut given {
+        Command::Submit { who: giver, .. }
+        | Command::Amend { who: giver, .. }
+        | Command::Cancel { who: giver, .. } => *giver = who.copy(),
+        Command::Close => {}
+    }
+    given
+}
+
+fn trader_of(
+    rt: &impl Wait,
+    alloc: Global,
+    gate: &Gate,
+    who: &Participant,
+    seed: u32,
+) -> Result<Trader, Fail> {
+    let mut pool = Vec::new(alloc);
+    for command in &commands(alloc, POOL)? {
+        pool.push(given_by(who, command))?;
+    }
+    Ok(Trader {
+        pass: gate.pass(rt, who.copy())?,
+        pool,
+        state: seed,
+    })
+}
+
+/// Eight traders, each with a seed of its own.
+fn traders(rt: &impl Wait, alloc: Global, gate: &Gate, seed: u32) -> Result<Vec<Trader>, Fail> {
+    let mut traders = Vec::new(alloc);
+    for code in b"ABCDEFGH" {
+        let who = Participant::new(&[*code]).ok_or("a participant")?;
+        let seed = seed.wrapping_add(u32::from(*code));
+        traders.push(trader_of(rt, alloc, gate, &who, seed)?)?;
+    }
+    Ok(traders)
+}
+
+/// Whether the plain book, run by the journal's commands, replies as the journal says, and ends as its book.
+fn replays(alloc: Global, journal: &Journal) -> Result<bool, AllocError> {
+    let mut plain = PlainBook::new(alloc);
+    for (place, entry) in journal.entries().iter().enumerate() {
+        let reply = plain.apply(&entry.command)?;
+        if entry.reply != reply || entry.number as usize != place.saturating_add(1) {
+            return Ok(false);
+        }
+    }
+    Ok(plain.is_like(journal.book()))
+}
+
+/// Whether the journal of a day of eight traders is full, and what the plain book makes of its commands.
+fn stands<R: Threads + Wait + Sync>(rt: &R, alloc: Global, seed: u32) -> Result<bool, Fail> {
+    let gate = Gate::begin(alloc, 24)?;
+    let mut traders = traders(rt, alloc, &gate, seed)?;
+    thread::for_each_mut(rt, &mut traders, 8, &|_, trader| trader.trade(rt, &gate));
+    let mut operator = gate.operator(rt)?;
+    let closed = gate.call(rt, &mut operator, Command::Close)?;
+    Ok(closed.number == 10_000 && replays(alloc, &gate.finish())?)
+}
+
+#[test]
+fn storms_are_as_the_plain_book(rt: HostRuntime) -> Result<(), Fail> {
+    for seed in 0..12 {
+        assert!(rt; stands(&rt, rt.alloc(), seed)?, "seed {seed}");
+    }
+    Ok(())
+}
