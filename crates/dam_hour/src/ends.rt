@@ -47,8 +47,8 @@ pub(crate) fn is_within_offers<A: Allocator>(hour: &Hour<A>, net: i64) -> bool
     -sells <= net && net <= buys
 }
 
-/// Whether a buy is served: what stands before it leaves it some of the net volume, or of the sells that
-/// aren't worse than its limit.
+/// Whether a buy is served: what stands before it leaves it some of the net volume, or of the sells
+/// that aren't worse than its limit.
 fn is_served<A: Allocator>(hour: &Hour<A>, net: i64, limit: Price, before: u64) -> bool
     requires net { IsNetVolume net }
     requires before { before ≤ most_steps * greatest_volume }
@@ -88,8 +88,8 @@ impl Edge {
         }
     }
 
-    /// The sells that are taken where the last buy is served in full, in tenths of a MW; below 0 where the
-    /// net volume is more.
+    /// The sells that are taken where the last buy is served in full, in tenths of a MW; below 0 where
+    /// the net volume is more.
     fn sells(&self, net: i64) -> i64
         requires net { IsNetVolume net }
         requires small { self.now.volume ≤ most_steps * greatest_volume }
@@ -124,8 +124,8 @@ impl Edge {
     }
 }
 
-/// The limit of the sell that holds a unit, counted from 1 at the least limit; the least price of the range
-/// for a unit under 1, and the greatest one where all sells are less.
+/// The limit of the sell that holds a unit, counted from 1 at the least limit; the least price of the
+/// range for a unit under 1, and the greatest one where all sells are less.
 fn limit_of_sell<A: Allocator>(hour: &Hour<A>, unit: i64) -> Price
     ensures { IsLimitOfSell hour.now unit result }
 {
