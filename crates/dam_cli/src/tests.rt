@@ -69,15 +69,6 @@ enum Breakage {
     LosesAtFlush,
 }
 
-/// One of two ways to fail, by turns.
-fn failure(number: usize) -> Breakage {
-    if number % 2 == 0 {
-        Breakage::Refuses
-    } else {
-        Breakage::TakesNothing
-    }
-}
-
 /// A writer that takes a byte a call, and breaks at the call of number `failing`, counted from 1, or at
 /// its flush.
 #[derive(Drop)]

@@ -1,4 +1,4 @@
-use super::{Breakage, Broken, Dripping, Holding, failure};
+use super::{Breakage, Broken, Dripping, Holding};
 use crate::clear::run_clear;
 use crate::fault::RunFault;
 use dam_search::{FreeTurn, MOST_NODES, Plan};
@@ -41,7 +41,7 @@ period,24,175000,0
 ";
 
 /// A block that sells in the first two periods takes the place of half of the hourly sells there.
-const BLOCK_DAY: &[u8] = b"day,23,,,,,,,
+const BLOCK_DAY: &[u8] = b"day,24,,,,,,,
 submit,A,B1,hour,buy,6000,1:20,,
 submit,A,S1,hour,sell,5000,1:20,,
 submit,A,B2,hour,buy,6000,2:20,,
@@ -50,7 +50,7 @@ submit,A,K1,block,sell,4000,1:10;2:10,,
 close,,,,,,,,
 ";
 
-const BLOCK_RESULTS: &[u8] = b"day,23
+const BLOCK_RESULTS: &[u8] = b"day,24
 welfare,60000
 period,1,5000,20
 period,2,5000,20
@@ -75,6 +75,7 @@ period,20,175000,0
 period,21,175000,0
 period,22,175000,0
 period,23,175000,0
+period,24,175000,0
 hour,A,B1,20
 hour,A,S1,10
 hour,A,B2,20
@@ -129,8 +130,8 @@ fn clears_a_day_with_a_block(rt: HostRuntime) {
 
 #[test]
 fn a_failed_read_ends_a_clearing(rt: HostRuntime) {
-    for failing in 1..=EMPTY_DAY.len() + 1 {
-        let mut reader = Dripping::new(EMPTY_DAY, 1);
+    for failing in 1..=BLOCK_DAY.len() + 1 {
+        let mut reader = Dripping::new(BLOCK_DAY, 1);
         reader.failing = failing;
         let mut written = Vec::new(rt.alloc());
         let result = cleared(&rt, rt.alloc(), &mut reader, &mut written);
@@ -142,13 +143,16 @@ fn a_failed_read_ends_a_clearing(rt: HostRuntime) {
 
 #[test]
 fn the_results_before_a_failed_write_are_told(rt: HostRuntime) {
-    for written in 0..EMPTY_RESULTS.len() {
-        let mut reader = EMPTY_DAY;
-        let mut writer = Broken::behind(rt.alloc(), written, failure(written));
-        let result = cleared(&rt, rt.alloc(), &mut reader, &mut writer);
-        assert_eq!(rt; result, Err(RunFault::Write { written }));
-        assert_eq!(rt; writer.taken.as_slice(), &EMPTY_RESULTS[..written]);
-        assert_eq!(rt; writer.called, writer.failing);
+    for breakage in [Breakage::Refuses, Breakage::TakesNothing] {
+        for written in 0..BLOCK_RESULTS.len() {
+            let mut reader = BLOCK_DAY;
+            let mut writer = Broken::behind(rt.alloc(), written, breakage);
+            let result = cleared(&rt, rt.alloc(), &mut reader, &mut writer);
+            assert_eq!(rt; result, Err(RunFault::Write { written }));
+            assert_eq!(rt; writer.taken.as_slice(), &BLOCK_RESULTS[..written]);
+            assert_eq!(rt; writer.called, writer.failing);
+            assert_eq!(rt; writer.flushed, 0);
+        }
     }
 }
 

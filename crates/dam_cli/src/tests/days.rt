@@ -1,4 +1,4 @@
-use super::{Breakage, Broken, Dripping, Holding, failure};
+use super::{Breakage, Broken, Dripping, Holding};
 use crate::day::run_day;
 use crate::fault::RunFault;
 use dam_search::{FreeTurn, MOST_NODES, Plan, Turnstile};
@@ -240,13 +240,16 @@ fn a_failed_read_ends_a_day(rt: HostRuntime) {
 #[test]
 fn the_bytes_of_a_day_before_a_failed_write_are_told(rt: HostRuntime) -> Result<(), Fail> {
     let text = one_participants_text(rt.alloc())?;
-    for written in 0..text.len() {
-        let mut reader = ONE_PARTICIPANT;
-        let mut writer = Broken::behind(rt.alloc(), written, failure(written));
-        let result = ran(&rt, rt.alloc(), &mut reader, &mut writer);
-        assert_eq!(rt; result, Err(RunFault::Write { written }));
-        assert_eq!(rt; writer.taken.as_slice(), &text[..written]);
-        assert_eq!(rt; writer.called, writer.failing);
+    for breakage in [Breakage::Refuses, Breakage::TakesNothing] {
+        for written in 0..text.len() {
+            let mut reader = ONE_PARTICIPANT;
+            let mut writer = Broken::behind(rt.alloc(), written, breakage);
+            let result = ran(&rt, rt.alloc(), &mut reader, &mut writer);
+            assert_eq!(rt; result, Err(RunFault::Write { written }));
+            assert_eq!(rt; writer.taken.as_slice(), &text[..written]);
+            assert_eq!(rt; writer.called, writer.failing);
+            assert_eq!(rt; writer.flushed, 0);
+        }
     }
     Ok(())
 }
