@@ -177,6 +177,43 @@ fn help_tells_each_option_with_its_range_and_default(rt: HostRuntime) -> Result<
 }
 
 #[test]
+fn each_command_has_a_help_of_its_own(rt: HostRuntime) -> Result<(), Fail> {
+    let table: [(&str, [&str; 3]); 3] = [
+        (
+            "replay",
+            [
+                "reply to each command of the journal",
+                "Usage: dam replay < JOURNAL",
+                "Example: dam replay < first-day.csv",
+            ],
+        ),
+        (
+            "clear",
+            [
+                "the prices of the journal's day",
+                "Usage: dam clear [OPTIONS] < JOURNAL",
+                "Example: dam clear --workers 4 --cut 6 < first-day.csv",
+            ],
+        ),
+        (
+            "day",
+            [
+                "prints its journal and results",
+                "Usage: dam day [OPTIONS] < JOURNAL",
+                "dam day --workers 4 --cut 6 < orders.csv",
+            ],
+        ),
+    ];
+    for (name, parts) in table {
+        let text = text_for(rt.alloc(), &[name, "--help"])?;
+        for part in parts {
+            assert!(rt; text.as_str().contains(part), "{part} in {text}");
+        }
+    }
+    Ok(())
+}
+
+#[test]
 fn a_refusal_says_what_is_wrong(rt: HostRuntime) -> Result<(), Fail> {
     let text = text_for(rt.alloc(), &["clear", "--cut", "9"])?;
     assert!(rt;
