@@ -5,8 +5,11 @@ mod settlements;
 mod storm;
 mod threads;
 
-use crate::{Gate, Look, Pass};
-use dam_book::{Command, Entry, HourOrder, Name, Order, Participant, Period, Price, Qty, Side};
+use crate::{Gate, Journal, Look, Pass};
+use dam_book::{
+    Book, Command, Entry, HourOrder, Name, Order, Participant, Period, Price, Qty, Side,
+};
+use std::alloc::Global;
 use std::sync::Wait;
 use std::test::Fail;
 
@@ -67,4 +70,36 @@ fn cancels(rt: &impl Wait, gate: &Gate, pass: &mut Pass, count: usize) -> Result
         let _entry: Entry = gate.call(rt, pass, cancel(b"A", b"S1")?)?;
     }
     Ok(())
+}
+
+/// Whether two books have the same day, state and rows.
+fn are_equal(book: &Book, other: &Book) -> bool {
+    for place in 0..book.len() {
+        if book.row(place) != other.row(place) {
+            return false;
+        }
+    }
+    book.periods() == other.periods()
+        && book.is_closed() == other.is_closed()
+        && book.len() == other.len()
+}
+
+/// Whether the journal has what the plain book of a day of 24 periods makes of these commands: their entries, and the
+/// book behind them.
+fn is_run_of(alloc: Global, journal: &Journal, commands: &[Command]) -> Result<bool, Fail> {
+    let mut book = Book::begin(alloc, 24)?;
+    let mut left = journal.entries().iter();
+    let mut number = 0_u32;
+    for command in commands {
+        number = number.wrapping_add(1);
+        let entry = Entry {
+            number,
+            command: command.copy(),
+            reply: book.apply(command)?,
+        };
+        if left.next() != Some(&entry) {
+            return Ok(false);
+        }
+    }
+    Ok(left.next().is_none() && are_equal(journal.book(), &book))
 }

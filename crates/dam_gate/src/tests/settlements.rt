@@ -1,4 +1,4 @@
-use super::{cancel, cancels, found, hour, look, participant, submit};
+use super::{cancel, cancels, found, hour, is_run_of, look, participant, submit};
 use crate::{Gate, GateFault, Journal, Mismatch, Pass, Settled, Unsettled, laws, settle};
 use dam_book::{Command, Side};
 use std::alloc::Global;
@@ -123,18 +123,28 @@ fn each_fault_of_a_settlement(rt: HostRuntime) -> Result<(), Fail> {
     let journal = back(alloc, journal, part(&passes, 1, 4), Mismatch::Doubled(1))?;
     let journal = back(alloc, journal, part(&passes, 1, 2), Mismatch::Missing(2))?;
     let journal = back(alloc, journal, &[], Mismatch::Missing(1))?;
-    assert!(rt; journal.entries().len() == 2 && journal.book().len() == 1);
+    let given = [submit(b"A", b"S1", Side::Sell, 3000)?, Command::Close];
+    assert!(rt; is_run_of(alloc, &journal, &given)?);
     assert!(rt; settle(alloc, journal, part(&passes, 1, 3)).is_ok());
     Ok(())
 }
 
 #[test]
-fn an_open_gate_is_not_settled(rt: HostRuntime) -> Result<(), Fail> {
-    let open = Gate::begin(rt.alloc(), 24)?.finish();
-    assert_eq!(rt;
-        why(settle(rt.alloc(), open, &[])),
-        Some(Mismatch::StillOpen)
-    );
+fn an_open_gate_is_given_back(rt: HostRuntime) -> Result<(), Fail> {
+    let gate = Gate::begin(rt.alloc(), 24)?;
+    let mut a = gate.pass(&rt, participant(b"A")?)?;
+    let given = [
+        submit(b"A", b"S1", Side::Sell, 3000)?,
+        submit(b"A", b"S1", Side::Buy, 5000)?,
+        submit(b"A", b"B1", Side::Buy, 5000)?,
+    ];
+    for command in &given {
+        let _entry = gate.call(&rt, &mut a, command.copy())?;
+    }
+    let passes = [a];
+    let journal = back(rt.alloc(), gate.finish(), &passes, Mismatch::StillOpen)?;
+    let journal = back(rt.alloc(), journal, &[], Mismatch::StillOpen)?;
+    assert!(rt; is_run_of(rt.alloc(), &journal, &given)?);
     Ok(())
 }
 

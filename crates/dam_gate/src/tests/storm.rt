@@ -1,5 +1,6 @@
 //! Eight threads at one gate until its journal is full, and every answer compared with the plain book's.
 
+use super::are_equal;
 use super::draw::{Dice, code_of};
 use crate::{Gate, Journal, Look, Pass, settle};
 use dam_book::{Book, Command, Name, Participant};
@@ -118,15 +119,6 @@ fn all_saw(traders: &mut [Trader], seen: u32, book: &Book) -> bool {
         }
     }
     true
-}
-
-fn are_equal(book: &Book, other: &Book) -> bool {
-    for place in 0..book.len() {
-        if book.row(place) != other.row(place) {
-            return false;
-        }
-    }
-    book.len() == other.len() && book.is_closed() == other.is_closed()
 }
 
 /// Whether the plain book, run by the journal's commands, replies as the journal says, and has at each number of entries
