@@ -1,4 +1,5 @@
-//! The laws of the definitions, each the contract of a function that does nothing.
+//! The laws of the definitions, each the contract of a function that does nothing but cite the laws
+//! that it rests on.
 //!
 //! A caller that needs one of them in a proof calls the function, at no cost.
 
