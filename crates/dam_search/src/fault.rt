@@ -19,7 +19,7 @@ pub enum SearchFault {
     /// greater limit may finish the search.
     #[error("piece {piece} isn't finished after {visited} nodes")]
     Unfinished {
-        /// The least such piece, from 0.
+        /// The least such piece, from 0. That it is the least is only tested.
         piece: u32,
         /// How many nodes of it were visited: the plan's limit.
         visited: u32,

@@ -221,8 +221,8 @@ pub fn search<R: Threads + Sync, T: Turnstile + Sync>(
         → IsUnfinished problem.now (min plan.cut (length problem.now.blocks))
         plan.nodes piece visited }
 
-    // Some answers of workers come to this: a fault names a piece that they lack, repeat or left
-    // unfinished, the least such.
+    // Some answers of workers come to this. Which answers these are, and so which of several
+    // unfinished pieces is named, no clause can say.
     ensures searched { IsErrOf result SearchFault.Memory
         ⊎ IsSearched problem.now (min plan.cut (length problem.now.blocks)) plan.nodes result }
 
