@@ -7,8 +7,8 @@
 //! ```
 //!
 //! A walk down the tree of prefixes asks for a [`Day`] of each, from that of the prefix before it
-//! (`root` and `child`): the same welfare, with only the periods of the last block looked up anew. Of
-//! the day of a prefix that decides every block, `gain` tells what an accepted block gains.
+//! (`root` and `child`): the same welfare, with only the periods of the last block looked up anew.
+//! Of the day of a prefix that decides every block, `gain` tells what an accepted block gains.
 //!
 //! What these words mean stands in `specs/`: prefixes and their completions, the relaxed welfare,
 //! the live count. A contract sees a [`Relaxed`] as the problem that it was built of, without its

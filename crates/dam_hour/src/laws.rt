@@ -41,8 +41,8 @@ pub fn balance()
         → IsWithinOffers steps net → IsBalanced steps net }
 {}
 
-/// Of steps whose limits and volumes are in range: where an execution balances there is a best one, and
-/// there are a least and a greatest supporting price.
+/// Of steps whose limits and volumes are in range: where an execution balances there is a best one,
+/// and there are a least and a greatest supporting price.
 pub fn existence()
     ensures ends { (steps : List Step) (net : ℤ)
         → AreInRange steps → IsWithinOffers steps net
