@@ -158,7 +158,8 @@ impl<A: Allocator> Relaxed<A> {
     pub fn gain(&self, day: &Day, place: usize) -> i64
         requires place { place < length self.now.blocks }
         requires small { IsSmallDay (length self.now.blocks) day.now }
-        ensures { (prefix : List Bool) (prices : List ℤ) → length prefix ≡ length self.now.blocks
+        ensures { (prefix : List Bool) (prices : List ℤ)
+            → length prefix ≡ length self.now.blocks
             → IsDay self.now prefix day.now
             → ArePrices self.now.blocks (padded prefix) 1 self.now.hours prices
             → result ≡ gain_at self.now.blocks (padded prefix) prices place }

@@ -74,7 +74,8 @@ fn day_text<H: Threads + Wait + Sync, T: Watch + Sync, U: Turnstile + Sync>(
 ) -> Result<Vec<u8>, RunFault>
     ensures done { IfOk result (λ day. IsDayTextTo text.items day.items) }
     ensures fault { IfErr result (IsDayTextFault plan text.items) }
-    ensures exact { (periods : ℕ) (commands : List Command) → ReadsAs text.items periods commands
+    ensures exact { (periods : ℕ) (commands : List Command)
+        → ReadsAs text.items periods commands
         → MatchResult result
         (λ day. IsDayText periods commands day.items)
         (IsCommandsFault plan periods commands) }
