@@ -241,14 +241,24 @@ fn apply_many(
     Ok(carried_out)
 }
 
+/// Compares two empty books under commands of the pool, and at their close.
+fn compare(
+    rt: &impl Abort,
+    pool: &[Command],
+    book: &mut Book,
+    plain: &mut PlainBook,
+) -> Result<(), Fail> {
+    assert_eq!(rt; pool.len(), 22);
+    let carried_out = apply_many(rt, pool, book, plain)?;
+    assert!(rt; carried_out > 500 && carried_out < 2500);
+    apply_to_both(rt, book, plain, &Command::Close)?;
+    Ok(())
+}
+
 #[test]
 fn the_book_is_as_the_plain_one(rt: HostRuntime) -> Result<(), Fail> {
     let pool = commands(rt.alloc(), POOL)?;
     let mut book = Book::begin(rt.alloc(), 24)?;
     let mut plain = PlainBook::new(rt.alloc());
-    assert_eq!(rt; pool.len(), 22);
-    let carried_out = apply_many(&rt, &pool, &mut book, &mut plain)?;
-    assert!(rt; carried_out > 500 && carried_out < 2500);
-    apply_to_both(&rt, &mut book, &mut plain, &Command::Close)?;
-    Ok(())
+    compare(&rt, &pool, &mut book, &mut plain)
 }

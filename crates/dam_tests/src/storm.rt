@@ -44,31 +44,40 @@ fn given_by(who: &Participant, command: &Command) -> Command {
     given
 }
 
-fn trader_of(
-    rt: &impl Wait,
-    alloc: Global,
-    gate: &Gate,
-    who: &Participant,
-    seed: u32,
-) -> Result<Trader, Fail> {
+/// The commands of the pool, all given by this participant.
+fn pool_of(alloc: Global, who: &Participant) -> Result<Vec<Command>, Fail> {
     let mut pool = Vec::new(alloc);
     for command in &commands(alloc, POOL)? {
         pool.push(given_by(who, command))?;
     }
-    Ok(Trader {
-        pass: gate.pass(rt, who.copy())?,
-        pool,
-        state: seed,
-    })
+    Ok(pool)
+}
+
+/// The participant of a code of one byte.
+fn participant(code: u8) -> Result<Participant, Fail> {
+    Ok(Participant::new(&[code]).ok_or("a participant")?)
+}
+
+fn trader_of(
+    rt: &impl Wait,
+    alloc: Global,
+    gate: &Gate,
+    code: u8,
+    seed: u32,
+) -> Result<Trader, Fail> {
+    let who = participant(code)?;
+    let pool = pool_of(alloc, &who)?;
+    let pass = gate.pass(rt, who)?;
+    let state = seed.wrapping_add(u32::from(code));
+    Ok(Trader { pass, pool, state })
 }
 
 /// Eight traders, each with a seed of its own.
 fn traders(rt: &impl Wait, alloc: Global, gate: &Gate, seed: u32) -> Result<Vec<Trader>, Fail> {
     let mut traders = Vec::new(alloc);
     for code in b"ABCDEFGH" {
-        let who = Participant::new(&[*code]).ok_or("a participant")?;
-        let seed = seed.wrapping_add(u32::from(*code));
-        traders.push(trader_of(rt, alloc, gate, &who, seed)?)?;
+        let trader = trader_of(rt, alloc, gate, *code, seed)?;
+        traders.push(trader)?;
     }
     Ok(traders)
 }
@@ -85,14 +94,31 @@ fn replays(alloc: Global, journal: &Journal) -> Result<bool, AllocError> {
     Ok(plain.is_like(journal.book()))
 }
 
+/// Closes the gate, and answers the number of the entry.
+fn close(rt: &impl Wait, gate: &Gate) -> Result<u32, Fail> {
+    let mut operator = gate.operator(rt)?;
+    let closed = gate.call(rt, &mut operator, Command::Close)?;
+    Ok(closed.number)
+}
+
+/// The eight traders at the gate, and then its close; answers the number of the close's entry.
+fn day<R: Threads + Wait + Sync>(
+    rt: &R,
+    alloc: Global,
+    gate: &Gate,
+    seed: u32,
+) -> Result<u32, Fail> {
+    let mut traders = traders(rt, alloc, gate, seed)?;
+    thread::for_each_mut(rt, &mut traders, 8, &|_, trader| trader.trade(rt, gate));
+    close(rt, gate)
+}
+
 /// Whether the journal of a day of eight traders is full, and what the plain book makes of its commands.
 fn stands<R: Threads + Wait + Sync>(rt: &R, alloc: Global, seed: u32) -> Result<bool, Fail> {
     let gate = Gate::begin(alloc, 24)?;
-    let mut traders = traders(rt, alloc, &gate, seed)?;
-    thread::for_each_mut(rt, &mut traders, 8, &|_, trader| trader.trade(rt, &gate));
-    let mut operator = gate.operator(rt)?;
-    let closed = gate.call(rt, &mut operator, Command::Close)?;
-    Ok(closed.number == 10_000 && replays(alloc, &gate.finish())?)
+    let last = day(rt, alloc, &gate, seed)?;
+    let journal = gate.finish();
+    Ok(last == 10_000 && replays(alloc, &journal)?)
 }
 
 #[test]

@@ -168,12 +168,33 @@ fn selection_of(accepted: &[bool]) -> Selection {
     selection
 }
 
-/// The problem of a journal with these records and then a close.
-fn problem_of(alloc: Global, records: &str) -> Result<Problem, Fail> {
+/// The book of a journal with these records and then a close.
+fn book_of(alloc: Global, records: &str) -> Result<Book, Fail> {
     let text = format!(in alloc; "{records}close,,,,,,,,\n")?;
     let commands = commands(alloc, &text)?;
-    let (book, _entries) = replay(alloc, Book::begin(alloc, 24)?, &commands)?;
+    let book = Book::begin(alloc, 24)?;
+    let (book, _entries) = replay(alloc, book, &commands)?;
+    Ok(book)
+}
+
+/// The problem of such a journal.
+fn problem_of(alloc: Global, records: &str) -> Result<Problem, Fail> {
+    let book = book_of(alloc, records)?;
     Ok(Problem::of_book(alloc, &book)?)
+}
+
+/// Searches under a plan.
+fn check_plan<R: Abort + Threads + Sync>(
+    rt: &R,
+    alloc: Global,
+    problem: &Problem,
+    numbers: (u8, u8),
+    want: &Best,
+) -> Result<(), Fail> {
+    let plan = Plan::new(numbers.0, numbers.1, MOST_NODES).ok_or("a plan")?;
+    let found = search(rt, alloc, problem, plan, &FreeTurn)?;
+    assert_eq!(rt; found, *want);
+    Ok(())
 }
 
 /// Searches under every plan.
@@ -181,15 +202,26 @@ fn check<R: Abort + Threads + Sync>(
     rt: &R,
     alloc: Global,
     problem: &Problem,
-    want: Best,
+    want: &Best,
 ) -> Result<(), Fail> {
     for workers in 1..=MOST_WORKERS {
         for cut in 0..=MOST_CUT {
-            let plan = Plan::new(workers, cut, MOST_NODES).ok_or("a plan")?;
-            assert_eq!(rt; search(rt, alloc, problem, plan, &FreeTurn)?, want);
+            check_plan(rt, alloc, problem, (workers, cut), want)?;
         }
     }
     Ok(())
+}
+
+fn check_clearing<R: Abort + Threads + Sync>(
+    rt: &R,
+    alloc: Global,
+    clearing: &Worked,
+) -> Result<(), Fail> {
+    let (records, accepted, welfare) = *clearing;
+    let problem = problem_of(alloc, records)?;
+    assert_eq!(rt; problem.block_count(), accepted.len());
+    let selection = selection_of(accepted);
+    check(rt, alloc, &problem, &Best { selection, welfare })
 }
 
 fn check_all<R: Abort + Threads + Sync>(
@@ -197,14 +229,8 @@ fn check_all<R: Abort + Threads + Sync>(
     alloc: Global,
     clearings: &[Worked],
 ) -> Result<(), Fail> {
-    for (records, accepted, welfare) in clearings {
-        let problem = problem_of(alloc, records)?;
-        let want = Best {
-            selection: selection_of(accepted),
-            welfare: *welfare,
-        };
-        assert_eq!(rt; problem.block_count(), accepted.len());
-        check(rt, alloc, &problem, want)?;
+    for clearing in clearings {
+        check_clearing(rt, alloc, clearing)?;
     }
     Ok(())
 }

@@ -1,6 +1,6 @@
 use super::{FAMILY, MIXED, REFUSED, TRIES, TWO, are_equal, run_of};
 use crate::support::commands;
-use dam_book::{Command, Participant};
+use dam_book::{Command, Entry, Participant};
 use dam_gate::{Gate, Journal, Keeper, KeeperFault, Mismatch, Pass, Unsettled, settle};
 use limited_alloc::RefusesNth;
 use std::alloc::{Allocator, Global};
@@ -13,8 +13,32 @@ fn are_keepers_equal<A: Allocator + Copy>(keeper: &Keeper<A>, ample: &Keeper) ->
     keeper.entries() == ample.entries() && are_equal(keeper.book(), ample.book())
 }
 
-/// Applies a command to two equal keepers, of which the first may be refused a growth, and then is as the
-/// second before the command.
+/// Applies a command to the second of two keepers, and compares its entry with that of the first.
+fn check_entry(
+    rt: &impl Abort,
+    entry: &Entry,
+    ample: &mut Keeper,
+    command: &Command,
+) -> Result<(), Fail> {
+    let other = ample.apply(command.copy())?;
+    assert!(rt; *entry == other);
+    Ok(())
+}
+
+/// Applies a command anew to two keepers, of which the first was refused a growth, and still is as the
+/// second.
+fn apply_again<A: Allocator + Copy>(
+    rt: &impl Abort,
+    keeper: &mut Keeper<A>,
+    ample: &mut Keeper,
+    command: &Command,
+) -> Result<(), Fail> {
+    assert!(rt; are_keepers_equal(keeper, ample));
+    let entry = keeper.apply(command.copy())?;
+    check_entry(rt, &entry, ample, command)
+}
+
+/// Applies a command to two equal keepers, of which the first may be refused a growth.
 fn apply_to_both<A: Allocator + Copy>(
     rt: &impl Abort,
     keeper: &mut Keeper<A>,
@@ -22,13 +46,25 @@ fn apply_to_both<A: Allocator + Copy>(
     command: &Command,
 ) -> Result<(), Fail> {
     match keeper.apply(command.copy()) {
-        Ok(entry) => assert_eq!(rt; entry, ample.apply(command.copy())?),
+        Ok(entry) => check_entry(rt, &entry, ample, command),
         Err(fault) => {
-            assert_eq!(rt; fault, KeeperFault::Memory);
-            assert!(rt; are_keepers_equal(keeper, ample));
-            assert_eq!(rt; keeper.apply(command.copy())?, ample.apply(command.copy())?);
+            assert!(rt; fault == KeeperFault::Memory);
+            apply_again(rt, keeper, ample, command)
         }
     }
+}
+
+/// Applies the commands to two equal keepers, of which the first may be refused growths.
+fn apply_each<A: Allocator + Copy>(
+    rt: &impl Abort,
+    keeper: &mut Keeper<A>,
+    ample: &mut Keeper,
+    commands: &[Command],
+) -> Result<(), Fail> {
+    for command in commands {
+        apply_to_both(rt, keeper, ample, command)?;
+    }
+    assert!(rt; are_keepers_equal(keeper, ample));
     Ok(())
 }
 
@@ -40,11 +76,7 @@ fn apply_all<A: Allocator + Copy>(
     mut ample: Keeper,
 ) -> Result<(), Fail> {
     let mut keeper = Keeper::begin(alloc, 24)?;
-    for command in commands {
-        apply_to_both(rt, &mut keeper, &mut ample, command)?;
-    }
-    assert!(rt; are_keepers_equal(&keeper, &ample));
-    Ok(())
+    apply_each(rt, &mut keeper, &mut ample, commands)
 }
 
 /// Applies the commands with a growth refused, and says whether that came.
@@ -60,10 +92,14 @@ fn is_apply_refused(
 }
 
 /// Applies the commands with each growth refused in turn.
-fn check_apply(rt: &impl Abort, alloc: Global, records: &str, least: u64) -> Result<(), Fail> {
-    let commands = commands(alloc, records)?;
+fn check_commands(
+    rt: &impl Abort,
+    alloc: Global,
+    commands: &[Command],
+    least: u64,
+) -> Result<(), Fail> {
     for nth in 1..TRIES {
-        if !is_apply_refused(rt, alloc, &commands, nth)? {
+        if !is_apply_refused(rt, alloc, commands, nth)? {
             assert!(rt; nth > least);
             return Ok(());
         }
@@ -71,12 +107,18 @@ fn check_apply(rt: &impl Abort, alloc: Global, records: &str, least: u64) -> Res
     Err(Fail::from("more growths than were tried"))
 }
 
+/// Applies the commands of these records with each growth refused in turn.
+fn check_apply(rt: &impl Abort, alloc: Global, records: &str, least: u64) -> Result<(), Fail> {
+    let commands = commands(alloc, records)?;
+    check_commands(rt, alloc, &commands, least)
+}
+
 #[test]
 fn each_refused_growth_leaves_the_keeper(rt: HostRuntime) -> Result<(), Fail> {
-    check_apply(&rt, rt.alloc(), TWO, 4)?;
-    check_apply(&rt, rt.alloc(), MIXED, 10)?;
-    check_apply(&rt, rt.alloc(), REFUSED, 3)?;
-    check_apply(&rt, rt.alloc(), FAMILY, 5)
+    for (records, least) in [(TWO, 4), (MIXED, 10), (REFUSED, 3), (FAMILY, 5)] {
+        check_apply(&rt, rt.alloc(), records, least)?;
+    }
+    Ok(())
 }
 
 /// A gate's journal, and the passes of A, of B and of the operator.
@@ -86,15 +128,18 @@ struct Finished {
     passes: Vec<Pass>,
 }
 
-fn participant(code: &[u8]) -> Result<Participant, Fail> {
-    Ok(Participant::new(code).ok_or("a participant")?)
+/// A pass of the participant of this code.
+fn pass_of(rt: &impl Wait, gate: &Gate, code: &[u8]) -> Result<Pass, Fail> {
+    let who = Participant::new(code).ok_or("a participant")?;
+    Ok(gate.pass(rt, who)?)
 }
 
 /// A pass of A, one of B, and the operator's.
 fn passes_of(rt: &impl Wait, alloc: Global, gate: &Gate) -> Result<Vec<Pass>, Fail> {
     let mut passes = Vec::new(alloc);
-    passes.push(gate.pass(rt, participant(b"A")?)?)?;
-    passes.push(gate.pass(rt, participant(b"B")?)?)?;
+    for code in [b"A".as_slice(), b"B".as_slice()] {
+        passes.push(pass_of(rt, gate, code)?)?;
+    }
     passes.push(gate.operator(rt)?)?;
     Ok(passes)
 }
@@ -113,14 +158,26 @@ fn place_of(command: &Command) -> usize {
     }
 }
 
+/// Gives a command by its giver's pass.
+fn give(rt: &impl Wait, gate: &Gate, passes: &mut [Pass], command: &Command) -> Result<(), Fail> {
+    let pass = passes.get_mut(place_of(command)).ok_or("a pass")?;
+    gate.call(rt, pass, command.copy())?;
+    Ok(())
+}
+
+/// Gives the commands of these records, each by its giver's pass, and answers the passes.
+fn give_all(rt: &impl Wait, alloc: Global, gate: &Gate, records: &str) -> Result<Vec<Pass>, Fail> {
+    let mut passes = passes_of(rt, alloc, gate)?;
+    for command in &commands(alloc, records)? {
+        give(rt, gate, passes.as_mut_slice(), command)?;
+    }
+    Ok(passes)
+}
+
 /// The commands of these records, each by its giver's pass, through a gate.
 fn through_gate(rt: &impl Wait, alloc: Global, records: &str) -> Result<Finished, Fail> {
     let gate = Gate::begin(alloc, 24)?;
-    let mut passes = passes_of(rt, alloc, &gate)?;
-    for command in &commands(alloc, records)? {
-        let pass = passes.get_mut(place_of(command)).ok_or("a pass")?;
-        gate.call(rt, pass, command.copy())?;
-    }
+    let passes = give_all(rt, alloc, &gate, records)?;
     let journal = gate.finish();
     Ok(Finished { journal, passes })
 }
@@ -146,8 +203,46 @@ fn is_journal_of(alloc: Global, journal: &Journal, records: &str) -> Result<bool
     Ok(journal.entries() == entries.as_slice() && are_equal(journal.book(), &book))
 }
 
-/// Settles a journal and the first passes with a growth refused, and says whether that came: the journal
-/// is then handed back as it was, and settled again.
+/// Settles a journal that was handed back: it is as it was, and the settlement says what it has to.
+fn settle_again<A: Allocator>(
+    rt: &impl Abort,
+    ample: Global,
+    alloc: A,
+    journal: Journal,
+    passes: &[Pass],
+    wanted: Option<Mismatch>,
+) -> Result<(), Fail> {
+    assert!(rt; is_journal_of(ample, &journal, TWO)?);
+    assert!(rt; settle_once(alloc, journal, passes).ok() == Some(wanted));
+    Ok(())
+}
+
+/// Settles a journal and passes with a growth refused, and says whether that came: the journal is then
+/// handed back, and settled again.
+fn is_refused_once(
+    rt: &impl Abort,
+    alloc: Global,
+    journal: Journal,
+    passes: &[Pass],
+    nth: u64,
+    wanted: Option<Mismatch>,
+) -> Result<bool, Fail> {
+    let heap = RefusesNth::new(alloc, nth);
+    let first = settle_once(&heap, journal, passes);
+    assert_eq!(rt; first.is_err(), heap.has_refused());
+    match first {
+        Ok(why) => {
+            assert!(rt; why == wanted);
+            Ok(false)
+        }
+        Err(journal) => {
+            settle_again(rt, alloc, &heap, journal, passes, wanted)?;
+            Ok(true)
+        }
+    }
+}
+
+/// Settles a journal and the first passes with a growth refused, and says whether that came.
 fn is_settle_refused<R: Abort + Wait>(
     rt: &R,
     alloc: Global,
@@ -157,20 +252,7 @@ fn is_settle_refused<R: Abort + Wait>(
 ) -> Result<bool, Fail> {
     let Finished { journal, passes } = through_gate(rt, alloc, TWO)?;
     let given = passes.get(..count).unwrap_or(&[]);
-    let heap = RefusesNth::new(alloc, nth);
-    let first = settle_once(&heap, journal, given);
-    assert_eq!(rt; first.is_err(), heap.has_refused());
-    match first {
-        Ok(why) => {
-            assert_eq!(rt; why, wanted);
-            Ok(false)
-        }
-        Err(journal) => {
-            assert!(rt; is_journal_of(alloc, &journal, TWO)?);
-            assert_eq!(rt; settle_once(&heap, journal, given).ok(), Some(wanted));
-            Ok(true)
-        }
-    }
+    is_refused_once(rt, alloc, journal, given, nth, wanted)
 }
 
 /// Settles with each growth refused in turn.
