@@ -33,6 +33,7 @@ mod period;
 mod price;
 mod quantity;
 mod run;
+mod text;
 mod volumes;
 
 pub use book::{BeginFault, Book};

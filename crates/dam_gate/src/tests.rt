@@ -64,10 +64,29 @@ fn look(
     Ok(look.ok_or("a look")?)
 }
 
+/// A call that is answered with an entry.
+fn enter(rt: &impl Wait, gate: &Gate, pass: &mut Pass, command: Command) -> Result<(), Fail> {
+    let _entry: Entry = gate.call(rt, pass, command)?;
+    Ok(())
+}
+
+/// The calls of these commands by one pass.
+fn enter_all(
+    rt: &impl Wait,
+    gate: &Gate,
+    pass: &mut Pass,
+    commands: &[Command],
+) -> Result<(), Fail> {
+    for command in commands {
+        enter(rt, gate, pass, command.copy())?;
+    }
+    Ok(())
+}
+
 /// So many commands of participant A, each refused by the book and journalled.
 fn cancels(rt: &impl Wait, gate: &Gate, pass: &mut Pass, count: usize) -> Result<(), Fail> {
     for _ in 0..count {
-        let _entry: Entry = gate.call(rt, pass, cancel(b"A", b"S1")?)?;
+        enter(rt, gate, pass, cancel(b"A", b"S1")?)?;
     }
     Ok(())
 }
@@ -84,22 +103,37 @@ fn are_equal(book: &Book, other: &Book) -> bool {
         && book.len() == other.len()
 }
 
+/// Whether this is the entry of that number, with what the book replies to the command.
+fn is_entry_of(
+    entry: Option<&Entry>,
+    number: u32,
+    book: &mut Book,
+    command: &Command,
+) -> Result<bool, Fail> {
+    let wanted = Entry {
+        number,
+        command: command.copy(),
+        reply: book.apply(command)?,
+    };
+    Ok(entry == Some(&wanted))
+}
+
+/// Whether the entries are those of these commands, run by this book.
+fn are_entries_of(entries: &[Entry], book: &mut Book, commands: &[Command]) -> Result<bool, Fail> {
+    let mut number = 0_u32;
+    for (place, command) in commands.iter().enumerate() {
+        number = number.wrapping_add(1);
+        if !is_entry_of(entries.get(place), number, book, command)? {
+            return Ok(false);
+        }
+    }
+    Ok(entries.len() == commands.len())
+}
+
 /// Whether the journal has what the plain book of a day of 24 periods makes of these commands: their entries, and the
 /// book behind them.
 fn is_run_of(alloc: Global, journal: &Journal, commands: &[Command]) -> Result<bool, Fail> {
     let mut book = Book::begin(alloc, 24)?;
-    let mut left = journal.entries().iter();
-    let mut number = 0_u32;
-    for command in commands {
-        number = number.wrapping_add(1);
-        let entry = Entry {
-            number,
-            command: command.copy(),
-            reply: book.apply(command)?,
-        };
-        if left.next() != Some(&entry) {
-            return Ok(false);
-        }
-    }
-    Ok(left.next().is_none() && are_equal(journal.book(), &book))
+    let same = are_entries_of(journal.entries(), &mut book, commands)?;
+    Ok(same && are_equal(journal.book(), &book))
 }

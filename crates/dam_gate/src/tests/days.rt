@@ -1,16 +1,18 @@
 use super::{cancel, participant, submit};
 use crate::{DayFault, Doorkeeper, OpenDoor, Pass, run_commands};
-use dam_book::{Command, Entry, Side};
+use dam_book::{Command, Entry, Participant, Side};
 use std::alloc::Global;
+use std::sync::Wait;
 use std::sync::atomic::{AtomicU32, Ordering};
 use std::test::Fail;
+use std::thread::Threads;
 
-fn is_of(entry: &Entry, code: &[u8]) -> Result<bool, Fail> {
-    let wanted = participant(code)?;
-    Ok(matches!(&entry.command, Command::Submit { who, .. } if *who == wanted))
+/// Whether the command is a submit of the participant's.
+fn is_submit_of(command: &Command, wanted: &Participant) -> bool {
+    matches!(command, Command::Submit { who, .. } if *who == *wanted)
 }
 
-/// The places at which a participant's submits stand in the journal of two submits of A and one of B.
+/// Two submits of A, and one of B between them.
 fn given(alloc: Global) -> Result<Vec<Command>, Fail> {
     let mut given = Vec::new(alloc);
     given.push(submit(b"A", b"B1", Side::Buy, 5000)?)?;
@@ -20,34 +22,38 @@ fn given(alloc: Global) -> Result<Vec<Command>, Fail> {
 }
 
 /// Whether A's two submits stand among the entries in their order.
-fn are_in_order(entries: &[Entry], given: &[Command]) -> Result<bool, Fail> {
-    let mut wanted = [0, 2].iter();
+fn are_in_order(entries: &[Entry], given: &[Command], a: &Participant) -> bool {
+    let mut place = 0_usize;
     for entry in entries {
-        if is_of(entry, b"A")? {
-            let place = *wanted.next().ok_or("two submits")?;
+        if is_submit_of(&entry.command, a) {
             if given.get(place) != Some(&entry.command) {
-                return Ok(false);
+                return false;
             }
+            place = place.saturating_add(2);
         }
     }
-    Ok(wanted.next().is_none())
+    place == 4
+}
+
+/// Whether the entries of a day are A's submits in their order, B's, and a close.
+fn keeps_order<R: Threads + Wait + Sync>(
+    rt: &R,
+    alloc: Global,
+    given: &[Command],
+) -> Result<bool, Fail> {
+    let day = run_commands(rt, alloc, 24, given, &OpenDoor)?;
+    let journal = day.settled.journal();
+    let entries = journal.entries();
+    let closed = entries.last().map(|entry| entry.command == Command::Close) == Some(true);
+    let in_order = are_in_order(entries, given, &participant(b"A")?);
+    Ok(journal.periods() == 24 && entries.len() == 4 && closed && in_order)
 }
 
 #[test]
 fn each_keeps_its_order(rt: HostRuntime) -> Result<(), Fail> {
     let given = given(rt.alloc())?;
     for _ in 0..20 {
-        let day = run_commands(&rt, rt.alloc(), 24, &given, &OpenDoor)?;
-        let journal = day.settled.journal();
-        assert!(rt; journal.periods() == 24 && journal.entries().len() == 4);
-        assert!(rt; are_in_order(journal.entries(), &given)?);
-        assert!(rt;
-            journal
-                .entries()
-                .last()
-                .map(|e| e.command == Command::Close)
-                == Some(true)
-        );
+        assert!(rt; keeps_order(&rt, rt.alloc(), &given)?);
     }
     Ok(())
 }
@@ -87,39 +93,64 @@ fn a_day_of_nobody(rt: HostRuntime) -> Result<(), Fail> {
     Ok(())
 }
 
+/// The fault of a day of these commands.
+fn fault_of<R: Threads + Wait + Sync>(
+    rt: &R,
+    alloc: Global,
+    commands: &[Command],
+) -> Option<DayFault> {
+    run_commands(rt, alloc, 24, commands, &OpenDoor).err()
+}
+
+/// How many entries a day of these commands has.
+fn entries_of<R: Threads + Wait + Sync>(
+    rt: &R,
+    alloc: Global,
+    commands: &[Command],
+) -> Result<usize, Fail> {
+    let day = run_commands(rt, alloc, 24, commands, &OpenDoor)?;
+    Ok(day.settled.journal().entries().len())
+}
+
 #[test]
 fn a_given_close_is_refused(rt: HostRuntime) -> Result<(), Fail> {
     let given = [cancel(b"A", b"S1")?, Command::Close];
-    let day = run_commands(&rt, rt.alloc(), 24, &given, &OpenDoor);
-    assert_eq!(rt; day.err(), Some(DayFault::CloseGiven(1)));
+    assert_eq!(rt;
+        fault_of(&rt, rt.alloc(), &given),
+        Some(DayFault::CloseGiven(1))
+    );
     Ok(())
 }
 
 #[test]
 fn a_ninth_participant_is_refused(rt: HostRuntime) -> Result<(), Fail> {
-    let mut given = Vec::new(rt.alloc());
-    for code in [b"A", b"B", b"C", b"D", b"E", b"F", b"G", b"H", b"I"] {
-        given.push(cancel(code.as_slice(), b"S1")?)?;
-    }
+    let codes: [&[u8]; 9] = [b"A", b"B", b"C", b"D", b"E", b"F", b"G", b"H", b"I"];
+    let given = cancels_of(rt.alloc(), &codes)?;
     let first = given.get(..8).ok_or("eight commands")?;
-    let eight = run_commands(&rt, rt.alloc(), 24, first, &OpenDoor)?;
-    assert_eq!(rt; eight.settled.journal().entries().len(), 9);
-    let nine = run_commands(&rt, rt.alloc(), 24, &given, &OpenDoor);
-    assert_eq!(rt; nine.err(), Some(DayFault::TooManyParticipants(8)));
+    assert_eq!(rt; entries_of(&rt, rt.alloc(), first)?, 9);
+    let ninth = DayFault::TooManyParticipants(8);
+    assert_eq!(rt; fault_of(&rt, rt.alloc(), &given), Some(ninth));
     Ok(())
+}
+
+/// So many cancels of A.
+fn many(alloc: Global, count: usize) -> Result<Vec<Command>, Fail> {
+    let mut commands = Vec::new(alloc);
+    for _ in 0..count {
+        commands.push(cancel(b"A", b"S1")?)?;
+    }
+    Ok(commands)
 }
 
 #[test]
 fn ten_thousand_commands_are_too_many(rt: HostRuntime) -> Result<(), Fail> {
-    let mut given = Vec::new(rt.alloc());
-    for _ in 0..10_000 {
-        given.push(cancel(b"A", b"S1")?)?;
-    }
-    let many = run_commands(&rt, rt.alloc(), 24, &given, &OpenDoor);
-    assert_eq!(rt; many.err(), Some(DayFault::TooManyCommands));
+    let given = many(rt.alloc(), 10_000)?;
+    assert_eq!(rt;
+        fault_of(&rt, rt.alloc(), &given),
+        Some(DayFault::TooManyCommands)
+    );
     let first = given.get(..9_999).ok_or("as many as there is room for")?;
-    let most = run_commands(&rt, rt.alloc(), 24, first, &OpenDoor)?;
-    assert_eq!(rt; most.settled.journal().entries().len(), 10_000);
+    assert_eq!(rt; entries_of(&rt, rt.alloc(), first)?, 10_000);
     Ok(())
 }
 
@@ -204,17 +235,33 @@ fn cancels_of(alloc: Global, codes: &[&[u8]]) -> Result<Vec<Command>, Fail> {
     Ok(commands)
 }
 
+/// Whether this is the entry of a cancel of the participant's.
+fn is_cancel_of(entry: Option<&Entry>, code: &[u8]) -> Result<bool, Fail> {
+    let wanted = cancel(code, b"S1")?;
+    Ok(entry.map(|entry| entry.command == wanted) == Some(true))
+}
+
 /// Whether the entries are cancels of these participants, in this order, and then a close.
 fn are_cancels_of(entries: &[Entry], codes: &[&[u8]]) -> Result<bool, Fail> {
-    let mut left = entries.iter();
-    for code in codes {
-        let entry = left.next().ok_or("an entry for each")?;
-        if entry.command != cancel(code, b"S1")? {
+    for (place, code) in codes.iter().enumerate() {
+        if !is_cancel_of(entries.get(place), code)? {
             return Ok(false);
         }
     }
-    let closed = left.next().map(|entry| entry.command == Command::Close) == Some(true);
-    Ok(closed && left.next().is_none())
+    let closed = entries.last().map(|entry| entry.command == Command::Close) == Some(true);
+    Ok(closed && entries.len() == codes.len().saturating_add(1))
+}
+
+/// Whether a day of cancels comes out with those of these participants, in this order.
+fn comes_out_as<R: Threads + Wait + Sync, D: Doorkeeper + Sync>(
+    rt: &R,
+    alloc: Global,
+    door: &D,
+    given: &[Command],
+    codes: &[&[u8]],
+) -> Result<bool, Fail> {
+    let day = run_commands(rt, alloc, 24, given, door)?;
+    are_cancels_of(day.settled.journal().entries(), codes)
 }
 
 #[test]
@@ -224,9 +271,8 @@ fn a_doorkeeper_stands_round_the_commands(rt: HostRuntime) -> Result<(), Fail> {
         log: AtomicU32::new(0),
     };
     let given = cancels_of(rt.alloc(), &[b"C", b"A", b"C", b"B", b"A"])?;
-    let day = run_commands(&rt, rt.alloc(), 24, &given, &door)?;
+    let codes: [&[u8]; 5] = [b"B", b"A", b"A", b"C", b"C"];
+    assert!(rt; comes_out_as(&rt, rt.alloc(), &door, &given, &codes)?);
     assert_eq!(rt; door.log.load(Ordering::SeqCst), 332_211);
-    let entries = day.settled.journal().entries();
-    assert!(rt; are_cancels_of(entries, &[b"B", b"A", b"A", b"C", b"C"])?);
     Ok(())
 }

@@ -3,7 +3,7 @@
 use super::are_equal;
 use super::draw::{Dice, code_of};
 use crate::{Gate, Journal, Look, Pass, settle};
-use dam_book::{Book, Command, Name, Participant};
+use dam_book::{Book, Command, Entry, Name, Participant};
 use std::alloc::Global;
 use std::sync::Wait;
 use std::test::Fail;
@@ -121,21 +121,34 @@ fn all_saw(traders: &mut [Trader], seen: u32, book: &Book) -> bool {
     true
 }
 
+/// Whether the book replies to the entry's command as the entry says, and has what was seen of so many entries.
+fn replays_entry(
+    book: &mut Book,
+    place: usize,
+    entry: &Entry,
+    traders: &mut [Trader],
+) -> Result<bool, Fail> {
+    let reply = book.apply(&entry.command)?;
+    let numbered = entry.number as usize == place.saturating_add(1);
+    Ok(numbered && entry.reply == reply && all_saw(traders, entry.number, book))
+}
+
+/// The same of each of these entries.
+fn replays_all(book: &mut Book, entries: &[Entry], traders: &mut [Trader]) -> Result<bool, Fail> {
+    for (place, entry) in entries.iter().enumerate() {
+        if !replays_entry(book, place, entry, traders)? {
+            return Ok(false);
+        }
+    }
+    Ok(true)
+}
+
 /// Whether the plain book, run by the journal's commands, replies as the journal says, and has at each number of entries
 /// what was seen of so many.
 fn replays(alloc: Global, journal: &Journal, traders: &mut [Trader]) -> Result<bool, Fail> {
     let mut book = Book::begin(alloc, 24)?;
-    if !all_saw(traders, 0, &book) {
-        return Ok(false);
-    }
-    for (place, entry) in journal.entries().iter().enumerate() {
-        let reply = book.apply(&entry.command)?;
-        let numbered = entry.number as usize == place.saturating_add(1);
-        if !numbered || entry.reply != reply || !all_saw(traders, entry.number, &book) {
-            return Ok(false);
-        }
-    }
-    Ok(are_equal(&book, journal.book()))
+    let same = all_saw(traders, 0, &book) && replays_all(&mut book, journal.entries(), traders)?;
+    Ok(same && are_equal(&book, journal.book()))
 }
 
 /// The passes of the traders, and whether something was seen and all of it was compared. (Where the processors are

@@ -1,6 +1,6 @@
 //! Two participants at one gate, each on a thread of its own.
 
-use super::{hour, name, participant, submit};
+use super::{enter, hour, name, participant, submit};
 use crate::{Gate, Look, Pass, settle};
 use dam_book::{Command, Name, Order, Participant, Side};
 use std::alloc::Global;
@@ -85,19 +85,30 @@ fn both<R: Threads + Wait + Sync>(
     Ok(neighbours)
 }
 
-/// Whether both are served, and their receipts and the close's are the three entries.
-fn both_served<R: Threads + Wait + Sync>(rt: &R, alloc: Global) -> Result<bool, Fail> {
-    let gate = Gate::begin(alloc, 24)?;
-    let neighbours = both(rt, alloc, &gate)?;
-    let mut operator = gate.operator(rt)?;
-    gate.call(rt, &mut operator, Command::Close)?;
+/// The passes of the two, and whether both are served.
+fn passes_of(alloc: Global, neighbours: Vec<Neighbour>) -> Result<(Vec<Pass>, bool), Fail> {
     let mut passes = Vec::new(alloc);
     let mut served = true;
     for neighbour in neighbours {
         served = served && neighbour.served;
         passes.push(neighbour.pass)?;
     }
-    passes.push(operator)?;
+    Ok((passes, served))
+}
+
+/// The operator's pass, with which it closed.
+fn closing(rt: &impl Wait, gate: &Gate) -> Result<Pass, Fail> {
+    let mut operator = gate.operator(rt)?;
+    enter(rt, gate, &mut operator, Command::Close)?;
+    Ok(operator)
+}
+
+/// Whether both are served, and their receipts and the close's are the three entries.
+fn both_served<R: Threads + Wait + Sync>(rt: &R, alloc: Global) -> Result<bool, Fail> {
+    let gate = Gate::begin(alloc, 24)?;
+    let neighbours = both(rt, alloc, &gate)?;
+    let (mut passes, served) = passes_of(alloc, neighbours)?;
+    passes.push(closing(rt, &gate)?)?;
     let journal = gate.finish();
     let three = journal.entries().len() == 3;
     Ok(served && three && settle(alloc, journal, &passes).is_ok())
