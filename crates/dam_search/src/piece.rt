@@ -162,9 +162,16 @@ fn explore<A: Allocator, B: Allocator, I: Incumbent>(
     let place = open.depth();
     let rejected = open.extended(false);
     let mut next = *day;
-    let is_bounded = relaxed.extend(&mut next, place, false, found.read);
+    let bounded_without = relaxed.extend(&mut next, place, false, found.read);
     if !explore(
-        problem, relaxed, nodes, rejected, &next, is_bounded, incumbent, found,
+        problem,
+        relaxed,
+        nodes,
+        rejected,
+        &next,
+        bounded_without,
+        incumbent,
+        found,
     ) {
         return false;
     }
@@ -173,9 +180,16 @@ fn explore<A: Allocator, B: Allocator, I: Incumbent>(
         return true;
     }
     next = *day;
-    let is_bounded = relaxed.extend(&mut next, place, true, found.read);
+    let bounded_with = relaxed.extend(&mut next, place, true, found.read);
     explore(
-        problem, relaxed, nodes, accepted, &next, is_bounded, incumbent, found,
+        problem,
+        relaxed,
+        nodes,
+        accepted,
+        &next,
+        bounded_with,
+        incumbent,
+        found,
     )
 }
 
@@ -228,16 +242,14 @@ pub fn search_piece<A: Allocator, B: Allocator, I: Incumbent>(
             done: true,
         };
     }
-    let day = prefix.day(relaxed);
+    let (day, bounded) = prefix.bounded_day(relaxed);
     let mut found = Found {
         best: None,
         read: 0,
         visited: 0,
     };
-    let bounded = day.is_some();
-    let day = &day.unwrap_or(Day::empty());
     let done = explore(
-        problem, relaxed, nodes, prefix, day, bounded, incumbent, &mut found,
+        problem, relaxed, nodes, prefix, &day, bounded, incumbent, &mut found,
     );
     PieceAnswer {
         piece,

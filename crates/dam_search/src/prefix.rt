@@ -147,6 +147,18 @@ impl Prefix {
         Some(day)
     }
 
+    /// The prefix's day, and true; or some day, and false where it has no bound or one below 0.
+    pub(crate) fn bounded_day<A: Allocator>(&self, relaxed: &Relaxed<A>) -> (Day, bool)
+        requires { length self.now ≤ length relaxed.now.blocks }
+        ensures { MatchBool result.1 (IsDay relaxed.now self.now result.0)
+            (IsUnder relaxed.now self.now 0) }
+    {
+        match self.day(relaxed) {
+            Some(day) => (day, true),
+            None => (Day::empty(), false),
+        }
+    }
+
     /// Whether the block at the place is accepted.
     pub(crate) fn has(&self, place: usize) -> bool
         requires { place < length self.now }
@@ -163,7 +175,8 @@ impl Prefix {
         let mut turned = Prefix::of_piece(0, 0);
         for own in 0..self.depth {
             let accept = self.has(own);
-            turned = turned.extended(if own == place { !accept } else { accept });
+            let kept = if own == place { !accept } else { accept };
+            turned = turned.extended(kept);
         }
         turned
     }
@@ -199,7 +212,10 @@ impl Prefix {
             × IsDay relaxed self day.now) }
     {
         dam_bound::laws::bound();
-        if bounded && reaches(day.total, least) {
+        if !bounded {
+            return None;
+        }
+        if reaches(day.total, least) {
             Some(self)
         } else {
             None
