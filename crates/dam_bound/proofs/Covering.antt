@@ -92,7 +92,7 @@ drop_more [] (d ∷ prefix) (r ∷ rest) = refl
 drop_more (b ∷ bs) (d ∷ prefix) rest = drop_more bs prefix rest
 
 -- deciding more raises no period
-period_extended : Laws → (t : ℕ) (bs : List Block) (prefix rest : List Bool) (ss : List Step) (w : ℤ)
+pub period_extended : Laws → (t : ℕ) (bs : List Block) (prefix rest : List Bool) (ss : List Step) (w : ℤ)
     → period_welfare bs (prefix ++ rest) t (ss ++ as_steps t (drop (length rest) (drop (length prefix) bs))) ≡ Some w
     → (r : ℤ) × (period_welfare bs prefix t (ss ++ as_steps t (drop (length prefix) bs)) ≡ Some r) × (w ≤ℤ r)
 period_extended laws t bs prefix rest ss w e =

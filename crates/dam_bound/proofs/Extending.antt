@@ -1,24 +1,28 @@
 -- A prefix with one more decision, period by period.
-use Rattle.std.proofs.Common.{◌≡◌, ℕ, ◌+◌, ◌*◌, ℤ, pos, neg_ℤ, ◌+ℤ◌, ◌*ℤ◌, Bool, true, false, Some, None, List, [], ◌∷◌, ◌++◌, length, drop, ap, ◌∙◌, sym, refl, arith}
+use Rattle.std.proofs.Common.{◌≡◌, ℕ, zero, suc, ◌+◌, ℤ, pos, neg_ℤ, ◌+ℤ◌, ◌*ℤ◌, Bool, true, false, not, Some, List, [], ◌∷◌, ◌++◌, length, length-append, drop, slice_set, ap, ◌∙◌, sym, refl, arith}
 use Rattle.std.specs.List.{slice_get}
 use Rattle.std.proofs.lemmas.Int.{ints}
+use Rattle.std.proofs.lemmas.List.{length-set}
 use Rattle.dam_book.specs.declared.order.Side.{Side}
 use Rattle.dam_book.specs.declared.order.Side.TheVariants.{Buy, Sell}
-use Rattle.dam_book.specs.Limits.{greatest_volume}
 use Rattle.dam_book.specs.Terms.{BlockTerms}
-use Rattle.dam_hour.specs.Limits.{greatest_value}
 use Rattle.dam_hour.specs.declared.step.Step.{Step}
 use Rattle.dam_hour.specs.Best.{signed, greatest_welfare}
 use Rattle.dam_blocks.specs.declared.problem.Block.{Block}
-use Rattle.dam_blocks.specs.Selection.{volume_in, over_accepted, net_volume_of, value_of}
-use Rattle.dam_blocks.specs.Eligible.{period_welfare}
-use Rattle.dam_blocks.specs.Magnitude.{IsWithin}
+use Rattle.dam_blocks.specs.Selection.{volume_in, over_accepted, net_volume_of, value_of, net_volume, block_value}
 use Rattle.dam_bound.specs.declared.day.DayPeriod.{DayPeriod}
+use Rattle.dam_bound.specs.declared.day.Change.{Change}
+use Rattle.dam_bound.specs.declared.day.Change.TheVariants.{Kept, Added, Removed}
 use Rattle.dam_bound.specs.Relaxed.{as_steps}
-use Rattle.dam_bound.specs.Day.{if_accepted, IsSmallPeriod, IsPeriodOfDay}
+use Rattle.dam_bound.specs.Day.{IsPeriodOfDay}
+use Rattle.dam_bound.specs.inside.Change.{by, IsChange}
 use Rattle.dam_bound.proofs.Covering.{SumLaws}
 use Rattle.dam_bound.proofs.Levelling.{drop_at, no_step}
-use Rattle.dam_bound.proofs.Bounding.{unbalanced_period}
+
+-- the number, where the block is accepted, and else 0
+abbrev pub if_accepted : Bool → ℤ → ℤ
+if_accepted true z = z
+if_accepted false z = pos 0
 
 -- ---- a sum over the accepted blocks
 pub nothing_over : (f : BlockTerms → ℤ) (bs : List Block) → over_accepted f bs [] ≡ pos 0
@@ -52,61 +56,73 @@ times_zero p = omega (arith, ints)
 no_value : (t : ℕ) (o : BlockTerms) → volume_in o.volumes t ≡ 0 → value_of t o ≡ pos 0
 no_value t o e = ap (λ (n : ℕ). signed o.side (o.price *ℤ pos n)) e ∙ ap (signed o.side) (times_zero o.price) ∙ signed_zero o.side
 
-zero_accepted : (accept : Bool) (z : ℤ) → z ≡ pos 0 → if_accepted accept z ≡ pos 0
-zero_accepted true z e = e
-zero_accepted false z e = refl
-
-plus_zero : (x y z : ℤ) → y ≡ x +ℤ z → z ≡ pos 0 → x ≡ y
-plus_zero x y z e f = omega (arith, ints, e, f)
-
 pub same_steps : (blocks : List Block) (t depth : ℕ) (b : Block) → slice_get blocks depth ≡ Some b → volume_in b.order.volumes t ≡ 0
     → as_steps t (drop depth blocks) ≡ as_steps t (drop (depth + 1) blocks)
 same_steps blocks t depth b at none = ap (as_steps t) (drop_at blocks depth b at) ∙ no_step t b (drop (depth + 1) blocks) none
 
-pub same_period : SumLaws → (blocks : List Block) (prefix : List Bool) (accept : Bool) (t depth : ℕ) (b : Block) (ss : List Step) (own : DayPeriod)
-    → slice_get blocks depth ≡ Some b → volume_in b.order.volumes t ≡ 0 → length prefix ≡ depth
-    → IsPeriodOfDay blocks prefix t (ss ++ as_steps t (drop depth blocks)) own
-    → IsPeriodOfDay blocks (prefix ++ accept ∷ []) t (ss ++ as_steps t (drop (depth + 1) blocks)) own
-same_period laws blocks prefix accept t depth b ss own at none is period = record {
-  net_is = period.net_is ∙ plus_zero _ _ _ (decided_over laws (net_volume_of t) blocks prefix accept depth b at is) (zero_accepted accept (net_volume_of t b.order) (no_net t b.order none));
-  value_is = period.value_is ∙ plus_zero _ _ _ (decided_over laws (value_of t) blocks prefix accept depth b at is) (zero_accepted accept (value_of t b.order) (no_value t b.order none));
-  welfare_is = ap (λ (ts : List Step). greatest_welfare (ss ++ ts) own.net) (sym (same_steps blocks t depth b at none)) ∙ period.welfare_is;
+-- a change in a period in which the block has no volume
+pub no_change : (change : Change) (x y z : ℤ) → x ≡ y +ℤ by change z → z ≡ pos 0 → x ≡ y
+no_change Kept x y z e f = omega (arith, ints, e)
+no_change Added x y z e f = omega (arith, ints, e, f)
+no_change Removed x y z e f = omega (arith, ints, e, f)
+
+pub same_net : (blocks : List Block) (place depth : ℕ) (change : Change) (before after : List Bool) (t : ℕ) (b : Block) → IsChange blocks place change depth before after
+    → slice_get blocks place ≡ Some b → volume_in b.order.volumes t ≡ 0 → net_volume blocks after t ≡ net_volume blocks before t
+same_net blocks place depth change before after t b is at none = no_change change _ _ (net_volume_of t b.order) (is.net t b at) (no_net t b.order none)
+
+pub same_value : (blocks : List Block) (place depth : ℕ) (change : Change) (before after : List Bool) (t : ℕ) (b : Block) → IsChange blocks place change depth before after
+    → slice_get blocks place ≡ Some b → volume_in b.order.volumes t ≡ 0 → block_value blocks after t ≡ block_value blocks before t
+same_value blocks place depth change before after t b is at none = no_change change _ _ (value_of t b.order) (is.value t b at) (no_value t b.order none)
+
+pub same_period : (blocks : List Block) (place depth : ℕ) (change : Change) (before after : List Bool) (t : ℕ) (b : Block) (ss : List Step) (own : DayPeriod)
+    → IsChange blocks place change depth before after → slice_get blocks place ≡ Some b → volume_in b.order.volumes t ≡ 0
+    → IsPeriodOfDay blocks before t (ss ++ as_steps t (drop (length before) blocks)) own
+    → IsPeriodOfDay blocks after t (ss ++ as_steps t (drop depth blocks)) own
+same_period blocks place depth change before after t b ss own is at none period = record {
+  net_is = period.net_is ∙ sym (same_net blocks place depth change before after t b is at none);
+  welfare_is = ap (λ (ts : List Step). greatest_welfare (ss ++ ts) own.net) (ap (λ (n : ℕ). as_steps t (drop n blocks)) (sym is.long) ∙ sym (is.steps t b at none)) ∙ period.welfare_is;
+  small = period.small;
 }
 
--- ---- the sizes
-within_more : (depth most : ℕ) (z : ℤ) → IsWithin (depth * most) z → IsWithin ((depth + 1) * most) z
-within_more depth most z w = let low = w.at_least in let high = w.at_most in record { at_least = omega (arith, ints, low); at_most = omega (arith, ints, high) }
+-- ---- the decision on the next block, and one turned round
+abbrev pub if_kept : Bool → Change
+if_kept true = Added
+if_kept false = Kept
 
-pub small_more : (depth : ℕ) (own : DayPeriod) → IsSmallPeriod depth own → IsSmallPeriod (depth + 1) own
-small_more depth own s = record { net = within_more depth greatest_volume own.net s.net; value = within_more depth greatest_value own.value s.value; welfare = s.welfare }
+by_decision : (accept : Bool) (z : ℤ) → if_accepted accept z ≡ by (if_kept accept) z
+by_decision true z = refl
+by_decision false z = refl
 
--- ---- the period with the decision
-pub net_decided : (o : BlockTerms) (t q : ℕ) (accept : Bool) (own net : ℤ) → volume_in o.volumes t ≡ q → net ≡ own +ℤ if_accepted accept (neg_ℤ (signed o.side (pos q)))
-    → net ≡ own +ℤ if_accepted accept (net_volume_of t o)
-net_decided o t q accept own net volume e = e ∙ ap (λ (n : ℕ). own +ℤ if_accepted accept (neg_ℤ (signed o.side (pos n)))) (sym volume)
-
-pub value_decided : (o : BlockTerms) (t q : ℕ) (accept : Bool) (own value : ℤ) → volume_in o.volumes t ≡ q → value ≡ own +ℤ if_accepted accept (signed o.side (o.price *ℤ pos q))
-    → value ≡ own +ℤ if_accepted accept (value_of t o)
-value_decided o t q accept own value volume e = e ∙ ap (λ (n : ℕ). own +ℤ if_accepted accept (signed o.side (o.price *ℤ pos n))) (sym volume)
-
-pub decided_period : SumLaws → (blocks : List Block) (prefix : List Bool) (accept : Bool) (t depth : ℕ) (b : Block) (ss steps : List Step) (own next : DayPeriod)
-    → slice_get blocks depth ≡ Some b → length prefix ≡ depth
-    → IsPeriodOfDay blocks prefix t ss own
-    → next.net ≡ own.net +ℤ if_accepted accept (net_volume_of t b.order) → next.value ≡ own.value +ℤ if_accepted accept (value_of t b.order)
-    → greatest_welfare steps next.net ≡ Some next.welfare
-    → IsPeriodOfDay blocks (prefix ++ accept ∷ []) t steps next
-decided_period laws blocks prefix accept t depth b ss steps own next at is period net value welfare = record {
-  net_is = net ∙ ap (λ (z : ℤ). z +ℤ if_accepted accept (net_volume_of t b.order)) period.net_is ∙ sym (decided_over laws (net_volume_of t) blocks prefix accept depth b at is);
-  value_is = value ∙ ap (λ (z : ℤ). z +ℤ if_accepted accept (value_of t b.order)) period.value_is ∙ sym (decided_over laws (value_of t) blocks prefix accept depth b at is);
-  welfare_is = welfare;
+pub decision : SumLaws → (blocks : List Block) (prefix : List Bool) (accept : Bool) (depth : ℕ) → length prefix ≡ depth
+    → IsChange blocks depth (if_kept accept) (depth + 1) prefix (prefix ++ accept ∷ [])
+decision laws blocks prefix accept depth is = record {
+  long = length-append prefix (accept ∷ []) ∙ ap (λ (n : ℕ). n + 1) is;
+  net = λ t b at. decided_over laws (net_volume_of t) blocks prefix accept depth b at is ∙ ap (λ (z : ℤ). net_volume blocks prefix t +ℤ z) (by_decision accept (net_volume_of t b.order));
+  value = λ t b at. decided_over laws (value_of t) blocks prefix accept depth b at is ∙ ap (λ (z : ℤ). block_value blocks prefix t +ℤ z) (by_decision accept (value_of t b.order));
+  steps = λ t b at none. ap (λ (n : ℕ). as_steps t (drop n blocks)) is ∙ same_steps blocks t depth b at none
+      ∙ ap (λ (n : ℕ). as_steps t (drop n blocks)) (sym (length-append prefix (accept ∷ []) ∙ ap (λ (n : ℕ). n + 1) is));
 }
 
-pub unbalanced_decided : SumLaws → (blocks : List Block) (prefix : List Bool) (accept : Bool) (t depth : ℕ) (b : Block) (ss steps : List Step) (own : DayPeriod) (net : ℤ)
-    → slice_get blocks depth ≡ Some b → length prefix ≡ depth
-    → IsPeriodOfDay blocks prefix t ss own
-    → net ≡ own.net +ℤ if_accepted accept (net_volume_of t b.order)
-    → greatest_welfare steps net ≡ None
-    → period_welfare blocks (prefix ++ accept ∷ []) t steps ≡ None
-unbalanced_decided laws blocks prefix accept t depth b ss steps own net at is period step none =
-    let whole = step ∙ ap (λ (z : ℤ). z +ℤ if_accepted accept (net_volume_of t b.order)) period.net_is ∙ sym (decided_over laws (net_volume_of t) blocks prefix accept depth b at is) in
-    sym (unbalanced_period blocks (prefix ++ accept ∷ []) t steps steps net refl whole none)
+abbrev pub if_turned : Bool → Change
+if_turned true = Added
+if_turned false = Removed
+
+turned_over : (f : BlockTerms → ℤ) (blocks : List Block) (prefix : List Bool) (place : ℕ) (accept : Bool) (b : Block) → slice_get blocks place ≡ Some b → slice_get prefix place ≡ Some (not accept)
+    → over_accepted f blocks (slice_set prefix place accept) ≡ over_accepted f blocks prefix +ℤ by (if_turned accept) (f b.order)
+turned_over f [] prefix place accept b at is = absurd (cc)
+turned_over f (c ∷ blocks) [] place accept b at is = absurd (cc)
+turned_over f (c ∷ blocks) (true ∷ prefix) zero true b at is = absurd (cc)
+turned_over f (c ∷ blocks) (true ∷ prefix) zero false b at is = let same : c ≡ b = cc in let e = ap (λ (x : Block). f x.order) same in omega (arith, ints, e)
+turned_over f (c ∷ blocks) (false ∷ prefix) zero true b at is = let same : c ≡ b = cc in let e = ap (λ (x : Block). f x.order) same in omega (arith, ints, e)
+turned_over f (c ∷ blocks) (false ∷ prefix) zero false b at is = absurd (cc)
+turned_over f (c ∷ blocks) (true ∷ prefix) (suc place) accept b at is = let more = turned_over f blocks prefix place accept b at is in omega (arith, ints, more)
+turned_over f (c ∷ blocks) (false ∷ prefix) (suc place) accept b at is = turned_over f blocks prefix place accept b at is
+
+pub turning : (blocks : List Block) (prefix : List Bool) (place : ℕ) (accept : Bool) (depth : ℕ) → length prefix ≡ depth → slice_get prefix place ≡ Some (not accept)
+    → IsChange blocks place (if_turned accept) depth prefix (slice_set prefix place accept)
+turning blocks prefix place accept depth long is = record {
+  long = length-set prefix place accept ∙ long;
+  net = λ t b at. turned_over (net_volume_of t) blocks prefix place accept b at is;
+  value = λ t b at. turned_over (value_of t) blocks prefix place accept b at is;
+  steps = λ t b at none. ap (λ (n : ℕ). as_steps t (drop n blocks)) (sym (length-set prefix place accept));
+}

@@ -7,6 +7,7 @@ pub mod Bounding
 pub mod Periods
 pub mod Extending
 pub mod Days
+pub mod Sizes
 pub mod Worth
 pub mod Volumes
 pub mod Deciding

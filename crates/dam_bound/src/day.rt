@@ -1,31 +1,31 @@
-ghost use Rattle.std.specs.Prelude.{◌≡◌, ◌+◌, ◌*◌, ◌<◌, ◌≤◌, pos, neg_ℤ, ◌+ℤ◌, ◌*ℤ◌, ◌≤ℤ◌, List, Bool, [], ◌∷◌, ◌++◌, length, drop, slice_get, IfSome, MatchOption, Some, None};
-ghost use Rattle.dam_book.specs.Limits.{greatest_volume, most_blocks};
+ghost use Rattle.std.specs.Prelude.{◌≡◌, ◌*◌, false, ◌<◌, ◌≤◌, pos, neg_ℤ, ◌+ℤ◌, ◌-ℤ◌, ◌*ℤ◌, ◌≤ℤ◌, ◌<ℤ◌, ◌↔◌, List, Bool, [], ◌++◌, length, drop, IsTrue, IfSome, MatchBool, MatchOption, Some, None, option_map};
+ghost use Rattle.dam_book.specs.Limits.{greatest_volume, last_period};
 ghost use Rattle.dam_hour.specs.Limits.{most_steps, greatest_price, greatest_value};
-ghost use Rattle.dam_hour.specs.Best.{signed};
-ghost use Rattle.dam_blocks.specs.Selection.{volume_in};
-ghost use Rattle.dam_blocks.specs.Eligible.{period_welfare};
+ghost use Rattle.dam_hour.specs.Best.{signed, greatest_welfare};
+ghost use Rattle.dam_hour.specs.Execution.{IsNetVolume};
+ghost use Rattle.dam_hour.specs.declared.step.Step.{Step};
+ghost use Rattle.dam_blocks.specs.Problem.{AreBlocks};
 ghost use Rattle.dam_blocks.specs.Magnitude.{IsWithin};
-ghost use Rattle.dam_blocks.specs.declared.problem.Block.{Block};
-ghost use Rattle.dam_bound.specs.Relaxed.{as_steps, relaxed_welfare};
-ghost use Rattle.dam_bound.specs.Day.{if_accepted, IsSmallPeriod, IsPeriodOfDay, IsSmallDay, IsDay};
-ghost use Rattle.dam_bound.specs.inside.Levels.{AreLevels, last_steps, AreDayLevels, problem_kept, greatest_period_bound};
+ghost use Rattle.dam_bound.specs.Relaxed.{relaxed_welfare};
+ghost use Rattle.dam_bound.specs.Day.{IsDay};
+ghost use Rattle.dam_bound.specs.inside.Change.{by, IsChange, IsGivenUp};
+ghost use Rattle.dam_bound.specs.inside.Levels.{greatest_period_bound, IsAtDepth, AreDayLevels, problem_kept};
 
 use crate::levels::Levels;
-use dam_blocks::{Block, MOST_PERIODS, laws};
-use dam_book::{BlockOrder, Period, Qty, Side};
+use dam_blocks::{Block, MOST_PERIODS};
+use dam_book::{BlockOrder, Qty, Side};
 use std::alloc::Allocator;
 
 /// What a prefix makes of one period.
 #[derive(Clone, Copy)]
 pub(crate) struct DayPeriod {
-    /// The net volume of the accepted blocks, in tenths of a MW.
-    pub(crate) net: i64,
-    /// The accepted blocks' value, in cents per MWh times tenths of a MW.
-    pub(crate) value: i64,
-    /// The greatest welfare of the hourly orders and the undecided blocks, in the same unit.
+    /// The greatest welfare of the hourly orders and the undecided blocks, in cents per MWh times
+    /// tenths of a MW.
     pub(crate) welfare: i64,
-    /// The row of the stack that it was found at.
-    pub(crate) near: usize,
+    /// The net volume of the accepted blocks, in tenths of a MW.
+    pub(crate) net: i32,
+    /// The row of the stack that the welfare was found at.
+    pub(crate) near: u32,
 }
 
 /// A day: what a prefix makes of each period, and its relaxed welfare.
@@ -39,14 +39,29 @@ pub struct Day {
     pub total: i64,
 }
 
-/// What a period adds to the relaxed welfare.
-fn worth(own: DayPeriod) -> i64
-    requires welfare { IsWithin (most_steps * greatest_value) own.welfare }
-    requires value { IsWithin (most_blocks * greatest_value) own.value }
-    ensures value { result ≡ own.welfare +ℤ own.value }
-    ensures size { IsWithin greatest_period_bound result }
-{
-    own.welfare + own.value
+impl Day {
+    /// A day that is of no prefix, to be written over.
+    pub fn empty() -> Day {
+        Day {
+            periods: [DayPeriod {
+                welfare: 0,
+                net: 0,
+                near: 0,
+            }; MOST_PERIODS],
+            total: 0,
+        }
+    }
+}
+
+/// What becomes of a block on a day.
+#[derive(Clone, Copy)]
+pub(crate) enum Change {
+    /// It stays out.
+    Kept,
+    /// It is accepted.
+    Added,
+    /// It was accepted, and is no more.
+    Removed,
 }
 
 /// Cents per MWh times tenths of a MW.
@@ -60,8 +75,8 @@ fn times(cents: i32, volume: u32) -> i64
     i64::from(cents) * i64::from(volume)
 }
 
-/// The net volume and the value that a block adds to a period in which it has this volume.
-fn effect(order: &BlockOrder, qty: Qty) -> (i64, i64)
+/// The net volume and the value of a block in a period in which it has this volume.
+fn effect(order: &BlockOrder, qty: Qty) -> (i32, i64)
     ensures net { result.0 ≡ neg_ℤ (signed order.now.side (pos qty)) }
     ensures value { result.1 ≡ signed order.now.side (order.now.price *ℤ pos qty) }
     ensures net_size { IsWithin greatest_volume result.0 }
@@ -70,107 +85,67 @@ fn effect(order: &BlockOrder, qty: Qty) -> (i64, i64)
     let volume = qty.get();
     let value = times(order.price().get(), volume);
     match order.side() {
-        Side::Buy => (-i64::from(volume), value),
-        Side::Sell => (i64::from(volume), -value),
+        Side::Buy => (-(volume as i32), value),
+        Side::Sell => (volume as i32, -value),
     }
 }
 
-/// What becomes of the net volume and the value with a decision on a block that has this volume in
-/// the period.
-fn decided(own: DayPeriod, order: &BlockOrder, qty: Qty, accept: bool) -> (i64, i64)
-    requires net { IsWithin (most_blocks * greatest_volume) own.net }
-    requires value { IsWithin (most_blocks * greatest_value) own.value }
-    ensures net { result.0
-        ≡ own.net +ℤ if_accepted accept (neg_ℤ (signed order.now.side (pos qty))) }
+/// What the change adds to the net volume and the value of a period in which the block has this volume.
+fn difference(order: &BlockOrder, qty: Qty, change: Change) -> (i32, i64)
+    ensures net { result.0 ≡ by change (neg_ℤ (signed order.now.side (pos qty))) }
     ensures value { result.1
-        ≡ own.value +ℤ if_accepted accept (signed order.now.side (order.now.price *ℤ pos qty)) }
-    ensures net_step { IsWithin greatest_volume
-        (if_accepted accept (neg_ℤ (signed order.now.side (pos qty)))) }
-    ensures value_step { IsWithin greatest_value
-        (if_accepted accept (signed order.now.side (order.now.price *ℤ pos qty))) }
+        ≡ by change (signed order.now.side (order.now.price *ℤ pos qty)) }
+    ensures net_size { IsWithin greatest_volume result.0 }
+    ensures value_size { IsWithin greatest_value result.1 }
 {
     let (net, value) = effect(order, qty);
-    if accept {
-        (own.net + net, own.value + value)
-    } else {
-        (own.net, own.value)
+    match change {
+        Change::Kept => (0, 0),
+        Change::Added => (net, value),
+        Change::Removed => (-net, -value),
     }
 }
 
-/// A period with a decision on the block at the depth, which has this volume there; `None` where no
-/// execution balances.
-fn extended<A: Allocator>(
+/// A period with this net volume, so many blocks being decided; looked for from a row near by. `None`
+/// where no execution balances.
+fn period_at<A: Allocator>(
     levels: &Levels<A>,
-    blocks: &[Block],
-    own: DayPeriod,
     depth: usize,
-    accept: bool,
-    period: Period,
-    qty: Qty,
+    net: i32,
+    near: u32,
 ) -> Option<DayPeriod>
-    requires levels { AreLevels period (last_steps levels.now) blocks.now levels.now }
-    requires depth { depth < length blocks.now }
-    requires blocks { length blocks.now ≤ most_blocks }
-    requires volume { (b : Block) → slice_get blocks.now depth ≡ Some b
-        → volume_in b.order.volumes period ≡ qty }
-    requires small { IsSmallPeriod depth own }
-    ensures small { IfSome result (IsSmallPeriod (depth + 1)) }
-    ensures period { (prefix : List Bool) → length prefix ≡ depth
-        → IsPeriodOfDay blocks.now prefix period
-        (last_steps levels.now ++ as_steps period (drop depth blocks.now)) own
-        → MatchOption result (period_welfare blocks.now (prefix ++ accept ∷ []) period
-        (last_steps levels.now ++ as_steps period (drop (depth + 1) blocks.now)) ≡ None)
-        (IsPeriodOfDay blocks.now (prefix ++ accept ∷ []) period
-        (last_steps levels.now ++ as_steps period (drop (depth + 1) blocks.now))) }
+    requires depth { (steps : List Step) × IsAtDepth levels.now depth steps }
+    requires net { IsNetVolume net }
+    ensures welfare { (steps : List Step) → IsAtDepth levels.now depth steps
+        → greatest_welfare steps net ≡ option_map (λ p. p.welfare) result }
+    ensures net { IfSome result (λ p. p.net ≡ net) }
+    ensures small { IfSome result (λ p. IsWithin (most_steps * greatest_value) p.welfare) }
 {
-    laws::sums();
-    let (net, value) = decided(own, &blocks[depth].order, qty, accept);
-    let reached = levels.stack(depth + 1).welfare(net, own.near)?;
+    let reached = levels.stack(depth).welfare(i64::from(net), near as usize)?;
     Some(DayPeriod {
+        welfare: reached.welfare,
         net,
-        value,
-        welfare: reached.welfare,
-        near: reached.place,
-    })
-}
-
-/// A period with no block decided; `None` where no execution balances.
-fn begun<A: Allocator>(levels: &Levels<A>, blocks: &[Block], period: Period) -> Option<DayPeriod>
-    requires { AreLevels period (last_steps levels.now) blocks.now levels.now }
-    ensures small { IfSome result (IsSmallPeriod 0) }
-    ensures period { MatchOption result (period_welfare blocks.now [] period
-        (last_steps levels.now ++ as_steps period (drop 0 blocks.now)) ≡ None)
-        (IsPeriodOfDay blocks.now [] period
-        (last_steps levels.now ++ as_steps period (drop 0 blocks.now))) }
-{
-    let reached = levels.stack(0).welfare(0, 0)?;
-    Some(DayPeriod {
-        net: 0,
-        value: 0,
-        welfare: reached.welfare,
-        near: reached.place,
+        near: reached.place.min(u32::MAX as usize) as u32,
     })
 }
 
 /// The day with no block decided; `None` where some period has no execution that balances.
 pub(crate) fn root_of<A: Allocator>(periods: &[Levels<A>], blocks: &[Block]) -> Option<Day>
     requires { AreDayLevels blocks.now periods.now }
-    ensures small { IfSome result (IsSmallDay 0) }
-    ensures day { MatchOption result (relaxed_welfare (problem_kept periods.now blocks.now) []
+    ensures { MatchOption result (relaxed_welfare (problem_kept periods.now blocks.now) []
         ≡ None)
         (IsDay (problem_kept periods.now blocks.now) []) }
 {
     let mut first = [DayPeriod {
-        net: 0,
-        value: 0,
         welfare: 0,
+        net: 0,
         near: 0,
     }; MOST_PERIODS];
     let mut total = 0;
     for (place, levels) in periods.iter().enumerate() {
-        let next = begun(levels, blocks, Period::at(place))?;
+        let next = period_at(levels, 0, 0, 0)?;
         first[place] = next;
-        total += worth(next);
+        total += next.welfare;
     }
     Some(Day {
         periods: first,
@@ -178,41 +153,79 @@ pub(crate) fn root_of<A: Allocator>(periods: &[Levels<A>], blocks: &[Block]) -> 
     })
 }
 
-/// The day with a decision on the block at the depth too; `None` where some period has no execution
-/// that balances.
-pub(crate) fn child_of<A: Allocator>(
+/// Whether the total is less than what is asked for, if anything is.
+fn is_under(total: i64, least: Option<u64>) -> bool
+    ensures { MatchOption least (result ≡ false) (λ l. IsTrue result ↔ (total <ℤ pos l)) }
+{
+    match least {
+        Some(least) => total < 0 || (total as u64) < least,
+        None => false,
+    }
+}
+
+/// By how much a period's welfare rises.
+fn rise(own: i64, next: i64) -> i64
+    requires own { IsWithin (most_steps * greatest_value) own }
+    requires next { IsWithin (most_steps * greatest_value) next }
+    ensures value { result ≡ next -ℤ own }
+    ensures size { IsWithin (2 * (most_steps * greatest_value)) result }
+{
+    next - own
+}
+
+/// The total after a period's welfare became another one and its accepted blocks' value rose by this.
+fn total_with(total: i64, own: i64, next: i64, value: i64) -> i64
+    requires total { IsWithin (last_period * greatest_period_bound) total }
+    requires own { IsWithin (most_steps * greatest_value) own }
+    requires next { IsWithin (most_steps * greatest_value) next }
+    requires value { IsWithin greatest_value value }
+    ensures { result ≡ total +ℤ ((next -ℤ own) +ℤ value) }
+{
+    let more = rise(own, next);
+    total + (more + value)
+}
+
+/// Makes the change in each period in which the block at the place has a volume; so many blocks are
+/// decided after it. Whether every period balances, and the total is at no time under `least`: the
+/// day is of no use otherwise.
+pub(crate) fn change_day<A: Allocator>(
     periods: &[Levels<A>],
     blocks: &[Block],
-    day: &Day,
+    day: &mut Day,
+    place: usize,
     depth: usize,
-    accept: bool,
-) -> Option<Day>
+    change: Change,
+    least: Option<u64>,
+) -> bool
     requires levels { AreDayLevels blocks.now periods.now }
-    requires depth { depth < length blocks.now }
-    requires small { IsSmallDay depth day.now }
-    ensures small { IfSome result (IsSmallDay (depth + 1)) }
-    ensures day { (prefix : List Bool) → length prefix ≡ depth
-        → IsDay (problem_kept periods.now blocks.now) prefix day.now
-        → MatchOption result
-        (relaxed_welfare (problem_kept periods.now blocks.now) (prefix ++ accept ∷ []) ≡ None)
-        (IsDay (problem_kept periods.now blocks.now) (prefix ++ accept ∷ [])) }
+    requires blocks { AreBlocks (length periods.now) blocks.now }
+    requires place { place < length blocks.now }
+    requires depth { depth ≤ length blocks.now }
+    requires day { (before : List Bool) × (after : List Bool)
+        × IsChange blocks.now place change depth before after
+        × IsDay (problem_kept periods.now blocks.now) before day.old }
+    ensures { (before after : List Bool) → IsChange blocks.now place change depth before after
+        → IsDay (problem_kept periods.now blocks.now) before day.old
+        → MatchBool result (IsDay (problem_kept periods.now blocks.now) after day.new)
+        (IsGivenUp (problem_kept periods.now blocks.now) least before after) }
 {
-    laws::sums();
-    let pairs = blocks[depth].order.volumes().pairs();
-    let mut changed = day.periods;
-    let mut total = day.total;
+    let order = &blocks[place].order;
+    let pairs = order.volumes().pairs();
     for (period, qty) in pairs {
-        let place = usize::from(period.get()) - 1;
-        if place >= periods.len() {
+        let at = usize::from(period.get()) - 1;
+        if at >= periods.len() {
             continue;
         }
-        let own = changed[place];
-        let next = extended(&periods[place], blocks, own, depth, accept, *period, *qty)?;
-        changed[place] = next;
-        total += worth(next) - worth(own);
+        let own = day.periods[at];
+        let (net, value) = difference(order, *qty, change);
+        let Some(next) = period_at(&periods[at], depth, own.net + net, own.near) else {
+            return false;
+        };
+        day.periods[at] = next;
+        day.total = total_with(day.total, own.welfare, next.welfare, value);
+        if is_under(day.total, least) {
+            return false;
+        }
     }
-    Some(Day {
-        periods: changed,
-        total,
-    })
+    true
 }

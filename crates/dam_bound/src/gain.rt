@@ -5,10 +5,11 @@ ghost use Rattle.dam_book.specs.Limits.{greatest_volume, most_blocks};
 ghost use Rattle.dam_hour.specs.Limits.{price_span};
 ghost use Rattle.dam_hour.specs.Best.{signed};
 ghost use Rattle.dam_hour.specs.Execution.{IsNetVolume};
+ghost use Rattle.dam_blocks.specs.Problem.{AreBlocks};
 ghost use Rattle.dam_blocks.specs.Selection.{padded};
 ghost use Rattle.dam_blocks.specs.Eligible.{IsClearingPrice, ArePrices, gain_at};
 ghost use Rattle.dam_blocks.specs.Magnitude.{IsWithin, greatest_gain};
-ghost use Rattle.dam_bound.specs.Day.{IsSmallDay, IsDay};
+ghost use Rattle.dam_bound.specs.Day.{IsDay};
 ghost use Rattle.dam_bound.specs.inside.Levels.{IsAtDepth, last_steps, AreDayLevels, problem_kept};
 
 use crate::day::{Day, DayPeriod};
@@ -64,7 +65,8 @@ fn gain_in<A: Allocator>(
     ensures size { IsWithin greatest_gain result }
 {
     dam_hour::laws::uniqueness();
-    match levels.stack(depth).ends(own.net, own.near) {
+    let near = own.near as usize;
+    match levels.stack(depth).ends(i64::from(own.net), near) {
         Some((low, high)) => gain_at_price(order, price_between(low, high), qty),
         None => 0,
     }
@@ -79,7 +81,9 @@ pub(crate) fn gain_of<A: Allocator>(
     place: usize,
 ) -> i64
     requires levels { AreDayLevels blocks.now periods.now }
-    requires small { IsSmallDay (length blocks.now) day.now }
+    requires blocks { AreBlocks (length periods.now) blocks.now }
+    requires day { (prefix : List Bool) × (length prefix ≡ length blocks.now)
+        × IsDay (problem_kept periods.now blocks.now) prefix day.now }
     requires place { place < length blocks.now }
     ensures { (prefix : List Bool) (prices : List ℤ) → length prefix ≡ length blocks.now
         → IsDay (problem_kept periods.now blocks.now) prefix day.now

@@ -1,14 +1,15 @@
-ghost use Rattle.std.specs.Prelude.{ℤ, ◌≡◌, ◌<◌, ◌≤◌, [], ◌∷◌, ◌++◌, List, Bool, length, drop, map, IfOk, IfSome};
+ghost use Rattle.std.specs.Prelude.{ℤ, ◌≡◌, not, ◌<◌, ◌≤◌, [], ◌∷◌, ◌++◌, List, Bool, Some, None, length, drop, map, slice_get, slice_set, IfOk, IfSome, MatchBool, MatchOption};
 ghost use Rattle.dam_book.specs.Limits.{most_blocks};
+ghost use Rattle.dam_blocks.specs.Problem.{AreBlocks};
 ghost use Rattle.dam_blocks.specs.Selection.{padded};
 ghost use Rattle.dam_blocks.specs.Eligible.{period_welfare, ArePrices, gain_at};
 ghost use Rattle.dam_blocks.specs.Magnitude.{IsWithin};
 ghost use Rattle.dam_bound.specs.Relaxed.{as_steps, relaxed_welfare, without_rows};
-ghost use Rattle.dam_bound.specs.Day.{IsSmallDay, IsDay, IsDayOf};
+ghost use Rattle.dam_bound.specs.Day.{IsDay, IsUnder};
 ghost use Rattle.dam_bound.specs.inside.Levels.{AreLevels, last_steps, AreDayLevels};
 ghost use Rattle.dam_bound.specs.inside.Levels.{greatest_period_bound};
 
-use crate::day::{Day, child_of, root_of};
+use crate::day::{Change, Day, change_day, root_of};
 use crate::gain::gain_of;
 use crate::levels::Levels;
 use dam_blocks::{Block, Problem, Selection, block_value, laws, net_volume};
@@ -27,14 +28,16 @@ pub struct Relaxed<A: Allocator = Global> {
 }
 
 impl<A: Allocator> Model for Relaxed<A> {
-    ghost use Rattle.dam_blocks.specs.Problem.{ProblemState};
+    ghost use Rattle.std.specs.Prelude.{length};
+    ghost use Rattle.dam_blocks.specs.Problem.{ProblemState, AreBlocks};
     ghost use Rattle.dam_bound.specs.inside.Levels.{AreDayLevels, problem_kept};
 
     ghost Value = { ProblemState };
 
     ghost view = { λ r. problem_kept r.periods.items r.blocks.items };
 
-    ghost invariant = { λ r. AreDayLevels r.blocks.items r.periods.items };
+    ghost invariant = { λ r. AreDayLevels r.blocks.items r.periods.items
+        × AreBlocks (length r.periods.items) r.blocks.items };
 }
 
 fn copies_of<A: Allocator>(alloc: A, blocks: &[Block]) -> Result<Vec<Block, A>, AllocError>
@@ -54,6 +57,8 @@ fn periods_of<A: Allocator + Copy, B: Allocator>(
 ) -> Result<Vec<Levels<A>, A>, AllocError>
     ensures levels { IfOk result (λ periods. AreDayLevels problem.now.blocks periods.items) }
     ensures hours { IfOk result (λ periods. map last_steps periods.items ≡ problem.now.hours) }
+    ensures blocks { IfOk result (λ periods.
+        AreBlocks (length periods.items) problem.now.blocks) }
 {
     let blocks = problem.blocks();
     let count = usize::from(problem.periods());
@@ -125,29 +130,64 @@ impl<A: Allocator> Relaxed<A> {
         Some(total)
     }
 
-    /// The day of the prefix that decides nothing.
+    /// The day of the prefix that decides nothing; `None` where it has no bound.
     pub fn root(&self) -> Option<Day>
-        ensures { IsDayOf self.now [] result }
+        ensures { MatchOption result (relaxed_welfare self.now [] ≡ None) (IsDay self.now []) }
     {
         root_of(&self.periods, &self.blocks)
     }
 
-    /// The day of a prefix with a decision on the block at the depth too, from the day of the prefix.
+    /// Makes of the day of a prefix that of the prefix with a decision on the block at the depth too;
+    /// whether it was made. If not, the extension has no bound or one under `least`, and the day is of
+    /// no use.
     ///
-    /// Only the periods in which the block has a volume are looked at anew. `None` exactly where the
-    /// extension has no bound. Takes no memory.
-    pub fn child(&self, day: &Option<Day>, depth: usize, accept: bool) -> Option<Day>
+    /// Only the periods in which the block has a volume are looked at anew, and no further than until
+    /// the bound is seen to be under `least`. It may be under it even so. Takes no memory.
+    pub fn extend(&self, day: &mut Day, depth: usize, accept: bool, least: u64) -> bool
         requires depth { depth < length self.now.blocks }
-        requires small { IfSome day.now (IsSmallDay depth) }
-        ensures { (prefix : List Bool) → length prefix ≡ depth
-            → IsDayOf self.now prefix day.now
-            → IsDayOf self.now (prefix ++ accept ∷ []) result }
+        requires day { (prefix : List Bool) × (length prefix ≡ depth)
+            × IsDay self.now prefix day.old }
+        ensures { (prefix : List Bool) → length prefix ≡ depth → IsDay self.now prefix day.old
+            → MatchBool result (IsDay self.now (prefix ++ accept ∷ []) day.new)
+            (IsUnder self.now (prefix ++ accept ∷ []) least) }
     {
-        crate::laws::extension();
-        match day {
-            Some(day) => child_of(&self.periods, &self.blocks, day, depth, accept),
-            None => None,
-        }
+        dam_hour::laws::joining();
+        dam_hour::laws::welfare();
+        dam_hour::laws::magnitude();
+        laws::sums();
+        let change = if accept { Change::Added } else { Change::Kept };
+        change_day(
+            &self.periods,
+            &self.blocks,
+            day,
+            depth,
+            depth + 1,
+            change,
+            Some(least),
+        )
+    }
+
+    /// Turns the decision on the block at the place into this one, on a day on which every block is
+    /// decided; whether it was made. If not, some period doesn't balance with the new decision, and the
+    /// day is of no use.
+    ///
+    /// Only the periods in which the block has a volume are looked at anew. Takes no memory.
+    pub fn turn(&self, day: &mut Day, place: usize, accept: bool) -> bool
+        requires place { place < length self.now.blocks }
+        requires day { (prefix : List Bool) × (length prefix ≡ length self.now.blocks)
+            × (slice_get prefix place ≡ Some (not accept)) × IsDay self.now prefix day.old }
+        ensures { (prefix : List Bool) → length prefix ≡ length self.now.blocks
+            → slice_get prefix place ≡ Some (not accept) → IsDay self.now prefix day.old
+            → MatchBool result (IsDay self.now (slice_set prefix place accept) day.new)
+            (relaxed_welfare self.now (slice_set prefix place accept) ≡ None) }
+    {
+        let change = if accept {
+            Change::Added
+        } else {
+            Change::Removed
+        };
+        let count = self.blocks.len();
+        change_day(&self.periods, &self.blocks, day, place, count, change, None)
     }
 
     /// What the block at a place gains at the prices of a day on which every block is decided, in cents
@@ -157,7 +197,8 @@ impl<A: Allocator> Relaxed<A> {
     /// its welfare. Takes no memory.
     pub fn gain(&self, day: &Day, place: usize) -> i64
         requires place { place < length self.now.blocks }
-        requires small { IsSmallDay (length self.now.blocks) day.now }
+        requires day { (prefix : List Bool) × (length prefix ≡ length self.now.blocks)
+            × IsDay self.now prefix day.now }
         ensures { (prefix : List Bool) (prices : List ℤ)
             → length prefix ≡ length self.now.blocks
             → IsDay self.now prefix day.now

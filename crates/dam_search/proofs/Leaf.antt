@@ -1,12 +1,12 @@
 -- The verdict on a selection, told by the day of its decisions.
-use Rattle.std.proofs.Common.{◌≡◌, inr, ◌↔◌, ℤ, pos, Bool, true, false, Option, Some, None, List, length, ◌∙◌, ap, sym, subst}
+use Rattle.std.proofs.Common.{◌≡◌, inr, ◌↔◌, MatchBool, ℕ, ℤ, pos, ◌<ℤ◌, Bool, true, false, Option, Some, List, ◌∙◌, ap, sym, subst}
 use Rattle.dam_blocks.specs.declared.selection.Best.{Best}
 use Rattle.dam_blocks.specs.Problem.{ProblemState}
 use Rattle.dam_blocks.specs.Selection.{padded, IsAdmissible}
 use Rattle.dam_blocks.specs.Eligible.{ArePrices, HasNoLoss, selection_welfare, IsEligible}
 use Rattle.dam_blocks.specs.Result.{RanksAtOrBelow}
 use Rattle.dam_bound.specs.declared.day.Day.{Day}
-use Rattle.dam_bound.specs.Day.{IsDay, IsSmallDay, IsDayOf}
+use Rattle.dam_bound.specs.Day.{IsDay, IsUnder}
 use Rattle.dam_bound.specs.Prefix.{IsCompletion}
 use Rattle.dam_bound.specs.Relaxed.{relaxed_welfare, without_rows}
 use Rattle.dam_search.specs.Piece.{Rises}
@@ -21,23 +21,25 @@ TellsLoss problem prefix loss =
 pub tells_of : (problem relaxed : ProblemState) (prefix : List Bool) (loss : Bool) → relaxed ≡ without_rows problem → TellsLoss relaxed prefix loss → TellsLoss problem prefix loss
 tells_of problem relaxed prefix loss same tells = subst (λ (p : ProblemState). TellsLoss p prefix loss) same tells
 
--- the day that there is
-pub own_day : (relaxed : ProblemState) (prefix : List Bool) (o : Option Day) (day : Day) → o ≡ Some day → IsDayOf relaxed prefix o → IsDay relaxed prefix day × IsSmallDay (length prefix) day
-own_day relaxed prefix o day e is = subst (λ (x : Option Day). IsDayOf relaxed prefix x) e is
-
 -- the total of the day is the welfare of each completion
 pub welfare_is_total : (problem relaxed : ProblemState) (prefix sel : List Bool) (day : Day) → relaxed ≡ without_rows problem → IsDay relaxed prefix day
     → relaxed_welfare problem prefix ≡ selection_welfare problem sel → selection_welfare problem sel ≡ Some day.total
 welfare_is_total problem relaxed prefix sel day same is decided =
     sym (is.total_is ∙ ap (λ (p : ProblemState). relaxed_welfare p prefix) same ∙ decided)
 
--- no day, no welfare
-pub no_welfare : (problem relaxed : ProblemState) (prefix sel : List Bool) (o : Option Day) (w : ℤ) → relaxed ≡ without_rows problem → o ≡ None → IsDayOf relaxed prefix o
-    → relaxed_welfare problem prefix ≡ selection_welfare problem sel → selection_welfare problem sel ≡ Some w → ⊥
-no_welfare problem relaxed prefix sel o w same e is decided known =
-    let none : relaxed_welfare relaxed prefix ≡ None = subst (λ (x : Option Day). IsDayOf relaxed prefix x) e is in
-    let both : None ≡ Some w = sym none ∙ ap (λ (p : ProblemState). relaxed_welfare p prefix) same ∙ decided ∙ known in
-    absurd (cc)
+-- the day, or what else is known
+pub if_bounded : (bounded : Bool) (problem : ProblemState) (prefix : List Bool) (day : Day) (low : ℕ) → bounded ≡ true → MatchBool bounded (IsDay problem prefix day) (IsUnder problem prefix low) → IsDay problem prefix day
+if_bounded true problem prefix day low e m = m
+if_bounded false problem prefix day low e m = absurd (cc)
+
+pub unless_bounded : (bounded : Bool) (problem : ProblemState) (prefix : List Bool) (day : Day) (low : ℕ) → bounded ≡ false → MatchBool bounded (IsDay problem prefix day) (IsUnder problem prefix low) → IsUnder problem prefix low
+unless_bounded true problem prefix day low e m = absurd (cc)
+unless_bounded false problem prefix day low e m = m
+
+-- no more welfare than the prefix's bound
+pub under_read : (problem relaxed : ProblemState) (prefix sel : List Bool) (read : ℕ) (w : ℤ) → relaxed ≡ without_rows problem → IsUnder relaxed prefix read
+    → relaxed_welfare problem prefix ≡ selection_welfare problem sel → selection_welfare problem sel ≡ Some w → w <ℤ pos read
+under_read problem relaxed prefix sel read w same under decided known = under w (ap (λ (p : ProblemState). relaxed_welfare p prefix) same ∙ decided ∙ known)
 
 pub same_welfare : (x : Option ℤ) (v w : ℤ) → x ≡ Some v → x ≡ Some w → v ≡ w
 same_welfare x v w e f = let both : Some v ≡ Some w = sym e ∙ f in cc

@@ -4,7 +4,7 @@ ghost use Rattle.dam_blocks.specs.Selection.{choice, padded, IsAdmissible};
 ghost use Rattle.dam_blocks.specs.Eligible.{IsEligible};
 ghost use Rattle.dam_bound.specs.Prefix.{IsCompletion};
 ghost use Rattle.dam_bound.specs.Relaxed.{relaxed_welfare, without_rows};
-ghost use Rattle.dam_bound.specs.Day.{IsDayOf};
+ghost use Rattle.dam_bound.specs.Day.{IsDay, IsUnder};
 ghost use Rattle.dam_search.specs.Piece.{IsFind, IsMatched, Rises, welfare_found, IsSound, IsSpent};
 ghost use Rattle.dam_search.specs.inside.Walk.{Finds, Covers, Spends, Reads};
 
@@ -62,18 +62,21 @@ fn candidate(selection: Selection, welfare: i64, found: &Found) -> Option<Best>
 /// and offers its welfare, where it is eligible and the best so far.
 ///
 /// The prefix's day tells its verdict: the welfare is the bound, and that is looked at first; prices
-/// are asked for only where it may be the best, and only in the periods of accepted blocks.
+/// are asked for only where it may be the best, and only in the periods of accepted blocks. If it isn't
+/// `bounded`, the welfare is known to be under what was read.
 fn try_selection<A: Allocator, B: Allocator, I: Incumbent>(
     problem: &Problem<A>,
     relaxed: &Relaxed<B>,
     prefix: &Prefix,
-    day: &Option<Day>,
+    day: &Day,
+    bounded: bool,
     incumbent: &mut I,
     found: &mut Found,
 )
     requires same { relaxed.now ≡ without_rows problem.now }
     requires full { length problem.now.blocks ≡ length prefix.now }
-    requires day { IsDayOf relaxed.now prefix.now day.now }
+    requires day { MatchBool bounded (IsDay relaxed.now prefix.now day.now)
+        (IsUnder relaxed.now prefix.now found.old.read) }
     requires admissible { IsAdmissible problem.now.blocks (padded prefix.now) }
     requires best { IsFind problem.now [] found.old.best }
     requires offered { welfare_found found.old.best ≤ I.top incumbent.old }
@@ -91,11 +94,10 @@ fn try_selection<A: Allocator, B: Allocator, I: Incumbent>(
     dam_bound::laws::prices();
     // What every problem keeps, as a clause of this reader tells it.
     let _kept = problem.periods();
-    let Some(day) = day else {
+    if !bounded {
         return;
-    };
-    let welfare = day.total;
-    let Some(best) = candidate(prefix.selection(), welfare, found) else {
+    }
+    let Some(best) = candidate(prefix.selection(), day.total, found) else {
         return;
     };
     if prefix.has_loss(relaxed, day) {
@@ -111,19 +113,22 @@ fn try_selection<A: Allocator, B: Allocator, I: Incumbent>(
 ///
 /// A prefix whose bound is less than what was read is passed over after its own visit. 'Rejected' is
 /// explored before 'accepted', which finds good selections sooner; where the links and the groups don't
-/// admit the next block, that is passed over without a visit, and no day is made of it.
+/// admit the next block, that is passed over without a visit, and no day is made of it. An extension's
+/// day is made no further than until its bound is under what was read: it isn't `bounded` then.
 fn explore<A: Allocator, B: Allocator, I: Incumbent>(
     problem: &Problem<A>,
     relaxed: &Relaxed<B>,
     nodes: u32,
     prefix: Prefix,
-    day: &Option<Day>,
+    day: &Day,
+    bounded: bool,
     incumbent: &mut I,
     found: &mut Found,
 ) -> bool
     requires same { relaxed.now ≡ without_rows problem.now }
     requires depth { length prefix ≤ length problem.now.blocks }
-    requires day { IsDayOf relaxed.now prefix day.now }
+    requires day { MatchBool bounded (IsDay relaxed.now prefix day.now)
+        (IsUnder relaxed.now prefix found.old.read) }
     requires admissible { IsAdmissible problem.now.blocks (padded prefix) }
     requires room { found.old.visited ≤ nodes }
     requires read { found.old.read ≤ I.told incumbent.old }
@@ -147,22 +152,24 @@ fn explore<A: Allocator, B: Allocator, I: Incumbent>(
     }
     found.visited += 1;
     if prefix.depth() == problem.block_count() {
-        try_selection(problem, relaxed, &prefix, day, incumbent, found);
+        try_selection(problem, relaxed, &prefix, day, bounded, incumbent, found);
         return true;
     }
     found.read = incumbent.read();
-    let Some(open) = prefix.opened(day, found.read) else {
+    let Some(open) = prefix.opened(day, bounded, found.read) else {
         return true;
     };
     let place = open.depth();
     let rejected = open.extended(false);
-    let day_without = relaxed.child(day, place, false);
+    let mut next = *day;
+    let bounded_without = relaxed.extend(&mut next, place, false, found.read);
     if !explore(
         problem,
         relaxed,
         nodes,
         rejected,
-        &day_without,
+        &next,
+        bounded_without,
         incumbent,
         found,
     ) {
@@ -172,9 +179,17 @@ fn explore<A: Allocator, B: Allocator, I: Incumbent>(
     if !accepted.is_still_admissible(problem) {
         return true;
     }
-    let day_with = relaxed.child(day, place, true);
+    next = *day;
+    let bounded_with = relaxed.extend(&mut next, place, true, found.read);
     explore(
-        problem, relaxed, nodes, accepted, &day_with, incumbent, found,
+        problem,
+        relaxed,
+        nodes,
+        accepted,
+        &next,
+        bounded_with,
+        incumbent,
+        found,
     )
 }
 
@@ -227,13 +242,15 @@ pub fn search_piece<A: Allocator, B: Allocator, I: Incumbent>(
             done: true,
         };
     }
-    let day = prefix.day(relaxed);
+    let (day, bounded) = prefix.bounded_day(relaxed);
     let mut found = Found {
         best: None,
         read: 0,
         visited: 0,
     };
-    let done = explore(problem, relaxed, nodes, prefix, &day, incumbent, &mut found);
+    let done = explore(
+        problem, relaxed, nodes, prefix, &day, bounded, incumbent, &mut found,
+    );
     PieceAnswer {
         piece,
         best: found.best,

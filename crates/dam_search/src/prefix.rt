@@ -1,37 +1,24 @@
 ghost use Rattle.std.specs.Prelude.{◌≡◌, ◌+◌, ◌-◌, ◌^◌, ◌<◌, ◌≤◌, ℤ, pos, ◌<ℤ◌, true, false, Some};
-ghost use Rattle.std.specs.Prelude.{List, Bool, [], ◌∷◌, ◌++◌, length, IsTrue, ◌↔◌, MatchOption};
+ghost use Rattle.std.specs.Prelude.{ℕ, List, Bool, [], ◌∷◌, ◌++◌, length, slice_get, slice_set, slice_index_or, not, IsTrue, ◌↔◌, MatchBool, MatchOption};
 ghost use Rattle.dam_book.specs.Limits.{most_blocks};
 ghost use Rattle.dam_blocks.specs.Problem.{ProblemState};
 ghost use Rattle.dam_blocks.specs.Selection.{choice, padded, IsAdmissible};
 ghost use Rattle.dam_blocks.specs.Eligible.{ArePrices, HasNoLoss, selection_welfare};
 ghost use Rattle.dam_bound.specs.Prefix.{IsCompletion};
 ghost use Rattle.dam_bound.specs.Relaxed.{relaxed_welfare, reaches};
-ghost use Rattle.dam_bound.specs.Day.{IsDay, IsSmallDay, IsDayOf};
+ghost use Rattle.dam_bound.specs.Day.{IsDay, IsUnder};
+ghost use Rattle.dam_search.specs.inside.Walk.{IsDayFrom};
 
 use dam_blocks::{Problem, Selection, admissible, is_allowed};
 use dam_bound::{Day, Relaxed};
 use std::alloc::Allocator;
 use std::marker::Model;
 
-/// Whether there is a bound, and it is at least the value.
-fn reaches(bound: Option<i64>, value: u64) -> bool
-    ensures { result ≡ reaches bound value }
+/// Whether the bound is at least the value.
+fn reaches(bound: i64, value: u64) -> bool
+    ensures { result ≡ reaches (Some bound) value }
 {
-    match bound {
-        Some(bound) => bound >= 0 && value <= bound as u64,
-        None => false,
-    }
-}
-
-/// The relaxed welfare of the prefix whose day it is.
-fn bound_of(day: &Option<Day>) -> Option<i64>
-    ensures { (problem : ProblemState) (prefix : List Bool) → IsDayOf problem prefix day.now
-        → result ≡ relaxed_welfare problem prefix }
-{
-    match day {
-        Some(day) => Some(day.total),
-        None => None,
-    }
+    bound >= 0 && value <= bound as u64
 }
 
 /// A prefix: decisions on the first blocks. It is a node of a piece.
@@ -66,6 +53,17 @@ impl Prefix {
             taken: Selection::choice(depth, piece),
             depth,
         }
+    }
+
+    /// The decisions of a selection on every block.
+    pub(crate) fn of_selection<A: Allocator>(selection: Selection, problem: &Problem<A>) -> Prefix
+        ensures { length result ≡ length problem.now.blocks }
+    {
+        let mut prefix = Prefix::of_piece(0, 0);
+        for place in 0..problem.block_count() {
+            prefix = prefix.extended(selection.has(place));
+        }
+        prefix
     }
 
     /// How many blocks are decided.
@@ -134,16 +132,53 @@ impl Prefix {
         is_allowed(problem, self.taken, last)
     }
 
-    /// The prefix's day.
+    /// The prefix's day; `None` only where it has no bound or one below 0.
     pub(crate) fn day<A: Allocator>(&self, relaxed: &Relaxed<A>) -> Option<Day>
         requires { length self.now ≤ length relaxed.now.blocks }
-        ensures { IsDayOf relaxed.now self.now result }
+        ensures { IsDayFrom relaxed.now self.now 0 result }
     {
-        let mut day = relaxed.root();
+        dam_bound::laws::extension();
+        let mut day = relaxed.root()?;
         for place in 0..self.depth {
-            day = relaxed.child(&day, place, self.taken.has(place));
+            if !relaxed.extend(&mut day, place, self.taken.has(place), 0) {
+                return None;
+            }
         }
-        day
+        Some(day)
+    }
+
+    /// The prefix's day, and true; or some day, and false where it has no bound or one below 0.
+    pub(crate) fn bounded_day<A: Allocator>(&self, relaxed: &Relaxed<A>) -> (Day, bool)
+        requires { length self.now ≤ length relaxed.now.blocks }
+        ensures { MatchBool result.1 (IsDay relaxed.now self.now result.0)
+            (IsUnder relaxed.now self.now 0) }
+    {
+        match self.day(relaxed) {
+            Some(day) => (day, true),
+            None => (Day::empty(), false),
+        }
+    }
+
+    /// Whether the block at the place is accepted.
+    pub(crate) fn has(&self, place: usize) -> bool
+        requires { place < length self.now }
+        ensures { slice_get self.now place ≡ Some result }
+    {
+        self.taken.has(place)
+    }
+
+    /// The prefix with the decision on the block at the place turned round.
+    pub(crate) fn turned(&self, place: usize) -> Prefix
+        requires { place < length self.now }
+        ensures { result ≡ slice_set self.now place (not (slice_index_or self.now place false)) }
+    {
+        let mut turned = Prefix::of_piece(0, 0);
+        for own in 0..self.depth {
+            let accept = self.has(own);
+            let kept = if own == place { !accept } else { accept };
+            turned = turned.extended(kept);
+        }
+        turned
     }
 
     /// Whether some accepted block loses at the prices of the prefix's day, on which every block is
@@ -151,7 +186,6 @@ impl Prefix {
     pub(crate) fn has_loss<A: Allocator>(&self, relaxed: &Relaxed<A>, day: &Day) -> bool
         requires full { length self.now ≡ length relaxed.now.blocks }
         requires day { IsDay relaxed.now self.now day.now }
-        requires small { IsSmallDay (length self.now) day.now }
         ensures { (prices : List ℤ)
             → ArePrices relaxed.now.blocks (padded self.now) 1 relaxed.now.hours prices
             → (result ≡ false) ↔ HasNoLoss relaxed.now.blocks (padded self.now) prices }
@@ -165,17 +199,23 @@ impl Prefix {
     }
 
     /// The prefix, where its bound is at least the value; nothing where it has no bound or a lesser
-    /// one, and so each of its completions has less welfare than the value. The day is the prefix's.
-    pub(crate) fn opened(self, day: &Option<Day>, least: u64) -> Option<Prefix>
-        ensures { (relaxed : ProblemState) → IsDayOf relaxed self day.now → MatchOption result
+    /// one, and so each of its completions has less welfare than the value. The day is the prefix's if
+    /// it is `bounded`; else the bound is known to be under what was read before.
+    pub(crate) fn opened(self, day: &Day, bounded: bool, least: u64) -> Option<Prefix>
+        ensures { (relaxed : ProblemState) (low : ℕ) → low ≤ least
+            → MatchBool bounded (IsDay relaxed self day.now) (IsUnder relaxed self low)
+            → MatchOption result
             ((sel : List Bool) (w : ℤ) → IsCompletion self sel
             → selection_welfare relaxed sel ≡ Some w → w <ℤ pos least)
             (λ prefix. (prefix ≡ self)
-            × (reaches (relaxed_welfare relaxed self) least ≡ true)) }
+            × (reaches (relaxed_welfare relaxed self) least ≡ true)
+            × IsDay relaxed self day.now) }
     {
         dam_bound::laws::bound();
-        let bound = bound_of(day);
-        if reaches(bound, least) {
+        if !bounded {
+            return None;
+        }
+        if reaches(day.total, least) {
             Some(self)
         } else {
             None

@@ -408,6 +408,13 @@ fn six_blocks_under_every_plan(rt: HostRuntime) -> Result<(), Fail> {
     check_every_plan(&rt, rt.alloc(), &problem, 60_000)
 }
 
+fn first_of(alloc: Global, problem: &Problem) -> Result<Best, AllocError> {
+    Ok(first_selection(
+        problem,
+        &Relaxed::build(alloc, problem)?,
+    ))
+}
+
 /// From the empty selection no single block is eligible, so the pair is accepted at once.
 #[test]
 fn a_first_selection_of_a_pair(rt: HostRuntime) -> Result<(), Fail> {
@@ -421,7 +428,7 @@ fn a_first_selection_of_a_pair(rt: HostRuntime) -> Result<(), Fail> {
         selection: Selection::none().with(0).with(1),
         welfare: 2_990_000,
     };
-    assert_eq!(&rt; first_selection(&problem), pair);
+    assert_eq!(&rt; first_of(rt.alloc(), &problem)?, pair);
     check_every_plan(&rt, rt.alloc(), &problem, 2_990_000)
 }
 
@@ -432,18 +439,18 @@ fn a_first_selection_that_is_not_the_result(rt: HostRuntime) -> Result<(), Fail>
         selection: Selection::none().with(3),
         welfare: 57_000,
     };
-    assert_eq!(&rt; first_selection(&problem), first);
+    assert_eq!(&rt; first_of(rt.alloc(), &problem)?, first);
     Ok(())
 }
 
 #[test]
 fn first_selections(rt: HostRuntime) -> Result<(), Fail> {
     let problem = exclusive_group(rt.alloc())?;
-    let first = first_selection(&problem);
+    let first = first_of(rt.alloc(), &problem)?;
     assert_eq!(&rt; first.welfare, 30_000);
     assert_eq!(&rt; first.selection, Selection::none().with(1));
     let problem = three_blocks(rt.alloc())?;
-    let first = first_selection(&problem);
+    let first = first_of(rt.alloc(), &problem)?;
     let verdict = score(&problem, first.selection);
     assert_eq!(&rt; first.welfare, 60_000);
     assert_eq!(&rt; verdict, Verdict::Eligible(60_000));

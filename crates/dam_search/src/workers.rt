@@ -237,7 +237,7 @@ pub fn search<R: Threads + Sync, T: Turnstile + Sync>(
         depth: usize::from(plan.cut()).min(problem.block_count()),
         nodes: plan.nodes(),
         workers: plan.workers(),
-        first: first_selection(problem).welfare,
+        first: first_selection(problem, &relaxed).welfare,
     };
     let explored = explore_all(rt, &task, turnstile)?;
     collected(problem, task.depth, task.nodes, &explored.answers)

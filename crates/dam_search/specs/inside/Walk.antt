@@ -1,11 +1,13 @@
 -- The account of a walk from a prefix: what it finds, what it costs, and what it does to the
 -- incumbent.
-use Rattle.std.specs.Prelude.{◌≡◌, ℕ, ◌+◌, ◌*◌, ◌^◌, ◌<◌, ◌≤◌, max, ℤ, pos, ◌<ℤ◌, ◌⊎◌, Bool, false, Option, List}
+use Rattle.std.specs.Prelude.{◌≡◌, ℕ, ◌+◌, ◌*◌, ◌^◌, ◌<◌, ◌≤◌, max, ℤ, pos, ◌<ℤ◌, ◌⊎◌, Bool, false, Option, Some, None, List}
 use Rattle.dam_blocks.specs.declared.selection.Best.{Best}
 use Rattle.dam_blocks.specs.Problem.{ProblemState}
 use Rattle.dam_blocks.specs.Eligible.{IsEligible}
 use Rattle.dam_bound.specs.Prefix.{IsCompletion}
 use Rattle.dam_bound.specs.Relaxed.{live_count}
+use Rattle.dam_bound.specs.declared.day.Day.{Day}
+use Rattle.dam_bound.specs.Day.{IsDay, IsUnder}
 use Rattle.dam_search.specs.Piece.{IsFind, IsMatched, Rises}
 
 -- what is found changes to an eligible completion of the prefix, or not at all, and only rises
@@ -43,3 +45,8 @@ pub record Reads (left visited_before visited_after read_before read_after told_
   pub asked : visited_before < visited_after → 0 < left → read_after ≡ told_after
   pub unvisited : visited_after ≡ visited_before → read_after ≡ read_before
   pub full : left ≡ 0 → read_after ≡ read_before
+
+-- the day of the prefix; or there is none, and then its relaxed welfare is under the value, if it has one
+abbrev pub IsDayFrom : ProblemState → List Bool → ℕ → Option Day → Type 0
+IsDayFrom problem prefix least None = IsUnder problem prefix least
+IsDayFrom problem prefix least (Some day) = IsDay problem prefix day

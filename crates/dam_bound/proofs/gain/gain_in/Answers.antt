@@ -1,7 +1,7 @@
 -- The price of the period lies between the ends that there are.
 use Rattle.std.proofs.Common.{ℤ, pos, ◌-ℤ◌, ◌*ℤ◌, List, ap, ◌∙◌, subst, rules}
 use Rattle.std.proofs.lemmas.Int.{to_z-of_z}
-use mir.Syntax.{w64}
+use mir.Syntax.{w32, w64}
 use mir.Val.{SFits}
 use Rattle.dam_hour.specs.declared.step.Step.{Step}
 use Rattle.dam_hour.specs.Best.{signed}
@@ -14,15 +14,19 @@ pub returns-in-Some-clause-value : goal.returns-in-Some-clause-value
 returns-in-Some-clause-value g c price is =
     let steps = c.stack.ensures _ c.requires.levels in
     let fits : SFits w64 c.gain_at_price.result = search rules in
-    let net_fits : SFits w64 c.args.own.net = search rules in
+    let net_fits : SFits w64 c.from.result = search rules in
+    let own_fits : SFits w32 c.args.own.net = search rules in
+    let net = to_z-of_z w64 c.from.result net_fits ∙ c.from.ensures ∙ to_z-of_z w32 c.args.own.net own_fits in
     to_z-of_z w64 c.gain_at_price.result fits ∙ c.gain_at_price.ensures.value
     ∙ ap (λ (z : ℤ). signed c.args.order.now.side ((c.args.order.now.price -ℤ z) *ℤ pos c.args.qty))
-    (c.price_between.ensures ∙ price_is c.uniqueness.ensures.ends (last_steps c.args.levels.now) _ c.args.own.net _ _ _ price steps (to_z-of_z w64 c.args.own.net net_fits) c.in-Some.ensures.ends is)
+    (c.price_between.ensures ∙ price_is c.uniqueness.ensures.ends (last_steps c.args.levels.now) _ c.args.own.net _ _ _ price steps net c.in-Some.ensures.ends is)
 
 pub returns-in-None-clause-value : goal.returns-in-None-clause-value
 returns-in-None-clause-value g c price is =
     let steps = c.stack.ensures _ c.requires.levels in
-    let net_fits : SFits w64 c.args.own.net = search rules in
+    let net_fits : SFits w64 c.from.result = search rules in
+    let own_fits : SFits w32 c.args.own.net = search rules in
+    let net = to_z-of_z w64 c.from.result net_fits ∙ c.from.ensures ∙ to_z-of_z w32 c.args.own.net own_fits in
     let none = subst (λ (ss : List Step). IsUnbalanced ss c.args.own.net) steps
-    (subst (λ (z : ℤ). IsUnbalanced c.stack.result.now z) (to_z-of_z w64 c.args.own.net net_fits) c.in-None.ensures.none) in
+    (subst (λ (z : ℤ). IsUnbalanced c.stack.result.now z) net c.in-None.ensures.none) in
     absurd (no_price (last_steps c.args.levels.now) c.args.own.net price none is)

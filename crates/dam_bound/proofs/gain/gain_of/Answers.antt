@@ -13,6 +13,8 @@ use Rattle.dam_bound.specs.Relaxed.{as_steps}
 use Rattle.dam_bound.specs.inside.Levels.{IsAtDepth, last_steps, problem_kept}
 use Rattle.dam_bound.proofs.Periods.{hour_of}
 use Rattle.dam_bound.proofs.Days.{own_period}
+use Rattle.dam_hour.specs.Execution.{IsNetVolume}
+use Rattle.dam_bound.proofs.Sizes.{net_small}
 use Rattle.dam_bound.proofs.Gains.{with_pairs, price_at, as_many_prices, without_pairs, surplus_at_place, surplus_past, gain_more, gain_whole}
 use Rattle.dam_bound.proofs.gain.gain_of.Goals as goal
 
@@ -41,10 +43,12 @@ gain_in-total-requires-clause-levels g c =
 
 pub gain_in-total-requires-clause-net : goal.gain_in-total-requires-clause-net
 gain_in-total-requires-clause-net g c =
-    let few = c.requires.levels.few_periods in let inside = c.if-at-periods.false in let blocks = c.requires.levels.few_blocks in
-    let small = (c.requires.small.each (c.from-at.result - 1) (record { net = pos 0; value = pos 0; welfare = pos 0; near = 0 }) (omega (arith, few, inside))).net in
-    let low = small.at_least in let high = small.at_most in
-    record { at_least = omega (arith, ints, low, blocks); at_most = omega (arith, ints, high, blocks) }
+    let at = slice_get_read _ _ (c.from-at.result - 1) _ (search rules) c.if-at-periods.false c.index-periods-at.is in
+    let there = hour_of c.args.periods.now (c.from-at.result - 1) c.index-periods-at.result at in
+    let prefix = c.requires.day.0 in
+    let own = c.requires.day.2.each (c.from-at.result - 1) (last_steps c.index-periods-at.result) (record { welfare = pos 0; net = pos 0; near = 0 }) there in
+    let small = net_small (length c.args.periods.now) ((c.from-at.result - 1) + 1) c.args.blocks.now prefix c.requires.blocks c.requires.levels.few_blocks in
+    subst IsNetVolume (sym own.net_is) small
 
 pub overflow_add-total : goal.overflow_add-total
 overflow_add-total g c =
@@ -70,7 +74,7 @@ loop-period-preserved g c =
       so_far = λ prefix prices is day are.
           (let price = price_at c.args.blocks.now (padded prefix) 1 (c.from-at.result - 1) (map last_steps c.args.periods.now) prices (last_steps c.index-periods-at.result) are there in
           let own = own_period (problem_kept c.args.periods.now c.args.blocks.now) prefix c.args.day.now (c.from-at.result - 1) c.loop-period-item.result.0 (length c.args.blocks.now)
-          (last_steps c.index-periods-at.result) (record { net = pos 0; value = pos 0; welfare = pos 0; near = 0 }) day there number is in
+          (last_steps c.index-periods-at.result) (record { welfare = pos 0; net = pos 0; near = 0 }) day there number is in
           let same : 1 + (c.from-at.result - 1) ≡ c.loop-period-item.result.0 = omega (arith, number) in
           let net = ap (λ (t : ℕ). net_volume c.args.blocks.now (padded prefix) t) same
           ∙ c.sums.ensures.padded (net_volume_of c.loop-period-item.result.0) c.args.blocks.now prefix ∙ sym own.net_is in
