@@ -23,6 +23,7 @@
 #![tactic(auto)]
 
 mod accepted;
+mod family;
 mod gain;
 pub mod laws;
 mod links;

@@ -9,7 +9,7 @@ use crate::laws;
 use crate::links::admissible;
 use crate::problem::{MOST_PERIODS, Problem};
 use crate::selection::Selection;
-use dam_book::{Period, Price};
+use dam_book::{MOST_BLOCKS, Period, Price};
 use std::alloc::Allocator;
 
 /// What a selection is worth, or the first thing that speaks against it.
@@ -70,7 +70,7 @@ fn first_losing<A: Allocator>(
         (λ place. IsFirstLosing problem.now.blocks selection prices.now place) }
 {
     let blocks = problem.blocks();
-    for place in 0..blocks.len() {
+    for place in 0..MOST_BLOCKS {
         if selection.has(place) && gain_at(blocks, selection, prices, place) < 0 {
             return Some(place);
         }
