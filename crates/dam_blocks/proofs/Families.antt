@@ -1,5 +1,5 @@
 -- Where every accepted block with its accepted descendants gains, all accepted blocks together do: each stands in the family of just one that has no parent.
-use Rattle.std.proofs.Common.{◌≡◌, ◌≢◌, ℕ, zero, suc, ◌+◌, ◌<◌, ◌≤◌, ◌==◌, ℤ, pos, ◌+ℤ◌, ◌≤ℤ◌, Bool, true, false, ◌&&◌, ◌||◌, Option, Some, None, List, [], ◌∷◌, length, get_or, cond, nat_lt, lt-ltb, le-ltb, ap, ap₂, ◌∙◌, sym, subst, refl, inl, inr, arith}
+use Rattle.std.proofs.Common.{◌≡◌, ℕ, zero, suc, ◌+◌, ◌<◌, ◌≤◌, ◌==◌, ℤ, pos, ◌+ℤ◌, ◌≤ℤ◌, Bool, true, false, ◌&&◌, ◌||◌, Option, Some, None, List, [], ◌∷◌, length, get_or, cond, nat_lt, lt-ltb, le-ltb, ap, ap₂, ◌∙◌, sym, subst, refl, inl, inr, arith}
 use Rattle.std.specs.List.{slice_get}
 use Rattle.std.proofs.lemmas.Int.{ints}
 use Rattle.std.proofs.lemmas.Option.{slice_get_within, get_or_from_slice_get}
@@ -9,8 +9,7 @@ use Rattle.dam_book.specs.Terms.{BlockTerms}
 use Rattle.dam_blocks.specs.declared.problem.Block.{Block}
 use Rattle.dam_blocks.specs.Selection.{accepts, over_accepted}
 use Rattle.dam_blocks.specs.Family.{names, parent_among, parent_place, leads_to, descends, accepted_where, accepted_descendants}
-use Rattle.dam_blocks.specs.Eligible.{surplus_of, surplus_at, gain_at, HasNoLoss}
-
+use Rattle.dam_blocks.specs.Eligible.{surplus_of, surplus_at, HasNoLoss}
 
 -- ---- sums over the places below n
 abbrev sum_below : ℕ → (ℕ → ℤ) → ℤ
@@ -112,9 +111,9 @@ by_place f n root [] t sel h = sum_below-zero n
 by_place f n root (b ∷ bs) t [] h = sum_below-zero n
 by_place f n root (b ∷ bs) t (true ∷ sel) h =
     let apart = sum_below-same n
-        (λ r. over_accepted f (b ∷ bs) ((root t == r) ∷ accepted_where (λ j. root j == r) (suc t) sel))
-        (λ r. where_true (root t == r) (f b.order) +ℤ over_accepted f bs (accepted_where (λ j. root j == r) (suc t) sel))
-        (λ r. first_apart f b bs (root t == r) (accepted_where (λ j. root j == r) (suc t) sel)) in
+    (λ r. over_accepted f (b ∷ bs) ((root t == r) ∷ accepted_where (λ j. root j == r) (suc t) sel))
+    (λ r. where_true (root t == r) (f b.order) +ℤ over_accepted f bs (accepted_where (λ j. root j == r) (suc t) sel))
+    (λ r. first_apart f b bs (root t == r) (accepted_where (λ j. root j == r) (suc t) sel)) in
     let both = sum_below-plus n (λ r. where_true (root t == r) (f b.order)) (λ r. over_accepted f bs (accepted_where (λ j. root j == r) (suc t) sel)) in
     let here = at_just_one n (root t) (f b.order) (subst (λ (m : ℕ). root m < n) (first_place t) (h 0 refl)) in
     let rest = by_place f n root bs (suc t) sel (λ i e. subst (λ (m : ℕ). root m < n) (next_place t i) (h (suc i) e)) in
@@ -132,7 +131,7 @@ one_more f d (c ∷ bs) t zero (a ∷ sel) b apart acc at =
     let yes_here : (a && ((t == t + 0) || d t)) ≡ true = (let taken : a ≡ true = acc in let eq = eq-eqb t (t + 0) (omega arith) in cc) in
     let no_here : (a && d t) ≡ false = (let taken : a ≡ true = acc in let off : d t ≡ false = sym (ap d (first_place t)) ∙ apart in cc) in
     let rest = where_same (λ j. (j == t + 0) || d j) d (suc t) sel
-        (λ i e. ap (λ (x : Bool). x || d (suc t + i)) (unequal (suc t + i) (t + 0) (λ w. (let wrong : 0 < 0 = omega (arith, w) in omega (arith, wrong))))) in
+    (λ i e. ap (λ (x : Bool). x || d (suc t + i)) (unequal (suc t + i) (t + 0) (λ w. (let wrong : 0 < 0 = omega (arith, w) in omega (arith, wrong))))) in
     let with_it = first_apart f c bs (a && ((t == t + 0) || d t)) (accepted_where (λ j. (j == t + 0) || d j) (suc t) sel) in
     let without = first_apart f c bs (a && d t) (accepted_where d (suc t) sel) in
     let one = ap (λ (x : Bool). where_true x (f c.order)) yes_here in
@@ -145,7 +144,7 @@ one_more f d (c ∷ bs) t (suc k) (a ∷ sel) b apart acc at =
     let deeper = one_more f d bs (suc t) k sel b (ap d place ∙ apart) acc at in
     let moved = subst (λ (m : ℕ). over_accepted f bs (accepted_where (λ j. (j == m) || d j) (suc t) sel) ≡ f b.order +ℤ over_accepted f bs (accepted_where d (suc t) sel)) place deeper in
     let here : (a && ((t == t + suc k) || d t)) ≡ (a && d t) =
-        ap (λ (x : Bool). a && (x || d t)) (unequal t (t + suc k) (λ w. (let wrong : 0 < 0 = omega (arith, w) in omega (arith, wrong)))) in
+    ap (λ (x : Bool). a && (x || d t)) (unequal t (t + suc k) (λ w. (let wrong : 0 < 0 = omega (arith, w) in omega (arith, wrong)))) in
     let with_it = first_apart f c bs (a && ((t == t + suc k) || d t)) (accepted_where (λ j. (j == t + suc k) || d j) (suc t) sel) in
     let without = first_apart f c bs (a && d t) (accepted_where d (suc t) sel) in
     let same = ap (λ (x : Bool). where_true x (f c.order)) here in
@@ -179,7 +178,7 @@ root_is_top blocks sel (suc n) j (Some p) chains e acc l =
     let near = l p refl in
     let below = chains.before j p e in
     let deeper = root_is_top blocks sel n p (parent_place blocks p) chains refl (chains.with_parent j p acc e)
-        (λ q is. (let under = chains.before p q is in omega (arith, under, near))) in
+    (λ q is. (let under = chains.before p q is in omega (arith, under, near))) in
     let least = deeper.1 in
     (deeper.0, omega (arith, least, below))
 
@@ -224,9 +223,9 @@ top_gains : (blocks : List Block) (sel : List Bool) (prices : List ℤ) (r : ℕ
 top_gains blocks sel prices r chains no_loss is =
     let stands = chains.within r is.accepted in
     let family = where_same (λ j. root blocks j == r) (λ j. (j == 0 + r) || descends blocks r j) 0 sel
-        (λ i acc. subst (λ (m : ℕ). (root blocks m == r) ≡ ((m == 0 + r) || descends blocks r m)) (sym (zero_first i))
-        (let there = chains.within i acc in
-        subst (λ (m : ℕ). (root blocks i == r) ≡ ((i == m) || descends blocks r i)) (sym (zero_first r)) (in_family blocks sel r i (parent_place blocks i) chains is.top refl (slice_get_within blocks i there.0 there.1)))) in
+    (λ i acc. subst (λ (m : ℕ). (root blocks m == r) ≡ ((m == 0 + r) || descends blocks r m)) (sym (zero_first i))
+    (let there = chains.within i acc in
+    subst (λ (m : ℕ). (root blocks i == r) ≡ ((i == m) || descends blocks r i)) (sym (zero_first r)) (in_family blocks sel r i (parent_place blocks i) chains is.top refl (slice_get_within blocks i there.0 there.1)))) in
     let itself : descends blocks r r ≡ false = ap (λ (o : Option ℕ). leads_to (length blocks) blocks r o) is.top in
     let more = one_more (surplus_of prices) (descends blocks r) blocks 0 r sel stands.0 (ap (λ (m : ℕ). descends blocks r m) (zero_first r) ∙ itself) is.accepted stands.1 in
     let same = ap (λ (m : List Bool). over_accepted (surplus_of prices) blocks m) family in
@@ -241,7 +240,7 @@ family_gains blocks sel prices r chains no_loss =
     (let parts = where_accepted (λ j. root blocks j == r) 0 sel i passes in
     let there = chains.within i parts.0 in
     let ends = root_is_top blocks sel (length blocks) i (parent_place blocks i) chains refl parts.0
-        (λ p is. (let below = chains.before i p is in let inside = slice_get_within blocks i there.0 there.1 in omega (arith, below, inside))) in
+    (λ p is. (let below = chains.before i p is in let inside = slice_get_within blocks i there.0 there.1 in omega (arith, below, inside))) in
     let same = eqb-true (root blocks i) r (ap (λ (m : ℕ). root blocks m == r) (sym (zero_first i)) ∙ parts.1) in
     top_gains blocks sel prices r chains no_loss (subst (λ (m : ℕ). IsTop blocks sel m) same ends.0)))
 
@@ -249,11 +248,11 @@ pub no_loss_in_families : (blocks : List Block) (sel : List Bool) (prices : List
     → pos 0 ≤ℤ over_accepted (surplus_of prices) blocks sel
 no_loss_in_families blocks sel prices chains no_loss =
     let all = by_place (surplus_of prices) (length blocks) (root blocks) blocks 0 sel
-        (λ i acc. subst (λ (m : ℕ). root blocks m < length blocks) (sym (zero_first i)) (let there = chains.within i acc in
-        let inside = slice_get_within blocks i there.0 there.1 in
-        let ends = root_is_top blocks sel (length blocks) i (parent_place blocks i) chains refl acc
-            (λ p is. (let below = chains.before i p is in omega (arith, below, inside))) in
-        let least = ends.1 in omega (arith, least, inside))) in
+    (λ i acc. subst (λ (m : ℕ). root blocks m < length blocks) (sym (zero_first i)) (let there = chains.within i acc in
+    let inside = slice_get_within blocks i there.0 there.1 in
+    let ends = root_is_top blocks sel (length blocks) i (parent_place blocks i) chains refl acc
+    (λ p is. (let below = chains.before i p is in omega (arith, below, inside))) in
+    let least = ends.1 in omega (arith, least, inside))) in
     let each = sum_below-at_least (length blocks) (family_gain blocks sel prices) (λ r. family_gains blocks sel prices r chains no_loss) in
     omega (arith, ints, all, each)
 

@@ -17,7 +17,7 @@ use Rattle.dam_book.specs.Order.{is_parent}
 use Rattle.dam_blocks.specs.Problem.{ProblemState, IsProblem, IsParent}
 use Rattle.dam_blocks.specs.Selection.{over_accepted, net_volume, block_value, IsAdmissible}
 use Rattle.dam_blocks.specs.Family.{names, parent_among, parent_place}
-use Rattle.dam_blocks.specs.Eligible.{IsClearingPrice, ArePrices, surplus_in, surplus_from, surplus_of, added, period_welfare, welfare_from, IsEligible}
+use Rattle.dam_blocks.specs.Eligible.{IsClearingPrice, ArePrices, surplus_in, surplus_from, added, period_welfare, welfare_from, IsEligible}
 use Rattle.dam_blocks.proofs.Sums.{over_accepted-plus, over_accepted-zero, accepted_surplus}
 use Rattle.dam_blocks.proofs.Families.{AreChains, no_loss_in_families}
 
@@ -118,8 +118,8 @@ are_chains problem sel is admissible = record {
         let found = parent_found problem.blocks j p e in
         let kept = is.parents j found.child found.parent.name found.child_stands found.is_parent.name in
         let same = is.unique kept.place p kept.parent found.parent kept.stands found.parent_stands
-            (kept.is_parent.who ∙ sym found.is_parent.who)
-            (same_text_in _ _ (sym kept.is_parent.name ∙ found.is_parent.name)) in
+        (kept.is_parent.who ∙ sym found.is_parent.who)
+        (same_text_in _ _ (sym kept.is_parent.name ∙ found.is_parent.name)) in
         let less = kept.lesser in omega (arith, same, less)
 
 pub welfare_at_least_zero : PriceLaws → (problem : ProblemState) (sel : List Bool) (w : ℤ) → IsProblem problem → IsEligible problem sel w → pos 0 ≤ℤ w

@@ -86,12 +86,7 @@ fn surplus_of_descendants(
 /// of the accepted blocks that descend from it.
 ///
 /// (EUPHEMIA Public Description, "Linked Block Orders".)
-pub(crate) fn gain_at(
-    blocks: &[Block],
-    selection: Selection,
-    prices: &[Price],
-    place: usize,
-) -> i64
+pub(crate) fn gain_at(blocks: &[Block], selection: Selection, prices: &[Price], place: usize) -> i64
     requires periods { length prices.now ≤ last_period }
     requires blocks { length blocks.now ≤ most_blocks }
     ensures { result ≡ gain_at blocks.now selection prices.now place }

@@ -1,5 +1,5 @@
 -- The first block that is named stands at the place of the parent.
-use Rattle.std.proofs.Common.{◌≡◌, ℕ, ◌+◌, ◌<◌, ◌≤◌, false, get_or, ap, ◌∙◌, sym, inl, inr, arith, rules}
+use Rattle.std.proofs.Common.{◌≡◌, ℕ, get_or, ap, ◌∙◌, sym, inl, inr, arith, rules}
 use Rattle.std.proofs.lemmas.Bool.{cases_lt}
 use Rattle.std.proofs.lemmas.Option.{slice_get_read, get_or_from_slice_get, gets}
 use Rattle.std.proofs.lemmas.Grind.{common_steps}

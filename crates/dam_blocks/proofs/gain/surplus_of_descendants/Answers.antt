@@ -1,5 +1,5 @@
 -- A block more.
-use Rattle.std.proofs.Common.{◌≡◌, ◌&&◌, Bool, ap, ap₂, ◌∙◌, sym, arith, rules}
+use Rattle.std.proofs.Common.{◌∙◌, sym, arith, rules}
 use Rattle.std.proofs.lemmas.Int.{ints}
 use Rattle.std.proofs.lemmas.Bool.{and_from, and_left, and_right}
 use Rattle.std.proofs.lemmas.Option.{slice_get_read}
@@ -21,11 +21,11 @@ loop-other-preserved c =
           (both ∙ and_from _ _ (sym c.has.ensures.value ∙ w.if-has.true) (sym w.descends.ensures ∙ w.if-descends.true))
           w.surplus-total.ensures.value w.surplus-total.ensures.size.at_least w.surplus-total.ensures.size.at_most (omega (arith, ints, few, w.total-is)) c.loop-other.invariant
       | else-has w ↦ (elim w.else-has.branch [
-          | else-has-via-then-has+else-descends v ↦
-              sum_same (surplus_of c.args.prices.now) greatest_surplus _ _ _ _ _
-              (both ∙ and_right _ _ (sym v.descends.ensures ∙ v.if-descends.false)) (omega (arith, ints, w.total-is)) c.loop-other.invariant
-          | else-has-via-else-has v ↦
-              sum_same (surplus_of c.args.prices.now) greatest_surplus _ _ _ _ _
-              (both ∙ and_left _ _ (sym c.has.ensures.value ∙ v.if-has.false)) (omega (arith, ints, w.total-is)) c.loop-other.invariant
-        ])
+        | else-has-via-then-has+else-descends v ↦
+            sum_same (surplus_of c.args.prices.now) greatest_surplus _ _ _ _ _
+            (both ∙ and_right _ _ (sym v.descends.ensures ∙ v.if-descends.false)) (omega (arith, ints, w.total-is)) c.loop-other.invariant
+        | else-has-via-else-has v ↦
+            sum_same (surplus_of c.args.prices.now) greatest_surplus _ _ _ _ _
+            (both ∙ and_left _ _ (sym c.has.ensures.value ∙ v.if-has.false)) (omega (arith, ints, w.total-is)) c.loop-other.invariant
+      ])
     ]
