@@ -1,4 +1,4 @@
-ghost use Rattle.std.specs.Prelude.{◌≡◌, ◌↔◌, IsTrue};
+ghost use Rattle.std.specs.Prelude.{◌≡◌, ◌↔◌, true, false, IsTrue};
 ghost use Rattle.dam_blocks.specs.Problem.{IsParent};
 ghost use Rattle.dam_blocks.specs.Family.{names, parent_place, descends};
 
@@ -15,6 +15,13 @@ pub(crate) fn is_parent(parent: &Block, child: &Block) -> bool
     }
 }
 
+/// Whether the block names no parent; then no block is looked at.
+fn has_no_parent(child: &Block) -> bool
+    ensures { result ≡ true → (parent : Block) → names parent child.now ≡ false }
+{
+    child.order.parent().is_none()
+}
+
 /// The place of the parent of the block at a place, if it has one.
 fn parent_place(blocks: &[Block], place: usize) -> Option<usize>
     ensures { result ≡ parent_place blocks.now place }
@@ -22,6 +29,9 @@ fn parent_place(blocks: &[Block], place: usize) -> Option<usize>
     let Some(child) = blocks.get(place) else {
         return None;
     };
+    if has_no_parent(child) {
+        return None;
+    }
     for (at, parent) in blocks.iter().enumerate() {
         if is_parent(parent, child) {
             return Some(at);
@@ -30,8 +40,9 @@ fn parent_place(blocks: &[Block], place: usize) -> Option<usize>
     None
 }
 
-/// Whether the block at a place descends from an ancestor: the chain of its parents leads there.
-pub(crate) fn descends(blocks: &[Block], ancestor: usize, place: usize) -> bool
+/// Whether the block at a place descends from the one at another: the chain of its parents leads
+/// there. Places are those of the list, from 0; a block doesn't descend from itself.
+pub fn descends(blocks: &[Block], ancestor: usize, place: usize) -> bool
     ensures { result ≡ descends blocks.now ancestor place }
 {
     let mut parent = parent_place(blocks, place);

@@ -1,6 +1,7 @@
-ghost use Rattle.std.specs.Prelude.{◌≡◌, ◌≤◌, ◌-ℤ◌, ◌≤ℤ◌, pos, neg_ℤ, ◌*◌, length};
-ghost use Rattle.dam_book.specs.Limits.{last_period, most_blocks};
+ghost use Rattle.std.specs.Prelude.{◌≡◌, ◌≤◌, ◌-ℤ◌, ◌*ℤ◌, ◌≤ℤ◌, pos, neg_ℤ, ◌*◌, length};
+ghost use Rattle.dam_book.specs.Limits.{greatest_volume, last_period, most_blocks};
 ghost use Rattle.dam_hour.specs.Limits.{price_span};
+ghost use Rattle.dam_hour.specs.Best.{signed};
 ghost use Rattle.dam_blocks.specs.Selection.{over_accepted};
 ghost use Rattle.dam_blocks.specs.Family.{accepted_descendants};
 ghost use Rattle.dam_blocks.specs.Eligible.{surplus_in, surplus_of, surplus_at, gain_at};
@@ -21,14 +22,22 @@ fn difference(limit: Price, price: Price) -> i32
     limit.get() - price.get()
 }
 
+/// What a block gains at a price in a period in which it has this volume, in cents per MWh times
+/// tenths of a MW; below 0 where it loses.
+pub fn surplus_at_price(order: &BlockOrder, price: Price, volume: u32) -> i64
+    requires { volume ≤ greatest_volume }
+    ensures value { result ≡ signed order.now.side ((order.now.price -ℤ price) *ℤ pos volume) }
+    ensures size { IsWithin greatest_gain result }
+{
+    signed(order.side(), times(difference(order.price(), price), volume))
+}
+
 fn surplus_in(order: &BlockOrder, period: Period, price: Price) -> i64
     ensures value { result ≡ surplus_in period price order.now }
     ensures low { neg_ℤ (pos greatest_gain) ≤ℤ result }
     ensures high { result ≤ℤ pos greatest_gain }
 {
-    let volume = volume_in(order.volumes(), period);
-    let above = difference(order.price(), price);
-    signed(order.side(), times(above, volume))
+    surplus_at_price(order, price, volume_in(order.volumes(), period))
 }
 
 /// What a block gains at the prices, in cents per MWh times tenths of a MW; below 0 where it loses.

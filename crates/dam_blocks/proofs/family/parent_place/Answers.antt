@@ -28,3 +28,7 @@ returns-then-is_parent c =
 pub returns : goal.returns
 returns c = sym (no_parent c.args.blocks.now c.args.place c.in-Some.child.now (grind (arith, common_steps, gets, c.in-Some.ensures.lookup))
     (λ k l. c.loop-at.invariant k (omega (arith, l))))
+
+pub returns-then-has_no_parent : goal.returns-then-has_no_parent
+returns-then-has_no_parent c = sym (no_parent c.args.blocks.now c.args.place c.in-Some.child.now (grind (arith, common_steps, gets, c.in-Some.ensures.lookup))
+    (λ k l. c.has_no_parent.ensures c.if-has_no_parent.true (get_or c.args.blocks.now k c.in-Some.child.now)))
