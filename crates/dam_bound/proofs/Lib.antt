@@ -11,3 +11,4 @@ pub mod Worth
 pub mod Volumes
 pub mod Deciding
 pub mod Gains
+pub mod Members

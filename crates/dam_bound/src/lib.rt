@@ -18,6 +18,7 @@
 #![tactic(auto)]
 
 mod day;
+mod families;
 mod gain;
 pub mod laws;
 mod levels;

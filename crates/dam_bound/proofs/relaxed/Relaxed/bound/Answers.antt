@@ -23,7 +23,7 @@ loop-place-preserved g c =
     let blocks : c.deref.result.now ≡ c.args.self.now.blocks = c.deref.ensures.value ∙ ap (λ (p : ProblemState). p.blocks) c.self.view_is in
     let there = ap (λ (hs : List (List Step)). slice_get hs c.loop-place.place) hours ∙ hour_of c.self.inside.periods.items c.loop-place.place c.levels-item.result periods in
     let welfare = c.in_ok-welfare.ensures.value ∙ ap (λ (bs : List Block). period_welfare bs c.args.taken c.at-period.result (last_steps c.levels-item.result ++ as_steps c.at-period.result (drop c.args.depth bs))) blocks in
-    let few = c.self.invariant.few_periods in let long = ap length c.deref-levels-items.ensures.value in let inside = c.loop-place-test.true in
+    let few = c.self.invariant.0.few_periods in let long = ap length c.deref-levels-items.ensures.value in let inside = c.loop-place-test.true in
     let low = c.loop-place.invariant.low in let high = c.loop-place.invariant.high in
     one_bound c.args.self.now.blocks c.args.taken (drop c.args.depth c.args.self.now.blocks) c.args.self.now.hours c.loop-place.place c.at-period.result (last_steps c.levels-item.result)
     c.in_ok-welfare.welfare _ _ there c.at-period.ensures welfare c.in_ok-welfare.ensures.size
