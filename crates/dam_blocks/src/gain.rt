@@ -29,7 +29,10 @@ pub fn surplus_at_price(order: &BlockOrder, price: Price, volume: u32) -> i64
     ensures value { result ≡ signed order.now.side ((order.now.price -ℤ price) *ℤ pos volume) }
     ensures size { IsWithin greatest_gain result }
 {
-    signed(order.side(), times(difference(order.price(), price), volume))
+    signed(
+        order.side(),
+        times(difference(order.price(), price), volume),
+    )
 }
 
 fn surplus_in(order: &BlockOrder, period: Period, price: Price) -> i64
@@ -95,7 +98,7 @@ fn surplus_of_descendants(
 /// of the accepted blocks that descend from it.
 ///
 /// (EUPHEMIA Public Description, "Linked Block Orders".)
-pub(crate) fn gain_at(blocks: &[Block], selection: Selection, prices: &[Price], place: usize) -> i64
+pub fn gain_at(blocks: &[Block], selection: Selection, prices: &[Price], place: usize) -> i64
     requires periods { length prices.now ≤ last_period }
     requires blocks { length blocks.now ≤ most_blocks }
     ensures { result ≡ gain_at blocks.now selection prices.now place }
