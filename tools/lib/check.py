@@ -60,7 +60,8 @@ def block_differences(problem, said, follows):
         if surplus is not None and said.surpluses[place] != surplus:
             line = said.lines[f"block {block}"]
             yield f"results line {line}: block {block}: the surplus is {said.surpluses[place]}, and at the prices {surplus}"
-    for place in selection.losing(problem, said.accepted, follows.surpluses):
+    for place, loss in selection.losing(problem, said.accepted, follows.surpluses).items():
         block = problem.blocks[place]
         line = said.lines[f"block {block}"]
-        yield f"results line {line}: block {block}: it is accepted and loses {-follows.surpluses[place]}"
+        family = " with those that descend from it" if selection.helping(problem, said.accepted, place) else ""
+        yield f"results line {line}: block {block}: it is accepted and loses {loss}{family}"

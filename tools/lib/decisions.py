@@ -20,7 +20,7 @@ def decisions(problem, accepted, outcome):
 def decide(problem, accepted, outcome, place):
     surplus = outcome.surpluses[place]
     if place in accepted:
-        return Decision(ACCEPTED, accepted_why(problem, place, surplus))
+        return Decision(ACCEPTED, accepted_why(problem, accepted, place, surplus))
     reasons, kind = [], REJECTED
     parent = problem.parents[place]
     rivals = rivals_of(problem, accepted, place)
@@ -42,10 +42,13 @@ def decide(problem, accepted, outcome, place):
     return Decision(kind, "; ".join(reasons))
 
 
-def accepted_why(problem, place, surplus):
+def accepted_why(problem, accepted, place, surplus):
     parent = problem.parents[place]
-    gain = "gains nothing" if not surplus else f"{'gains' if surplus > 0 else 'loses'} at the prices"
-    return gain + (f", and its parent {problem.blocks[parent].name} is accepted" if parent is not None else "")
+    why = "gains nothing" if not surplus else f"{'gains' if surplus > 0 else 'loses'} at the prices"
+    helping = selection.helping(problem, accepted, place)
+    if surplus is not None and surplus < 0 and helping:
+        why += ", which is made good by " + " ".join(problem.blocks[other].name for other in helping)
+    return why + (f", and its parent {problem.blocks[parent].name} is accepted" if parent is not None else "")
 
 
 def rivals_of(problem, accepted, place):
@@ -72,10 +75,9 @@ def consequence(problem, other, outcome):
     for number, found in then.cleared.items():
         if found is None:
             return f"period {number} wouldn't balance"
-    losers = selection.losing(problem, other, then.surpluses)
-    if losers:
-        loser = losers[0]
-        return f"{problem.blocks[loser]} would lose {problem.euros(-then.surpluses[loser])} EUR"
+    for loser, loss in selection.losing(problem, other, then.surpluses).items():
+        family = " with those that descend from it" if selection.helping(problem, other, loser) else ""
+        return f"{problem.blocks[loser]} would lose {problem.euros(loss)} EUR{family}"
     if outcome.welfare is None or then.welfare > outcome.welfare:
         return "the welfare would be greater"
     less = outcome.welfare - then.welfare

@@ -16,9 +16,16 @@ MOST_DAY_COMMANDS, MOST_DAY_PARTICIPANTS = 9_999, 8  # of what `dam day` reads
 
 
 def rescuers(place, blocks):
-    """The places of the blocks that, where they are accepted, make good what the block at this place loses. There are none:
-    each accepted block is looked at by itself."""
-    return []
+    """The places of the blocks that, where they are accepted, make good what the block at this place loses: those that descend
+    from it, its children and theirs. Each stands behind its parent."""
+    family = {(blocks[place].who, blocks[place].name)}
+    found = []
+    for other in range(place + 1, len(blocks)):
+        block = blocks[other]
+        if (block.who, block.order.parent) in family:
+            family.add((block.who, block.name))
+            found.append(other)
+    return found
 
 
 def price_between(low, high):

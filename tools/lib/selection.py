@@ -32,6 +32,7 @@ class Problem:
             for number, rows in self.hourly.items()
         }
         self.parents = [self.place(block.who, block.order.parent) for block in self.blocks]
+        self.rescuers = [rules.rescuers(place, self.blocks) for place in range(len(self.blocks))]
 
     def place(self, who, name):
         """Where among the blocks the block of this name stands; None where there is none."""
@@ -113,19 +114,21 @@ def outcome(problem, accepted):
     )
 
 
+def helping(problem, accepted, place):
+    """The accepted blocks that make good what an accepted block loses."""
+    return [other for other in problem.rescuers[place] if other in accepted]
+
+
 def answers_for(problem, accepted, place, surpluses):
-    """What an accepted block gains, with the accepted blocks that make good what it loses."""
-    helping = [other for other in rules.rescuers(place, problem.blocks) if other in accepted]
-    return sum(surpluses[other] for other in [place, *helping])
+    """What an accepted block gains, with the accepted blocks that make good what it loses; None where a surplus isn't known."""
+    gains = [surpluses[other] for other in [place, *helping(problem, accepted, place)]]
+    return None if None in gains else sum(gains)
 
 
 def losing(problem, accepted, surpluses):
-    """The accepted places that lose, of those whose surplus is known."""
-    return [
-        place
-        for place in sorted(accepted)
-        if surpluses[place] is not None and answers_for(problem, accepted, place, surpluses) < 0
-    ]
+    """The accepted places that lose, each with what it loses, of those of which that is known."""
+    gains = {place: answers_for(problem, accepted, place, surpluses) for place in sorted(accepted)}
+    return {place: -gain for place, gain in gains.items() if gain is not None and gain < 0}
 
 
 def eligible(problem, accepted):

@@ -94,7 +94,7 @@ class Model:
         self.prices = {number: self.period(number, curve) for number, curve in curves.items()}
         gains = [self.gain(place, block.order) for place, block in enumerate(problem.blocks)]
         for place, gain in enumerate(gains):
-            helping = [(gains[other], 1) for other in rules.rescuers(place, problem.blocks)]
+            helping = [(gains[other], 1) for other in problem.rescuers[place]]
             self.program.row([(gain, 1), *helping], lower=0)
         self.links_and_groups()
         self.slack = max(HALF, ROUNDING * self.size)

@@ -96,7 +96,7 @@ class Page(unittest.TestCase):
             self.assertIn(name, read.texts)
         for words in (
             "165.00",
-            "3,031,440.000",
+            "3,021,520.000",
             "8 to 20",
             "group FILL",
             "paradoxically rejected",

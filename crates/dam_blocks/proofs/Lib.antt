@@ -1,4 +1,5 @@
 pub mod Sums
+pub mod Families
 pub mod WelfareAtLeastZero
 pub mod Magnitudes
 pub mod Ranks

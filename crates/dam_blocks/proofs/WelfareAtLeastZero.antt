@@ -1,17 +1,25 @@
 -- An eligible selection has a welfare of at least 0: the hourly orders gain at the prices, and no accepted block loses.
-use Rattle.std.proofs.Common.{◌≡◌, ℕ, suc, ◌↔◌, ℤ, pos, ◌+ℤ◌, ◌*ℤ◌, ◌≤ℤ◌, Bool, Option, Some, None, List, [], ◌∷◌, refl, arith}
+use Rattle.std.proofs.Common.{◌≡◌, ℕ, suc, ◌↔◌, ℤ, pos, ◌+ℤ◌, ◌*ℤ◌, ◌≤ℤ◌, ◌<◌, Bool, true, Option, Some, None, List, [], ◌∷◌, get_or, ap, ◌∙◌, sym, subst, refl, arith}
 use Rattle.std.specs.List.{slice_get}
 use Rattle.std.specs.Option.{option_map}
+use Rattle.std.specs.Cmp.Lexicographic.{bytes_decides}
+use Rattle.std.proofs.lemmas.Bool.{and_parts}
+use Rattle.std.proofs.lemmas.Option.{slice_get-get_or}
+use Rattle.std.proofs.lemmas.List.Quantifiers.{position-Some}
 use Rattle.std.proofs.lemmas.Int.{ints}
 use Rattle.dam_hour.specs.declared.step.Step.{Step}
 use Rattle.dam_hour.specs.Execution.{IsExecution, Balances}
 use Rattle.dam_hour.specs.Price.{Supports, IsSupporting, AreEnds, price_between}
 use Rattle.dam_hour.specs.Best.{welfare_of, surplus_at, greatest_welfare}
 use Rattle.dam_blocks.specs.declared.problem.Block.{Block}
-use Rattle.dam_blocks.specs.Problem.{ProblemState, IsProblem}
-use Rattle.dam_blocks.specs.Selection.{over_accepted, net_volume, block_value}
-use Rattle.dam_blocks.specs.Eligible.{IsClearingPrice, ArePrices, surplus_in, surplus_from, surplus_of, gain_at, HasNoLoss, added, period_welfare, welfare_from, IsEligible}
-use Rattle.dam_blocks.proofs.Sums.{over_accepted-plus, over_accepted-zero, over_accepted-at_least, accepted_surplus}
+use Rattle.dam_book.specs.Name.{same_text}
+use Rattle.dam_book.specs.Order.{is_parent}
+use Rattle.dam_blocks.specs.Problem.{ProblemState, IsProblem, IsParent}
+use Rattle.dam_blocks.specs.Selection.{over_accepted, net_volume, block_value, IsAdmissible}
+use Rattle.dam_blocks.specs.Family.{names, parent_among, parent_place}
+use Rattle.dam_blocks.specs.Eligible.{IsClearingPrice, ArePrices, surplus_in, surplus_from, added, period_welfare, welfare_from, IsEligible}
+use Rattle.dam_blocks.proofs.Sums.{over_accepted-plus, over_accepted-zero, accepted_surplus}
+use Rattle.dam_blocks.proofs.Families.{AreChains, no_loss_in_families}
 
 -- what the laws of one period say of its price
 pub record PriceLaws : Type 0 where
@@ -60,18 +68,62 @@ gains_from laws blocks sel t (ss ∷ hours) (p ∷ prices) w are e =
     let sum = parts.4 in let own = hour.2 in
     omega (arith, ints, rest, least, here, both, sum, own)
 
-gain_is : (blocks : List Block) (sel : List Bool) (prices : List ℤ) (i : ℕ) (b : Block) → slice_get blocks i ≡ Some b
-    → gain_at blocks sel prices i ≡ surplus_of prices b.order
-gain_is blocks sel prices i b e = rw e
+-- a child and the parent that stands at the place
+record HasParentAt (blocks : List Block) (j p : ℕ) : Type 0 where
+  child : Block
+  parent : Block
+  child_stands : slice_get blocks j ≡ Some child
+  parent_stands : slice_get blocks p ≡ Some parent
+  is_parent : IsParent parent child
 
--- the surpluses of all accepted blocks add up to at least 0
-no_loss_in_all : (blocks : List Block) (sel : List Bool) (prices : List ℤ) → HasNoLoss blocks sel prices → pos 0 ≤ℤ over_accepted (surplus_of prices) blocks sel
-no_loss_in_all blocks sel prices h =
-    over_accepted-at_least (surplus_of prices) blocks sel (λ i b e at.
-    (let gain = h.gains i e in let is = gain_is blocks sel prices i b at in omega (arith, ints, gain, is)))
+some_text : (o : Option (List ℕ)) (name : List ℕ) → is_parent name o ≡ true → o ≡ Some name
+some_text None name e = absurd (cc)
+some_text (Some xs) name e = ap (λ (ys : List ℕ). Some ys) (sym ((bytes_decides name xs).0 e))
+
+named_parent : (p b : Block) → names p b ≡ true → IsParent p b
+named_parent p b e =
+    let both = and_parts (same_text p.who b.who) (is_parent p.name b.order.parent) e in
+    record { who = (bytes_decides p.who b.who).0 both.0; name = some_text b.order.parent p.name both.1 }
+
+parent_found : (blocks : List Block) (j p : ℕ) → parent_place blocks j ≡ Some p → HasParentAt blocks j p
+parent_found blocks j p e = from (slice_get blocks j) refl
+  where
+    from : (o : Option Block) → slice_get blocks j ≡ o → HasParentAt blocks j p
+    from None at = absurd (let none = ap (λ (o : Option Block). parent_among blocks o) at in cc)
+    from (Some b) at =
+        let found = position-Some (λ q. names q b) blocks p b (sym (ap (λ (o : Option Block). parent_among blocks o) at) ∙ e) in
+        record { child = b; parent = get_or blocks p b; child_stands = at; parent_stands = slice_get-get_or blocks p b found.0; is_parent = named_parent (get_or blocks p b) b found.1 }
+
+same_text_in : (xs ys : List ℕ) → Some xs ≡ Some ys → xs ≡ ys
+same_text_in xs ys e = cc
+
+same_block_in : (a b : Block) → Some a ≡ Some b → a ≡ b
+same_block_in a b e = cc
+
+-- among the blocks of a problem a parent stands before its child, and an admissible selection accepts it too
+are_chains : (problem : ProblemState) (sel : List Bool) → IsProblem problem → IsAdmissible problem.blocks sel → AreChains problem.blocks sel
+are_chains problem sel is admissible = record {
+  before = earlier;
+  with_parent = λ j p acc e. (let found = parent_found problem.blocks j p e in
+      let allowed = admissible.each j acc in
+      let block : found.child ≡ allowed.block = same_block_in _ _ (sym found.child_stands ∙ allowed.stands) in
+      let less = earlier j p e in
+      let permits = allowed.others p found.parent (λ same. (let wrong : 0 < 0 = omega (arith, less, same) in omega (arith, wrong))) found.parent_stands in
+      permits.parent (subst (λ (b : Block). IsParent found.parent b) block found.is_parent));
+  within = λ j acc. (let allowed = admissible.each j acc in (allowed.block, allowed.stands));
+}
+  where
+    earlier : (j p : ℕ) → parent_place problem.blocks j ≡ Some p → p < j
+    earlier j p e =
+        let found = parent_found problem.blocks j p e in
+        let kept = is.parents j found.child found.parent.name found.child_stands found.is_parent.name in
+        let same = is.unique kept.place p kept.parent found.parent kept.stands found.parent_stands
+        (kept.is_parent.who ∙ sym found.is_parent.who)
+        (same_text_in _ _ (sym kept.is_parent.name ∙ found.is_parent.name)) in
+        let less = kept.lesser in omega (arith, same, less)
 
 pub welfare_at_least_zero : PriceLaws → (problem : ProblemState) (sel : List Bool) (w : ℤ) → IsProblem problem → IsEligible problem sel w → pos 0 ≤ℤ w
 welfare_at_least_zero laws problem sel w is e =
-    let blocks = no_loss_in_all problem.blocks sel e.prices e.no_loss in
+    let blocks = no_loss_in_families problem.blocks sel e.prices (are_chains problem sel is e.admissible) e.no_loss in
     let all = gains_from laws problem.blocks sel 1 problem.hours e.prices w e.are_prices e.welfare_is in
     omega (arith, ints, blocks, all)

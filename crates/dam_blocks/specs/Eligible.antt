@@ -8,7 +8,8 @@ use Rattle.dam_hour.specs.Best.{signed, greatest_welfare}
 use Rattle.dam_hour.specs.declared.step.Step.{Step}
 use Rattle.dam_blocks.specs.declared.problem.Block.{Block}
 use Rattle.dam_blocks.specs.Problem.{ProblemState}
-use Rattle.dam_blocks.specs.Selection.{accepts, volume_in, net_volume, block_value, IsAdmissible}
+use Rattle.dam_blocks.specs.Selection.{accepts, volume_in, over_accepted, net_volume, block_value, IsAdmissible}
+use Rattle.dam_blocks.specs.Family.{accepted_descendants}
 
 -- the price of a period at a net volume
 pub record IsClearingPrice (ss : List Step) (net p : ℤ) : Type 0 where
@@ -39,11 +40,17 @@ surplus_from t (p ∷ prices) o = surplus_in t p o +ℤ surplus_from (suc t) pri
 abbrev pub surplus_of : List ℤ → BlockTerms → ℤ
 surplus_of prices o = surplus_from 1 prices o
 
--- what the accepted block at a place may not have below 0: its own surplus, whatever else is
--- accepted; 0 where no block stands
+-- the surplus of the block at a place, 0 where no block stands
+abbrev pub surplus_at : List Block → List ℤ → ℕ → ℤ
+surplus_at blocks prices i =
+    unwrap_or (option_map (λ b. surplus_of prices b.order) (slice_get blocks i)) (pos 0)
+
+-- what the accepted block at a place may not have below 0: its own surplus with those of the
+-- accepted blocks that descend from it
 abbrev pub gain_at : List Block → List Bool → List ℤ → ℕ → ℤ
 gain_at blocks sel prices i =
-    unwrap_or (option_map (λ b. surplus_of prices b.order) (slice_get blocks i)) (pos 0)
+    surplus_at blocks prices i
+    +ℤ over_accepted (surplus_of prices) blocks (accepted_descendants blocks sel i)
 
 -- no accepted block loses; a rejected one may have any surplus
 pub record HasNoLoss (blocks : List Block) (sel : List Bool) (prices : List ℤ) : Type 0 where

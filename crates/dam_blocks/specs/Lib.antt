@@ -1,5 +1,6 @@
 pub mod Problem
 pub mod Selection
+pub mod Family
 pub mod Eligible
 pub mod Magnitude
 pub mod Score

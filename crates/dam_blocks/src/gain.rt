@@ -1,10 +1,14 @@
-ghost use Rattle.std.specs.Prelude.{◌≡◌, ◌≤◌, ◌-ℤ◌, ◌≤ℤ◌, pos, neg_ℤ, length};
-ghost use Rattle.dam_book.specs.Limits.{last_period};
+ghost use Rattle.std.specs.Prelude.{◌≡◌, ◌≤◌, ◌-ℤ◌, ◌*ℤ◌, ◌≤ℤ◌, pos, neg_ℤ, ◌*◌, length};
+ghost use Rattle.dam_book.specs.Limits.{greatest_volume, last_period, most_blocks};
 ghost use Rattle.dam_hour.specs.Limits.{price_span};
-ghost use Rattle.dam_blocks.specs.Eligible.{surplus_in, surplus_of, gain_at};
+ghost use Rattle.dam_hour.specs.Best.{signed};
+ghost use Rattle.dam_blocks.specs.Selection.{over_accepted};
+ghost use Rattle.dam_blocks.specs.Family.{accepted_descendants};
+ghost use Rattle.dam_blocks.specs.Eligible.{surplus_in, surplus_of, surplus_at, gain_at};
 ghost use Rattle.dam_blocks.specs.Magnitude.{IsWithin, greatest_gain, greatest_surplus};
 
 use crate::accepted::{signed, times, volume_in};
+use crate::family::descends;
 use crate::problem::Block;
 use crate::selection::Selection;
 use dam_book::{BlockOrder, Period, Price};
@@ -18,14 +22,25 @@ fn difference(limit: Price, price: Price) -> i32
     limit.get() - price.get()
 }
 
+/// What a block gains at a price in a period in which it has this volume, in cents per MWh times
+/// tenths of a MW; below 0 where it loses.
+pub fn surplus_at_price(order: &BlockOrder, price: Price, volume: u32) -> i64
+    requires { volume ≤ greatest_volume }
+    ensures value { result ≡ signed order.now.side ((order.now.price -ℤ price) *ℤ pos volume) }
+    ensures size { IsWithin greatest_gain result }
+{
+    signed(
+        order.side(),
+        times(difference(order.price(), price), volume),
+    )
+}
+
 fn surplus_in(order: &BlockOrder, period: Period, price: Price) -> i64
     ensures value { result ≡ surplus_in period price order.now }
     ensures low { neg_ℤ (pos greatest_gain) ≤ℤ result }
     ensures high { result ≤ℤ pos greatest_gain }
 {
-    let volume = volume_in(order.volumes(), period);
-    let above = difference(order.price(), price);
-    signed(order.side(), times(above, volume))
+    surplus_at_price(order, price, volume_in(order.volumes(), period))
 }
 
 /// What a block gains at the prices, in cents per MWh times tenths of a MW; below 0 where it loses.
@@ -45,21 +60,48 @@ pub fn surplus(order: &BlockOrder, prices: &[Price]) -> i64
     total
 }
 
-/// What the accepted block at a place may not have below 0: its own surplus at the prices, whatever
-/// else the selection accepts.
-///
-/// (EUPHEMIA Public Description, "Price Determination Sub-problem".)
-pub(crate) fn gain_at(
-    blocks: &[Block],
-    _selection: Selection,
-    prices: &[Price],
-    place: usize,
-) -> i64
+/// The surplus of the block at a place; 0 where no block stands.
+fn surplus_at(blocks: &[Block], prices: &[Price], place: usize) -> i64
     requires { length prices.now ≤ last_period }
-    ensures { result ≡ gain_at blocks.now _selection prices.now place }
+    ensures value { result ≡ surplus_at blocks.now prices.now place }
+    ensures size { IsWithin greatest_surplus result }
 {
     match blocks.get(place) {
         Some(block) => surplus(&block.order, prices),
         None => 0,
     }
+}
+
+/// The surpluses of the accepted blocks that descend from the one at a place.
+fn surplus_of_descendants(
+    blocks: &[Block],
+    selection: Selection,
+    prices: &[Price],
+    place: usize,
+) -> i64
+    requires periods { length prices.now ≤ last_period }
+    requires blocks { length blocks.now ≤ most_blocks }
+    ensures value { result ≡ over_accepted (surplus_of prices.now) blocks.now
+        (accepted_descendants blocks.now selection place) }
+    ensures size { IsWithin (most_blocks * greatest_surplus) result }
+{
+    let mut total = 0;
+    for (other, block) in blocks.iter().enumerate() {
+        if selection.has(other) && descends(blocks, place, other) {
+            total += surplus(&block.order, prices);
+        }
+    }
+    total
+}
+
+/// What the accepted block at a place may not have below 0: its own surplus at the prices with those
+/// of the accepted blocks that descend from it.
+///
+/// (EUPHEMIA Public Description, "Linked Block Orders".)
+pub fn gain_at(blocks: &[Block], selection: Selection, prices: &[Price], place: usize) -> i64
+    requires periods { length prices.now ≤ last_period }
+    requires blocks { length blocks.now ≤ most_blocks }
+    ensures { result ≡ gain_at blocks.now selection prices.now place }
+{
+    surplus_at(blocks, prices, place) + surplus_of_descendants(blocks, selection, prices, place)
 }

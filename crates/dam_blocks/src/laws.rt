@@ -3,14 +3,15 @@
 //!
 //! A caller that needs one of them in a proof calls the function, at no cost.
 
-ghost use Rattle.std.specs.Prelude.{◌≡◌, ◌≢◌, ◌<◌, ◌^◌, ◌+ℤ◌, ◌≤ℤ◌, ◌⊎◌, ℕ, ℤ, pos, Some, List, ◌++◌, Bool, length, drop};
+ghost use Rattle.std.specs.Prelude.{◌≡◌, ◌≢◌, ◌<◌, ◌^◌, ◌+ℤ◌, ◌≤ℤ◌, ◌⊎◌, ℕ, ℤ, pos, Some, List, ◌++◌, Bool, ◌&&◌, length, drop};
 ghost use Rattle.dam_book.specs.Terms.{BlockTerms};
 ghost use Rattle.dam_book.specs.Limits.{last_period, most_blocks};
 ghost use Rattle.dam_blocks.specs.declared.problem.Block.{Block};
 ghost use Rattle.dam_blocks.specs.declared.scoring.Verdict.{Verdict};
 ghost use Rattle.dam_blocks.specs.declared.scoring.Verdict.TheVariants.{Eligible};
 ghost use Rattle.dam_blocks.specs.Problem.{ProblemState, IsProblem};
-ghost use Rattle.dam_blocks.specs.Selection.{padded, empty_selection, choice, over_accepted, IsAdmissible};
+ghost use Rattle.dam_blocks.specs.Selection.{accepts, padded, empty_selection, choice, over_accepted, IsAdmissible};
+ghost use Rattle.dam_blocks.specs.Family.{descends, accepted_descendants};
 ghost use Rattle.dam_blocks.specs.Eligible.{selection_welfare, IsEligible};
 ghost use Rattle.dam_blocks.specs.Magnitude.{IsWithin, greatest_hourly_value, greatest_block_value, greatest_surplus, greatest_selection_welfare};
 ghost use Rattle.dam_blocks.specs.Score.{IsVerdict};
@@ -115,6 +116,13 @@ pub fn sums()
         ≡ over_accepted f blocks front +ℤ over_accepted f (drop (length front) blocks) rest }
     ensures padded { (f : BlockTerms → ℤ) (blocks : List Block) (front : List Bool)
         → over_accepted f blocks (padded front) ≡ over_accepted f blocks front }
+{}
+
+/// Of the blocks that descend from one the accepted ones are those that the selection accepts.
+pub fn descendants()
+    ensures { (blocks : List Block) (sel : List Bool) (i j : ℕ)
+        → accepts (accepted_descendants blocks sel i) j
+        ≡ (accepts sel j && descends blocks i j) }
 {}
 
 /// Where a selection is admissible, so is each front of it with no other block: a block's parent stands

@@ -23,6 +23,7 @@
 #![tactic(auto)]
 
 mod accepted;
+mod family;
 mod gain;
 pub mod laws;
 mod links;
@@ -37,7 +38,8 @@ mod tests;
 pub use accepted::{
     block_value, bought_volume, bought_volume_of, net_volume, net_volume_of, value_of, volume_in,
 };
-pub use gain::surplus;
+pub use family::descends;
+pub use gain::{gain_at, surplus, surplus_at_price};
 pub use links::{admissible, is_allowed};
 pub use problem::{Block, MOST_PERIODS, Place, Problem, ProblemFault, ProblemRow};
 pub use result::{best_of_all, ranks_above};

@@ -1,21 +1,11 @@
 ghost use Rattle.std.specs.Prelude.{◌≡◌, ◌↔◌, true, IsTrue};
-ghost use Rattle.dam_blocks.specs.Problem.{IsParent};
 ghost use Rattle.dam_blocks.specs.Selection.{accepts, AreOfOneGroup, Permits, IsAllowed, IsAdmissible};
 
+use crate::family::is_parent;
 use crate::problem::{Block, Problem};
 use crate::selection::Selection;
 use dam_book::MOST_BLOCKS;
 use std::alloc::Allocator;
-
-/// Whether `parent` is the block that `child` is accepted with.
-fn is_parent(parent: &Block, child: &Block) -> bool
-    ensures { IsTrue result ↔ IsParent parent.now child.now }
-{
-    match child.order.parent() {
-        Some(name) => parent.who == child.who && parent.name == *name,
-        None => false,
-    }
-}
 
 /// Whether both are in one exclusive group of one participant.
 fn are_of_one_group(first: &Block, second: &Block) -> bool

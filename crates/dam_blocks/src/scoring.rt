@@ -9,7 +9,7 @@ use crate::laws;
 use crate::links::admissible;
 use crate::problem::{MOST_PERIODS, Problem};
 use crate::selection::Selection;
-use dam_book::{Period, Price};
+use dam_book::{MOST_BLOCKS, Period, Price};
 use std::alloc::Allocator;
 
 /// What a selection is worth, or the first thing that speaks against it.
@@ -19,8 +19,9 @@ pub enum Verdict {
     NotAdmissible,
     /// No execution balances with the selection in this period, the first such.
     Unbalanced(Period),
-    /// At the prices of the selection the accepted block at this place, the first such, has a surplus
-    /// below 0; places count the blocks alone, from 0 in book order.
+    /// At the prices of the selection the accepted block at this place, the first such, loses: its
+    /// surplus with those of the accepted blocks that descend from it is below 0. Places count the
+    /// blocks alone, from 0 in book order.
     Losing(usize),
     /// The selection is eligible; its welfare in cents per MWh times tenths of a MW.
     Eligible(u64),
@@ -58,7 +59,7 @@ fn price_day<A: Allocator>(problem: &Problem<A>, selection: Selection) -> Result
     Ok(PricedDay { prices, welfare })
 }
 
-/// The first accepted block that loses at the prices.
+/// The first accepted block that loses at the prices, with those that descend from it.
 fn first_losing<A: Allocator>(
     problem: &Problem<A>,
     selection: Selection,
@@ -70,7 +71,7 @@ fn first_losing<A: Allocator>(
         (λ place. IsFirstLosing problem.now.blocks selection prices.now place) }
 {
     let blocks = problem.blocks();
-    for place in 0..blocks.len() {
+    for place in 0..MOST_BLOCKS {
         if selection.has(place) && gain_at(blocks, selection, prices, place) < 0 {
             return Some(place);
         }
@@ -81,8 +82,9 @@ fn first_losing<A: Allocator>(
 /// Whether the selection is eligible, and its welfare; or else the first fault: it isn't admissible, a
 /// period doesn't balance (the least such), or an accepted block loses at the prices (the least such).
 ///
-/// No accepted block may lose (EUPHEMIA Public Description, "Price Determination Sub-problem"); a
-/// rejected one may have any surplus, also one over 0 (the same, "PRB reinsertion"). Takes no memory.
+/// No accepted block may lose (EUPHEMIA Public Description, "Price Determination Sub-problem"), save
+/// where the accepted blocks that descend from it make it good (the same, "Linked Block Orders"); a
+/// rejected one may have any surplus, also one over 0 ("PRB reinsertion"). Takes no memory.
 pub fn score<A: Allocator>(problem: &Problem<A>, selection: Selection) -> Verdict
     ensures { IsVerdict problem.now selection result }
 {

@@ -1,3 +1,5 @@
+mod families;
+
 use crate::{Place, Problem, ProblemFault, Selection, Verdict, best_of_all, ranks_above, score};
 use dam_book::{
     BlockOrder, Book, Command, HourOrder, Name, Order, Participant, Period, Price, Qty, Reply,
@@ -273,7 +275,7 @@ fn block_too_large(rt: HostRuntime) -> Result<(), Fail> {
     Ok(())
 }
 
-/// Two markets, a block that loses in the first, and its child in the second.
+/// Two markets, a block that loses in the first, and its child, which gains more in the second.
 fn losing_parent(alloc: Global) -> Result<Problem, Fail> {
     let mut book = Book::begin(alloc, 24)?;
     two_markets(&mut book)?;
@@ -289,31 +291,6 @@ fn losing_parent(alloc: Global) -> Result<Problem, Fail> {
         (Some(b"K1"), None),
     )?;
     problem_of(alloc, book)
-}
-
-#[test]
-fn child_with_losing_parent(rt: HostRuntime) -> Result<(), Fail> {
-    let problem = losing_parent(rt.alloc())?;
-    check(&rt, &problem, 40_000, &[false, false]);
-    Ok(())
-}
-
-#[test]
-fn scores_of_a_child_and_its_losing_parent(rt: HostRuntime) -> Result<(), Fail> {
-    let problem = losing_parent(rt.alloc())?;
-    assert_eq!(rt;
-        score(&problem, Selection::none().with(1)),
-        Verdict::NotAdmissible
-    );
-    assert_eq!(rt;
-        score(&problem, Selection::none().with(0).with(1)),
-        Verdict::Losing(0)
-    );
-    assert_eq!(rt;
-        score(&problem, Selection::none().with(2)),
-        Verdict::NotAdmissible
-    );
-    Ok(())
 }
 
 #[test]

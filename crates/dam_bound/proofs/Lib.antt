@@ -12,3 +12,4 @@ pub mod Worth
 pub mod Volumes
 pub mod Deciding
 pub mod Gains
+pub mod Members

@@ -1,3 +1,4 @@
 -- What only contracts inside this crate cite.
 pub mod Levels
 pub mod Change
+pub mod Families

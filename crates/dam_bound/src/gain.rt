@@ -1,53 +1,23 @@
 //! What a block gains at the prices of a day on which every block is decided.
 
-ghost use Rattle.std.specs.Prelude.{◌≡◌, ◌+◌, ◌<◌, ◌≤◌, ◌-ℤ◌, ◌*ℤ◌, pos, ℤ, List, Bool, ◌++◌, length, map};
-ghost use Rattle.dam_book.specs.Limits.{greatest_volume, most_blocks};
-ghost use Rattle.dam_hour.specs.Limits.{price_span};
+ghost use Rattle.std.specs.Prelude.{◌≡◌, ◌*◌, ◌<◌, ◌-ℤ◌, ◌*ℤ◌, pos, ℕ, ℤ, List, Bool, ◌&&◌, length, map};
+ghost use Rattle.dam_book.specs.Limits.{most_blocks};
 ghost use Rattle.dam_hour.specs.Best.{signed};
 ghost use Rattle.dam_hour.specs.Execution.{IsNetVolume};
 ghost use Rattle.dam_blocks.specs.Problem.{AreBlocks};
-ghost use Rattle.dam_blocks.specs.Selection.{padded};
-ghost use Rattle.dam_blocks.specs.Eligible.{IsClearingPrice, ArePrices, gain_at};
-ghost use Rattle.dam_blocks.specs.Magnitude.{IsWithin, greatest_gain};
+ghost use Rattle.dam_blocks.specs.Selection.{accepts, padded, over_accepted};
+ghost use Rattle.dam_blocks.specs.Eligible.{IsClearingPrice, ArePrices, surplus_of, surplus_at, gain_at};
+ghost use Rattle.dam_blocks.specs.Magnitude.{IsWithin, greatest_gain, greatest_surplus};
 ghost use Rattle.dam_bound.specs.Day.{IsDay};
+ghost use Rattle.dam_bound.specs.inside.Families.{AreFamilies};
 ghost use Rattle.dam_bound.specs.inside.Levels.{IsAtDepth, last_steps, AreDayLevels, problem_kept};
 
 use crate::day::{Day, DayPeriod};
 use crate::levels::Levels;
-use dam_blocks::{Block, laws};
-use dam_book::{BlockOrder, Period, Price, Qty, Side};
+use dam_blocks::{Block, Selection, laws, surplus_at_price};
+use dam_book::{BlockOrder, Qty};
 use dam_hour::price_between;
 use std::alloc::Allocator;
-
-/// Cents per MWh times tenths of a MW.
-fn times(cents: i32, volume: u32) -> i64
-    requires cents { IsWithin price_span cents }
-    requires volume { volume ≤ greatest_volume }
-    ensures value { result ≡ cents *ℤ pos volume }
-    ensures size { IsWithin greatest_gain result }
-{
-    i64::from(cents) * i64::from(volume)
-}
-
-/// How far the limit is above the price, in cents per MWh.
-fn difference(limit: Price, price: Price) -> i32
-    ensures value { result ≡ limit -ℤ price }
-    ensures size { IsWithin price_span result }
-{
-    limit.get() - price.get()
-}
-
-/// What a block gains at a price in a period where it has this volume.
-fn gain_at_price(order: &BlockOrder, price: Price, qty: Qty) -> i64
-    ensures value { result ≡ signed order.now.side ((order.now.price -ℤ price) *ℤ pos qty) }
-    ensures size { IsWithin greatest_gain result }
-{
-    let gain = times(difference(order.price(), price), qty.get());
-    match order.side() {
-        Side::Buy => gain,
-        Side::Sell => -gain,
-    }
-}
 
 /// What a block gains in a period where it has this volume, at the price of the period with every
 /// block decided; 0 where no execution balances.
@@ -67,28 +37,24 @@ fn gain_in<A: Allocator>(
     dam_hour::laws::uniqueness();
     let near = own.near as usize;
     match levels.stack(depth).ends(i64::from(own.net), near) {
-        Some((low, high)) => gain_at_price(order, price_between(low, high), qty),
+        Some((low, high)) => surplus_at_price(order, price_between(low, high), qty.get()),
         None => 0,
     }
 }
 
-/// What the block at the place gains at the prices of the day, on which every block is decided. Only
-/// the prices of its own periods are asked for.
-pub(crate) fn gain_of<A: Allocator>(
-    periods: &[Levels<A>],
-    blocks: &[Block],
-    day: &Day,
-    place: usize,
-) -> i64
+/// What the block at the place gains by itself at the prices of the day, on which every block is
+/// decided. Only the prices of its own periods are asked for.
+fn surplus_of<A: Allocator>(periods: &[Levels<A>], blocks: &[Block], day: &Day, place: usize) -> i64
     requires levels { AreDayLevels blocks.now periods.now }
     requires blocks { AreBlocks (length periods.now) blocks.now }
     requires day { (prefix : List Bool) × (length prefix ≡ length blocks.now)
         × IsDay (problem_kept periods.now blocks.now) prefix day.now }
     requires place { place < length blocks.now }
-    ensures { (prefix : List Bool) (prices : List ℤ) → length prefix ≡ length blocks.now
+    ensures value { (prefix : List Bool) (prices : List ℤ) → length prefix ≡ length blocks.now
         → IsDay (problem_kept periods.now blocks.now) prefix day.now
         → ArePrices blocks.now (padded prefix) 1 (map last_steps periods.now) prices
-        → result ≡ gain_at blocks.now (padded prefix) prices place }
+        → result ≡ surplus_at blocks.now prices place }
+    ensures size { IsWithin greatest_surplus result }
 {
     laws::sums();
     let order = &blocks[place].order;
@@ -102,4 +68,67 @@ pub(crate) fn gain_of<A: Allocator>(
         total += gain_in(&periods[at], blocks.len(), day.periods[at], order, *qty);
     }
     total
+}
+
+/// What those of a family gain by themselves that the selection accepts.
+fn surplus_of_family<A: Allocator>(
+    periods: &[Levels<A>],
+    blocks: &[Block],
+    day: &Day,
+    selection: Selection,
+    family: Selection,
+) -> i64
+    requires levels { AreDayLevels blocks.now periods.now }
+    requires blocks { AreBlocks (length periods.now) blocks.now }
+    requires day { (prefix : List Bool) × (length prefix ≡ length blocks.now)
+        × IsDay (problem_kept periods.now blocks.now) prefix day.now }
+    ensures value { (prefix members : List Bool) (prices : List ℤ)
+        → length prefix ≡ length blocks.now
+        → IsDay (problem_kept periods.now blocks.now) prefix day.now
+        → ArePrices blocks.now (padded prefix) 1 (map last_steps periods.now) prices
+        → ((i : ℕ) → i < length blocks.now
+        → accepts members i ≡ (accepts selection i && accepts family i))
+        → result ≡ over_accepted (surplus_of prices) blocks.now members }
+    ensures size { IsWithin (most_blocks * greatest_surplus) result }
+{
+    let mut total = 0;
+    for place in 0..blocks.len() {
+        if selection.has(place) && family.has(place) {
+            total += surplus_of(periods, blocks, day, place);
+        }
+    }
+    total
+}
+
+/// What the block at the place gains at the prices of the day, on which every block is decided, with
+/// those blocks of the selection that descend from it.
+///
+/// Nothing is asked of the others, so that a book without links has no more to do than its blocks'
+/// own gains.
+pub(crate) fn gain_of<A: Allocator>(
+    periods: &[Levels<A>],
+    blocks: &[Block],
+    families: &[Option<Selection>],
+    day: &Day,
+    selection: Selection,
+    place: usize,
+) -> i64
+    requires levels { AreDayLevels blocks.now periods.now }
+    requires families { AreFamilies blocks.now families.now }
+    requires blocks { AreBlocks (length periods.now) blocks.now }
+    requires day { (prefix : List Bool) × (length prefix ≡ length blocks.now)
+        × IsDay (problem_kept periods.now blocks.now) prefix day.now }
+    requires place { place < length blocks.now }
+    ensures { (prefix : List Bool) (prices : List ℤ) → length prefix ≡ length blocks.now
+        → IsDay (problem_kept periods.now blocks.now) prefix day.now
+        → ArePrices blocks.now (padded prefix) 1 (map last_steps periods.now) prices
+        → result ≡ gain_at blocks.now selection prices place }
+{
+    laws::descendants();
+    let own = surplus_of(periods, blocks, day, place);
+    let family = families[place];
+    match family {
+        Some(family) => own + surplus_of_family(periods, blocks, day, selection, family),
+        None => own,
+    }
 }

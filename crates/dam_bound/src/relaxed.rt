@@ -10,6 +10,7 @@ ghost use Rattle.dam_bound.specs.inside.Levels.{AreLevels, last_steps, AreDayLev
 ghost use Rattle.dam_bound.specs.inside.Levels.{greatest_period_bound};
 
 use crate::day::{Change, Day, change_day, root_of};
+use crate::families::families_of;
 use crate::gain::gain_of;
 use crate::levels::Levels;
 use dam_blocks::{Block, Problem, Selection, block_value, laws, net_volume};
@@ -25,19 +26,23 @@ use std::marker::Model;
 pub struct Relaxed<A: Allocator = Global> {
     periods: Vec<Levels<A>, A>,
     blocks: Vec<Block, A>,
+    /// For each block those that descend from it.
+    families: Vec<Option<Selection>, A>,
 }
 
 impl<A: Allocator> Model for Relaxed<A> {
     ghost use Rattle.std.specs.Prelude.{length};
     ghost use Rattle.dam_blocks.specs.Problem.{ProblemState, AreBlocks};
     ghost use Rattle.dam_bound.specs.inside.Levels.{AreDayLevels, problem_kept};
+    ghost use Rattle.dam_bound.specs.inside.Families.{AreFamilies};
 
     ghost Value = { ProblemState };
 
     ghost view = { λ r. problem_kept r.periods.items r.blocks.items };
 
     ghost invariant = { λ r. AreDayLevels r.blocks.items r.periods.items
-        × AreBlocks (length r.periods.items) r.blocks.items };
+        × AreBlocks (length r.periods.items) r.blocks.items
+        × AreFamilies r.blocks.items r.families.items };
 }
 
 fn copies_of<A: Allocator>(alloc: A, blocks: &[Block]) -> Result<Vec<Block, A>, AllocError>
@@ -79,6 +84,7 @@ impl<A: Allocator + Copy> Relaxed<A> {
         Ok(Relaxed {
             periods: periods_of(alloc, problem)?,
             blocks: copies_of(alloc, problem.blocks())?,
+            families: families_of(alloc, problem.blocks())?,
         })
     }
 }
@@ -190,21 +196,29 @@ impl<A: Allocator> Relaxed<A> {
         change_day(&self.periods, &self.blocks, day, place, count, change, None)
     }
 
-    /// What the block at a place gains at the prices of a day on which every block is decided, in cents
-    /// per MWh times tenths of a MW; below 0 where it loses.
+    /// What the block at a place gains at the prices of a day on which every block is decided, with
+    /// those blocks of the selection that descend from it; in cents per MWh times tenths of a MW, and
+    /// below 0 where they lose together. The selection is the day's.
     ///
-    /// Only the prices of the block's own periods are asked for, each from the row at which the day has
-    /// its welfare. Takes no memory.
-    pub fn gain(&self, day: &Day, place: usize) -> i64
+    /// Only the prices of these blocks' own periods are asked for, each from the row at which the day
+    /// has its welfare. Takes no memory.
+    pub fn gain(&self, day: &Day, selection: Selection, place: usize) -> i64
         requires place { place < length self.now.blocks }
         requires day { (prefix : List Bool) × (length prefix ≡ length self.now.blocks)
             × IsDay self.now prefix day.now }
         ensures { (prefix : List Bool) (prices : List ℤ)
-            → length prefix ≡ length self.now.blocks
+            → length prefix ≡ length self.now.blocks → selection ≡ padded prefix
             → IsDay self.now prefix day.now
             → ArePrices self.now.blocks (padded prefix) 1 self.now.hours prices
             → result ≡ gain_at self.now.blocks (padded prefix) prices place }
     {
-        gain_of(&self.periods, &self.blocks, day, place)
+        gain_of(
+            &self.periods,
+            &self.blocks,
+            &self.families,
+            day,
+            selection,
+            place,
+        )
     }
 }

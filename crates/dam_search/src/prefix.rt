@@ -191,7 +191,7 @@ impl Prefix {
             → (result ≡ false) ↔ HasNoLoss relaxed.now.blocks (padded self.now) prices }
     {
         for place in 0..self.depth {
-            if self.taken.has(place) && relaxed.gain(day, place) < 0 {
+            if self.taken.has(place) && relaxed.gain(day, self.taken, place) < 0 {
                 return true;
             }
         }

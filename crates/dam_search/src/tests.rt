@@ -138,7 +138,7 @@ fn exclusive_group(alloc: Global) -> Result<Problem, Fail> {
     problem_of(alloc, book)
 }
 
-/// A parent that loses, and a child that would gain.
+/// A parent that loses, and a child that gains more.
 fn losing_parent(alloc: Global) -> Result<Problem, Fail> {
     let child = Links {
         parent: Some(b"K1"),
@@ -387,7 +387,7 @@ fn a_group_under_every_plan(rt: HostRuntime) -> Result<(), Fail> {
 #[test]
 fn links_under_every_plan(rt: HostRuntime) -> Result<(), Fail> {
     let problem = losing_parent(rt.alloc())?;
-    check_every_plan(&rt, rt.alloc(), &problem, 40_000)
+    check_every_plan(&rt, rt.alloc(), &problem, 58_000)
 }
 
 #[test]

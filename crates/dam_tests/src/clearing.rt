@@ -70,6 +70,8 @@ struct Cases {
     tied: bool,
     /// A rejected block would gain at the prices of the best selection.
     paradoxical: bool,
+    /// A block that loses by itself is accepted in the best selection.
+    rescued: bool,
     /// A price is half of an odd sum below zero.
     halved: bool,
 }
@@ -82,6 +84,7 @@ impl Cases {
             losing: false,
             tied: false,
             paradoxical: false,
+            rescued: false,
             halved: false,
         }
     }
@@ -100,7 +103,7 @@ impl Cases {
         }
     }
 
-    /// Notes the rejected blocks that would gain.
+    /// Notes the rejected blocks that would gain, and the accepted ones that lose by themselves.
     fn note_day(&mut self, market: &PlainMarket, best: &PlainBest) {
         let Ok(day) = clear_day(market, &best.accepted) else {
             return;
@@ -108,6 +111,9 @@ impl Cases {
         for (block, is_accepted) in market.blocks.iter().zip(&best.accepted) {
             if !*is_accepted && surplus(block, &day) > 0 {
                 self.paradoxical = true;
+            }
+            if *is_accepted && surplus(block, &day) < 0 {
+                self.rescued = true;
             }
         }
     }
@@ -128,6 +134,7 @@ struct Counts {
     losing: u32,
     tied: u32,
     paradoxical: u32,
+    rescued: u32,
     halved: u32,
 }
 
@@ -147,6 +154,7 @@ impl Counts {
             losing: 0,
             tied: 0,
             paradoxical: 0,
+            rescued: 0,
             halved: 0,
         }
     }
@@ -158,6 +166,7 @@ impl Counts {
             losing: counted(self.losing, cases.losing),
             tied: counted(self.tied, cases.tied),
             paradoxical: counted(self.paradoxical, cases.paradoxical),
+            rescued: counted(self.rescued, cases.rescued),
             halved: counted(self.halved, cases.halved),
         }
     }
@@ -242,6 +251,6 @@ fn books_clear_as_their_enumeration(rt: HostRuntime) -> Result<(), Fail> {
     }
     assert!(rt; counts.not_admissible > FLOOR && counts.unbalanced > FLOOR);
     assert!(rt; counts.losing > FLOOR && counts.tied > FLOOR);
-    assert!(rt; counts.paradoxical > FLOOR && counts.halved > FLOOR);
+    assert!(rt; counts.paradoxical > FLOOR && counts.rescued > FLOOR && counts.halved > FLOOR);
     Ok(())
 }

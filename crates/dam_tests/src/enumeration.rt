@@ -368,6 +368,32 @@ pub(crate) fn surplus(block: &PlainBlock, day: &PlainDay) -> i64 {
     total
 }
 
+/// Whether the chain of parents that begins at a place leads to another one.
+fn descends(market: &PlainMarket, place: usize, ancestor: usize) -> bool {
+    let mut at = place;
+    for _ in 0..MOST_BLOCKS {
+        let Some(parent) = market.blocks.get(at).and_then(|block| block.parent) else {
+            return false;
+        };
+        if parent == ancestor {
+            return true;
+        }
+        at = parent;
+    }
+    false
+}
+
+/// What the block at a place gains with the accepted blocks that descend from it.
+fn gain(market: &PlainMarket, accepted: &Accepted, day: &PlainDay, place: usize) -> i64 {
+    let mut total = 0i64;
+    for (at, block) in market.blocks.iter().enumerate() {
+        if at == place || has(accepted, at) && descends(market, at, place) {
+            total = total.saturating_add(surplus(block, day));
+        }
+    }
+    total
+}
+
 /// The first fault of a selection, or its welfare.
 pub(crate) fn verdict(market: &PlainMarket, accepted: &Accepted) -> PlainVerdict {
     if !is_admissible(market, accepted) {
@@ -377,8 +403,8 @@ pub(crate) fn verdict(market: &PlainMarket, accepted: &Accepted) -> PlainVerdict
         Ok(day) => day,
         Err(period) => return PlainVerdict::Unbalanced(period),
     };
-    for (place, block) in market.blocks.iter().enumerate() {
-        if has(accepted, place) && surplus(block, &day) < 0 {
+    for place in 0..market.blocks.len() {
+        if has(accepted, place) && gain(market, accepted, &day, place) < 0 {
             return PlainVerdict::Losing(place);
         }
     }

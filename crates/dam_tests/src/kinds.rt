@@ -2,17 +2,18 @@
 
 use crate::drawn::MANY_BLOCKS;
 use dam_blocks::{Block, Problem, Selection, Verdict, best_of_all, score};
-use dam_results::{RowResult, results};
+use dam_results::{Results, RowResult, results};
 use std::alloc::{AllocError, Global};
 
 /// In how many books there is a linked block, a group of two, a second selection of the greatest
-/// welfare, and a rejected block that would gain.
+/// welfare, a rejected block that would gain, and an accepted one that loses by itself.
 #[derive(Clone, Copy)]
 pub(crate) struct Counts {
     linked: u32,
     grouped: u32,
     tied: u32,
     paradoxical: u32,
+    rescued: u32,
 }
 
 fn counted(count: u32, comes: bool) -> u32 {
@@ -30,23 +31,30 @@ impl Counts {
             grouped: 0,
             tied: 0,
             paradoxical: 0,
+            rescued: 0,
         }
     }
 
     /// With one book more.
     pub(crate) fn with(self, alloc: Global, problem: &Problem) -> Result<Counts, AllocError> {
         let blocks = problem.blocks();
+        let published = results(alloc, problem, best_of_all(problem))?;
         Ok(Counts {
             linked: counted(self.linked, has_link(blocks)),
             grouped: counted(self.grouped, has_group(blocks)),
             tied: counted(self.tied, is_tied(problem)),
-            paradoxical: counted(self.paradoxical, has_paradox(alloc, problem)?),
+            paradoxical: counted(self.paradoxical, has_block(&published, false)),
+            rescued: counted(self.rescued, has_block(&published, true)),
         })
     }
 
     /// Whether each kind came in more books than this.
     pub(crate) fn are_above(&self, floor: u32) -> bool {
-        self.linked > floor && self.grouped > floor && self.tied > floor && self.paradoxical > floor
+        self.linked > floor
+            && self.grouped > floor
+            && self.tied > floor
+            && self.paradoxical > floor
+            && self.rescued > floor
     }
 }
 
@@ -96,19 +104,20 @@ fn is_tied(problem: &Problem) -> bool {
     found > 1
 }
 
-fn would_gain(row: &RowResult) -> bool {
+/// Whether a block's decision isn't as its own surplus has it: it is rejected and would gain, or
+/// accepted and loses.
+fn is_against(row: &RowResult, is_accepted: bool) -> bool {
     match row {
         RowResult::Hour { .. } => false,
         RowResult::Block {
             accepted,
             surplus,
             ..
-        } => !*accepted && *surplus > 0,
+        } => *accepted == is_accepted && (if is_accepted { *surplus < 0 } else { *surplus > 0 }),
     }
 }
 
-/// Whether a rejected block would gain at the prices of the result.
-fn has_paradox(alloc: Global, problem: &Problem) -> Result<bool, AllocError> {
-    let published = results(alloc, problem, best_of_all(problem))?;
-    Ok(published.rows.iter().any(|row| would_gain(row)))
+/// Whether there is such a block, accepted or rejected.
+fn has_block(published: &Results, is_accepted: bool) -> bool {
+    published.rows.iter().any(|row| is_against(row, is_accepted))
 }

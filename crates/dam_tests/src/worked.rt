@@ -74,7 +74,7 @@ submit,A,S1,hour,sell,-50000,1:99999,,
     ),
 ];
 
-const BLOCKS: [Worked; 9] = [
+const BLOCKS: [Worked; 8] = [
     (
         "submit,A,B1,hour,buy,6000,1:20,,
 submit,A,S1,hour,sell,5000,1:20,,
@@ -121,17 +121,6 @@ submit,A,K1,block,buy,2500,1:10,,
     ),
     (
         "submit,A,B1,hour,buy,6000,1:20,,
-submit,A,S1,hour,sell,5000,1:20,,
-submit,A,B2,hour,buy,6000,2:20,,
-submit,A,S2,hour,sell,5000,2:20,,
-submit,A,K1,block,sell,5200,1:10,,
-submit,A,K2,block,sell,3000,2:10,K1,
-",
-        &[false, false],
-        40_000,
-    ),
-    (
-        "submit,A,B1,hour,buy,6000,1:20,,
 submit,A,K1,block,sell,1000,1:30,,
 ",
         &[false],
@@ -154,6 +143,61 @@ submit,A,K2,block,sell,4000,1:10,,
 ",
         &[true, true],
         35_000,
+    ),
+];
+
+/// Parents and their children: one that its child makes good, a child that its parent doesn't, and a
+/// chain of three.
+const FAMILIES: [Worked; 4] = [
+    (
+        "submit,A,B1,hour,buy,6000,1:20,,
+submit,A,S1,hour,sell,5000,1:20,,
+submit,A,B2,hour,buy,6000,2:20,,
+submit,A,S2,hour,sell,5000,2:20,,
+submit,A,K1,block,sell,5200,1:10,,
+submit,A,K2,block,sell,3000,2:10,K1,
+",
+        &[true, true],
+        58_000,
+    ),
+    (
+        "submit,A,B1,hour,buy,6000,1:10,,
+submit,A,B3,hour,buy,5200,1:10,,
+submit,A,S1,hour,sell,5000,1:15,,
+submit,A,B2,hour,buy,6000,2:20,,
+submit,A,S2,hour,sell,5000,2:20,,
+submit,A,K1,block,sell,3000,2:10,,
+submit,A,K2,block,sell,5050,1:10,K1,
+",
+        &[true, false],
+        51_000,
+    ),
+    (
+        "submit,A,B1,hour,buy,6000,1:10,,
+submit,A,B3,hour,buy,5200,1:10,,
+submit,A,S1,hour,sell,5000,1:15,,
+submit,A,B2,hour,buy,6000,2:20,,
+submit,A,S2,hour,sell,5000,2:20,,
+submit,A,K1,block,sell,5050,1:10,,
+submit,A,K2,block,sell,3000,2:10,K1,
+",
+        &[true, true],
+        51_500,
+    ),
+    (
+        "submit,A,B1,hour,buy,6000,1:10,,
+submit,A,B3,hour,buy,5200,1:10,,
+submit,A,S1,hour,sell,5000,1:15,,
+submit,A,B2,hour,buy,6000,2:20,,
+submit,A,S2,hour,sell,5000,2:20,,
+submit,A,B4,hour,buy,6000,3:20,,
+submit,A,S4,hour,sell,5000,3:20,,
+submit,A,K1,block,sell,5050,1:10,,
+submit,A,K2,block,sell,5200,2:10,K1,
+submit,A,K3,block,sell,3000,3:10,K2,
+",
+        &[true, true, true],
+        69_500,
     ),
 ];
 
@@ -238,6 +282,11 @@ fn check_all<R: Abort + Threads + Sync>(
 #[test]
 fn hourly_orders_under_every_plan(rt: HostRuntime) -> Result<(), Fail> {
     check_all(&rt, rt.alloc(), &HOURLY)
+}
+
+#[test]
+fn families_under_every_plan(rt: HostRuntime) -> Result<(), Fail> {
+    check_all(&rt, rt.alloc(), &FAMILIES)
 }
 
 #[test]

@@ -1,5 +1,5 @@
 -- The price of the period lies between the ends that there are.
-use Rattle.std.proofs.Common.{ℤ, pos, ◌-ℤ◌, ◌*ℤ◌, List, ap, ◌∙◌, subst, rules}
+use Rattle.std.proofs.Common.{ℕ, ℤ, pos, ◌-ℤ◌, ◌*ℤ◌, List, ap, ◌∙◌, subst, rules}
 use Rattle.std.proofs.lemmas.Int.{to_z-of_z}
 use mir.Syntax.{w32, w64}
 use mir.Val.{SFits}
@@ -13,11 +13,12 @@ use Rattle.dam_bound.proofs.gain.gain_in.Goals as goal
 pub returns-in-Some-clause-value : goal.returns-in-Some-clause-value
 returns-in-Some-clause-value g c price is =
     let steps = c.stack.ensures _ c.requires.levels in
-    let fits : SFits w64 c.gain_at_price.result = search rules in
+    let fits : SFits w64 c.surplus_at_price.result = search rules in
     let net_fits : SFits w64 c.from.result = search rules in
     let own_fits : SFits w32 c.args.own.net = search rules in
     let net = to_z-of_z w64 c.from.result net_fits ∙ c.from.ensures ∙ to_z-of_z w32 c.args.own.net own_fits in
-    to_z-of_z w64 c.gain_at_price.result fits ∙ c.gain_at_price.ensures.value
+    to_z-of_z w64 c.surplus_at_price.result fits ∙ c.surplus_at_price.ensures.value
+    ∙ ap (λ (n : ℕ). signed c.args.order.now.side ((c.args.order.now.price -ℤ c.price_between.result) *ℤ pos n)) c.get.ensures.value
     ∙ ap (λ (z : ℤ). signed c.args.order.now.side ((c.args.order.now.price -ℤ z) *ℤ pos c.args.qty))
     (c.price_between.ensures ∙ price_is c.uniqueness.ensures.ends (last_steps c.args.levels.now) _ c.args.own.net _ _ _ price steps net c.in-Some.ensures.ends is)
 

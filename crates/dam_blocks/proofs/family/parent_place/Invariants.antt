@@ -1,0 +1,7 @@
+-- No block so far is named.
+use Rattle.std.proofs.Common.{◌≡◌, ℕ, ◌<◌, false, get_or}
+use Rattle.dam_blocks.specs.Family.{names}
+use Rattle.dam_blocks.proofs.family.parent_place.Given as goal
+
+abbrev pub invariant-loop-at : goal.invariant-loop-at
+invariant-loop-at l = (k : ℕ) → k < l.at → names (get_or l.blocks k l.child) l.child ≡ false

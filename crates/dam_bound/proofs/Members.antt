@@ -1,0 +1,105 @@
+-- The blocks that descend from one, place by place, and the sum of what they gain.
+use Rattle.std.proofs.Common.{◌≡◌, ◌≢◌, ℕ, zero, suc, ◌+◌, ◌<◌, ◌≤◌, ℤ, pos, ◌+ℤ◌, Bool, true, false, Option, Some, List, [], ◌∷◌, length, drop, slice_set, option_map, unwrap_or, ap, ◌∙◌, sym, refl, inl, inr, arith}
+use Rattle.std.specs.List.{slice_get}
+use Rattle.std.proofs.lemmas.Int.{ints}
+use Rattle.std.proofs.lemmas.Bool.{cases_eq}
+use Rattle.std.proofs.lemmas.List.{get_or-set_same, get_or-set_other, length-set}
+use Rattle.dam_book.specs.Terms.{BlockTerms}
+use Rattle.dam_book.specs.Limits.{most_blocks}
+use Rattle.dam_blocks.specs.declared.problem.Block.{Block}
+use Rattle.dam_blocks.specs.Selection.{accepts, over_accepted}
+use Rattle.dam_blocks.specs.Family.{descends}
+use Rattle.dam_blocks.specs.Eligible.{surplus_of, surplus_at}
+use Rattle.dam_bound.specs.Day.{if_accepted}
+
+-- ---- the descendants among the first places
+pub record IsFamilySoFar (blocks : List Block) (place other : ℕ) (family : List Bool) (is_empty : Bool) : Type 0 where
+  pub long : length family ≡ most_blocks
+  pub so_far : (j : ℕ) → j < other → accepts family j ≡ descends blocks place j
+  pub rest : (j : ℕ) → other ≤ j → accepts family j ≡ false
+  pub none : is_empty ≡ true → (j : ℕ) → j < other → descends blocks place j ≡ false
+
+pub a_descendant : (blocks : List Block) (place other : ℕ) (family : List Bool) (e after : Bool) → other < most_blocks → descends blocks place other ≡ true → after ≡ false
+    → IsFamilySoFar blocks place other family e → IsFamilySoFar blocks place (other + 1) (slice_set family other true) after
+a_descendant blocks place other family e after inside is off so_far =
+    let long = so_far.long in
+    record {
+      long = length-set family other true ∙ long;
+      so_far = λ j l. elim (cases_eq j other) [
+        | inl same ↦
+            ap (accepts (slice_set family other true)) same ∙ get_or-set_same family other true false (omega (arith, inside, long))
+            ∙ sym (ap (descends blocks place) same ∙ is)
+        | inr apart ↦ get_or-set_other family other j true false apart ∙ so_far.so_far j (omega (arith, l, apart))
+      ];
+      rest = λ j l. (let apart : j ≢ other = omega (arith, l) in get_or-set_other family other j true false apart ∙ so_far.rest j (omega (arith, l)));
+      none = λ wrong j l. absurd (cc);
+    }
+
+pub not_a_descendant : (blocks : List Block) (place other : ℕ) (family : List Bool) (e : Bool) → descends blocks place other ≡ false
+    → IsFamilySoFar blocks place other family e → IsFamilySoFar blocks place (other + 1) family e
+not_a_descendant blocks place other family e is so_far = record {
+  long = so_far.long;
+  so_far = λ j l. elim (cases_eq j other) [
+    | inl same ↦ (ap (accepts family) same ∙ so_far.rest other (omega arith) ∙ sym (ap (descends blocks place) same ∙ is))
+    | inr apart ↦ so_far.so_far j (omega (arith, l, apart))
+  ];
+  rest = λ j l. so_far.rest j (omega (arith, l));
+  none = λ none j l. elim (cases_eq j other) [
+    | inl same ↦ (ap (descends blocks place) same ∙ is)
+    | inr apart ↦ so_far.none none j (omega (arith, l, apart))
+  ];
+}
+
+-- ---- sums over accepted places
+over_accepted-nil : (f : BlockTerms → ℤ) (bs : List Block) → over_accepted f bs [] ≡ pos 0
+over_accepted-nil f [] = refl
+over_accepted-nil f (b ∷ bs) = refl
+
+first_apart : (f : BlockTerms → ℤ) (b : Block) (bs : List Block) (c : Bool) (sel : List Bool)
+    → over_accepted f (b ∷ bs) (c ∷ sel) ≡ if_accepted c (f b.order) +ℤ over_accepted f bs sel
+first_apart f b bs true sel = refl
+first_apart f b bs false sel = omega (arith, ints)
+
+-- a place, and what is left
+from_place : (f : BlockTerms → ℤ) (i : ℕ) (bs : List Block) (b : Block) (sel : List Bool) → slice_get bs i ≡ Some b
+    → over_accepted f (drop i bs) (drop i sel) ≡ if_accepted (accepts sel i) (f b.order) +ℤ over_accepted f (drop (suc i) bs) (drop (suc i) sel)
+from_place f i [] b sel e = absurd (cc)
+from_place f zero (c ∷ bs) b [] e = let none = over_accepted-nil f bs in omega (arith, ints, none)
+from_place f (suc i) (c ∷ bs) b [] e =
+    let here = over_accepted-nil f (drop i bs) in let next = over_accepted-nil f (drop (suc i) bs) in omega (arith, ints, here, next)
+from_place f zero (c ∷ bs) b (a ∷ sel) e =
+    let same : c ≡ b = cc in first_apart f c bs a sel ∙ ap (λ (d : Block). if_accepted a (f d.order) +ℤ over_accepted f bs sel) same
+from_place f (suc i) (c ∷ bs) b (a ∷ sel) e = from_place f i bs b sel e
+
+next_place : (i : ℕ) → suc i ≡ i + 1
+next_place i = omega arith
+
+stands : (bs : List Block) (i : ℕ) → i < length bs → (b : Block) × (slice_get bs i ≡ Some b)
+stands [] i l = absurd (omega (arith, l))
+stands (b ∷ bs) zero l = (b, refl)
+stands (b ∷ bs) (suc i) l = stands bs i (omega (arith, l))
+
+pub member_more : (prices : List ℤ) (blocks : List Block) (members : List Bool) (place : ℕ) (taken : Bool) (total own after : ℤ)
+    → place < length blocks → accepts members place ≡ taken → own ≡ if_accepted taken (surplus_at blocks prices place) → after ≡ total +ℤ own
+    → total +ℤ over_accepted (surplus_of prices) (drop place blocks) (drop place members) ≡ over_accepted (surplus_of prices) blocks members
+    → after +ℤ over_accepted (surplus_of prices) (drop (place + 1) blocks) (drop (place + 1) members) ≡ over_accepted (surplus_of prices) blocks members
+member_more prices blocks members place taken total own after inside is e f so_far =
+    let found = stands blocks place inside in let b = found.0 in let at = found.1 in
+    let step = from_place (surplus_of prices) place blocks b members at in
+    let here = ap (λ (c : Bool). if_accepted c (surplus_of prices b.order)) is in
+    let there = ap (λ (o : Option Block). if_accepted taken (unwrap_or (option_map (λ (c : Block). surplus_of prices c.order) o) (pos 0))) at in
+    let next = ap (λ (n : ℕ). over_accepted (surplus_of prices) (drop n blocks) (drop n members)) (next_place place) in
+    omega (arith, ints, step, here, there, next, e, f, so_far)
+
+pub all_members : (f : BlockTerms → ℤ) (blocks : List Block) (members : List Bool) (place : ℕ) (total whole : ℤ) → drop place blocks ≡ []
+    → total +ℤ over_accepted f (drop place blocks) (drop place members) ≡ whole → total ≡ whole
+all_members f blocks members place total whole none e =
+    let rest = ap (λ (bs : List Block). over_accepted f bs (drop place members)) none in
+    omega (arith, ints, rest, e)
+
+pub no_members : (f : BlockTerms → ℤ) (blocks : List Block) (members : List Bool) → ((i : ℕ) → i < length blocks → accepts members i ≡ false)
+    → over_accepted f blocks members ≡ pos 0
+no_members f [] members h = refl
+no_members f (b ∷ bs) [] h = refl
+no_members f (b ∷ bs) (true ∷ members) h = absurd (let wrong = h 0 (omega arith) in cc)
+no_members f (b ∷ bs) (false ∷ members) h = no_members f bs members (λ i l. h (suc i) (omega (arith, l)))
