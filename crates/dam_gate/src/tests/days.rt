@@ -1,6 +1,6 @@
 use super::{cancel, participant, submit};
 use crate::{DayFault, Doorkeeper, OpenDoor, Pass, run_commands};
-use dam_book::{Command, Entry, Side};
+use dam_book::{Command, Entry, Seed, Side};
 use std::alloc::Global;
 use std::sync::atomic::{AtomicU32, Ordering};
 use std::test::Fail;
@@ -37,7 +37,7 @@ fn are_in_order(entries: &[Entry], given: &[Command]) -> Result<bool, Fail> {
 fn each_keeps_its_order(rt: HostRuntime) -> Result<(), Fail> {
     let given = given(rt.alloc())?;
     for _ in 0..20 {
-        let day = run_commands(&rt, rt.alloc(), 24, &given, &OpenDoor)?;
+        let day = run_commands(&rt, rt.alloc(), 24, Seed::fixed(), &given, &OpenDoor)?;
         let journal = day.settled.journal();
         assert!(rt; journal.periods() == 24 && journal.entries().len() == 4);
         assert!(rt; are_in_order(journal.entries(), &given)?);
@@ -67,7 +67,7 @@ fn are_held_by(passes: &[Pass], codes: &[&[u8]]) -> Result<bool, Fail> {
 #[test]
 fn the_passes_come_back(rt: HostRuntime) -> Result<(), Fail> {
     let given = given(rt.alloc())?;
-    let day = run_commands(&rt, rt.alloc(), 24, &given, &OpenDoor)?;
+    let day = run_commands(&rt, rt.alloc(), 24, Seed::fixed(), &given, &OpenDoor)?;
     assert_eq!(rt; day.passes.len(), 3);
     assert!(rt; day.passes[0].receipts().len() == 2);
     assert!(rt; day.passes[1].receipts().len() == 1);
@@ -79,7 +79,7 @@ fn the_passes_come_back(rt: HostRuntime) -> Result<(), Fail> {
 #[test]
 fn a_day_of_nobody(rt: HostRuntime) -> Result<(), Fail> {
     for periods in [23, 24, 25] {
-        let day = run_commands(&rt, rt.alloc(), periods, &[], &OpenDoor)?;
+        let day = run_commands(&rt, rt.alloc(), periods, Seed::fixed(), &[], &OpenDoor)?;
         let journal = day.settled.journal();
         assert!(rt; journal.entries().len() == 1 && journal.book().is_closed());
         assert!(rt; journal.periods() == periods);
@@ -90,7 +90,7 @@ fn a_day_of_nobody(rt: HostRuntime) -> Result<(), Fail> {
 #[test]
 fn a_given_close_is_refused(rt: HostRuntime) -> Result<(), Fail> {
     let given = [cancel(b"A", b"S1")?, Command::Close];
-    let day = run_commands(&rt, rt.alloc(), 24, &given, &OpenDoor);
+    let day = run_commands(&rt, rt.alloc(), 24, Seed::fixed(), &given, &OpenDoor);
     assert_eq!(rt; day.err(), Some(DayFault::CloseGiven(1)));
     Ok(())
 }
@@ -102,9 +102,9 @@ fn a_ninth_participant_is_refused(rt: HostRuntime) -> Result<(), Fail> {
         given.push(cancel(code.as_slice(), b"S1")?)?;
     }
     let first = given.get(..8).ok_or("eight commands")?;
-    let eight = run_commands(&rt, rt.alloc(), 24, first, &OpenDoor)?;
+    let eight = run_commands(&rt, rt.alloc(), 24, Seed::fixed(), first, &OpenDoor)?;
     assert_eq!(rt; eight.settled.journal().entries().len(), 9);
-    let nine = run_commands(&rt, rt.alloc(), 24, &given, &OpenDoor);
+    let nine = run_commands(&rt, rt.alloc(), 24, Seed::fixed(), &given, &OpenDoor);
     assert_eq!(rt; nine.err(), Some(DayFault::TooManyParticipants(8)));
     Ok(())
 }
@@ -115,10 +115,10 @@ fn ten_thousand_commands_are_too_many(rt: HostRuntime) -> Result<(), Fail> {
     for _ in 0..10_000 {
         given.push(cancel(b"A", b"S1")?)?;
     }
-    let many = run_commands(&rt, rt.alloc(), 24, &given, &OpenDoor);
+    let many = run_commands(&rt, rt.alloc(), 24, Seed::fixed(), &given, &OpenDoor);
     assert_eq!(rt; many.err(), Some(DayFault::TooManyCommands));
     let first = given.get(..9_999).ok_or("as many as there is room for")?;
-    let most = run_commands(&rt, rt.alloc(), 24, first, &OpenDoor)?;
+    let most = run_commands(&rt, rt.alloc(), 24, Seed::fixed(), first, &OpenDoor)?;
     assert_eq!(rt; most.settled.journal().entries().len(), 10_000);
     Ok(())
 }
@@ -154,7 +154,7 @@ fn two_participants_meet(rt: HostRuntime) -> Result<(), Fail> {
         met: AtomicU32::new(0),
         left: AtomicU32::new(0),
     };
-    let _day = run_commands(&rt, rt.alloc(), 24, &given(rt.alloc())?, &meeting)?;
+    let _day = run_commands(&rt, rt.alloc(), 24, Seed::fixed(), &given(rt.alloc())?, &meeting)?;
     assert_eq!(rt; meeting.met.load(Ordering::SeqCst), 2);
     assert_eq!(rt; meeting.left.load(Ordering::SeqCst), 2);
     Ok(())
@@ -224,7 +224,7 @@ fn a_doorkeeper_stands_round_the_commands(rt: HostRuntime) -> Result<(), Fail> {
         log: AtomicU32::new(0),
     };
     let given = cancels_of(rt.alloc(), &[b"C", b"A", b"C", b"B", b"A"])?;
-    let day = run_commands(&rt, rt.alloc(), 24, &given, &door)?;
+    let day = run_commands(&rt, rt.alloc(), 24, Seed::fixed(), &given, &door)?;
     assert_eq!(rt; door.log.load(Ordering::SeqCst), 332_211);
     let entries = day.settled.journal().entries();
     assert!(rt; are_cancels_of(entries, &[b"B", b"A", b"A", b"C", b"C"])?);
