@@ -1,5 +1,6 @@
 use crate::support::commands;
-use dam_book::{Book, Reason, Reply, replay};
+use dam_book::{Book, Entry, Reason, Reply, replay};
+use std::alloc::{AllocError, Global};
 use std::test::Fail;
 
 const FAMILY: &str = "submit,A,K1,block,sell,4000,1:10,,
@@ -14,21 +15,30 @@ submit,A,K1,block,sell,4000,1:10,,
 close,,,,,,,,
 ";
 
+/// What was refused of the family's commands.
+const REFUSED: [(u32, Reply); 3] = [
+    (3, Reply::Refused(Reason::HasChildren)),
+    (6, Reply::Refused(Reason::UnknownParent)),
+    (8, Reply::Refused(Reason::ParentNotBlock)),
+];
+
+/// The numbers and replies of the commands that weren't carried out.
+fn refused_of(alloc: Global, entries: &[Entry]) -> Result<Vec<(u32, Reply)>, AllocError> {
+    let mut refused = Vec::new(alloc);
+    for entry in entries {
+        if entry.reply != Reply::Done {
+            refused.push((entry.number, entry.reply))?;
+        }
+    }
+    Ok(refused)
+}
+
 #[test]
 fn a_linked_family_comes_and_goes(rt: HostRuntime) -> Result<(), Fail> {
     let commands = commands(rt.alloc(), FAMILY)?;
     let (_book, entries) = replay(rt.alloc(), Book::begin(rt.alloc(), 24)?, &commands)?;
-    let refused: Vec<(u32, Reply)> = entries
-        .iter()
-        .filter(|entry| entry.reply != Reply::Done)
-        .map(|entry| (entry.number, entry.reply))
-        .collect(rt.alloc())?;
-    let expected = [
-        (3, Reply::Refused(Reason::HasChildren)),
-        (6, Reply::Refused(Reason::UnknownParent)),
-        (8, Reply::Refused(Reason::ParentNotBlock)),
-    ];
-    assert!(rt; refused.as_slice() == expected.as_slice());
+    let refused = refused_of(rt.alloc(), &entries)?;
+    assert!(rt; refused.as_slice() == REFUSED.as_slice());
     Ok(())
 }
 
