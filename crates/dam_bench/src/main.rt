@@ -168,7 +168,7 @@ fn measure_nodes<R: Clock + Print + Eprint + Threads + Sync>(
     let relaxed = Relaxed::build(alloc, problem)?;
     tell(rt, "levels", begun)?;
     let begun = Instant::now(rt)?;
-    let first = first_selection(problem).welfare;
+    let first = first_selection(problem, &relaxed).welfare;
     tell(rt, "first", begun)?;
     let cutting = Cutting::new(problem, &relaxed, plan.cut());
     let mut nodes = 0u64;
