@@ -11,7 +11,7 @@ use dam_book::{
     Side, Volumes,
 };
 use dam_bound::Relaxed;
-use std::alloc::Global;
+use std::alloc::{AllocError, Global};
 use std::process::Abort;
 use std::sync::atomic::{AtomicU64, Ordering};
 use std::test::Fail;
@@ -409,10 +409,7 @@ fn six_blocks_under_every_plan(rt: HostRuntime) -> Result<(), Fail> {
 }
 
 fn first_of(alloc: Global, problem: &Problem) -> Result<Best, AllocError> {
-    Ok(first_selection(
-        problem,
-        &Relaxed::build(alloc, problem)?,
-    ))
+    Ok(first_selection(problem, &Relaxed::build(alloc, problem)?))
 }
 
 /// From the empty selection no single block is eligible, so the pair is accepted at once.

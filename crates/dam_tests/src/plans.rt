@@ -2,9 +2,11 @@
 
 use crate::drawn::{Dice, MANY_BLOCKS, draw_blocks, draw_with};
 use crate::kinds::Counts;
-use dam_blocks::{Problem, Verdict, best_of_all, score};
+use dam_blocks::{Best, Problem, Selection, Verdict, best_of_all, score};
+use dam_book::MOST_BLOCKS;
+use dam_bound::Relaxed;
 use dam_search::{FreeTurn, MOST_NODES, Plan, first_selection, search};
-use std::alloc::Global;
+use std::alloc::{AllocError, Global};
 use std::process::Abort;
 use std::test::Fail;
 use std::thread::Threads;
@@ -21,6 +23,72 @@ const PLANS: [(u8, u8); 5] = [(1, 0), (1, 8), (2, 3), (4, 2), (8, 8)];
 /// Eight workers at the deepest cuttings.
 const DEEP: [(u8, u8); 2] = [(8, 7), (8, 8)];
 
+/// The selection with this place accepted where it was not, and not where it was.
+fn flipped(selection: Selection, flip: usize) -> Selection {
+    let mut other = Selection::none();
+    for place in 0..MOST_BLOCKS {
+        if selection.has(place) != (place == flip) {
+            other = other.with(place);
+        }
+    }
+    other
+}
+
+/// The best of what one flip makes of the selection, from the place `from` on, or else `best`; each is
+/// scored.
+fn best_flip(problem: &Problem, best: Best, selection: Selection, from: usize) -> Best {
+    let mut greatest = best;
+    for place in from..problem.block_count() {
+        let other = flipped(selection, place);
+        if let Verdict::Eligible(welfare) = score(problem, other)
+            && welfare > greatest.welfare
+        {
+            greatest = Best {
+                selection: other,
+                welfare,
+            };
+        }
+    }
+    greatest
+}
+
+/// The best of what one flip makes of the selection, or where none gains, of what two make of it.
+fn improved(problem: &Problem, best: Best) -> Best {
+    let one = best_flip(problem, best, best.selection, 0);
+    if one.welfare > best.welfare {
+        return one;
+    }
+    let mut greatest = best;
+    for place in 0..problem.block_count() {
+        greatest = best_flip(problem, greatest, flipped(best.selection, place), place + 1);
+    }
+    greatest
+}
+
+/// Compares the selection that a search begins with and what flips lead to that are scored whole.
+fn compare_first(rt: &impl Abort, alloc: Global, problem: &Problem) -> Result<(), AllocError> {
+    let relaxed = Relaxed::build(alloc, problem)?;
+    let first = first_selection(problem, &relaxed);
+    let verdict = score(problem, first.selection);
+    assert_eq!(rt; verdict, Verdict::Eligible(first.welfare));
+    let mut best = Best {
+        selection: Selection::none(),
+        welfare: 0,
+    };
+    if let Verdict::Eligible(welfare) = score(problem, best.selection) {
+        best.welfare = welfare;
+    }
+    for _ in 0..100 {
+        let welfare = best.welfare;
+        best = improved(problem, best);
+        if best.welfare == welfare {
+            break;
+        }
+    }
+    assert_eq!(rt; first, best);
+    Ok(())
+}
+
 /// Compares the search of one problem under these plans, and the selection that it begins with.
 fn compare<R: Abort + Threads + Sync>(
     rt: &R,
@@ -29,9 +97,7 @@ fn compare<R: Abort + Threads + Sync>(
     plans: &[(u8, u8)],
 ) -> Result<(), Fail> {
     let best = best_of_all(problem);
-    let first = first_selection(problem);
-    let verdict = score(problem, first.selection);
-    assert_eq!(rt; verdict, Verdict::Eligible(first.welfare));
+    compare_first(rt, alloc, problem)?;
     for (workers, cut) in plans {
         let plan = Plan::new(*workers, *cut, MOST_NODES).ok_or("a plan")?;
         let found = search(rt, alloc, problem, plan, &FreeTurn)?;

@@ -95,52 +95,61 @@ fn drawn_problem(alloc: Global, seed: u32) -> Result<Problem, Fail> {
     problem_of(alloc, book)
 }
 
-/// The day of the prefix that decides so many blocks, and accepts those in `taken`.
-fn day_of(relaxed: &Relaxed, taken: Selection, depth: usize) -> Option<Day>
+/// The day of the prefix that decides so many blocks, and accepts those in `taken`, unless its bound is
+/// seen to be under `least` on the way.
+fn day_of(relaxed: &Relaxed, taken: Selection, depth: usize, least: u64) -> Option<Day>
     requires depth { depth ≤ length relaxed.now.blocks }
     requires few { depth ≤ 8 }
 {
-    let mut day = relaxed.root();
+    let mut day = relaxed.root()?;
     for place in 0..depth {
-        day = relaxed.child(&day, place, taken.has(place));
+        if !relaxed.extend(&mut day, place, taken.has(place), least) {
+            return None;
+        }
     }
-    day
+    Some(day)
 }
 
-fn total_of(day: &Option<Day>) -> Option<i64> {
+/// Whether the day has this bound; or it was not made, and there is none, or one under `least`.
+fn is_right(day: &Option<Day>, bound: Option<i64>, least: i64) -> bool {
     match day {
-        Some(day) => Some(day.total),
-        None => None,
+        Some(day) => bound == Some(day.total),
+        None => bound.is_none_or(|bound| bound < least),
     }
 }
 
-/// Compares the day and the bound of each prefix that decides so many blocks; how many of them have
-/// none.
-fn check_depth(rt: &impl Abort, relaxed: &Relaxed, depth: usize) -> u32
+/// Compares the day and the bound of each prefix that decides so many blocks, where so much is asked for;
+/// how many days were not made.
+fn check_depth(rt: &impl Abort, relaxed: &Relaxed, depth: usize, least: u32) -> u32
     requires depth { depth ≤ length relaxed.now.blocks }
     requires few { depth ≤ 8 }
 {
     let mut none = 0u32;
     for number in 0..1u32 << depth {
         let taken = Selection::choice(depth, number);
-        let total = total_of(&day_of(relaxed, taken, depth));
-        assert_eq!(rt;
-            total,
-            relaxed.bound(taken, depth),
+        let day = &day_of(relaxed, taken, depth, u64::from(least));
+        let bound = relaxed.bound(taken, depth);
+        assert!(rt;
+            is_right(day, bound, i64::from(least)),
             "prefix {number} of {depth}"
         );
-        none = none.saturating_add(u32::from(total.is_none()));
+        none = none.saturating_add(u32::from(day.is_none()));
     }
     none
 }
 
-fn check_prefixes(rt: &impl Abort, alloc: Global, problem: &Problem) -> Result<u32, AllocError> {
+fn check_prefixes(
+    rt: &impl Abort,
+    alloc: Global,
+    problem: &Problem,
+    least: u32,
+) -> Result<u32, AllocError> {
     let relaxed = Relaxed::build(alloc, problem)?;
     let count = problem.block_count();
     assert!(rt; count <= 8);
     let mut none = 0u32;
     for depth in 0..count + 1 {
-        none = none.saturating_add(check_depth(rt, &relaxed, depth));
+        none = none.saturating_add(check_depth(rt, &relaxed, depth, least));
     }
     Ok(none)
 }
@@ -148,10 +157,15 @@ fn check_prefixes(rt: &impl Abort, alloc: Global, problem: &Problem) -> Result<u
 #[test]
 fn days_of_drawn_books(rt: HostRuntime) -> Result<(), Fail> {
     let mut none = 0u32;
+    let mut under = 0u32;
     for number in 1..=120 {
         let problem = drawn_problem(rt.alloc(), number * 7_919)?;
-        none = none.saturating_add(check_prefixes(&rt, rt.alloc(), &problem)?);
+        none = none.saturating_add(check_prefixes(&rt, rt.alloc(), &problem, 0)?);
+        under = under.saturating_add(check_prefixes(&rt, rt.alloc(), &problem, 40_000)?);
     }
-    assert!(rt; 100 < none && none < 3_000);
+    assert!(rt;
+        100 < none && none < under && under < 3_500,
+        "{none} {under}"
+    );
     Ok(())
 }

@@ -184,9 +184,15 @@ fn finds_the_best<A: Allocator, B: Allocator>(problem: &Problem<A>, relaxed: &Re
 }
 
 /// Whether the first selection of the problem is the best, of this welfare.
-fn begins_with_the_best<A: Allocator>(problem: &Problem<A>) -> bool {
+fn begins_with_the_best<A: Allocator, B: Allocator>(
+    problem: &Problem<A>,
+    relaxed: &Relaxed<B>,
+) -> bool
+    requires { relaxed.now ≡ without_rows problem.now }
+{
     let best = best_of_all(problem);
-    first_selection(problem) == best && score(problem, best.selection) == Verdict::Eligible(30_000)
+    first_selection(problem, relaxed) == best
+        && score(problem, best.selection) == Verdict::Eligible(30_000)
 }
 
 /// A problem, its levels, and a search that asks for no memory.
@@ -200,7 +206,7 @@ impl Call for Searched {
         match problem_over(alloc, &self.book)? {
             Some(problem) => {
                 let relaxed = Relaxed::build(alloc, &problem)?;
-                Ok(finds_the_best(&problem, &relaxed) && begins_with_the_best(&problem))
+                Ok(finds_the_best(&problem, &relaxed) && begins_with_the_best(&problem, &relaxed))
             }
             None => Ok(false),
         }
