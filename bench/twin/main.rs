@@ -38,6 +38,8 @@ struct Block {
     volumes: Vec<(usize, i64)>,
     /// The parent, as a set of blocks by bits.
     parent: u32,
+    /// The blocks whose chain of parents leads to it, in the same way.
+    descendants: u32,
     /// The earlier blocks of its group, in the same way.
     rivals: u32,
 }
@@ -233,11 +235,16 @@ impl Relaxed<'_> {
             let (low, high) = stack.ends(day.periods[period].taken);
             price_between(low, high)
         };
-        self.problem.blocks.iter().enumerate().any(|(place, block)| {
-            accepted & (1 << place) != 0
-                && block.volumes.iter()
-                    .map(|(period, volume)| volume * if block.side == Side::Buy { block.price - price(*period) } else { price(*period) - block.price })
-                    .sum::<i64>() < 0
+        let surplus = |block: &Block| {
+            block.volumes.iter()
+                .map(|(period, volume)| volume * if block.side == Side::Buy { block.price - price(*period) } else { price(*period) - block.price })
+                .sum::<i64>()
+        };
+        let blocks = &self.problem.blocks;
+        let among = |set: u32| (0..blocks.len()).filter(move |place| set >> place & 1 == 1);
+        among(accepted).any(|place| {
+            let helping = blocks[place].descendants & accepted;
+            surplus(&blocks[place]) + among(helping).map(|other| surplus(&blocks[other])).sum::<i64>() < 0
         })
     }
 
@@ -421,7 +428,13 @@ fn read(text: &str) -> Problem {
                 rivals = *members;
                 *members |= own;
             }
-            problem.blocks.push(Block { side, price, volumes, parent, rivals });
+            let mut above = parent;
+            while above != 0 {
+                let ancestor: &mut Block = &mut problem.blocks[above.trailing_zeros() as usize];
+                ancestor.descendants |= own;
+                above = ancestor.parent;
+            }
+            problem.blocks.push(Block { side, price, volumes, parent, descendants: 0, rivals });
         }
     }
     problem

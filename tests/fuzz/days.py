@@ -54,7 +54,7 @@ class Draft:
         self.named = []  # pairs of a participant and a name that were submitted
         self.numbers = dict.fromkeys(PARTICIPANTS, 0)  # of each participant, how many of these
         self.blocks = []  # of these, the blocks
-        self.links, self.groups = rng.choice([0, 0.3, 0.8]), rng.choice([0, 0.3, 0.8])
+        self.links, self.groups = rng.choice([0, 0.3, 0.8, 0.9]), rng.choice([0, 0, 0.3, 0.8])
         self.lines = [f"day,{self.periods},,,,,,,"]
 
     def meet(self):
@@ -103,18 +103,24 @@ class Draft:
         self.lines.append(f"submit,{who},{name},hour,{side},{self.price()},{self.period()}:{self.volume()},,")
         self.submitted(who, name)
 
+    def limit(self, side, child):
+        """The limit of a block. That of a child may be the best of several, so that it gains where its parent loses."""
+        drawn = [self.price() for _ in range(4 if child and self.rng.random() < 0.6 else 1)]
+        return max(drawn) if side == "buy" else min(drawn)
+
     def submit_block(self):
         who, name = self.name("K")
         parent = group = ""
         own = [other for owner, other in self.blocks if owner == who]
         if own and self.rng.random() < self.links:
-            parent = self.rng.choice(own)
+            parent = own[-1] if self.rng.random() < 0.5 else self.rng.choice(own)
         elif self.named and self.rng.random() < 0.03:
             parent = self.rng.choice(self.named)[1]
         if self.rng.random() < self.groups:
             group = self.rng.choice("XY")
         side = self.rng.choice(["buy", "sell", "sell"])
-        self.lines.append(f"submit,{who},{name},block,{side},{self.price()},{self.profile()},{parent},{group}")
+        limit = self.limit(side, parent)
+        self.lines.append(f"submit,{who},{name},block,{side},{limit},{self.profile()},{parent},{group}")
         self.submitted(who, name)
         self.blocks.append((who, name))
 

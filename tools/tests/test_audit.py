@@ -87,6 +87,20 @@ class Results(unittest.TestCase):
         self.assertIn("group FILL of PUMP has 2 accepted blocks: PUMP,DAWN PUMP,NOON", wrong)
         wrong = "\n".join(differences(AUCTION.read_bytes(), printed(AUCTION).replace(b"UNIT-7,rejected", b"UNIT-7,accepted")))
         self.assertIn("block OLD,UNIT-7: it is accepted and loses 270000", wrong)
+        wrong = "\n".join(differences(AUCTION.read_bytes(), printed(AUCTION).replace(b"EVENING,accepted", b"EVENING,rejected")))
+        self.assertIn("block GAS,START: it is accepted and loses 320000 with those that descend from it", wrong)
+
+    def test_a_family_makes_its_root_good_and_no_child(self):
+        case = support.TOP / "tests/cases/clear/chain.csv"
+        chain = support.problem(case.read_bytes())
+        self.assertEqual(chain.rescuers, [[1, 2], [2], []])
+        for accepted, losers in ({0}, {0: 500}), ({0, 1}, {0: 2_500, 1: 2_000}), ({0, 1, 2}, {}):
+            found = selection.outcome(chain, accepted)
+            self.assertEqual(selection.losing(chain, accepted, found.surpluses), losers)
+        case = support.TOP / "tests/cases/clear/rescue-not-upwards.csv"
+        wrong = "\n".join(differences(case.read_bytes(), printed(case).replace(b"K2,rejected", b"K2,accepted")))
+        self.assertIn("block A,K2: it is accepted and loses 500", wrong)
+        self.assertNotIn("with those", wrong)
 
     def test_a_selection_that_balances_nowhere_is_refused(self):
         case = support.TOP / "tests/cases/clear/too-large-block.csv"

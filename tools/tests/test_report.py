@@ -100,6 +100,7 @@ class Page(unittest.TestCase):
             "8 to 20",
             "group FILL",
             "paradoxically rejected",
+            "loses at the prices, which is made good by STAY EVENING",
             "HasChildren",
             "521,550.000 EUR",
         ):

@@ -14,8 +14,11 @@ use std::test::Fail;
 /// The number of books that are drawn.
 const BOOKS: u32 = 500;
 
-/// Each kind of case has to come in more books than this.
+/// Each kind of case has to come in more books than this, but for an accepted block that loses by itself.
 const FLOOR: u32 = 20;
+
+/// That one has to come in more books than this.
+const RESCUED: u32 = 10;
 
 fn selection_of(accepted: &Accepted) -> Selection {
     let mut selection = Selection::none();
@@ -251,6 +254,6 @@ fn books_clear_as_their_enumeration(rt: HostRuntime) -> Result<(), Fail> {
     }
     assert!(rt; counts.not_admissible > FLOOR && counts.unbalanced > FLOOR);
     assert!(rt; counts.losing > FLOOR && counts.tied > FLOOR);
-    assert!(rt; counts.paradoxical > FLOOR && counts.rescued > FLOOR && counts.halved > FLOOR);
+    assert!(rt; counts.paradoxical > FLOOR && counts.halved > FLOOR && counts.rescued > RESCUED);
     Ok(())
 }

@@ -81,22 +81,41 @@ impl Dice {
     fn parent(&mut self, blocks: &[PlainBlock], who: usize) -> Option<usize> {
         let place = self.below(blocks.len());
         let parent = blocks.get(place)?;
-        if parent.who == who && self.comes(2) {
+        if parent.who == who && !self.comes(4) {
             Some(place)
         } else {
             None
         }
     }
 
+    /// The limit of a block. That of a child is the best of three, so that it gains where its parent
+    /// loses.
+    fn limit_of(&mut self, side: Side, is_child: bool) -> i64 {
+        let mut limit = self.limit();
+        for _ in 0..2 {
+            if is_child {
+                let other = self.limit();
+                limit = match side {
+                    Side::Buy => limit.max(other),
+                    Side::Sell => limit.min(other),
+                };
+            }
+        }
+        limit
+    }
+
     /// A block; now and then like the one before it.
     fn block(&mut self, blocks: &[PlainBlock], busy: usize) -> PlainBlock {
         let who = if self.comes(4) { 1 } else { 0 };
+        let side = self.side();
+        let volumes = self.volumes(busy);
+        let parent = self.parent(blocks, who);
         let fresh = PlainBlock {
             who,
-            side: self.side(),
-            limit: self.limit(),
-            volumes: self.volumes(busy),
-            parent: self.parent(blocks, who),
+            side,
+            limit: self.limit_of(side, parent.is_some()),
+            volumes,
+            parent,
             group: if self.comes(3) {
                 Some(self.below(2))
             } else {

@@ -113,11 +113,19 @@ fn is_against(row: &RowResult, is_accepted: bool) -> bool {
             accepted,
             surplus,
             ..
-        } => *accepted == is_accepted && (if is_accepted { *surplus < 0 } else { *surplus > 0 }),
+        } => *accepted == is_accepted
+            && (if is_accepted {
+                *surplus < 0
+            } else {
+                *surplus > 0
+            }),
     }
 }
 
 /// Whether there is such a block, accepted or rejected.
 fn has_block(published: &Results, is_accepted: bool) -> bool {
-    published.rows.iter().any(|row| is_against(row, is_accepted))
+    published
+        .rows
+        .iter()
+        .any(|row| is_against(row, is_accepted))
 }
