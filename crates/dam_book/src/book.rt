@@ -11,10 +11,10 @@ use crate::name::{Name, Participant};
 use crate::order::{BlockOrder, Order};
 use crate::period;
 use crate::price::Price;
+use crate::seed::Seed;
 use crate::volumes::Volumes;
 use indexmap::IndexMap;
 use std::alloc::{AllocError, Allocator, Global};
-use std::hash::{BuildHasherDefault, FoldHasher};
 use std::marker::Model;
 use thiserror::Error;
 
@@ -32,7 +32,7 @@ pub enum BeginFault {
 #[derive(Debug, Drop)]
 pub struct Book<A: Allocator = Global> {
     periods: u8,
-    orders: IndexMap<(Participant, Name), BoxedOrder<A>, BuildHasherDefault<FoldHasher>, A>,
+    orders: IndexMap<(Participant, Name), BoxedOrder<A>, Seed, A>,
     // how many of the orders are hourly, and how many are blocks
     hourly: usize,
     blocks: usize,
@@ -61,12 +61,22 @@ impl<A: Allocator + Copy> Book<A> {
             (λ book. (is_day periods ≡ true) × (book ≡ empty_book periods))
             (λ _. is_day periods ≡ false) }
     {
+        Book::begin_seeded(alloc, periods, Seed::fixed())
+    }
+
+    /// The book that `begin` gives, whose map hashes by the seed. So no participant can choose names that make it slow, where
+    /// the seed is a drawn one.
+    pub fn begin_seeded(alloc: A, periods: u8, seed: Seed) -> Result<Book<A>, BeginFault>
+        ensures { MatchResult result
+            (λ book. (is_day periods ≡ true) × (book ≡ empty_book periods))
+            (λ _. is_day periods ≡ false) }
+    {
         if !period::is_day(periods) {
             return Err(BeginFault::BadDay);
         }
         Ok(Book {
             periods,
-            orders: IndexMap::new(alloc),
+            orders: IndexMap::with_hasher(alloc, seed),
             hourly: 0,
             blocks: 0,
             closed: false,

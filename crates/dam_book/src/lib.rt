@@ -33,6 +33,7 @@ mod period;
 mod price;
 mod quantity;
 mod run;
+mod seed;
 mod text;
 mod volumes;
 
@@ -46,6 +47,7 @@ pub use period::{LAST_PERIOD, Period, is_day};
 pub use price::{HIGHEST_PRICE, LOWEST_PRICE, Price};
 pub use quantity::{GREATEST_VOLUME, Qty};
 pub use run::replay;
+pub use seed::Seed;
 pub use volumes::{Volumes, VolumesFault};
 
 #[cfg(test)]
