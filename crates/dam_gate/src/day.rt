@@ -16,7 +16,7 @@ use crate::laws::whole_account;
 use crate::limits::MOST_PARTICIPANTS;
 use crate::pass::Pass;
 use crate::settlement::{Mismatch, Settled, settle};
-use dam_book::{Command, MOST_ENTRIES, Participant};
+use dam_book::{Command, MOST_ENTRIES, Participant, Seed};
 use std::alloc::{AllocError, AllocFailed, Global};
 use std::sync::Wait;
 use std::thread;
@@ -304,6 +304,7 @@ fn run_day<R: Threads + Wait + Sync, D: Doorkeeper + Sync>(
     rt: &R,
     alloc: Global,
     periods: u8,
+    seed: Seed,
     doorkeeper: &D,
     participants: &[Participant],
     commands: &[Command],
@@ -319,7 +320,7 @@ fn run_day<R: Threads + Wait + Sync, D: Doorkeeper + Sync>(
         holders day.passes.items ≡ map (λ who. Some who) participants.now ++ None ∷ []) }
     ensures err { IfErr result IsLateFault }
 {
-    let Ok(gate) = Gate::begin(alloc, periods) else {
+    let Ok(gate) = Gate::begin_seeded(alloc, periods, seed) else {
         unreachable!();
     };
     let mut passes = enter_day(rt, alloc, &gate, doorkeeper, participants, commands)?;
@@ -349,12 +350,13 @@ fn settle_day(alloc: Global, journal: Journal, passes: &[Pass]) -> Result<Settle
 /// Runs a day of given commands: each participant enters its own, in their order, through a pass of its own and on a
 /// thread of its own where one can be started; then the operator closes, and the journal is settled.
 ///
-/// The doorkeeper is called round each participant's commands, on the thread that enters them. `Memory` may come in
-/// place of any answer but `TooManyCommands`. A place is counted from 0.
+/// The gate's book hashes names by the seed. The doorkeeper is called round each participant's commands, on the thread that
+/// enters them. `Memory` may come in place of any answer but `TooManyCommands`. A place is counted from 0.
 pub fn run_commands<R: Threads + Wait + Sync, D: Doorkeeper + Sync>(
     rt: &R,
     alloc: Global,
     periods: u8,
+    seed: Seed,
     commands: &[Command],
     doorkeeper: &D,
 ) -> Result<SettledDay, DayFault>
@@ -371,7 +373,15 @@ pub fn run_commands<R: Threads + Wait + Sync, D: Doorkeeper + Sync>(
         return Err(DayFault::TooManyCommands);
     }
     let participants = givers(alloc, commands)?;
-    let day = run_day(rt, alloc, periods, doorkeeper, &participants, commands)?;
+    let day = run_day(
+        rt,
+        alloc,
+        periods,
+        seed,
+        doorkeeper,
+        &participants,
+        commands,
+    )?;
     whole_account(&day.settled, &day.passes);
     Ok(day)
 }

@@ -8,7 +8,7 @@ ghost use Rattle.dam_gate.specs.Gate.{EndsHistory, IsGateFault, IsLook};
 use crate::keeper::{Journal, Keeper, KeeperFault};
 use crate::limits::MOST_PASSES;
 use crate::pass::{Look, Pass};
-use dam_book::{BeginFault, Command, Entry, Name, Participant};
+use dam_book::{BeginFault, Command, Entry, Name, Participant, Seed};
 use std::alloc::{AllocError, Global};
 use std::sync::{Mutex, Wait};
 use thiserror::Error;
@@ -127,10 +127,19 @@ impl Gate {
         ensures { MatchResult result (λ _. is_day periods ≡ true)
             (λ _. is_day periods ≡ false) }
     {
+        Gate::begin_seeded(alloc, periods, Seed::fixed())
+    }
+
+    /// The gate that `begin` gives, whose book hashes names by the seed. Under a drawn seed no participant can choose names
+    /// that make the others wait.
+    pub fn begin_seeded(alloc: Global, periods: u8, seed: Seed) -> Result<Gate, BeginFault>
+        ensures { MatchResult result (λ _. is_day periods ≡ true)
+            (λ _. is_day periods ≡ false) }
+    {
         Ok(Gate {
             alloc,
             desk: Mutex::new(Desk {
-                keeper: Keeper::begin(alloc, periods)?,
+                keeper: Keeper::begin_seeded(alloc, periods, seed)?,
                 passes: 0,
             }),
         })

@@ -4,7 +4,7 @@ ghost use Rattle.dam_book.specs.Limits.{most_entries};
 ghost use Rattle.dam_gate.specs.Journal.{IsJournal, empty_journal, is_full, journal_after, next_entry};
 ghost use Rattle.dam_gate.specs.Gate.{IsKeeperFault};
 
-use dam_book::{BeginFault, Book, Command, Entry, MOST_ENTRIES, Reply};
+use dam_book::{BeginFault, Book, Command, Entry, MOST_ENTRIES, Reply, Seed};
 use std::alloc::{AllocError, Allocator, Global};
 use std::marker::Model;
 use thiserror::Error;
@@ -58,8 +58,17 @@ impl<A: Allocator + Copy> Keeper<A> {
             (λ keeper. (is_day periods ≡ true) × (keeper ≡ empty_journal periods))
             (λ _. is_day periods ≡ false) }
     {
+        Keeper::begin_seeded(alloc, periods, Seed::fixed())
+    }
+
+    /// The keeper that `begin` gives, whose book hashes names by the seed.
+    pub fn begin_seeded(alloc: A, periods: u8, seed: Seed) -> Result<Keeper<A>, BeginFault>
+        ensures { MatchResult result
+            (λ keeper. (is_day periods ≡ true) × (keeper ≡ empty_journal periods))
+            (λ _. is_day periods ≡ false) }
+    {
         Ok(Keeper {
-            journal: Journal::begin(alloc, periods)?,
+            journal: Journal::begin(alloc, periods, seed)?,
         })
     }
 
@@ -194,13 +203,13 @@ impl<A: Allocator> Model for Journal<A> {
 }
 
 impl<A: Allocator + Copy> Journal<A> {
-    fn begin(alloc: A, periods: u8) -> Result<Journal<A>, BeginFault>
+    fn begin(alloc: A, periods: u8, seed: Seed) -> Result<Journal<A>, BeginFault>
         ensures { MatchResult result
             (λ journal. (is_day periods ≡ true) × (journal ≡ empty_journal periods))
             (λ _. is_day periods ≡ false) }
     {
         Ok(Journal {
-            book: Book::begin(alloc, periods)?,
+            book: Book::begin_seeded(alloc, periods, seed)?,
             entries: Vec::new(alloc),
         })
     }

@@ -1,6 +1,6 @@
 use super::{cancel, participant, submit};
 use crate::{DayFault, Doorkeeper, OpenDoor, Pass, run_commands};
-use dam_book::{Command, Entry, Participant, Side};
+use dam_book::{Command, Entry, Participant, Seed, Side};
 use std::alloc::Global;
 use std::sync::Wait;
 use std::sync::atomic::{AtomicU32, Ordering};
@@ -41,7 +41,7 @@ fn keeps_order<R: Threads + Wait + Sync>(
     alloc: Global,
     given: &[Command],
 ) -> Result<bool, Fail> {
-    let day = run_commands(rt, alloc, 24, given, &OpenDoor)?;
+    let day = run_commands(rt, alloc, 24, Seed::fixed(), given, &OpenDoor)?;
     let journal = day.settled.journal();
     let entries = journal.entries();
     let closed = entries.last().map(|entry| entry.command == Command::Close) == Some(true);
@@ -73,7 +73,7 @@ fn are_held_by(passes: &[Pass], codes: &[&[u8]]) -> Result<bool, Fail> {
 #[test]
 fn the_passes_come_back(rt: HostRuntime) -> Result<(), Fail> {
     let given = given(rt.alloc())?;
-    let day = run_commands(&rt, rt.alloc(), 24, &given, &OpenDoor)?;
+    let day = run_commands(&rt, rt.alloc(), 24, Seed::fixed(), &given, &OpenDoor)?;
     assert_eq!(rt; day.passes.len(), 3);
     assert!(rt; day.passes[0].receipts().len() == 2);
     assert!(rt; day.passes[1].receipts().len() == 1);
@@ -85,7 +85,7 @@ fn the_passes_come_back(rt: HostRuntime) -> Result<(), Fail> {
 #[test]
 fn a_day_of_nobody(rt: HostRuntime) -> Result<(), Fail> {
     for periods in [23, 24, 25] {
-        let day = run_commands(&rt, rt.alloc(), periods, &[], &OpenDoor)?;
+        let day = run_commands(&rt, rt.alloc(), periods, Seed::fixed(), &[], &OpenDoor)?;
         let journal = day.settled.journal();
         assert!(rt; journal.entries().len() == 1 && journal.book().is_closed());
         assert!(rt; journal.periods() == periods);
@@ -99,7 +99,7 @@ fn fault_of<R: Threads + Wait + Sync>(
     alloc: Global,
     commands: &[Command],
 ) -> Option<DayFault> {
-    run_commands(rt, alloc, 24, commands, &OpenDoor).err()
+    run_commands(rt, alloc, 24, Seed::fixed(), commands, &OpenDoor).err()
 }
 
 /// How many entries a day of these commands has.
@@ -108,7 +108,7 @@ fn entries_of<R: Threads + Wait + Sync>(
     alloc: Global,
     commands: &[Command],
 ) -> Result<usize, Fail> {
-    let day = run_commands(rt, alloc, 24, commands, &OpenDoor)?;
+    let day = run_commands(rt, alloc, 24, Seed::fixed(), commands, &OpenDoor)?;
     Ok(day.settled.journal().entries().len())
 }
 
@@ -185,7 +185,14 @@ fn two_participants_meet(rt: HostRuntime) -> Result<(), Fail> {
         met: AtomicU32::new(0),
         left: AtomicU32::new(0),
     };
-    let _day = run_commands(&rt, rt.alloc(), 24, &given(rt.alloc())?, &meeting)?;
+    let _day = run_commands(
+        &rt,
+        rt.alloc(),
+        24,
+        Seed::fixed(),
+        &given(rt.alloc())?,
+        &meeting,
+    )?;
     assert_eq!(rt; meeting.met.load(Ordering::SeqCst), 2);
     assert_eq!(rt; meeting.left.load(Ordering::SeqCst), 2);
     Ok(())
@@ -260,7 +267,7 @@ fn comes_out_as<R: Threads + Wait + Sync, D: Doorkeeper + Sync>(
     given: &[Command],
     codes: &[&[u8]],
 ) -> Result<bool, Fail> {
-    let day = run_commands(rt, alloc, 24, given, door)?;
+    let day = run_commands(rt, alloc, 24, Seed::fixed(), given, door)?;
     are_cancels_of(day.settled.journal().entries(), codes)
 }
 
