@@ -4,7 +4,7 @@ ghost use Rattle.std.specs.Prelude.{◌≡◌, ◌+◌, ◌++◌, ◌∷◌, [],
 ghost use Rattle.dam_book.specs.Book.{is_day};
 ghost use Rattle.dam_book.specs.declared.command.Command.{Command};
 
-use dam_book::Command;
+use dam_book::{Command, Seed};
 use std::alloc::{AllocError, Global};
 
 /// What is made of the commands of a journal, one after another.
@@ -12,8 +12,8 @@ pub(crate) trait FromJournal: Drop {
     /// It is what these commands make of a day of so many periods.
     ghost made_of: { ℕ → List Command → Self → Type 0 };
 
-    /// What no command makes.
-    fn begin(alloc: Global, periods: u8) -> Result<Self, AllocError>
+    /// What no command makes. A book in it hashes names by the seed.
+    fn begin(alloc: Global, seed: Seed, periods: u8) -> Result<Self, AllocError>
         requires { is_day periods ≡ true }
         ensures { IfOk result (made_of periods []) };
 

@@ -16,7 +16,7 @@ use crate::limits::{MOST_BYTES, MOST_RECORDS};
 use crate::record::{read_command, read_day};
 use crate::row::Row;
 use csv::{ByteRecord, ByteRecordsIntoIter, ReaderBuilder};
-use dam_book::Command;
+use dam_book::{Command, Seed};
 use std::alloc::{AllocError, AllocFailed, Global};
 use thiserror::Error;
 
@@ -34,7 +34,7 @@ impl FromJournal for JournalRead {
     ghost made_of = { λ periods commands journal.
         (journal.periods ≡ periods) × (journal.commands.items ≡ commands) };
 
-    fn begin(alloc: Global, periods: u8) -> Result<JournalRead, AllocError> {
+    fn begin(alloc: Global, _seed: Seed, periods: u8) -> Result<JournalRead, AllocError> {
         Ok(JournalRead {
             periods,
             commands: Vec::new(alloc),
@@ -190,6 +190,7 @@ fn next_day(records: &mut Records) -> Result<u8, JournalFault>
 
 fn read_commands<T: FromJournal>(
     alloc: Global,
+    seed: Seed,
     periods: u8,
     records: Records,
 ) -> Result<T, JournalFault>
@@ -201,7 +202,7 @@ fn read_commands<T: FromJournal>(
         × T.made_of periods commands made)
         (IsFaultOfRecords (day_row periods ∷ rows_left records.entry)) }
 {
-    let mut made = T::begin(alloc, periods)?;
+    let mut made = T::begin(alloc, seed, periods)?;
     let mut number = 0;
     for record in records {
         let Ok(record) = record else {
@@ -214,19 +215,23 @@ fn read_commands<T: FromJournal>(
     Ok(made)
 }
 
-fn read_text<T: FromJournal>(alloc: Global, text: &[u8]) -> Result<T, JournalFault>
+fn read_text<T: FromJournal>(alloc: Global, seed: Seed, text: &[u8]) -> Result<T, JournalFault>
     ensures ok { IfOk result (IsMadeFrom T.made_of text.now) }
     ensures fault { IfErr result (IsFaultOf text.now) }
 {
     check_bytes(text)?;
     let mut records = records(alloc, text);
     let periods = next_day(&mut records)?;
-    read_commands(alloc, periods, records)
+    read_commands(alloc, seed, periods, records)
 }
 
 /// What the journal that a text says makes, or the first fault of the text. Nothing is kept of the
 /// records past the first faulty one.
-pub(crate) fn read_into<T: FromJournal>(alloc: Global, text: &[u8]) -> Result<T, JournalFault>
+pub(crate) fn read_into<T: FromJournal>(
+    alloc: Global,
+    seed: Seed,
+    text: &[u8],
+) -> Result<T, JournalFault>
     ensures ok { IfOk result (IsMadeFrom T.made_of text.now) }
     ensures fault { IfErr result (IsFaultOf text.now) }
 
@@ -236,7 +241,7 @@ pub(crate) fn read_into<T: FromJournal>(alloc: Global, text: &[u8]) -> Result<T,
 {
     laws::text_is_one_journal();
     laws::fault_is_no_journal();
-    read_text(alloc, text)
+    read_text(alloc, seed, text)
 }
 
 /// The journal that a text says, or the first fault of the text.
@@ -253,7 +258,8 @@ pub fn read_journal(alloc: Global, text: &[u8]) -> Result<JournalRead, JournalFa
         (λ journal. (journal.periods ≡ periods) × (journal.commands.items ≡ commands))
         (λ fault. fault ≡ JournalFault.Memory) }
 {
-    read_into(alloc, text)
+    // No book is made, and the seed is for nothing.
+    read_into(alloc, Seed::fixed(), text)
 }
 
 #[cfg(test)]

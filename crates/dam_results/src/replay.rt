@@ -14,15 +14,15 @@ use crate::journal::{JournalFault, read_into};
 use crate::lines::write_day;
 use crate::replies::write_line;
 use dam_book::laws::runs_grow;
-use dam_book::{Book, Command};
+use dam_book::{Book, Command, Seed};
 use std::alloc::{AllocError, Allocator, Global};
 
 /// The empty book of a day that a journal may have.
-fn empty_book(alloc: Global, periods: u8) -> Book
+fn empty_book(alloc: Global, seed: Seed, periods: u8) -> Book
     requires { is_day periods ≡ true }
     ensures { result ≡ empty_book periods }
 {
-    let Ok(book) = Book::begin(alloc, periods) else {
+    let Ok(book) = Book::begin_seeded(alloc, periods, seed) else {
         unreachable!();
     };
     book
@@ -34,8 +34,8 @@ impl FromJournal for Book {
 
     ghost made_of = { λ periods commands book. IsRun periods commands book };
 
-    fn begin(alloc: Global, periods: u8) -> Result<Book, AllocError> {
-        Ok(empty_book(alloc, periods))
+    fn begin(alloc: Global, seed: Seed, periods: u8) -> Result<Book, AllocError> {
+        Ok(empty_book(alloc, seed, periods))
     }
 
     fn take(&mut self, _number: u32, command: Command) -> Result<(), AllocError> {
@@ -82,8 +82,8 @@ impl FromJournal for Replay {
     ghost made_of = { λ periods commands replay.
         IsRun periods commands replay.book × AreReplies periods commands replay.text.items };
 
-    fn begin(alloc: Global, periods: u8) -> Result<Replay, AllocError> {
-        Replay::on(alloc, empty_book(alloc, periods))
+    fn begin(alloc: Global, seed: Seed, periods: u8) -> Result<Replay, AllocError> {
+        Replay::on(alloc, empty_book(alloc, seed, periods))
     }
 
     fn take(&mut self, number: u32, command: Command) -> Result<(), AllocError> {
@@ -116,8 +116,8 @@ pub fn run_text<A: Allocator + Copy, B: Allocator>(
 
 /// The replies text of the run of a journal, from its text, or the first fault of the text.
 ///
-/// Each command is applied as it is read, and no list of them is kept.
-pub fn replay_text(alloc: Global, text: &[u8]) -> Result<Vec<u8>, JournalFault>
+/// Each command is applied as it is read, and no list of them is kept. The book hashes names by the seed.
+pub fn replay_text(alloc: Global, seed: Seed, text: &[u8]) -> Result<Vec<u8>, JournalFault>
     ensures ok { IfOk result (λ replies. IsMadeFrom AreReplies text.now replies.items) }
     ensures fault { IfErr result (IsFaultOf text.now) }
 
@@ -127,15 +127,15 @@ pub fn replay_text(alloc: Global, text: &[u8]) -> Result<Vec<u8>, JournalFault>
         (λ replies. AreReplies periods commands replies.items)
         (λ fault. fault ≡ JournalFault.Memory) }
 {
-    let replay: Replay = read_into(alloc, text)?;
+    let replay: Replay = read_into(alloc, seed, text)?;
     Ok(replay.text)
 }
 
 /// The book that the commands of a journal make of the empty one of its day, from the journal's text, or
 /// the first fault of the text.
 ///
-/// Each command is applied as it is read, and no list of them is kept.
-pub fn book_of_text(alloc: Global, text: &[u8]) -> Result<Book, JournalFault>
+/// Each command is applied as it is read, and no list of them is kept. The book hashes names by the seed.
+pub fn book_of_text(alloc: Global, seed: Seed, text: &[u8]) -> Result<Book, JournalFault>
     ensures ok { IfOk result (IsMadeFrom IsRun text.now) }
     ensures fault { IfErr result (IsFaultOf text.now) }
 
@@ -143,7 +143,7 @@ pub fn book_of_text(alloc: Global, text: &[u8]) -> Result<Book, JournalFault>
     ensures exact { (periods : ℕ) (commands : List Command) → ReadsAs text.now periods commands
         → MatchResult result (IsRun periods commands) (λ fault. fault ≡ JournalFault.Memory) }
 {
-    read_into(alloc, text)
+    read_into(alloc, seed, text)
 }
 
 #[cfg(test)]

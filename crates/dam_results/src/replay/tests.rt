@@ -15,8 +15,11 @@ fn replies_of_a_run_are_written(rt: HostRuntime) -> Result<(), Fail> {
 
 #[test]
 fn a_text_is_run(rt: HostRuntime) -> Result<(), Fail> {
-    assert_eq!(rt; replay_text(rt.alloc(), CLOSED_TWICE)?.as_slice(), REPLIES);
-    let book = book_of_text(rt.alloc(), CLOSED_TWICE)?;
+    assert_eq!(rt;
+        replay_text(rt.alloc(), Seed::fixed(), CLOSED_TWICE)?.as_slice(),
+        REPLIES
+    );
+    let book = book_of_text(rt.alloc(), Seed::fixed(), CLOSED_TWICE)?;
     assert!(rt; book.is_closed() && book.periods() == 24 && book.is_empty());
     Ok(())
 }
