@@ -10,7 +10,7 @@ use crate::input::read_input;
 use crate::output::write_text;
 use crate::progress::Watch;
 use dam_blocks::Problem;
-use dam_book::Book;
+use dam_book::{Book, Seed};
 use dam_results::{book_of_text, results, results_text};
 use dam_search::{Plan, search};
 use std::alloc::Global;
@@ -22,7 +22,7 @@ use std::thread::Threads;
 ///
 /// The whole text is made before its first byte is written. Where the input is longer than a journal
 /// may be, not all of it is read. `StillOpen` comes where the book is open behind the last command. The
-/// plan changes no results, but by its limit on nodes the search may end `Unfinished`.
+/// plan changes no results, but by its limit on nodes the search may end `Unfinished`. The book hashes names by the seed.
 ///
 /// Of a reader that doesn't tell its bytes nothing is said, and of a writer that doesn't tell its bytes
 /// nothing is said of what it took. Standard input and output tell no bytes. No clause says that the
@@ -30,6 +30,7 @@ use std::thread::Threads;
 pub fn run_clear<H: Threads + Sync, R: Read, W: Write, T: Watch + Sync>(
     rt: &H,
     alloc: Global,
+    seed: Seed,
     reader: &mut R,
     writer: &mut W,
     plan: Plan,
@@ -49,7 +50,7 @@ pub fn run_clear<H: Threads + Sync, R: Read, W: Write, T: Watch + Sync>(
         (IsFaultOnBook plan (run periods commands))) }
 {
     let text = read_input(alloc, reader)?;
-    let results = clear_text(rt, alloc, text.as_slice(), plan, turnstile)?;
+    let results = clear_text(rt, alloc, seed, text.as_slice(), plan, turnstile)?;
     write_text(writer, results.as_slice())
 }
 
@@ -57,6 +58,7 @@ pub fn run_clear<H: Threads + Sync, R: Read, W: Write, T: Watch + Sync>(
 fn clear_text<H: Threads + Sync, T: Watch + Sync>(
     rt: &H,
     alloc: Global,
+    seed: Seed,
     text: &[u8],
     plan: Plan,
     turnstile: &T,
@@ -68,12 +70,12 @@ fn clear_text<H: Threads + Sync, T: Watch + Sync>(
         (λ results. IsClearedAs (run periods commands) results.items)
         (IsBookFault plan (run periods commands)) }
 {
-    let book = run_journal(alloc, text)?;
+    let book = run_journal(alloc, seed, text)?;
     clear_book(rt, alloc, &book, plan, turnstile)
 }
 
 /// The book that a journal's text makes. The text may have been cut behind the first byte too many.
-fn run_journal(alloc: Global, text: &[u8]) -> Result<Book, RunFault>
+fn run_journal(alloc: Global, seed: Seed, text: &[u8]) -> Result<Book, RunFault>
     ensures done { IfOk result (λ book. (periods : ℕ) × (commands : List Command)
         × ReadsAs text.now periods commands × (book ≡ run periods commands)) }
     ensures fault { IfErr result (IsTextFault text.now) }
@@ -82,7 +84,7 @@ fn run_journal(alloc: Global, text: &[u8]) -> Result<Book, RunFault>
         (λ book. book ≡ run periods commands)
         (λ fault. fault ≡ RunFault.Memory) }
 {
-    Ok(book_of_text(alloc, text)?)
+    Ok(book_of_text(alloc, seed, text)?)
 }
 
 /// The results text of a closed book. An open one is answered `StillOpen`, before any memory is asked

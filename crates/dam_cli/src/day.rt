@@ -13,7 +13,7 @@ use crate::fault::RunFault;
 use crate::input::read_input;
 use crate::output::write_text;
 use crate::progress::Watch;
-use dam_book::Command;
+use dam_book::{Command, Seed};
 use dam_gate::{DayFault, Doorkeeper, Journal, Settled, run_commands};
 use dam_results::{journal_text, read_journal};
 use dam_search::{Plan, Turnstile};
@@ -28,7 +28,7 @@ use std::thread::Threads;
 ///
 /// Commands of two participants may come to the gate in either order, and so two runs may write two
 /// texts; the results are always those of the journal that is written. The plan changes no results, but
-/// by its limit on nodes the search may end `Unfinished`.
+/// by its limit on nodes the search may end `Unfinished`. The gate's book hashes names by the seed.
 ///
 /// `turnstile` is that of the search, and `entrance` that of the participants' threads, whose jobs are
 /// the participants, numbered from 0 by first occurrence.
@@ -38,6 +38,7 @@ use std::thread::Threads;
 pub fn run_day<H: Threads + Wait + Sync, R: Read, W: Write, T: Watch + Sync, U: Turnstile + Sync>(
     rt: &H,
     alloc: Global,
+    seed: Seed,
     reader: &mut R,
     writer: &mut W,
     plan: Plan,
@@ -58,7 +59,7 @@ pub fn run_day<H: Threads + Wait + Sync, R: Read, W: Write, T: Watch + Sync, U: 
         (IsFaultOnDay plan periods commands)) }
 {
     let text = read_input(alloc, reader)?;
-    let day = day_text(rt, alloc, text, plan, turnstile, entrance)?;
+    let day = day_text(rt, alloc, seed, text, plan, turnstile, entrance)?;
     write_text(writer, day.as_slice())
 }
 
@@ -67,6 +68,7 @@ pub fn run_day<H: Threads + Wait + Sync, R: Read, W: Write, T: Watch + Sync, U: 
 fn day_text<H: Threads + Wait + Sync, T: Watch + Sync, U: Turnstile + Sync>(
     rt: &H,
     alloc: Global,
+    seed: Seed,
     text: Vec<u8>,
     plan: Plan,
     turnstile: &T,
@@ -86,6 +88,7 @@ fn day_text<H: Threads + Wait + Sync, T: Watch + Sync, U: Turnstile + Sync>(
     day_of_commands(
         rt,
         alloc,
+        seed,
         journal.periods,
         commands,
         plan,
@@ -98,6 +101,7 @@ fn day_text<H: Threads + Wait + Sync, T: Watch + Sync, U: Turnstile + Sync>(
 fn day_of_commands<H: Threads + Wait + Sync, T: Watch + Sync, U: Turnstile + Sync>(
     rt: &H,
     alloc: Global,
+    seed: Seed,
     periods: u8,
     commands: &[Command],
     plan: Plan,
@@ -108,7 +112,7 @@ fn day_of_commands<H: Threads + Wait + Sync, T: Watch + Sync, U: Turnstile + Syn
     ensures done { IfOk result (λ day. IsDayText periods commands.now day.items) }
     ensures fault { IfErr result (IsCommandsFault plan periods commands.now) }
 {
-    let settled = settled_day(rt, alloc, periods, commands, entrance)?;
+    let settled = settled_day(rt, alloc, seed, periods, commands, entrance)?;
     print_day(rt, alloc, settled.journal(), plan, turnstile)
 }
 
@@ -133,6 +137,7 @@ impl<U: Turnstile> Doorkeeper for Door<'_, U> {
 fn settled_day<H: Threads + Wait + Sync, U: Turnstile + Sync>(
     rt: &H,
     alloc: Global,
+    seed: Seed,
     periods: u8,
     commands: &[Command],
     entrance: &U,
@@ -147,7 +152,7 @@ fn settled_day<H: Threads + Wait + Sync, U: Turnstile + Sync>(
     let door = Door {
         turnstile: entrance,
     };
-    match run_commands(rt, alloc, periods, commands, &door) {
+    match run_commands(rt, alloc, periods, seed, commands, &door) {
         Ok(day) => Ok(day.settled),
         Err(DayFault::TooManyCommands) => Err(RunFault::TooManyCommands),
         Err(DayFault::CloseGiven(place)) => Err(RunFault::CloseGiven(place + 2)),

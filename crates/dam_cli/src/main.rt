@@ -16,6 +16,7 @@ mod replay;
 mod tests;
 
 use clear::run_clear;
+use dam_book::Seed;
 use dam_line::{Job, LineFault, read_line};
 use dam_search::FreeTurn;
 use day::run_day;
@@ -39,12 +40,22 @@ fn main(rt: HostRuntime) -> ExitCode {
     hint(&rt);
     let progress = Progress::new(&rt, rt.stderr().is_terminal());
     let (mut input, mut output) = (rt.stdin(), rt.stdout());
+    let seed = Seed::drawn(&rt);
     let done = match job {
-        Job::Replay => run_replay(rt.alloc(), &mut input, &mut output),
-        Job::Clear(plan) => run_clear(&rt, rt.alloc(), &mut input, &mut output, plan, &progress),
+        Job::Replay => run_replay(rt.alloc(), seed, &mut input, &mut output),
+        Job::Clear(plan) => run_clear(
+            &rt,
+            rt.alloc(),
+            seed,
+            &mut input,
+            &mut output,
+            plan,
+            &progress,
+        ),
         Job::Day(plan) => run_day(
             &rt,
             rt.alloc(),
+            seed,
             &mut input,
             &mut output,
             plan,

@@ -9,6 +9,7 @@ ghost use Rattle.dam_cli.specs.Replay.{AreRepliesTo};
 use crate::fault::RunFault;
 use crate::input::read_input;
 use crate::output::write_text;
+use dam_book::Seed;
 use dam_results::replay_text;
 use std::alloc::Global;
 use std::io::{Read, Write};
@@ -17,13 +18,14 @@ use std::io::{Read, Write};
 /// to each.
 ///
 /// The whole text is made before its first byte is written. Where the input is longer than a journal
-/// may be, not all of it is read.
+/// may be, not all of it is read. The book hashes names by the seed.
 ///
 /// Of a reader that doesn't tell its bytes nothing is said, and of a writer that doesn't tell its bytes
 /// nothing is said of what it took. Standard input and output tell no bytes. No clause says that the
 /// reader or the writer failed where `Read` or `Write` is answered: tests show it.
 pub fn run_replay<R: Read, W: Write>(
     alloc: Global,
+    seed: Seed,
     reader: &mut R,
     writer: &mut W,
 ) -> Result<(), RunFault>
@@ -41,12 +43,12 @@ pub fn run_replay<R: Read, W: Write>(
         IsMachineFault) }
 {
     let text = read_input(alloc, reader)?;
-    let replies = replies_of(alloc, text.as_slice())?;
+    let replies = replies_of(alloc, seed, text.as_slice())?;
     write_text(writer, replies.as_slice())
 }
 
 /// The replies to a text, which may have been cut behind the first byte too many.
-fn replies_of(alloc: Global, text: &[u8]) -> Result<Vec<u8>, RunFault>
+fn replies_of(alloc: Global, seed: Seed, text: &[u8]) -> Result<Vec<u8>, RunFault>
     ensures done { IfOk result (λ replies. AreRepliesTo text.now replies.items) }
     ensures fault { IfErr result (IsTextFault text.now) }
     ensures exact { (periods : ℕ) (commands : List Command) → ReadsAs text.now periods commands
@@ -54,5 +56,5 @@ fn replies_of(alloc: Global, text: &[u8]) -> Result<Vec<u8>, RunFault>
         (λ replies. replies.items ≡ replies_to periods commands)
         (λ fault. fault ≡ RunFault.Memory) }
 {
-    Ok(replay_text(alloc, text)?)
+    Ok(replay_text(alloc, seed, text)?)
 }

@@ -1,6 +1,7 @@
 use crate::fault::{RunFault, fault_line, status};
 use crate::input::MOST_READ;
 use crate::replay::run_replay;
+use dam_book::Seed;
 use dam_gate::Mismatch;
 use dam_results::JournalFault;
 use std::alloc::Global;
@@ -247,7 +248,10 @@ fn each_fault_has_its_line_and_status(rt: HostRuntime) -> Result<(), Fail> {
 fn replays_the_stored_run(rt: HostRuntime) -> Result<(), Fail> {
     let mut reader = Dripping::new(STORED_RUN, 1);
     let mut written = Vec::new(rt.alloc());
-    assert_eq!(rt; run_replay(rt.alloc(), &mut reader, &mut written), Ok(()));
+    assert_eq!(rt;
+        run_replay(rt.alloc(), Seed::fixed(), &mut reader, &mut written),
+        Ok(())
+    );
     assert_eq!(rt; written.as_slice(), STORED_REPLIES);
     assert_eq!(rt; reader.asked, STORED_RUN.len() + 1);
     Ok(())
@@ -259,7 +263,10 @@ fn an_endless_reader_is_asked_up_to_the_limit(rt: HostRuntime) -> Result<(), Fai
     let mut reader = Dripping::new(io::repeat(b'\n'), step);
     let mut written = Vec::new(rt.alloc());
     let too_long = Err(RunFault::Input(JournalFault::TooLong));
-    assert_eq!(rt; run_replay(rt.alloc(), &mut reader, &mut written), too_long);
+    assert_eq!(rt;
+        run_replay(rt.alloc(), Seed::fixed(), &mut reader, &mut written),
+        too_long
+    );
     assert!(rt; written.is_empty());
     assert!(rt; reader.asked > MOST_READ / step, "{}", reader.asked);
     assert!(rt;
@@ -276,7 +283,7 @@ fn a_failed_read_ends_the_run(rt: HostRuntime) -> Result<(), Fail> {
         let mut reader = Dripping::new(STORED_RUN, 1);
         reader.failing = failing;
         let mut written = Vec::new(rt.alloc());
-        let result = run_replay(rt.alloc(), &mut reader, &mut written);
+        let result = run_replay(rt.alloc(), Seed::fixed(), &mut reader, &mut written);
         assert_eq!(rt; result, Err(RunFault::Read), "at ask {failing}");
         assert!(rt; written.is_empty());
         assert_eq!(rt; reader.asked, failing);
@@ -294,7 +301,7 @@ fn the_bytes_before_a_failed_write_are_told(rt: HostRuntime) {
         for written in 0..STORED_REPLIES.len() {
             let mut reader = STORED_RUN;
             let mut writer = Broken::behind(rt.alloc(), written, breakage);
-            let result = run_replay(rt.alloc(), &mut reader, &mut writer);
+            let result = run_replay(rt.alloc(), Seed::fixed(), &mut reader, &mut writer);
             assert_eq!(rt; result, Err(RunFault::Write { written }));
             assert_eq!(rt; writer.taken.as_slice(), &STORED_REPLIES[..written]);
             assert_eq!(rt; writer.called, writer.failing);
@@ -307,7 +314,7 @@ fn the_bytes_before_a_failed_write_are_told(rt: HostRuntime) {
 fn all_bytes_stand_before_a_failed_flush(rt: HostRuntime) {
     let mut reader = STORED_RUN;
     let mut writer = Broken::behind(rt.alloc(), 0, Breakage::LosesAtFlush);
-    let result = run_replay(rt.alloc(), &mut reader, &mut writer);
+    let result = run_replay(rt.alloc(), Seed::fixed(), &mut reader, &mut writer);
     let written = STORED_REPLIES.len();
     assert_eq!(rt; result, Err(RunFault::Write { written }));
     assert_eq!(rt; writer.taken.as_slice(), STORED_REPLIES);
@@ -318,7 +325,10 @@ fn all_bytes_stand_before_a_failed_flush(rt: HostRuntime) {
 fn replies_are_flushed(rt: HostRuntime) {
     let mut reader = STORED_RUN;
     let mut writer = Holding::new(rt.alloc());
-    assert_eq!(rt; run_replay(rt.alloc(), &mut reader, &mut writer), Ok(()));
+    assert_eq!(rt;
+        run_replay(rt.alloc(), Seed::fixed(), &mut reader, &mut writer),
+        Ok(())
+    );
     assert_eq!(rt; writer.passed_on.as_slice(), STORED_REPLIES);
 }
 

@@ -1,6 +1,7 @@
 use super::{Breakage, Broken, Dripping, Holding};
 use crate::clear::run_clear;
 use crate::fault::RunFault;
+use dam_book::Seed;
 use dam_search::{FreeTurn, MOST_NODES, Plan};
 use std::alloc::Global;
 use std::io::{Read, Write};
@@ -91,7 +92,7 @@ fn cleared<H: Threads + Sync, R: Read, W: Write>(
     writer: &mut W,
 ) -> Result<(), RunFault> {
     let plan = Plan::new(2, 3, MOST_NODES).unwrap();
-    run_clear(rt, alloc, reader, writer, plan, &FreeTurn)
+    run_clear(rt, alloc, Seed::fixed(), reader, writer, plan, &FreeTurn)
 }
 
 #[test]

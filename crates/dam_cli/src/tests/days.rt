@@ -1,6 +1,7 @@
 use super::{Breakage, Broken, Dripping, Holding};
 use crate::day::run_day;
 use crate::fault::RunFault;
+use dam_book::Seed;
 use dam_search::{FreeTurn, MOST_NODES, Plan, Turnstile};
 use std::alloc::Global;
 use std::io::{Read, Write};
@@ -94,7 +95,16 @@ fn ran<H: Threads + Wait + Sync, R: Read, W: Write>(
     writer: &mut W,
 ) -> Result<(), RunFault> {
     let plan = Plan::new(2, 3, MOST_NODES).unwrap();
-    run_day(rt, alloc, reader, writer, plan, &FreeTurn, &FreeTurn)
+    run_day(
+        rt,
+        alloc,
+        Seed::fixed(),
+        reader,
+        writer,
+        plan,
+        &FreeTurn,
+        &FreeTurn,
+    )
 }
 
 #[test]
@@ -168,6 +178,7 @@ fn two_participants_are_in_a_day_at_once(rt: HostRuntime) {
     let result = run_day(
         &rt,
         rt.alloc(),
+        Seed::fixed(),
         &mut reader,
         &mut written,
         plan,
