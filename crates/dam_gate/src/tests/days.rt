@@ -185,7 +185,14 @@ fn two_participants_meet(rt: HostRuntime) -> Result<(), Fail> {
         met: AtomicU32::new(0),
         left: AtomicU32::new(0),
     };
-    let _day = run_commands(&rt, rt.alloc(), 24, Seed::fixed(), &given(rt.alloc())?, &meeting)?;
+    let _day = run_commands(
+        &rt,
+        rt.alloc(),
+        24,
+        Seed::fixed(),
+        &given(rt.alloc())?,
+        &meeting,
+    )?;
     assert_eq!(rt; meeting.met.load(Ordering::SeqCst), 2);
     assert_eq!(rt; meeting.left.load(Ordering::SeqCst), 2);
     Ok(())
