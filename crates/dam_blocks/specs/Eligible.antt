@@ -45,8 +45,8 @@ abbrev pub surplus_at : List Block → List ℤ → ℕ → ℤ
 surplus_at blocks prices i =
     unwrap_or (option_map (λ b. surplus_of prices b.order) (slice_get blocks i)) (pos 0)
 
--- what the accepted block at a place may not have below 0: its own surplus with those of the
--- accepted blocks that descend from it
+-- the sum that must be at least 0 for the accepted block at a place: its own surplus and those of
+-- its accepted descendants
 abbrev pub gain_at : List Block → List Bool → List ℤ → ℕ → ℤ
 gain_at blocks sel prices i =
     surplus_at blocks prices i

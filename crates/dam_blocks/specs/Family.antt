@@ -22,8 +22,8 @@ leads_to n blocks i None = false
 leads_to zero blocks i (Some p) = false
 leads_to (suc n) blocks i (Some p) = (p == i) || leads_to n blocks i (parent_place blocks p)
 
--- whether the block at place j descends from the one at place i: its parent does or is that one; no
--- chain is longer than the list
+-- whether the block at place j descends from the one at place i: its parent is that one or descends
+-- from it; without a cycle no chain is longer than the list
 abbrev pub descends : List Block → ℕ → ℕ → Bool
 descends blocks i j = leads_to (length blocks) blocks i (parent_place blocks j)
 

@@ -41,7 +41,10 @@ fn parent_place(blocks: &[Block], place: usize) -> Option<usize>
 }
 
 /// Whether the block at a place descends from the one at another: the chain of its parents leads
-/// there. Places are those of the list, from 0; a block doesn't descend from itself.
+/// there. Places are those of the list, from 0.
+///
+/// It is meant for the blocks of a problem, in which each parent stands before its child and a
+/// participant's names differ, so that no block descends from itself.
 pub fn descends(blocks: &[Block], ancestor: usize, place: usize) -> bool
     ensures { result ≡ descends blocks.now ancestor place }
 {

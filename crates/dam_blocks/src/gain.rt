@@ -22,8 +22,8 @@ fn difference(limit: Price, price: Price) -> i32
     limit.get() - price.get()
 }
 
-/// What a block gains at a price in a period in which it has this volume, in cents per MWh times
-/// tenths of a MW; below 0 where it loses.
+/// What a block gains at a price in a period in which it has this volume, in tenths of a MW; in cents
+/// per MWh times tenths of a MW, and below 0 where it pays more or gets less than its limit.
 pub fn surplus_at_price(order: &BlockOrder, price: Price, volume: u32) -> i64
     requires { volume ≤ greatest_volume }
     ensures value { result ≡ signed order.now.side ((order.now.price -ℤ price) *ℤ pos volume) }
@@ -94,10 +94,11 @@ fn surplus_of_descendants(
     total
 }
 
-/// What the accepted block at a place may not have below 0: its own surplus at the prices with those
-/// of the accepted blocks that descend from it.
+/// What the accepted block at a place gains together with its accepted descendants, in cents per MWh
+/// times tenths of a MW: the surplus of each at the prices, summed. In an eligible selection it is at
+/// least 0 for each accepted block (EUPHEMIA Public Description, "Linked Block Orders").
 ///
-/// (EUPHEMIA Public Description, "Linked Block Orders".)
+/// The prices are those of the day's periods, from the first one on.
 pub fn gain_at(blocks: &[Block], selection: Selection, prices: &[Price], place: usize) -> i64
     requires periods { length prices.now ≤ last_period }
     requires blocks { length blocks.now ≤ most_blocks }

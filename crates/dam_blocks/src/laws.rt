@@ -118,7 +118,8 @@ pub fn sums()
         → over_accepted f blocks (padded front) ≡ over_accepted f blocks front }
 {}
 
-/// Of the blocks that descend from one the accepted ones are those that the selection accepts.
+/// A place is among a block's accepted descendants exactly where the selection accepts it and it
+/// descends from that block.
 pub fn descendants()
     ensures { (blocks : List Block) (sel : List Bool) (i j : ℕ)
         → accepts (accepted_descendants blocks sel i) j

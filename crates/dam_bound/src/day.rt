@@ -40,7 +40,7 @@ pub struct Day {
 }
 
 impl Day {
-    /// A day that is of no prefix, to be written over.
+    /// A day of zeros, to be written over; nothing is promised of it.
     pub fn empty() -> Day {
         Day {
             periods: [DayPeriod {

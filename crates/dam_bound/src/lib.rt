@@ -7,7 +7,7 @@
 //! ```
 //!
 //! A walk down the tree of prefixes asks for a [`Day`] of each, from that of the prefix before it
-//! (`root` and `child`): the same welfare, with only the periods of the last block looked up anew.
+//! (`root` and `extend`): the same welfare, with only the periods of the last block looked up anew.
 //! Of the day of a prefix that decides every block, `gain` tells what an accepted block gains with
 //! those that descend from it.
 //!
@@ -15,7 +15,8 @@
 //! the live count. A contract sees a [`Relaxed`] as the problem that it was built of, without its
 //! rows. Only tested is that memory isn't said to have run out where it hasn't.
 //!
-//! The crate knows nothing of groups, nor of which selections the links admit and which are eligible.
+//! The crate knows nothing of exclusive groups, nor of which selections are admissible or eligible; of links
+//! it knows just who descends from whom.
 #![tactic(auto)]
 
 mod day;

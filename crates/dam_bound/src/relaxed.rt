@@ -143,12 +143,12 @@ impl<A: Allocator> Relaxed<A> {
         root_of(&self.periods, &self.blocks)
     }
 
-    /// Makes of the day of a prefix that of the prefix with a decision on the block at the depth too;
-    /// whether it was made. If not, the extension has no bound or one under `least`, and the day is of
-    /// no use.
+    /// Extends the day of a prefix by the decision on the block at the depth; whether it did. `false`
+    /// where the extension has no bound or one under `least`; nothing is then promised of the day.
+    /// `true` doesn't say that the bound reaches `least`.
     ///
     /// Only the periods in which the block has a volume are looked at anew, and no further than until
-    /// the bound is seen to be under `least`. It may be under it even so. Takes no memory.
+    /// the bound is seen to be under `least`. Takes no memory.
     pub fn extend(&self, day: &mut Day, depth: usize, accept: bool, least: u64) -> bool
         requires depth { depth < length self.now.blocks }
         requires day { (prefix : List Bool) × (length prefix ≡ depth)
@@ -173,9 +173,9 @@ impl<A: Allocator> Relaxed<A> {
         )
     }
 
-    /// Turns the decision on the block at the place into this one, on a day on which every block is
-    /// decided; whether it was made. If not, some period doesn't balance with the new decision, and the
-    /// day is of no use.
+    /// Turns the decision on the block at the place round into this one, on a day on which every block
+    /// is decided; whether it did. `false` where some period doesn't balance with the new decision;
+    /// nothing is then promised of the day.
     ///
     /// Only the periods in which the block has a volume are looked at anew. Takes no memory.
     pub fn turn(&self, day: &mut Day, place: usize, accept: bool) -> bool
