@@ -63,5 +63,5 @@ def block_differences(problem, said, follows):
     for place, loss in selection.losing(problem, said.accepted, follows.surpluses).items():
         block = problem.blocks[place]
         line = said.lines[f"block {block}"]
-        family = " with those that descend from it" if selection.helping(problem, said.accepted, place) else ""
+        family = " together with its accepted descendants" if selection.helping(problem, said.accepted, place) else ""
         yield f"results line {line}: block {block}: it is accepted and loses {loss}{family}"

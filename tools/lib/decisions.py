@@ -20,7 +20,7 @@ def decisions(problem, accepted, outcome):
 def decide(problem, accepted, outcome, place):
     surplus = outcome.surpluses[place]
     if place in accepted:
-        return Decision(ACCEPTED, accepted_why(problem, accepted, place, surplus))
+        return Decision(ACCEPTED, accepted_why(problem, accepted, outcome, place))
     reasons, kind = [], REJECTED
     parent = problem.parents[place]
     rivals = rivals_of(problem, accepted, place)
@@ -42,12 +42,14 @@ def decide(problem, accepted, outcome, place):
     return Decision(kind, "; ".join(reasons))
 
 
-def accepted_why(problem, accepted, place, surplus):
-    parent = problem.parents[place]
+def accepted_why(problem, accepted, outcome, place):
+    surplus, parent = outcome.surpluses[place], problem.parents[place]
     why = "gains nothing" if not surplus else f"{'gains' if surplus > 0 else 'loses'} at the prices"
     helping = selection.helping(problem, accepted, place)
     if surplus is not None and surplus < 0 and helping:
-        why += ", which is made good by " + " ".join(problem.blocks[other].name for other in helping)
+        together = selection.answers_for(problem, accepted, place, outcome.surpluses)
+        names = " ".join(problem.blocks[other].name for other in helping)
+        why += f" by itself, and with {names} it gains {problem.euros(together)} EUR"
     return why + (f", and its parent {problem.blocks[parent].name} is accepted" if parent is not None else "")
 
 
@@ -76,7 +78,7 @@ def consequence(problem, other, outcome):
         if found is None:
             return f"period {number} wouldn't balance"
     for loser, loss in selection.losing(problem, other, then.surpluses).items():
-        family = " with those that descend from it" if selection.helping(problem, other, loser) else ""
+        family = " together with its accepted descendants" if selection.helping(problem, other, loser) else ""
         return f"{problem.blocks[loser]} would lose {problem.euros(loss)} EUR{family}"
     if outcome.welfare is None or then.welfare > outcome.welfare:
         return "the welfare would be greater"

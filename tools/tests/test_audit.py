@@ -88,7 +88,7 @@ class Results(unittest.TestCase):
         wrong = "\n".join(differences(AUCTION.read_bytes(), printed(AUCTION).replace(b"UNIT-7,rejected", b"UNIT-7,accepted")))
         self.assertIn("block OLD,UNIT-7: it is accepted and loses 270000", wrong)
         wrong = "\n".join(differences(AUCTION.read_bytes(), printed(AUCTION).replace(b"EVENING,accepted", b"EVENING,rejected")))
-        self.assertIn("block GAS,START: it is accepted and loses 320000 with those that descend from it", wrong)
+        self.assertIn("block GAS,START: it is accepted and loses 320000 together with its accepted descendants", wrong)
 
     def test_a_family_makes_its_root_good_and_no_child(self):
         case = support.TOP / "tests/cases/clear/chain.csv"

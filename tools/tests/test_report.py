@@ -100,7 +100,7 @@ class Page(unittest.TestCase):
             "8 to 20",
             "group FILL",
             "paradoxically rejected",
-            "loses at the prices, which is made good by STAY EVENING",
+            "loses at the prices by itself, and with STAY EVENING it gains 9,760.000 EUR",
             "HasChildren",
             "521,550.000 EUR",
         ):

@@ -82,8 +82,8 @@ fn first_losing<A: Allocator>(
 /// Whether the selection is eligible, and its welfare; or else the first fault: it isn't admissible, a
 /// period doesn't balance (the least such), or an accepted block loses at the prices (the least such).
 ///
-/// No accepted block may lose (EUPHEMIA Public Description, "Price Determination Sub-problem"), save
-/// where the accepted blocks that descend from it make it good (the same, "Linked Block Orders"); a
+/// An accepted block loses where its surplus and those of its accepted descendants come to less than 0
+/// (EUPHEMIA Public Description, "Price Determination Sub-problem" and "Linked Block Orders"); a
 /// rejected one may have any surplus, also one over 0 ("PRB reinsertion"). Takes no memory.
 pub fn score<A: Allocator>(problem: &Problem<A>, selection: Selection) -> Verdict
     ensures { IsVerdict problem.now selection result }
