@@ -6,10 +6,11 @@
 //! let bound = relaxed.bound(Selection::none().with(0), 2); // block 0 accepted, block 1 not, the others open
 //! ```
 //!
-//! A walk down the tree of prefixes asks for a [`Day`] of each, from that of the prefix before it
-//! (`root` and `extend`): the same welfare, with only the periods of the last block looked up anew.
-//! Of the day of a prefix that decides every block, `gain` tells what an accepted block gains with
-//! those that descend from it.
+//! A walk down the tree of prefixes carries the [`Day`] of each (`root`), and makes of a copy the day of
+//! the prefix with one more decision (`extend`): the same welfare, with only the periods of the last
+//! block looked up anew, and no further than until it is seen to be less than what is asked for. Of the
+//! day of a prefix that decides every block, `turn` makes that with one decision turned round, and
+//! `gain` tells what an accepted block gains with its accepted descendants.
 //!
 //! What these words mean stands in `specs/`: prefixes and their completions, the relaxed welfare,
 //! the live count. A contract sees a [`Relaxed`] as the problem that it was built of, without its

@@ -1,11 +1,14 @@
 //! The comparison of the search with that over all selections, under several plans.
 
+ghost use Rattle.std.specs.Prelude.{◌≡◌};
+ghost use Rattle.dam_bound.specs.Relaxed.{without_rows};
+
 use crate::drawn::{Dice, MANY_BLOCKS, draw_blocks, draw_with};
 use crate::kinds::Counts;
 use dam_blocks::{Best, Problem, Selection, Verdict, best_of_all, score};
 use dam_book::MOST_BLOCKS;
 use dam_bound::Relaxed;
-use dam_search::{FreeTurn, MOST_NODES, Plan, first_selection, search};
+use dam_search::{FreeTurn, MOST_NODES, Plan, Private, first_selection, search, search_piece};
 use std::alloc::{AllocError, Global};
 use std::process::Abort;
 use std::test::Fail;
@@ -52,12 +55,20 @@ fn best_flip(problem: &Problem, best: Best, selection: Selection, from: usize) -
     greatest
 }
 
-/// The best of what one flip makes of the selection, or where none gains, of what two make of it.
-fn improved(problem: &Problem, best: Best) -> Best {
-    let one = best_flip(problem, best, best.selection, 0);
-    if one.welfare > best.welfare {
-        return one;
+/// The empty selection with its welfare.
+fn empty(problem: &Problem) -> Best {
+    let selection = Selection::none();
+    match score(problem, selection) {
+        Verdict::Eligible(welfare) => Best { selection, welfare },
+        _ => Best {
+            selection,
+            welfare: 0,
+        },
     }
+}
+
+/// The best of what two flips make of the selection, or else itself.
+fn best_pair(problem: &Problem, best: Best) -> Best {
     let mut greatest = best;
     for place in 0..problem.block_count() {
         greatest = best_flip(problem, greatest, flipped(best.selection, place), place + 1);
@@ -65,22 +76,45 @@ fn improved(problem: &Problem, best: Best) -> Best {
     greatest
 }
 
+/// The best of what one flip makes of the selection, or where none gains, of what two make of it.
+fn improved(problem: &Problem, best: &Best) -> Best {
+    let one = &best_flip(problem, *best, best.selection, 0);
+    if one.welfare > best.welfare {
+        return *one;
+    }
+    best_pair(problem, *best)
+}
+
+/// Compares the verdict at each leaf, which its day tells, with the score of its selection.
+fn compare_leaves(rt: &impl Abort, problem: &Problem, relaxed: &Relaxed)
+    requires { relaxed.now ≡ without_rows problem.now }
+{
+    let count = problem.block_count();
+    if count > 6 {
+        return;
+    }
+    for number in 0..1u32 << count {
+        let answer = search_piece(problem, relaxed, number, count, 1, &mut Private::new());
+        let selection = Selection::choice(count, number);
+        let welfare = match score(problem, selection) {
+            Verdict::Eligible(welfare) => Some(welfare),
+            _ => None,
+        };
+        assert_eq!(rt; answer.best.map(|best| best.welfare), welfare);
+    }
+}
+
 /// Compares the selection that a search begins with and what flips lead to that are scored whole.
 fn compare_first(rt: &impl Abort, alloc: Global, problem: &Problem) -> Result<(), AllocError> {
     let relaxed = Relaxed::build(alloc, problem)?;
+    compare_leaves(rt, problem, &relaxed);
     let first = first_selection(problem, &relaxed);
     let verdict = score(problem, first.selection);
     assert_eq!(rt; verdict, Verdict::Eligible(first.welfare));
-    let mut best = Best {
-        selection: Selection::none(),
-        welfare: 0,
-    };
-    if let Verdict::Eligible(welfare) = score(problem, best.selection) {
-        best.welfare = welfare;
-    }
+    let mut best = empty(problem);
     for _ in 0..100 {
         let welfare = best.welfare;
-        best = improved(problem, best);
+        best = improved(problem, &best);
         if best.welfare == welfare {
             break;
         }
