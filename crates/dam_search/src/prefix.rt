@@ -182,7 +182,7 @@ impl Prefix {
     }
 
     /// Whether some accepted block loses at the prices of the prefix's day, on which every block is
-    /// decided.
+    /// decided, with the accepted ones that descend from it.
     pub(crate) fn has_loss<A: Allocator>(&self, relaxed: &Relaxed<A>, day: &Day) -> bool
         requires full { length self.now ≡ length relaxed.now.blocks }
         requires day { IsDay relaxed.now self.now day.now }
