@@ -1,7 +1,7 @@
-//! The worked clearings under every number of workers and every cutting.
+//! The worked clearings under every number of workers and every cutting, and by trying all selections.
 
 use crate::support::commands;
-use dam_blocks::{Best, Problem, Selection};
+use dam_blocks::{Best, Problem, Selection, best_of_all};
 use dam_book::{Book, replay};
 use dam_search::{FreeTurn, MOST_CUT, MOST_NODES, MOST_WORKERS, Plan, search};
 use std::alloc::Global;
@@ -256,6 +256,7 @@ fn check<R: Abort + Threads + Sync>(
     Ok(())
 }
 
+/// Tries all selections, and searches.
 fn check_clearing<R: Abort + Threads + Sync>(
     rt: &R,
     alloc: Global,
@@ -265,7 +266,9 @@ fn check_clearing<R: Abort + Threads + Sync>(
     let problem = problem_of(alloc, records)?;
     assert_eq!(rt; problem.block_count(), accepted.len());
     let selection = selection_of(accepted);
-    check(rt, alloc, &problem, &Best { selection, welfare })
+    let want = Best { selection, welfare };
+    assert_eq!(rt; best_of_all(&problem), want);
+    check(rt, alloc, &problem, &want)
 }
 
 fn check_all<R: Abort + Threads + Sync>(
