@@ -322,3 +322,6 @@ impl<A: Allocator + Copy> Book<A> {
         self.closed = true;
     }
 }
+
+#[cfg(test)]
+mod tests;
