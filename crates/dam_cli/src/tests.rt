@@ -334,3 +334,4 @@ fn replies_are_flushed(rt: HostRuntime) {
 
 mod clearing;
 mod days;
+mod watched;
