@@ -55,7 +55,7 @@ impl<A: Allocator> Model for Book<A> {
 }
 
 impl<A: Allocator + Copy> Book<A> {
-    /// The empty book of a day of 23, 24 or 25 periods, open.
+    /// The empty book of a day of 23, 24 or 25 periods, open, on the fixed seed that everybody knows.
     pub fn begin(alloc: A, periods: u8) -> Result<Book<A>, BeginFault>
         ensures { MatchResult result
             (λ book. (is_day periods ≡ true) × (book ≡ empty_book periods))
@@ -64,8 +64,8 @@ impl<A: Allocator + Copy> Book<A> {
         Book::begin_seeded(alloc, periods, Seed::fixed())
     }
 
-    /// The book that `begin` gives, whose map hashes by the seed. So no participant can choose names that make it slow, where
-    /// the seed is a drawn one.
+    /// The book that `begin` gives, whose map hashes with the seed. With a secret one nobody can choose names that collide in the
+    /// map and make each command slow.
     pub fn begin_seeded(alloc: A, periods: u8, seed: Seed) -> Result<Book<A>, BeginFault>
         ensures { MatchResult result
             (λ book. (is_day periods ≡ true) × (book ≡ empty_book periods))

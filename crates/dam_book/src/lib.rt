@@ -15,8 +15,8 @@
 //!
 //! A contract sees a price, a volume and a period as numbers, a name as its letters, an order as its terms,
 //! and a book as its rows in the order of their submits, with the day's number of periods and whether it is
-//! closed. What these words mean stands in `specs/`. Only tested is what the faults say, and that memory
-//! isn't said to have run out where it hasn't.
+//! closed. What these words mean stands in `specs/`. Only tested is what the faults say, with which seed a
+//! book's map hashes, and that memory isn't said to have run out where it hasn't.
 //!
 //! The crate knows nothing of clearing prices, of which blocks are accepted, nor of journals as files.
 #![tactic(auto)]

@@ -122,7 +122,7 @@ pub struct Gate {
 }
 
 impl Gate {
-    /// The gate of a day of 23, 24 or 25 periods, with an empty journal.
+    /// The gate of a day of 23, 24 or 25 periods, with an empty journal, on the fixed seed that everybody knows.
     pub fn begin(alloc: Global, periods: u8) -> Result<Gate, BeginFault>
         ensures { MatchResult result (λ _. is_day periods ≡ true)
             (λ _. is_day periods ≡ false) }
@@ -130,8 +130,8 @@ impl Gate {
         Gate::begin_seeded(alloc, periods, Seed::fixed())
     }
 
-    /// The gate that `begin` gives, whose book hashes names by the seed. Under a drawn seed no participant can choose names
-    /// that make the others wait.
+    /// The gate that `begin` gives, whose book hashes names with the seed. With a secret one nobody can choose names that collide
+    /// in the book's map, and so make each call slow, those of the others too.
     pub fn begin_seeded(alloc: Global, periods: u8, seed: Seed) -> Result<Gate, BeginFault>
         ensures { MatchResult result (λ _. is_day periods ≡ true)
             (λ _. is_day periods ≡ false) }

@@ -52,7 +52,7 @@ impl<A: Allocator> Model for Keeper<A> {
 }
 
 impl<A: Allocator + Copy> Keeper<A> {
-    /// The empty journal and the empty book of a day of 23, 24 or 25 periods.
+    /// The empty journal and the empty book of a day of 23, 24 or 25 periods, on the fixed seed that everybody knows.
     pub fn begin(alloc: A, periods: u8) -> Result<Keeper<A>, BeginFault>
         ensures { MatchResult result
             (λ keeper. (is_day periods ≡ true) × (keeper ≡ empty_journal periods))
@@ -61,7 +61,7 @@ impl<A: Allocator + Copy> Keeper<A> {
         Keeper::begin_seeded(alloc, periods, Seed::fixed())
     }
 
-    /// The keeper that `begin` gives, whose book hashes names by the seed.
+    /// The keeper that `begin` gives, whose book hashes names with the seed.
     pub fn begin_seeded(alloc: A, periods: u8, seed: Seed) -> Result<Keeper<A>, BeginFault>
         ensures { MatchResult result
             (λ keeper. (is_day periods ≡ true) × (keeper ≡ empty_journal periods))

@@ -18,8 +18,8 @@ use std::alloc::{AllocError, Global};
 /// `nodes` on each. Room for an answer about every piece is taken before the first draw: after a
 /// refusal nothing was drawn, and nothing more is asked for later.
 ///
-/// In the program [`search`](crate::search) alone calls it, once for each worker, on a thread of its
-/// own. A caller by hand owes a fresh seat, made for the pieces of a cutting of this depth, and the
+/// Only [`search`](crate::search) makes seats, and so it alone can call this, once for each worker, on a
+/// thread of its own. It gives a fresh seat, made for the pieces of a cutting of this depth, and the
 /// bounds of this very problem; and it has every piece answered only where all seats of the words
 /// have worked and none was refused. While it works it waits for nobody but the turnstile.
 pub fn work<T: Turnstile>(
