@@ -78,10 +78,15 @@ impl Watch for Meeting {
     }
 }
 
-/// Whether the pieces of a clearing meet, each on a worker of its own.
-fn clearing_meets<R: Threads + Sync>(rt: &R, alloc: Global, cut: u8) -> Result<bool, Fail> {
-    let plan = Plan::new(1 << cut, cut, MOST_NODES).ok_or("a plan")?;
-    let meeting = Meeting::of(1 << cut);
+/// Whether the pieces of a clearing meet, of which there are as many as workers.
+fn clearing_meets<R: Threads + Sync>(
+    rt: &R,
+    alloc: Global,
+    workers: u8,
+    cut: u8,
+) -> Result<bool, Fail> {
+    let plan = Plan::new(workers, cut, MOST_NODES).ok_or("a plan")?;
+    let meeting = Meeting::of(u32::from(workers));
     let mut reader = CLOSED;
     let mut written = Vec::new(alloc);
     let done = run_clear(
@@ -97,9 +102,14 @@ fn clearing_meets<R: Threads + Sync>(rt: &R, alloc: Global, cut: u8) -> Result<b
 }
 
 /// The same of the clearing at the end of a day.
-fn day_meets<R: Threads + Wait + Sync>(rt: &R, alloc: Global, cut: u8) -> Result<bool, Fail> {
-    let plan = Plan::new(1 << cut, cut, MOST_NODES).ok_or("a plan")?;
-    let meeting = Meeting::of(1 << cut);
+fn day_meets<R: Threads + Wait + Sync>(
+    rt: &R,
+    alloc: Global,
+    workers: u8,
+    cut: u8,
+) -> Result<bool, Fail> {
+    let plan = Plan::new(workers, cut, MOST_NODES).ok_or("a plan")?;
+    let meeting = Meeting::of(u32::from(workers));
     let mut reader = TWO_BLOCKS;
     let mut written = Vec::new(alloc);
     let done = run_day(
@@ -117,14 +127,14 @@ fn day_meets<R: Threads + Wait + Sync>(rt: &R, alloc: Global, cut: u8) -> Result
 
 #[test]
 fn the_pieces_of_a_clearing_meet(rt: HostRuntime) -> Result<(), Fail> {
-    assert!(rt; clearing_meets(&rt, rt.alloc(), 1)?);
-    assert!(rt; clearing_meets(&rt, rt.alloc(), 2)?);
+    assert!(rt; clearing_meets(&rt, rt.alloc(), 2, 1)?);
+    assert!(rt; clearing_meets(&rt, rt.alloc(), 4, 2)?);
     Ok(())
 }
 
 #[test]
 fn the_pieces_of_a_day_meet(rt: HostRuntime) -> Result<(), Fail> {
-    assert!(rt; day_meets(&rt, rt.alloc(), 1)?);
-    assert!(rt; day_meets(&rt, rt.alloc(), 2)?);
+    assert!(rt; day_meets(&rt, rt.alloc(), 2, 1)?);
+    assert!(rt; day_meets(&rt, rt.alloc(), 4, 2)?);
     Ok(())
 }
