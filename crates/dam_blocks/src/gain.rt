@@ -26,7 +26,8 @@ fn difference(limit: Price, price: Price) -> i32
 /// per MWh times tenths of a MW, and below 0 where it pays more or gets less than its limit.
 pub fn surplus_at_price(order: &BlockOrder, price: Price, volume: u32) -> i64
     requires { volume ≤ greatest_volume }
-    ensures value { result ≡ signed order.now.side ((order.now.price -ℤ price) *ℤ pos volume) }
+    ensures value { result
+        ≡ signed order.now.side ((order.now.price -ℤ price) *ℤ pos volume) }
     ensures size { IsWithin greatest_gain result }
 {
     signed(
