@@ -77,8 +77,8 @@ def memory(answer, refusal, got, calls):
     return got == MEMORY or answer.usual.status != 0 and got == answer.usual._replace(stderr=b"")
 
 
-def thread(answer, _refusal, got, _calls):
-    """A thread that can't be started changes no answer."""
+def unchanged(answer, _refusal, got, _calls):
+    """A thread that can't be started, or random bytes that aren't given, change no answer."""
     return answer.is_given(got)
 
 

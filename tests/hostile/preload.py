@@ -55,7 +55,7 @@ class Program:
             part.rename(file)
         return file
 
-    def run(self, words, data, refusal, stdout=subprocess.PIPE):
+    def run(self, words, data, refusal, stdout=subprocess.PIPE, seconds=SECONDS):
         """What it prints, and how many calls of the refusal's kind it made."""
         calls = self.counts()
         calls.write_bytes(bytes(8))
@@ -65,10 +65,10 @@ class Program:
             "HOSTILE_CALLS": str(calls),
         }
         with open(self.given(data), "rb") as stdin:
-            how = {"stdin": stdin, "stdout": stdout, "stderr": subprocess.PIPE, "env": surroundings, "timeout": SECONDS}
+            how = {"stdin": stdin, "stdout": stdout, "stderr": subprocess.PIPE, "env": surroundings, "timeout": seconds}
             try:
                 ran = subprocess.run([self.path, *words], close_fds=False, **how)
                 printed = Printed(ran.returncode, ran.stdout or b"", ran.stderr)
             except subprocess.TimeoutExpired:
-                printed = Printed(NONE, b"", f"no answer in {SECONDS} seconds\n".encode())
+                printed = Printed(NONE, b"", f"no answer in {seconds} seconds\n".encode())
         return printed, int.from_bytes(calls.read_bytes(), "little")

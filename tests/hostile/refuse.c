@@ -1,7 +1,7 @@
-/* refuse.c: a library to preload under a program, which refuses chosen calls for memory, for a thread or of a device, and counts
-   the calls of that kind. It stands on names of the GNU C library.
+/* refuse.c: a library to preload under a program, which refuses chosen calls for memory, for a thread, for random bytes or of a
+   device, and counts the calls of that kind. It stands on names of the GNU C library.
 
-   HOSTILE in the environment is 'KIND FIRST LAST ERROR MOST'. KIND is memory, thread, read (of standard input), write (of
+   HOSTILE in the environment is 'KIND FIRST LAST ERROR MOST'. KIND is memory, thread, random, read (of standard input), write (of
    standard output) or report (writes to standard error). The calls of the kind whose numbers are from FIRST to LAST fail with the
    error number ERROR; where that is 0, such a read or write moves no byte. Every other read or write of the kind moves MOST bytes
    at most, or all where MOST is 0. The number of calls so far stands in the file that HOSTILE_CALLS names. */
@@ -17,6 +17,7 @@
 #include <stdlib.h>
 #include <string.h>
 #include <sys/mman.h>
+#include <sys/random.h>
 #include <sys/syscall.h>
 #include <unistd.h>
 
@@ -26,22 +27,28 @@ extern void *__libc_realloc(void *block, size_t size);
 extern void *__libc_memalign(size_t alignment, size_t size);
 
 typedef int create_thread(pthread_t *, const pthread_attr_t *, void *(*)(void *), void *);
+typedef int give_entropy(void *, size_t);
+typedef ssize_t give_random(void *, size_t, unsigned);
 
-enum kind { NONE, MEMORY, THREAD, READ, WRITE, REPORT };
+enum kind { NONE, MEMORY, THREAD, RANDOM, READ, WRITE, REPORT };
 
-static const char *const names[] = {"none", "memory", "thread", "read", "write", "report"};
+static const char *const names[] = {"none", "memory", "thread", "random", "read", "write", "report"};
 
 static enum kind chosen = NONE;
 static unsigned long first, last, most;
 static int error;
 static atomic_ulong *calls;
 static create_thread *create;
+static give_entropy *entropy;
+static give_random *randomly;
 
 /* Reads what is to be refused. What the program and its libraries ask for before this is granted. */
 __attribute__((constructor)) static void begin(void) {
     const char *plan = getenv("HOSTILE"), *file = getenv("HOSTILE_CALLS");
     char name[16];
     create = (create_thread *)dlsym(RTLD_NEXT, "pthread_create");
+    entropy = (give_entropy *)dlsym(RTLD_NEXT, "getentropy");
+    randomly = (give_random *)dlsym(RTLD_NEXT, "getrandom");
     if (plan == NULL || file == NULL || sscanf(plan, "%15s %lu %lu %d %lu", name, &first, &last, &error, &most) != 5)
         return;
     int shared = open(file, O_RDWR);
@@ -99,6 +106,21 @@ int posix_memalign(void **block, size_t alignment, size_t size) {
 
 int pthread_create(pthread_t *thread, const pthread_attr_t *how, void *(*work)(void *), void *given) {
     return refuses(THREAD) ? EAGAIN : create(thread, how, work, given);
+}
+
+static bool refuses_random(void) {
+    if (!refuses(RANDOM))
+        return false;
+    errno = error;
+    return true;
+}
+
+int getentropy(void *bytes, size_t count) {
+    return refuses_random() ? -1 : entropy(bytes, count);
+}
+
+ssize_t getrandom(void *bytes, size_t count, unsigned how) {
+    return refuses_random() ? -1 : randomly(bytes, count, how);
 }
 
 /* A read or write by its number, of one of the three standard streams. */

@@ -11,6 +11,7 @@ from typing import NamedTuple
 
 sys.dont_write_bytecode = True
 
+import colliding
 import judge
 from preload import EVERY, SECONDS, Printed, Program, Refusal
 
@@ -75,7 +76,7 @@ def memory_rows():
         ("clear that ends unfinished", ["clear", "--workers", "1", "--cut", "0", "--nodes", "1"], AUCTION, FEW),
         ("day of the auction day", ["day"], OPEN_AUCTION, MANY),
         ("day of the first day", ["day"], OPEN_FIRST, FEW),
-        ("day of two orders", ["day"], TWO_ORDERS, FEW),
+        ("day of two orders", ["day"], TWO_ORDERS, MANY),
         ("day with a close given", ["day"], AUCTION, FEW),
         ("no word", [], b"", FEW),
         ("help", ["--help"], b"", FEW),
@@ -92,8 +93,14 @@ def thread_rows():
     for plan in CUTTINGS:
         for word, data in [("clear", AUCTION), ("day", OPEN_AUCTION)]:
             about, words = f"{word} by {' '.join(plan)}", [word, *plan]
-            yield Row(f"{about}, one thread", words, data, "thread", judge.thread, error=errno.EAGAIN)
-            yield Row(f"{about}, all threads from one on", words, data, "thread", judge.thread, last=EVERY, error=errno.EAGAIN)
+            yield Row(f"{about}, one thread", words, data, "thread", judge.unchanged, error=errno.EAGAIN)
+            yield Row(f"{about}, all threads from one on", words, data, "thread", judge.unchanged, last=EVERY, error=errno.EAGAIN)
+
+
+def random_rows():
+    for words, data in [(["replay"], AUCTION), (["clear"], AUCTION), (["day"], OPEN_AUCTION)]:
+        for error in [errno.EIO, errno.ENOSYS]:
+            yield Row(f"{words[0]} without random bytes", words, data, "random", judge.unchanged, error=error)
 
 
 def device_rows():
@@ -238,8 +245,10 @@ def main():
     runs = Runs(Program(program, room), rest == ["--all"])
     runs.run_rows("memory refused", memory_rows())
     runs.run_rows("threads refused", thread_rows())
+    runs.run_rows("random bytes refused", random_rows())
     runs.run_rows("reads and writes that fail", device_rows())
     devices(runs)
+    colliding.run(runs)
     if runs.left_out:
         print(f"{runs.left_out} runs or fewer were left out, since {END} seconds were over")
     print(f"{runs.passed} passed, {runs.failed} failed")

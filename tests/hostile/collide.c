@@ -1,0 +1,83 @@
+/* collide.c: prints names that collide in the map of a book whose seed is the fixed one.
+
+   collide COUNT prints so many names of orders of the participant A, of twelve letters each, and a line each. The map of the kit's
+   `indexmap` hashes participant and name by SipHash-1-3, with both keys 0 under the fixed seed, and folds the hash to 32 bits. The
+   lowest of them choose one of the 512 groups of a map of 2,305 to 4,608 orders, from which on an order is looked for, and the
+   highest 8 are its tag there, of which 0 counts as 1; a name is compared with those of its own tag alone. So names of one tag that
+   begin at neighbouring groups are all compared with one another. */
+
+#include <stdint.h>
+#include <stdio.h>
+#include <stdlib.h>
+#include <string.h>
+
+#define GROUPS 512
+#define NEIGHBOURS 16
+#define LETTERS 12
+
+struct sip {
+    uint64_t a, b, c, d;
+};
+
+static uint64_t turned(uint64_t word, int bits) {
+    return word << bits | word >> (64 - bits);
+}
+
+static void mix(struct sip *sip) {
+    sip->a += sip->b;
+    sip->c += sip->d;
+    sip->b = turned(sip->b, 13) ^ sip->a;
+    sip->d = turned(sip->d, 16) ^ sip->c;
+    sip->a = turned(sip->a, 32);
+    sip->c += sip->b;
+    sip->a += sip->d;
+    sip->b = turned(sip->b, 17) ^ sip->c;
+    sip->d = turned(sip->d, 21) ^ sip->a;
+    sip->c = turned(sip->c, 32);
+}
+
+static void take(struct sip *sip, uint64_t word) {
+    sip->d ^= word;
+    mix(sip);
+    sip->a ^= word;
+}
+
+/* The folded hash of the participant A, in eight places, and a name, in twelve. */
+static uint32_t hash(const char *name) {
+    struct sip sip = {0x736f6d6570736575, 0x646f72616e646f6d, 0x6c7967656e657261, 0x7465646279746573};
+    uint64_t front = 0, rest = 0;
+    for (int at = 0; at < 8; at++)
+        front |= (uint64_t)name[at] << 8 * at;
+    for (int at = 8; at < LETTERS; at++)
+        rest |= (uint64_t)name[at] << 8 * (at - 8);
+    take(&sip, 'A');
+    take(&sip, front);
+    take(&sip, (uint64_t)(8 + LETTERS) << 56 | rest);
+    sip.c ^= 0xff;
+    for (int round = 0; round < 3; round++)
+        mix(&sip);
+    uint64_t whole = sip.a ^ sip.b ^ sip.c ^ sip.d;
+    return (uint32_t)(whole ^ whole >> 32);
+}
+
+/* Makes the name that follows this one. */
+static void follow(char *name) {
+    int at = LETTERS - 1;
+    while (at > 0 && name[at] == 'Z')
+        name[at--] = 'A';
+    name[at]++;
+}
+
+int main(int count, char **words) {
+    char name[LETTERS + 1];
+    memset(name, 'A', LETTERS);
+    name[LETTERS] = 0;
+    for (long wanted = count == 2 ? atol(words[1]) : 0; wanted > 0; follow(name)) {
+        uint32_t folded = hash(name);
+        if (folded % GROUPS < NEIGHBOURS && folded >> 24 <= 1) {
+            puts(name);
+            wanted--;
+        }
+    }
+    return 0;
+}
