@@ -4,6 +4,9 @@
 //! - `clears STEPS TIMES` clears one period of so many steps.
 //! - `settlements TIMES` enters a journal's commands at a gate, settles it, and goes once over the
 //!   receipts beside that.
+//! - `looks BESIDE TIMES` enters a journal's submits at a gate, and looks there, with so many threads that call and look
+//!   beside it.
+//! - `calls TIMES` enters a journal's submits at a gate, and amends them.
 //! - `scores TIMES` scores selections of a journal's blocks, and goes as often over its hourly orders.
 //! - `levels TIMES` builds what the bounds of a journal are read off.
 //! - `nodes WORKERS CUT TIMES` counts the nodes that a journal's search visits.
@@ -13,6 +16,7 @@
 #![tactic(auto)]
 
 mod clears;
+mod looks;
 mod nodes;
 mod problem;
 mod scores;
@@ -25,6 +29,7 @@ use dam_bound::Relaxed;
 use dam_gate::settle;
 use dam_results::read_journal;
 use dam_search::{FreeTurn, Plan, first_selection, search};
+use looks::{calls, looks};
 use nodes::Cutting;
 use problem::problem_of;
 use scores::{sum_of_passes, sum_of_scores};
@@ -64,6 +69,8 @@ fn take<R: Clock + Print + Eprint + Threads + Wait + Sync>(
     match measure {
         Measure::Clears { steps, times } => measure_clears(rt, alloc, *steps, *times),
         Measure::Settlements { times } => measure_settlements(rt, alloc, text, *times),
+        Measure::Looks { beside, times } => measure_looks(rt, alloc, text, *beside, *times),
+        Measure::Calls { times } => measure_calls(rt, alloc, text, *times),
         Measure::OfProblem(measure) => match problem_of(alloc, text) {
             Some(problem) => take_of_problem(rt, alloc, measure, &problem),
             None => Err(invalid()),
@@ -124,6 +131,31 @@ fn measure_settlements<R: Clock + Print + Eprint + Wait>(
         tell(rt, "receipts", begun)?;
     }
     println!(rt; "{equal}")
+}
+
+fn measure_looks<R: Clock + Print + Eprint + Threads + Wait + Sync>(
+    rt: &R,
+    alloc: Global,
+    text: &[u8],
+    beside: u8,
+    times: u32,
+) -> io::Result<()> {
+    let read = read_journal(alloc, text).map_err(|_| invalid())?;
+    let looks = looks(rt, alloc, &read.commands, beside, times).ok_or(invalid())?;
+    eprintln!(rt; "looks {}", looks.taken)?;
+    println!(rt; "{} looks found an order, {} calls beside", looks.found, looks.called)
+}
+
+fn measure_calls<R: Clock + Print + Eprint + Wait>(
+    rt: &R,
+    alloc: Global,
+    text: &[u8],
+    times: u32,
+) -> io::Result<()> {
+    let read = read_journal(alloc, text).map_err(|_| invalid())?;
+    let calls = calls(rt, alloc, &read.commands, times).ok_or(invalid())?;
+    eprintln!(rt; "calls {}", calls.taken)?;
+    println!(rt; "{} calls", calls.called)
 }
 
 fn measure_scores<R: Clock + Print + Eprint>(

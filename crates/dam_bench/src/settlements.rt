@@ -1,15 +1,17 @@
 //! A gate that commands were entered at, to be settled.
+ghost use Rattle.std.specs.Prelude.{◌≡◌};
 
 use dam_book::{Command, Entry, Participant};
-use dam_gate::{Gate, Journal, Pass};
+use dam_gate::{Account, Gate, Journal, Naming, Opening, Pass};
 use std::alloc::Global;
+use std::marker::Brand;
 use std::sync::Wait;
 
-/// A finished gate, and the passes through which the commands were entered.
+/// A finished gate, and the accounts of the passes through which the commands were entered.
 #[derive(Drop)]
 pub struct Finished {
     pub journal: Journal,
-    pub passes: Vec<Pass>,
+    pub passes: Vec<Account>,
 }
 
 /// Who gives the command; a close is nobody's.
@@ -23,7 +25,12 @@ fn giver(command: &Command) -> Option<Participant> {
 }
 
 /// Enters the command by the pass of its giver, which is a new one where none takes it.
-fn enter(rt: &impl Wait, gate: &Gate, passes: &mut Vec<Pass>, command: &Command) -> Option<()> {
+fn enter<J: Naming, H: Wait + Drop>(
+    rt: &impl Wait,
+    gate: &Gate<J, H>,
+    passes: &mut Vec<Pass<J>>,
+    command: &Command,
+) -> Option<()> {
     for pass in passes.iter_mut() {
         if gate.call(rt, pass, command.copy()).is_ok() {
             return Some(());
@@ -37,25 +44,48 @@ fn enter(rt: &impl Wait, gate: &Gate, passes: &mut Vec<Pass>, command: &Command)
     passes.push(pass).ok()
 }
 
-/// The gate of a day at which the commands and then a close were entered; `None` where one is refused.
-pub fn enter_all(
-    rt: &impl Wait,
+/// What is left of the passes.
+fn accounts_of<J: Naming>(alloc: Global, passes: Vec<Pass<J>>) -> Option<Vec<Account>> {
+    let mut accounts = Vec::with_capacity(alloc, passes.len()).ok()?;
+    for pass in passes {
+        accounts.push(pass.into_account()).ok()?;
+    }
+    Some(accounts)
+}
+
+/// The commands and then a close, entered at a gate of this opening.
+fn enter_named<J: Naming, R: Wait>(
+    rt: &R,
     alloc: Global,
+    opening: Opening,
     periods: u8,
     commands: &[Command],
-) -> Option<Finished> {
-    let gate = Gate::begin(alloc, periods).ok()?;
+) -> Option<Finished>
+    requires { opening.seen.book ≡ J.book }
+{
+    let gate = Gate::<J, &R>::begin(alloc, rt, opening, periods).ok()?;
     let mut passes = Vec::new(alloc);
     for command in commands {
         enter(rt, &gate, &mut passes, command)?;
     }
     enter(rt, &gate, &mut passes, &Command::Close)?;
     let journal = gate.finish();
+    let passes = accounts_of(alloc, passes)?;
     Some(Finished { journal, passes })
 }
 
+/// The gate of a day at which the commands and then a close were entered; `None` where one is refused.
+pub fn enter_all<R: Wait>(
+    rt: &R,
+    alloc: Global,
+    periods: u8,
+    commands: &[Command],
+) -> Option<Finished> {
+    enter_named::<Brand, R>(rt, alloc, Opening::new(), periods, commands)
+}
+
 /// A plain pass over the receipts: how many are equal to the entry of their number.
-pub fn equal_receipts(entries: &[Entry], passes: &[Pass]) -> usize {
+pub fn equal_receipts(entries: &[Entry], passes: &[Account]) -> usize {
     let mut equal = 0usize;
     for pass in passes {
         for receipt in pass.receipts() {

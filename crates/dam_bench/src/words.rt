@@ -8,6 +8,8 @@ use std::env::Args;
 pub enum Measure {
     Clears { steps: u32, times: u32 },
     Settlements { times: u32 },
+    Looks { beside: u8, times: u32 },
+    Calls { times: u32 },
     OfProblem(OfProblem),
 }
 
@@ -66,6 +68,13 @@ pub fn read_measure(words: &mut Args) -> Option<Measure> {
             times: number(words)?,
         }),
         "settlements" => Some(Measure::Settlements {
+            times: number(words)?,
+        }),
+        "looks" => Some(Measure::Looks {
+            beside: u8::try_from(number(words)?).ok()?,
+            times: number(words)?,
+        }),
+        "calls" => Some(Measure::Calls {
             times: number(words)?,
         }),
         name => Some(Measure::OfProblem(read_of_problem(name, words)?)),

@@ -7,8 +7,9 @@ ghost use Rattle.dam_example.specs.Day.{AreReceiptsOf};
 use anyhow::{Context, Result};
 use dam_book::{Command, Name, Participant};
 use dam_gate::laws::whole_account;
-use dam_gate::{Gate, GateFault, Look, Pass, Settled, settle};
+use dam_gate::{Account, Gate, GateFault, Look, Naming, Opening, Pass, Settled, settle};
 use std::alloc::Global;
+use std::marker::Brand;
 use std::sync::Wait;
 use std::thread::{Threads, join_mut};
 
@@ -23,27 +24,77 @@ pub struct Trader<'a> {
 #[derive(Drop)]
 pub struct Day {
     pub settled: Settled,
-    /// Those of the two participants and of the operator.
-    pub passes: Vec<Pass>,
+    /// The accounts of the two participants' passes and of the operator's.
+    pub passes: Vec<Account>,
     /// What the first participant saw of the order that it looked for, before the close.
     pub look: Look,
 }
 
 /// Enters the commands through the pass, in their order, up to the first that the gate refuses. One that the book refuses is
 /// entered too, and its reply is in the receipt.
-fn enter(
+fn enter<J: Naming, H: Wait + Drop>(
     rt: &impl Wait,
-    gate: &Gate,
-    pass: &mut Pass,
+    gate: &Gate<J, H>,
+    pass: &mut Pass<J>,
     commands: &[Command],
 ) -> Result<(), GateFault>
-    ensures { OnOk result
-        (commands_of pass.new.receipts ≡ commands_of pass.old.receipts ++ commands.now) }
+    ensures { OnOk result (commands_of pass.new.account.receipts
+        ≡ commands_of pass.old.account.receipts ++ commands.now) }
 {
     for command in commands {
         let _entry = gate.call(rt, pass, command.copy())?;
     }
     Ok(())
+}
+
+/// The day at a gate of this opening.
+fn hold_named<J: Naming + Send + Sync, R: Threads + Wait + Sync>(
+    rt: &R,
+    alloc: Global,
+    opening: Opening,
+    first: Trader,
+    second: Trader,
+) -> Result<Day>
+    requires { opening.seen.book ≡ J.book }
+    ensures account { IfOk result (λ day. IsWholeAccount day.settled day.passes.items) }
+    ensures entered { IfOk result (λ day.
+        AreReceiptsOf first.entry.commands.now second.entry.commands.now day.passes.items) }
+{
+    let gate = Gate::<J, &R>::begin(alloc, rt, opening, 24)?;
+    let mut one = gate.pass(rt, first.who.copy())?;
+    let mut other = gate.pass(rt, second.who.copy())?;
+    let (entered, beside) = join_mut(
+        rt,
+        &mut || enter(rt, &gate, &mut one, first.commands),
+        &mut || enter(rt, &gate, &mut other, second.commands),
+    );
+    entered?;
+    beside?;
+
+    // The other tells what its last call made, so that the look can't be at an earlier book.
+    if let Some(note) = other.note() {
+        one.learn(note);
+    }
+    let name = Name::new(b"BASE-8").context("a name")?;
+    let look = one.look(second.who, &name).context("an open gate")?;
+    let mut operator = gate.operator(rt)?;
+    let _closed = gate.call(rt, &mut operator, Command::Close)?;
+
+    let mut passes = Vec::new(alloc);
+    passes.push(one.into_account())?;
+    passes.push(other.into_account())?;
+    passes.push(operator.into_account())?;
+    match settle(alloc, gate.finish(), &passes) {
+        Ok(settled) => {
+            whole_account(&settled, &passes);
+            Ok(Day {
+                settled,
+                passes,
+                look,
+            })
+        }
+        Err(unsettled) => Err(unsettled.why)?,
+    }
 }
 
 /// Opens a gate, has two participants enter their commands side by side, looks, closes and settles.
@@ -57,37 +108,5 @@ pub fn hold_day<R: Threads + Wait + Sync>(
     ensures entered { IfOk result (λ day.
         AreReceiptsOf first.entry.commands.now second.entry.commands.now day.passes.items) }
 {
-    let gate = Gate::begin(alloc, 24)?;
-    let mut one = gate.pass(rt, first.who.copy())?;
-    let mut other = gate.pass(rt, second.who.copy())?;
-    let (entered, beside) = join_mut(
-        rt,
-        &mut || enter(rt, &gate, &mut one, first.commands),
-        &mut || enter(rt, &gate, &mut other, second.commands),
-    );
-    entered?;
-    beside?;
-
-    let name = Name::new(b"BASE-8").context("a name")?;
-    let look = gate
-        .look(rt, &mut one, second.who, &name)
-        .context("a pass of this gate")?;
-    let mut operator = gate.operator(rt)?;
-    let _closed = gate.call(rt, &mut operator, Command::Close)?;
-
-    let mut passes = Vec::new(alloc);
-    passes.push(one)?;
-    passes.push(other)?;
-    passes.push(operator)?;
-    match settle(alloc, gate.finish(), &passes) {
-        Ok(settled) => {
-            whole_account(&settled, &passes);
-            Ok(Day {
-                settled,
-                passes,
-                look,
-            })
-        }
-        Err(unsettled) => Err(unsettled.why)?,
-    }
+    hold_named::<Brand, R>(rt, alloc, Opening::new(), first, second)
 }

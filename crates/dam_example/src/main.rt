@@ -62,7 +62,7 @@ fn print_day(rt: &impl Print, day: &Day) -> Result<()> {
         "didn't see"
     };
     println!(rt;
-        "the first participant {found} the order, behind {} entries",
+        "the first participant {found} the order, after {} entries",
         day.look.seen
     )?;
     Ok(())

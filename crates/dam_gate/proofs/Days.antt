@@ -4,7 +4,7 @@ use Rattle.std.specs.List.{filter}
 use Rattle.std.specs.Bool.{Decides}
 use Rattle.std.proofs.lemmas.Bool.{eqb-true, eqb-false, cases_lt, le-ltb, or_parts}
 use Rattle.std.proofs.lemmas.Bool.Decides.{Decides-eqb}
-use Rattle.std.proofs.lemmas.List.{length-map, take-append-drop}
+use Rattle.std.proofs.lemmas.List.{length-map, take-append-drop, get_or-map}
 use Rattle.std.proofs.lemmas.List.Elements.{filter-append}
 use Rattle.std.proofs.lemmas.Slice.Eq.{slice_eq-Decides}
 use Rattle.dam_book.specs.Name.{same_text}
@@ -12,7 +12,7 @@ use Rattle.dam_book.specs.declared.command.Command.{Command}
 use Rattle.dam_book.specs.declared.command.Command.TheVariants.{Submit, Amend, Cancel, Close}
 use Rattle.dam_book.specs.declared.command.Entry.{Entry}
 use Rattle.dam_book.specs.Book.{BookState, empty_book, book_after, commands_of, IsLegalFrom, IsLegalHistory}
-use Rattle.dam_gate.specs.Pass.{PassState, IsPass, AreInOrder, holders, new_pass, is_own, is_from, is_close}
+use Rattle.dam_gate.specs.Pass.{PassState, Knowledge, knowing_nothing, IsPass, AreInOrder, holders, new_pass, is_own, is_from, is_close}
 use Rattle.dam_gate.specs.Settled.{numbered, receipts_of, AreReceipts}
 use Rattle.dam_gate.specs.Day.{commands_by, is_one_of, IsDayFault, refused, giver, givers_from, with_any, with_giver, refused_at, refused_from, IsDayRun}
 use Rattle.dam_gate.specs.inside.Entering.{AreApart, AreGivers, AreServed, Enters, HasAll, HasEntered, IsLateFault, own_commands}
@@ -442,6 +442,25 @@ held-all given participants olds news new_ones as_long enters =
     let at : get_or olds i d ≡ new_pass (Some (get_or participants i w)) =
     ap (λ (ps : List PassState). get_or ps i d) new_ones ∙ new_at participants i d w (omega (arith, within, as_long, many)) in
     (enters i d (omega (arith, within, as_long))).holder ∙ ap (λ (p : PassState). p.holder) at)
+
+-- ---- what a pass knows besides its account
+
+abbrev pub accounts : List Knowledge → List PassState
+accounts ks = map (λ (k : Knowledge). k.account) ks
+
+pub new-accounts : (participants : List (List ℕ)) → accounts (map (λ (who : List ℕ). knowing_nothing (Some who)) participants) ≡ map (λ (who : List ℕ). new_pass (Some who)) participants
+new-accounts [] = refl
+new-accounts (who ∷ participants) = ap (λ (ps : List PassState). new_pass (Some who) ∷ ps) (new-accounts participants)
+
+pub accounts-enter : (given : List Command) (olds news : List Knowledge) → length news ≡ length olds
+    → ((i : ℕ) (d : Knowledge) → i < length olds → Enters given (get_or olds i d).account (get_or news i d).account)
+    → (i : ℕ) (d : PassState) → i < length (accounts olds) → Enters given (get_or (accounts olds) i d) (get_or (accounts news) i d)
+accounts-enter given olds news same enters i d within =
+    let f = λ (k : Knowledge). k.account in
+    let k : Knowledge = record { account = d; history = []; told = []; note = None } in
+    let below : i < length olds = omega (arith, within, length-map olds f) in
+    subst (λ (p : PassState). Enters given p (get_or (accounts news) i d)) (sym (get_or-map f olds i k d below))
+    (subst (λ (p : PassState). Enters given (get_or olds i k).account p) (sym (get_or-map f news i k d (omega (arith, below, same)))) (enters i k below))
 
 -- ---- the faults
 

@@ -1,14 +1,14 @@
 -- One entry more keeps a history legal, and its book the run of its commands.
-use Rattle.std.proofs.Common.{◌≡◌, ℕ, suc, ◌+◌, ◌-◌, ◌<◌, ◌≤◌, Bool, true, false, List, [], ◌∷◌, ◌++◌, length, refl, sym, ap, ◌∙◌, subst, arith, length-append, is_some, if◌then◌else◌}
+use Rattle.std.proofs.Common.{◌≡◌, ℕ, suc, ◌+◌, ◌-◌, ◌<◌, Bool, true, false, List, [], ◌∷◌, ◌++◌, length, refl, sym, ap, ◌∙◌, subst, arith, length-append, is_some, if◌then◌else◌, Option, None, Some}
 use Rattle.dam_book.specs.declared.command.Command.{Command}
 use Rattle.dam_book.specs.declared.command.Command.TheVariants.{Submit, Amend, Cancel, Close}
 use Rattle.dam_book.specs.declared.command.Entry.{Entry}
-use Rattle.dam_book.specs.Book.{BookState, Key, order_at, empty_book, carried_out, refusal, book_after, reply_to, run, run_from, commands_of, IsLegalFrom}
+use Rattle.dam_book.specs.declared.command.Reason.{Reason}
+use Rattle.dam_book.specs.declared.command.Reply.TheVariants.{Refused}
+use Rattle.dam_book.specs.Book.{BookState, empty_book, carried_out, reply_of, refusal, book_after, reply_to, run, run_from, commands_of, IsLegalFrom}
 use Rattle.dam_book.specs.Limits.{most_entries}
 use Rattle.dam_gate.specs.Journal.{JournalState, IsHistory, IsJournal, FoundRoom, next_entry, journal_after, is_full}
-use Rattle.dam_gate.specs.Gate.{EndsHistory, IsLook}
-use Rattle.dam_gate.specs.inside.Looks.{IsLookAt}
-use Rattle.dam_gate.specs.declared.pass.Look.{Look}
+use Rattle.dam_gate.specs.Gate.{EndsHistory}
 use Rattle.std.proofs.lemmas.Bool.{leb-false}
 
 carried_out-periods : (b : BookState) (c : Command) → (carried_out b c).periods ≡ b.periods
@@ -44,7 +44,7 @@ room_left held (Cancel who name) left = omega (arith, leb-false (most_entries - 
 room_left held Close left = leb-false most_entries held left
 
 -- the journal's entries with that of one command more, for which there is room
-history-after : (j : JournalState) (c : Command) → IsJournal j → is_full (length j.entries) c ≡ false → IsHistory j.book.periods (j.entries ++ next_entry j c ∷ [])
+pub history-after : (j : JournalState) (c : Command) → IsJournal j → is_full (length j.entries) c ≡ false → IsHistory j.book.periods (j.entries ++ next_entry j c ∷ [])
 history-after j c is room =
     let e = next_entry j c in
     record {
@@ -71,14 +71,10 @@ pub ends_history : (j : JournalState) (c : Command) → IsJournal j → is_full 
 ends_history j c is room =
     record { periods = j.book.periods; before = j.entries; history = history-after j c is room; number = sym (length-append j.entries (next_entry j c ∷ [])) }
 
-pub look_is : (j : JournalState) (least : ℕ) (key : Key) (look : Look) → IsJournal j → least ≤ length j.entries → IsLookAt j key look → IsLook least key look
-look_is j least key look is more at =
-    record {
-      periods = j.book.periods;
-      entries = j.entries;
-      history = is.history;
-      seen = at.seen;
-      no_less = omega (arith, more, at.seen);
-      closed = at.closed ∙ ap (λ (b : BookState). b.closed) is.book_is;
-      order = at.order ∙ ap (λ (b : BookState). order_at b key) is.book_is;
-    }
+-- a command that is refused leaves the book
+stays : (o : Option Reason) (b d : BookState) (r : Reason) → reply_of o ≡ Refused r → (if is_some o then b else d) ≡ b
+stays None b d r is = absurd (cc is)
+stays (Some x) b d r is = refl
+
+pub refused_stays : (b : BookState) (c : Command) (r : Reason) → reply_to b c ≡ Refused r → book_after b c ≡ b
+refused_stays b c r is = stays (refusal b c) b (carried_out b c) r is

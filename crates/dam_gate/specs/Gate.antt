@@ -1,16 +1,24 @@
 -- What the gate answers.
-use Rattle.std.specs.Prelude.{◌≡◌, ℕ, ◌<◌, ◌≤◌, true, false, List, [], ◌∷◌, ◌++◌, length}
-use Rattle.dam_book.specs.Book.{Key, run, commands_of, order_at}
+use Rattle.std.specs.Prelude.{◌≡◌, ℕ, ◌≤◌, true, false, List, [], ◌∷◌, ◌++◌, length}
+use mathlib.Core.List.{IsPrefix}
+use Rattle.dam_book.specs.Book.{Key, run, commands_of, is_day, order_at}
 use Rattle.dam_book.specs.Limits.{most_entries}
 use Rattle.dam_book.specs.declared.command.Command.{Command}
 use Rattle.dam_book.specs.declared.command.Entry.{Entry}
+use Rattle.dam_gate.specs.declared.keeper.BeginFault.{BeginFault}
+use Rattle.dam_gate.specs.declared.keeper.BeginFault.TheVariants.{BadDay, Memory as BeginMemory}
 use Rattle.dam_gate.specs.declared.keeper.KeeperFault.{KeeperFault}
 use Rattle.dam_gate.specs.declared.keeper.KeeperFault.TheVariants.{JournalFull as KeeperFull, Memory as KeeperMemory}
 use Rattle.dam_gate.specs.declared.gate.GateFault.{GateFault}
-use Rattle.dam_gate.specs.declared.gate.GateFault.TheVariants.{NotYours, Behind, JournalFull, Memory}
+use Rattle.dam_gate.specs.declared.gate.GateFault.TheVariants.{NotYours, JournalFull, Memory, NoVersion}
 use Rattle.dam_gate.specs.declared.pass.Look.{Look}
 use Rattle.dam_gate.specs.Journal.{IsHistory, is_full}
-use Rattle.dam_gate.specs.Pass.{PassState, is_own}
+use Rattle.dam_gate.specs.Pass.{PassState, Knowledge, is_own}
+
+-- what may be answered in place of a keeper or a gate of a day of so many periods
+abbrev pub IsBeginFault : ℕ → BeginFault → Type 0
+IsBeginFault periods BadDay = is_day periods ≡ false
+IsBeginFault periods BeginMemory = is_day periods ≡ true
 
 -- what a journal of so many entries may answer to the command in place of its entry
 abbrev pub IsKeeperFault : ℕ → Command → KeeperFault → Type 0
@@ -24,9 +32,9 @@ gate_fault_of KeeperMemory = Memory
 -- what a gate that holds so many entries may answer to the command of a pass in place of its entry, each fault where those before it are none
 abbrev pub IsFaultAt : ℕ → PassState → Command → GateFault → Type 0
 IsFaultAt held p c NotYours = is_own p.holder c ≡ false
-IsFaultAt held p c (Behind seen n) = (is_own p.holder c ≡ true) × (seen ≡ p.seen) × (n ≡ held) × (held < p.seen)
-IsFaultAt held p c (JournalFull n) = (is_own p.holder c ≡ true) × (p.seen ≤ held) × (n ≡ held) × (is_full held c ≡ true)
-IsFaultAt held p c Memory = (is_own p.holder c ≡ true) × (p.seen ≤ held) × (is_full held c ≡ false)
+IsFaultAt held p c (JournalFull n) = (is_own p.holder c ≡ true) × (n ≡ held) × (is_full held c ≡ true)
+IsFaultAt held p c Memory = (is_own p.holder c ≡ true) × (is_full held c ≡ false)
+IsFaultAt held p c NoVersion = (is_own p.holder c ≡ true) × (is_full held c ≡ false)
 
 -- what a gate may answer, whose number of entries nobody but itself knows
 abbrev pub IsGateFault : PassState → Command → GateFault → Type 0
@@ -39,12 +47,26 @@ pub record EndsHistory (e : Entry) : Type 0 where
   pub history : IsHistory periods (before ++ e ∷ [])
   pub number : e.number ≡ length (before ++ e ∷ [])
 
--- what the run of some history shows that a journal of some day may hold, of at least so many entries
-pub record IsLook (least : ℕ) (key : Key) (look : Look) : Type 0 where
+-- the history is one that a journal of some day may hold, it ends with the entry, and before that it begins with all that
+-- the pass had seen and had been told of
+pub record IsAnswered (k : Knowledge) (history : List Entry) (e : Entry) : Type 0 where
   pub periods : ℕ
-  pub entries : List Entry
-  pub history : IsHistory periods entries
-  pub seen : look.seen ≡ length entries
-  pub no_less : least ≤ look.seen
-  pub closed : look.closed ≡ (run periods (commands_of entries)).closed
-  pub order : look.order ≡ order_at (run periods (commands_of entries)) key
+  pub before : List Entry
+  pub legal : IsHistory periods history
+  pub last : history ≡ before ++ e ∷ []
+  pub number : e.number ≡ length history
+  pub seen : IsPrefix k.history before
+  pub told : IsPrefix k.told before
+
+-- the history is one that a journal of some day may hold, and its run shows what was looked for
+pub record IsLook (history : List Entry) (key : Key) (look : Look) : Type 0 where
+  pub periods : ℕ
+  pub legal : IsHistory periods history
+  pub seen : look.seen ≡ length history
+  pub closed : look.closed ≡ (run periods (commands_of history)).closed
+  pub order : look.order ≡ order_at (run periods (commands_of history)) key
+
+-- the history begins with all that the pass has seen and has been told of
+pub record BeginsWithAll (k : Knowledge) (history : List Entry) : Type 0 where
+  pub seen : IsPrefix k.history history
+  pub told : IsPrefix k.told history

@@ -1,5 +1,6 @@
 pub mod Limits
 pub mod Journal
+pub mod Keeper
 pub mod Pass
 pub mod Gate
 pub mod Settled

@@ -1,5 +1,5 @@
 -- A pass: who holds it, how many entries of the journal it has seen, and the entries that its calls were answered with.
-use Rattle.std.specs.Prelude.{◌≡◌, ℕ, ◌-◌, ◌<◌, ◌≤◌, Bool, true, false, List, [], ◌∷◌, ◌++◌, map, Option, None, Some}
+use Rattle.std.specs.Prelude.{◌≡◌, ℕ, ◌-◌, ◌<◌, ◌≤◌, Bool, true, false, List, [], ◌∷◌, ◌++◌, length, map, Option, None, Some}
 use Rattle.dam_book.specs.Name.{same_text}
 use Rattle.dam_book.specs.declared.command.Command.{Command}
 use Rattle.dam_book.specs.declared.command.Command.TheVariants.{Submit, Amend, Cancel, Close}
@@ -59,3 +59,30 @@ with_receipt p e = record { holder = p.holder; seen = e.number; receipts = p.rec
 -- the pass after a look at so many entries
 abbrev pub having_seen : PassState → ℕ → PassState
 having_seen p seen = record { holder = p.holder; seen = seen; receipts = p.receipts }
+
+-- What a pass knows: its account; the history of the gate that it has seen; the longest that it was told of, which begins
+-- with each of the others; and the one that its last call made
+pub record Knowledge : Type 0 where
+  pub account : PassState
+  pub history : List Entry
+  pub told : List Entry
+  pub note : Option (List Entry)
+
+abbrev pub knowing_nothing : Option (List ℕ) → Knowledge
+knowing_nothing holder = record { account = new_pass holder; history = []; told = []; note = None }
+
+-- after a call that was answered with the entry, which ended this history
+abbrev pub after_call : Knowledge → List Entry → Entry → Knowledge
+after_call k history e = record { account = with_receipt k.account e; history = history; told = k.told; note = Some history }
+
+-- after a look at this history
+abbrev pub after_look : Knowledge → List Entry → Knowledge
+after_look k history = record { account = having_seen k.account (length history); history = history; told = k.told; note = k.note }
+
+abbrev pub after_learning : Knowledge → List Entry → Knowledge
+after_learning k told = record { account = k.account; history = k.history; told = told; note = k.note }
+
+-- the account is of a pass that has seen as many entries as its history has
+pub record IsKnowledge (k : Knowledge) : Type 0 where
+  pub account : IsPass k.account
+  pub seen : k.account.seen ≡ length k.history

@@ -1,4 +1,5 @@
 -- What only contracts inside this crate cite.
+pub mod Desk
+pub mod History
 pub mod Tally
-pub mod Looks
 pub mod Entering

@@ -3,21 +3,26 @@ ghost use Rattle.dam_gate.specs.Limits.{most_participants};
 ghost use Rattle.std.specs.Prelude.{◌≡◌, ◌⊎◌, ◌≤◌, ◌<◌, ◌∷◌, ◌++◌, [], ℕ, All, true, None, Some, length, map, slice_index_or, IfOk, IfErr, OnOk};
 ghost use Rattle.dam_book.specs.Book.{is_day, commands_of};
 ghost use Rattle.dam_gate.specs.Journal.{IsJournal};
-ghost use Rattle.dam_gate.specs.Pass.{PassState, IsPass, holders, new_pass};
+ghost use Rattle.dam_gate.specs.Pass.{Knowledge, IsPass, holders, knowing_nothing};
 ghost use Rattle.dam_gate.specs.Settled.{IsSettled};
 ghost use Rattle.dam_gate.specs.Headline.{IsWholeAccount};
 ghost use Rattle.dam_gate.specs.Day.{IsDayFault, IsDayRun, day_holders, refused, giver, givers_from, is_one_of, refused_from};
 ghost use Rattle.dam_gate.specs.inside.Entering.{AreGivers, AreServed, Enters, HasAll, IsClosedDay, IsLateFault, IsRefusalAt, Takes, own_commands};
 
+use crate::account::{Account, owns};
 use crate::doorkeeper::Doorkeeper;
 use crate::gate::{Gate, GateFault, PassFault};
-use crate::keeper::Journal;
+use crate::history::{Naming, Opening};
+use crate::keeper::{BeginFault, Journal};
 use crate::laws::whole_account;
 use crate::limits::MOST_PARTICIPANTS;
 use crate::pass::Pass;
 use crate::settlement::{Mismatch, Settled, settle};
+use crate::version::{Change, Shown};
 use dam_book::{Command, MOST_ENTRIES, Participant, Seed};
+use left_right::Absorb;
 use std::alloc::{AllocError, AllocFailed, Global};
+use std::marker::Brand;
 use std::sync::Wait;
 use std::thread;
 use std::thread::Threads;
@@ -47,9 +52,9 @@ pub enum DayFault {
 #[derive(Debug, Drop)]
 pub struct SettledDay {
     pub settled: Settled,
-    /// The passes through which its commands were entered: the participants', by first occurrence among the commands
-    /// given, and then the operator's.
-    pub passes: Vec<Pass>,
+    /// The accounts of the passes through which its commands were entered: the participants', by first occurrence among the
+    /// commands given, and then the operator's.
+    pub passes: Vec<Account>,
 }
 
 impl From<AllocError> for DayFault {
@@ -97,8 +102,13 @@ impl From<GateFault> for DayFault {
 }
 
 /// Enters the holder's own commands in their order, up to the first that is refused.
-fn enter(rt: &impl Wait, gate: &Gate, pass: &mut Pass, commands: &[Command])
-    ensures { Enters commands.now pass.old pass.new }
+fn enter<J: Naming, H: Wait + Drop>(
+    rt: &impl Wait,
+    gate: &Gate<J, H>,
+    pass: &mut Pass<J>,
+    commands: &[Command],
+)
+    ensures { Enters commands.now pass.old.account pass.new.account }
 {
     for given in commands {
         if !pass.owns(given) {
@@ -111,15 +121,15 @@ fn enter(rt: &impl Wait, gate: &Gate, pass: &mut Pass, commands: &[Command])
 }
 
 /// Enters the commands of one participant, between the calls of the doorkeeper.
-fn attend<D: Doorkeeper>(
+fn attend<J: Naming, H: Wait + Drop, D: Doorkeeper>(
     rt: &impl Wait,
-    gate: &Gate,
+    gate: &Gate<J, H>,
     doorkeeper: &D,
     participant: u32,
-    pass: &mut Pass,
+    pass: &mut Pass<J>,
     commands: &[Command],
 )
-    ensures { Enters commands.now pass.old pass.new }
+    ensures { Enters commands.now pass.old.account pass.new.account }
 {
     doorkeeper.before(participant);
     enter(rt, gate, pass, commands);
@@ -127,16 +137,17 @@ fn attend<D: Doorkeeper>(
 }
 
 /// Has each participant enter its commands, on a thread of its own where one can be started.
-fn enter_all<R: Threads + Wait + Sync, D: Doorkeeper + Sync>(
+fn enter_all<J: Naming + Send + Sync, R: Threads + Wait + Sync, D: Doorkeeper + Sync>(
     rt: &R,
-    gate: &Gate,
+    gate: &Gate<J, &R>,
     doorkeeper: &D,
-    passes: &mut [Pass],
+    passes: &mut [Pass<J>],
     commands: &[Command],
 )
     requires { length passes.old ≤ most_participants }
-    ensures { (i : ℕ) (d : PassState) → i < length passes.old
-        → Enters commands.now (slice_index_or passes.old i d) (slice_index_or passes.new i d) }
+    ensures { (i : ℕ) (d : Knowledge) → i < length passes.old
+        → Enters commands.now (slice_index_or passes.old i d).account
+        (slice_index_or passes.new i d).account }
 {
     thread::for_each_mut(
         rt,
@@ -146,12 +157,12 @@ fn enter_all<R: Threads + Wait + Sync, D: Doorkeeper + Sync>(
     );
 }
 
-fn count_own(pass: &Pass, commands: &[Command]) -> usize
-    ensures { result ≡ length (own_commands pass.now.holder commands.now) }
+fn count_own(holder: &Option<Participant>, commands: &[Command]) -> usize
+    ensures { result ≡ length (own_commands holder.now commands.now) }
 {
     let mut count = 0;
     for command in commands {
-        if pass.owns(command) {
+        if owns(holder, command) {
             count += 1;
         }
     }
@@ -159,11 +170,11 @@ fn count_own(pass: &Pass, commands: &[Command]) -> usize
 }
 
 /// Whether no call was refused: each holder has as many receipts as commands of its own.
-fn have_all_entered(passes: &[Pass], commands: &[Command]) -> bool
+fn have_all_entered(passes: &[Account], commands: &[Command]) -> bool
     ensures { result ≡ true → All (HasAll commands.now) passes.now }
 {
     for pass in passes {
-        if pass.receipts().len() != count_own(pass, commands) {
+        if pass.receipts().len() != count_own(&pass.holder(), commands) {
             return false;
         }
     }
@@ -229,29 +240,42 @@ fn givers(alloc: Global, commands: &[Command]) -> Result<Vec<Participant>, DayFa
     Ok(participants)
 }
 
-/// A pass for each participant, with room for the receipts of its commands.
-fn passes_for(
+/// A pass for the participant, with room for the receipts of its commands.
+fn pass_for<J: Naming, H: Wait + Drop>(
+    rt: &impl Wait,
+    gate: &Gate<J, H>,
+    who: &Participant,
+    commands: &[Command],
+) -> Result<Pass<J>, DayFault>
+    ensures ok { IfOk result (λ pass. pass ≡ knowing_nothing (Some who.now)) }
+    ensures err { IfErr result (λ fault. fault ≡ DayFault.Memory) }
+{
+    let mut pass = gate.pass(rt, who.copy())?;
+    pass.make_room(count_own(&pass.holder(), commands))?;
+    Ok(pass)
+}
+
+/// A pass for each participant.
+fn passes_for<J: Naming, H: Wait + Drop>(
     rt: &impl Wait,
     alloc: Global,
-    gate: &Gate,
+    gate: &Gate<J, H>,
     participants: &[Participant],
     commands: &[Command],
-) -> Result<Vec<Pass>, DayFault>
+) -> Result<Vec<Pass<J>>, DayFault>
     ensures ok { IfOk result (λ passes.
-        passes.items ≡ map (λ who. new_pass (Some who)) participants.now) }
+        passes.items ≡ map (λ who. knowing_nothing (Some who)) participants.now) }
     ensures err { IfErr result (λ fault. fault ≡ DayFault.Memory) }
 {
     let mut passes = Vec::with_capacity(alloc, participants.len() + 1)?;
     for who in participants {
-        let mut pass = gate.pass(rt, who.copy())?;
-        pass.make_room(count_own(&pass, commands))?;
-        passes.push(pass)?;
+        passes.push(pass_for(rt, gate, who, commands)?)?;
     }
     Ok(passes)
 }
 
 /// The operator's pass, through which it has closed.
-fn close(rt: &impl Wait, gate: &Gate) -> Result<Pass, DayFault>
+fn close<J: Naming, H: Wait + Drop>(rt: &impl Wait, gate: &Gate<J, H>) -> Result<Account, DayFault>
     ensures ok { IfOk result (λ operator. commands_of operator.receipts ≡ Command.Close ∷ []) }
     ensures pass { IfOk result IsPass }
     ensures holder { IfOk result (λ operator. operator.holder ≡ None) }
@@ -261,18 +285,30 @@ fn close(rt: &impl Wait, gate: &Gate) -> Result<Pass, DayFault>
     let _entry = gate.call(rt, &mut operator, Command::Close)?;
     // Its contract tells what every pass keeps.
     let _receipts = operator.receipts();
-    Ok(operator)
+    Ok(operator.into_account())
 }
 
-/// The passes through which all commands were entered, one for each participant.
-fn enter_day<R: Threads + Wait + Sync, D: Doorkeeper + Sync>(
+/// What is left of the passes.
+fn accounts_of<J: Naming>(alloc: Global, passes: Vec<Pass<J>>) -> Result<Vec<Account>, DayFault>
+    ensures ok { IfOk result (λ accounts. accounts.items ≡ map (λ pass. pass.account) passes.items) }
+    ensures err { IfErr result (λ fault. fault ≡ DayFault.Memory) }
+{
+    let mut accounts = Vec::with_capacity(alloc, passes.len() + 1)?;
+    for pass in passes {
+        accounts.push(pass.into_account())?;
+    }
+    Ok(accounts)
+}
+
+/// The accounts of the passes through which all commands were entered, one for each participant.
+fn enter_day<J: Naming + Send + Sync, R: Threads + Wait + Sync, D: Doorkeeper + Sync>(
     rt: &R,
     alloc: Global,
-    gate: &Gate,
+    gate: &Gate<J, &R>,
     doorkeeper: &D,
     participants: &[Participant],
     commands: &[Command],
-) -> Result<Vec<Pass>, DayFault>
+) -> Result<Vec<Account>, DayFault>
     requires { length participants.now ≤ most_participants }
     ensures ok { IfOk result (λ passes. AreServed commands.now participants.now passes.items) }
     ensures holders { IfOk result (λ passes.
@@ -283,10 +319,11 @@ fn enter_day<R: Threads + Wait + Sync, D: Doorkeeper + Sync>(
     // So that a journal which grows isn't copied.
     gate.make_room(rt, commands.len() + 1)?;
     enter_all(rt, gate, doorkeeper, &mut passes, commands);
-    if !have_all_entered(&passes, commands) {
+    let accounts = accounts_of(alloc, passes)?;
+    if !have_all_entered(&accounts, commands) {
         return Err(DayFault::Memory);
     }
-    Ok(passes)
+    Ok(accounts)
 }
 
 /// Whether the journal is of such a day and ends with a close.
@@ -300,15 +337,17 @@ fn is_closed_day(journal: &Journal, periods: u8) -> bool
 }
 
 /// The day of participants who give all the commands, at a gate of its own.
-fn run_day<R: Threads + Wait + Sync, D: Doorkeeper + Sync>(
+fn run_day<J: Naming + Send + Sync, R: Threads + Wait + Sync, D: Doorkeeper + Sync>(
     rt: &R,
     alloc: Global,
+    opening: Opening,
     periods: u8,
     seed: Seed,
     doorkeeper: &D,
     participants: &[Participant],
     commands: &[Command],
 ) -> Result<SettledDay, DayFault>
+    requires name { opening.seen.book ≡ J.book }
     requires day { is_day periods ≡ true }
     requires givers { AreGivers participants.now commands.now }
     requires few { length participants.now ≤ most_participants }
@@ -320,13 +359,16 @@ fn run_day<R: Threads + Wait + Sync, D: Doorkeeper + Sync>(
         holders day.passes.items ≡ map (λ who. Some who) participants.now ++ None ∷ []) }
     ensures err { IfErr result IsLateFault }
 {
-    let Ok(gate) = Gate::begin_seeded(alloc, periods, seed) else {
-        unreachable!();
+    let gate = match Gate::<J, &R>::begin_seeded(alloc, rt, opening, periods, seed) {
+        Ok(gate) => gate,
+        Err(BeginFault::Memory) => return Err(DayFault::Memory),
+        Err(BeginFault::BadDay) => unreachable!(),
     };
     let mut passes = enter_day(rt, alloc, &gate, doorkeeper, participants, commands)?;
     let operator = close(rt, &gate)?;
     passes.push(operator)?;
-    let settled = settle_day(alloc, gate.finish(), &passes)?;
+    let journal = gate.finish();
+    let settled = settle_day(alloc, journal, &passes)?;
     if !is_closed_day(settled.journal(), periods) {
         return Err(DayFault::NotSettled(Mismatch::StillOpen));
     }
@@ -334,7 +376,7 @@ fn run_day<R: Threads + Wait + Sync, D: Doorkeeper + Sync>(
 }
 
 /// The journal settled with the passes.
-fn settle_day(alloc: Global, journal: Journal, passes: &[Pass]) -> Result<Settled, DayFault>
+fn settle_day(alloc: Global, journal: Journal, passes: &[Account]) -> Result<Settled, DayFault>
     ensures settled { IfOk result (λ settled. IsSettled settled passes.now) }
     ensures err { IfErr result IsLateFault }
 {
@@ -373,9 +415,11 @@ pub fn run_commands<R: Threads + Wait + Sync, D: Doorkeeper + Sync>(
         return Err(DayFault::TooManyCommands);
     }
     let participants = givers(alloc, commands)?;
-    let day = run_day(
+    let opening = Opening::new();
+    let day = run_day::<Brand, R, D>(
         rt,
         alloc,
+        opening,
         periods,
         seed,
         doorkeeper,

@@ -1,14 +1,16 @@
-ghost use Rattle.std.specs.Prelude.{◌≡◌, ◌<◌, ◌≤◌, ◌+◌, true, false, Some, None, MatchResult, IfOk, IfErr, IfSome, IfNone, IsErrOf, OnOk, OnErr, IfNone};
+ghost use Rattle.std.specs.Prelude.{◌≡◌, ◌<◌, true, Some, None, IfSome, IfOk, IfErr, OnOk, OnErr};
 ghost use Rattle.dam_book.specs.Book.{is_day};
 ghost use Rattle.dam_gate.specs.Journal.{IsJournal};
-ghost use Rattle.dam_gate.specs.Limits.{most_passes};
-ghost use Rattle.dam_gate.specs.Pass.{having_seen, is_own, new_pass, with_receipt};
-ghost use Rattle.dam_gate.specs.Gate.{EndsHistory, IsGateFault, IsLook};
+ghost use Rattle.dam_gate.specs.Pass.{after_call, is_own, knowing_nothing};
+ghost use Rattle.dam_gate.specs.Gate.{EndsHistory, IsAnswered, IsBeginFault, IsGateFault};
 
-use crate::keeper::{Journal, Keeper, KeeperFault};
-use crate::limits::MOST_PASSES;
-use crate::pass::{Look, Pass};
-use dam_book::{BeginFault, Command, Entry, Name, Participant, Seed};
+use crate::desk::Desk;
+use crate::history::{Naming, Opening};
+use crate::keeper::{BeginFault, Journal, KeeperFault};
+use crate::pass::Pass;
+use crate::version::{Change, Shown};
+use dam_book::{Command, Entry, Participant, Seed};
+use left_right::Absorb;
 use std::alloc::{AllocError, Global};
 use std::sync::{Mutex, Wait};
 use thiserror::Error;
@@ -20,14 +22,6 @@ pub enum GateFault {
     /// by the operator's.
     #[error("the command is not this pass's to give")]
     NotYours,
-    /// The pass has seen more entries than the gate holds, so it is a pass of another gate.
-    #[error("the pass has seen {seen} entries, and the gate holds {held}")]
-    Behind {
-        /// How many entries the pass has seen.
-        seen: u32,
-        /// How many entries the gate holds.
-        held: u32,
-    },
     /// The journal holds as many entries as it may; the last one is only for a close.
     #[error("the journal is full, with {held} entries")]
     JournalFull {
@@ -37,6 +31,10 @@ pub enum GateFault {
     /// Memory ran out.
     #[error("out of memory")]
     Memory,
+    /// The history had gone on without the journal, so that no version of the command could be shown. No call of a gate
+    /// leaves it so.
+    #[error("no version could be shown")]
+    NoVersion,
 }
 
 impl From<AllocError> for GateFault {
@@ -70,6 +68,9 @@ pub enum PassFault {
     /// As many passes were given as one gate gives.
     #[error("all passes were given")]
     PassesUsed,
+    /// There was no place for another reader of the versions.
+    #[error("no place for another reader")]
+    NoPlace,
     /// Memory ran out.
     #[error("out of memory")]
     Memory,
@@ -86,77 +87,64 @@ impl From<AllocError> for PassFault {
     }
 }
 
-/// What lies under the lock.
-#[derive(Drop)]
-struct Desk {
-    keeper: Keeper,
-    // how many passes were given
-    passes: u8,
-}
-
-impl Desk {
-    fn pass(&mut self, alloc: Global, holder: Option<Participant>) -> Result<Pass, PassFault>
-        ensures pass { IfOk result (λ pass. pass ≡ new_pass holder) }
-        ensures room { OnOk result (self.old.passes < most_passes) }
-        ensures count { OnOk result (self.new.passes ≡ self.old.passes + 1) }
-        ensures journal { self.new.keeper ≡ self.old.keeper }
-        ensures err { OnErr result (self.new.passes ≡ self.old.passes) }
-        ensures used { IsErrOf result PassFault.PassesUsed → most_passes ≤ self.old.passes }
-        ensures memory { IsErrOf result PassFault.Memory → self.old.passes < most_passes }
-    {
-        if self.passes >= MOST_PASSES {
-            return Err(PassFault::PassesUsed);
-        }
-        let pass = Pass::new(alloc, holder)?;
-        self.passes += 1;
-        Ok(pass)
-    }
-}
-
 /// The gate of one delivery day, which threads share by reference. One lock stands before the book and its journal, and
-/// each call's step under it is one step of the sequential book.
+/// each call's step under it is one step of the sequential book. Looks take no lock.
+///
+/// `J` is its name: passes and notes of another gate have another. `R` is the handle by which its end waits for those
+/// who look.
 #[derive(Drop)]
-pub struct Gate {
-    alloc: Global,
-    desk: Mutex<Desk>,
+pub struct Gate<J: Naming, R: Wait + Drop>
+where
+    Shown<J>: Absorb<Change<J>, State = ()>,
+{
+    desk: Mutex<Desk<J, R>>,
 }
 
-impl Gate {
+impl<J: Naming, R: Wait + Drop> Gate<J, R> {
     /// The gate of a day of 23, 24 or 25 periods, with an empty journal, on the fixed seed that everybody knows.
-    pub fn begin(alloc: Global, periods: u8) -> Result<Gate, BeginFault>
-        ensures { MatchResult result (λ _. is_day periods ≡ true)
-            (λ _. is_day periods ≡ false) }
+    pub fn begin(
+        alloc: Global,
+        rt: R,
+        opening: Opening,
+        periods: u8,
+    ) -> Result<Gate<J, R>, BeginFault>
+        requires { opening.seen.book ≡ J.book }
+        ensures ok { OnOk result (is_day periods ≡ true) }
+        ensures fault { IfErr result (IsBeginFault periods) }
     {
-        Gate::begin_seeded(alloc, periods, Seed::fixed())
+        Gate::begin_seeded(alloc, rt, opening, periods, Seed::fixed())
     }
 
     /// The gate that `begin` gives, whose book hashes names with the seed. With a secret one nobody can choose names that collide
     /// in the book's map, and so make each call slow, those of the others too.
-    pub fn begin_seeded(alloc: Global, periods: u8, seed: Seed) -> Result<Gate, BeginFault>
-        ensures { MatchResult result (λ _. is_day periods ≡ true)
-            (λ _. is_day periods ≡ false) }
+    pub fn begin_seeded(
+        alloc: Global,
+        rt: R,
+        opening: Opening,
+        periods: u8,
+        seed: Seed,
+    ) -> Result<Gate<J, R>, BeginFault>
+        requires { opening.seen.book ≡ J.book }
+        ensures ok { OnOk result (is_day periods ≡ true) }
+        ensures fault { IfErr result (IsBeginFault periods) }
     {
         Ok(Gate {
-            alloc,
-            desk: Mutex::new(Desk {
-                keeper: Keeper::begin_seeded(alloc, periods, seed)?,
-                passes: 0,
-            }),
+            desk: Mutex::new(Desk::begin(alloc, rt, opening, periods, seed)?),
         })
     }
 
     /// A pass for a participant, who may have several.
-    pub fn pass(&self, rt: &impl Wait, who: Participant) -> Result<Pass, PassFault>
-        ensures { IfOk result (λ pass. pass ≡ new_pass (Some who)) }
+    pub fn pass(&self, rt: &impl Wait, who: Participant) -> Result<Pass<J>, PassFault>
+        ensures { IfOk result (λ pass. pass ≡ knowing_nothing (Some who)) }
     {
-        self.desk.lock(rt).pass(self.alloc, Some(who))
+        self.desk.lock(rt).pass(Some(who))
     }
 
     /// A pass for the operator, who alone closes.
-    pub fn operator(&self, rt: &impl Wait) -> Result<Pass, PassFault>
-        ensures { IfOk result (λ pass. pass ≡ new_pass None) }
+    pub fn operator(&self, rt: &impl Wait) -> Result<Pass<J>, PassFault>
+        ensures { IfOk result (λ pass. pass ≡ knowing_nothing None) }
     {
-        self.desk.lock(rt).pass(self.alloc, None)
+        self.desk.lock(rt).pass(None)
     }
 
     /// Has the book take the command, and journals it with the reply, also where the book refuses it. The pass gets the
@@ -166,48 +154,34 @@ impl Gate {
     pub fn call(
         &self,
         rt: &impl Wait,
-        pass: &mut Pass,
+        pass: &mut Pass<J>,
         command: Command,
     ) -> Result<Entry, GateFault>
         ensures command { IfOk result (λ entry. entry.command ≡ command) }
         ensures reply { IfOk result EndsHistory }
-        ensures later { IfOk result (λ entry. pass.old.seen < entry.number) }
-        ensures receipt { IfOk result (λ entry. pass.new ≡ with_receipt pass.old entry) }
-        ensures own { OnOk result (is_own pass.old.holder command ≡ true) }
+        ensures later { IfOk result (λ entry. pass.old.account.seen < entry.number) }
+        ensures receipt { IfOk result (λ entry.
+            pass.new ≡ after_call pass.old pass.new.history entry) }
+        ensures history { IfOk result (IsAnswered pass.old pass.new.history) }
+        ensures own { OnOk result (is_own pass.old.account.holder command ≡ true) }
         ensures err { OnErr result (pass.new ≡ pass.old) }
-        ensures fault { IfErr result (IsGateFault pass.old command) }
+        ensures fault { IfErr result (IsGateFault pass.old.account command) }
     {
         if !pass.owns(&command) {
             return Err(GateFault::NotYours);
         }
-        pass.step(&mut self.desk.lock(rt).keeper, command)
-    }
-
-    /// The participant's order of that name, and whether the book is closed, after all entries journalled so far; or
-    /// `None`, where the pass has seen more entries than the gate holds, so that it is a pass of another gate.
-    pub fn look(
-        &self,
-        rt: &impl Wait,
-        pass: &mut Pass,
-        who: &Participant,
-        name: &Name,
-    ) -> Option<Look>
-        ensures look { IfSome result (IsLook pass.old.seen (who.now, name.now)) }
-        ensures seen { IfSome result (λ look. pass.new ≡ having_seen pass.old look.seen) }
-        ensures none { IfNone result ((0 < pass.old.seen) × (pass.new ≡ pass.old)) }
-    {
-        pass.look(&self.desk.lock(rt).keeper, who, name)
+        pass.step(&mut self.desk.lock(rt), command)
     }
 
     /// Makes room in the journal for so many entries more.
     pub(crate) fn make_room(&self, rt: &impl Wait, entries: usize) -> Result<(), AllocError> {
-        self.desk.lock(rt).keeper.make_room(entries)
+        self.desk.lock(rt).make_room(entries)
     }
 
-    /// The journal, once nobody uses the gate any more.
+    /// The journal, once nobody uses the gate any more. From then on looks find no version.
     pub fn finish(self) -> Journal
         ensures { IsJournal result }
     {
-        self.desk.into_inner().keeper.into_journal()
+        self.desk.into_inner().into_journal()
     }
 }

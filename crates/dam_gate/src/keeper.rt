@@ -1,12 +1,16 @@
-ghost use Rattle.std.specs.Prelude.{◌≡◌, ◌<◌, ◌≤◌, ◌+◌, ◌∷◌, ◌++◌, [], true, false, length, vec_len, vec_capacity, MatchResult, IfOk, IfErr, OnOk, OnErr};
+ghost use Rattle.std.specs.Prelude.{◌≡◌, ◌<◌, ◌≤◌, ◌+◌, ◌∷◌, ◌++◌, [], true, false, length, MatchResult, IfOk, IfErr, OnOk, OnErr};
+ghost use Rattle.std.specs.Arc.{arc_value};
 ghost use Rattle.dam_book.specs.Book.{book_after, is_day, reply_to};
 ghost use Rattle.dam_book.specs.Limits.{most_entries};
 ghost use Rattle.dam_gate.specs.Journal.{IsJournal, empty_journal, is_full, journal_after, next_entry};
-ghost use Rattle.dam_gate.specs.Gate.{IsKeeperFault};
+ghost use Rattle.dam_gate.specs.Keeper.{IsReadyFor};
+ghost use Rattle.dam_gate.specs.Gate.{IsBeginFault, IsKeeperFault};
 
-use dam_book::{BeginFault, Book, Command, Entry, MOST_ENTRIES, Reply, Seed};
-use std::alloc::{AllocError, Allocator, Global};
+use crate::books::Books;
+use dam_book::{Book, Command, Entry, MOST_ENTRIES, Reply, Seed};
+use std::alloc::{AllocError, AllocFailed, Allocator, Global};
 use std::marker::Model;
+use std::sync::Arc;
 use thiserror::Error;
 
 /// Why a keeper takes no command, in the order in which it is looked for.
@@ -34,93 +38,264 @@ impl From<AllocError> for KeeperFault {
     }
 }
 
+impl<T: Drop> From<AllocFailed<T>> for KeeperFault {
+    ghost use Rattle.std.specs.Prelude.{◌≡◌};
+    ghost use Rattle.dam_gate.specs.declared.keeper.KeeperFault.TheVariants.{Memory};
+
+    ghost from_gives = { λ _ fault. fault ≡ Memory };
+
+    fn from(_error: AllocFailed<T>) -> KeeperFault {
+        KeeperFault::Memory
+    }
+}
+
+/// Why no keeper and no gate is begun, in the order in which it is looked for.
+#[derive(Clone, Copy, PartialEq, Eq, Debug, Error)]
+pub enum BeginFault {
+    /// No delivery day has that number of periods.
+    #[error("no delivery day has so many periods")]
+    BadDay,
+    /// Memory ran out.
+    #[error("out of memory")]
+    Memory,
+}
+
+impl From<AllocError> for BeginFault {
+    ghost use Rattle.std.specs.Prelude.{◌≡◌};
+    ghost use Rattle.dam_gate.specs.declared.keeper.BeginFault.TheVariants.{Memory};
+
+    ghost from_gives = { λ _ fault. fault ≡ Memory };
+
+    fn from(_error: AllocError) -> BeginFault {
+        BeginFault::Memory
+    }
+}
+
+impl<T: Drop> From<AllocFailed<T>> for BeginFault {
+    ghost use Rattle.std.specs.Prelude.{◌≡◌};
+    ghost use Rattle.dam_gate.specs.declared.keeper.BeginFault.TheVariants.{Memory};
+
+    ghost from_gives = { λ _ fault. fault ≡ Memory };
+
+    fn from(_error: AllocFailed<T>) -> BeginFault {
+        BeginFault::Memory
+    }
+}
+
+impl From<dam_book::BeginFault> for BeginFault {
+    ghost use Rattle.std.specs.Prelude.{◌≡◌};
+    ghost use Rattle.dam_gate.specs.declared.keeper.BeginFault.TheVariants.{BadDay};
+
+    ghost from_gives = { λ _ fault. fault ≡ BadDay };
+
+    fn from(_fault: dam_book::BeginFault) -> BeginFault {
+        BeginFault::BadDay
+    }
+}
+
 /// The book of one day and the journal of the commands that reached it, to which commands are added one by one.
 ///
-/// A contract sees the entries and the book. The entries are a legal history at every moment, and the
-/// book is what their commands make of the empty book.
+/// A contract sees the journal, as its entries and the book, and for how many entries more there is room. The entries
+/// are a legal history at every moment, and the book is what their commands make of the empty book. Others may share
+/// the book: a step replaces it.
 #[derive(Debug, Drop)]
 pub struct Keeper<A: Allocator = Global> {
-    journal: Journal<A>,
+    books: Books<A>,
+    entries: Vec<Entry, A>,
 }
 
 impl<A: Allocator> Model for Keeper<A> {
-    ghost use Rattle.dam_gate.specs.Journal.{JournalState};
+    ghost use Rattle.std.specs.Prelude.{◌-◌, vec_len, vec_capacity};
+    ghost use Rattle.dam_gate.specs.Journal.{IsJournal};
+    ghost use Rattle.dam_gate.specs.Keeper.{KeeperState};
 
-    ghost Value = { JournalState };
+    ghost Value = { KeeperState };
 
-    ghost view = { λ k. k.journal };
+    ghost view = { λ k. record {
+      journal = record { entries = k.entries.items; book = k.books };
+      room = vec_capacity k.entries - vec_len k.entries;
+    } };
+
+    ghost invariant = { λ k.
+        IsJournal (record { entries = k.entries.items; book = k.books }) };
+}
+
+/// A step of a keeper that can't be refused any more: its entry, and the book after it.
+#[derive(Debug, Drop)]
+pub struct Ready<A: Allocator = Global> {
+    entry: Entry,
+    book: Arc<Book<A>, A>,
+}
+
+impl<A: Allocator> Model for Ready<A> {
+    ghost use Rattle.std.specs.Arc.{arc_value};
+    ghost use Rattle.dam_gate.specs.Keeper.{ReadyState};
+
+    ghost Value = { ReadyState };
+
+    ghost view = { λ r. record { entry = r.entry; book = arc_value r.book } };
+}
+
+impl<A: Allocator> Ready<A> {
+    /// The entry that the step is to add.
+    pub fn entry(&self) -> &Entry
+        ensures { result.now ≡ self.now.entry }
+    {
+        &self.entry
+    }
+
+    /// A share of the book after the step.
+    pub(crate) fn book(&self) -> Result<Arc<Book<A>, A>, AllocError>
+        ensures { IfOk result (λ book. arc_value book ≡ self.now.book) }
+    {
+        Arc::try_clone(&self.book)
+    }
 }
 
 impl<A: Allocator + Copy> Keeper<A> {
     /// The empty journal and the empty book of a day of 23, 24 or 25 periods, on the fixed seed that everybody knows.
     pub fn begin(alloc: A, periods: u8) -> Result<Keeper<A>, BeginFault>
-        ensures { MatchResult result
-            (λ keeper. (is_day periods ≡ true) × (keeper ≡ empty_journal periods))
-            (λ _. is_day periods ≡ false) }
+        ensures ok { IfOk result (λ keeper.
+            (is_day periods ≡ true) × (keeper.journal ≡ empty_journal periods)) }
+        ensures fault { IfErr result (IsBeginFault periods) }
     {
         Keeper::begin_seeded(alloc, periods, Seed::fixed())
     }
 
     /// The keeper that `begin` gives, whose book hashes names with the seed.
     pub fn begin_seeded(alloc: A, periods: u8, seed: Seed) -> Result<Keeper<A>, BeginFault>
-        ensures { MatchResult result
-            (λ keeper. (is_day periods ≡ true) × (keeper ≡ empty_journal periods))
-            (λ _. is_day periods ≡ false) }
+        ensures ok { IfOk result (λ keeper.
+            (is_day periods ≡ true) × (keeper.journal ≡ empty_journal periods)) }
+        ensures fault { IfErr result (IsBeginFault periods) }
     {
+        let book = Book::begin_seeded(alloc, periods, seed)?;
         Ok(Keeper {
-            journal: Journal::begin(alloc, periods, seed)?,
+            books: Books::new(Arc::new(alloc, book)?),
+            entries: Vec::new(alloc),
         })
+    }
+
+    /// Takes all memory of a command's step: the room in the journal, and a book for the step's result, where it changes
+    /// the book.
+    ///
+    /// The journal and the book stay.
+    pub fn ready(&mut self, command: &Command) -> Result<Ready<A>, KeeperFault>
+        ensures ready { IfOk result (IsReadyFor self.new command.now) }
+        ensures journal { self.new.journal ≡ self.old.journal }
+        ensures fault { IfErr result
+            (IsKeeperFault (length self.old.journal.entries) command.now) }
+    {
+        let held = self.len();
+        if is_full(held, command) {
+            return Err(KeeperFault::JournalFull { held });
+        }
+        self.entries.reserve(1)?;
+        let reply = self.books.book().reply(command);
+        let book = self.book_after(command, reply)?;
+        Ok(Ready {
+            entry: Entry {
+                number: held + 1,
+                command: command.copy(),
+                reply,
+            },
+            book,
+        })
+    }
+
+    /// The book after the command: another one, or where the command is refused the one that there is.
+    fn book_after(&mut self, command: &Command, reply: Reply) -> Result<Arc<Book<A>, A>, AllocError>
+        requires { reply ≡ reply_to self.old.journal.book command.now }
+        ensures book { IfOk result
+            (λ book. arc_value book ≡ book_after self.old.journal.book command.now) }
+        ensures same { self.new ≡ self.old }
+    {
+        match reply {
+            Reply::Refused(_) => self.books.share(),
+            Reply::Done => {
+                let mut book = self.books.another()?;
+                let _done = book.apply(command)?;
+                match Arc::new(*self.entries.allocator(), book) {
+                    Ok(book) => Ok(book),
+                    Err(_) => Err(AllocError),
+                }
+            }
+        }
+    }
+
+    /// Takes the step that was made ready, which takes no memory and can't be refused.
+    pub fn put(&mut self, ready: Ready<A>) -> Entry
+        requires { IsReadyFor self.old ready.entry.command ready }
+        ensures entry { result ≡ ready.entry }
+        ensures step { self.new.journal ≡ journal_after self.old.journal ready.entry.command }
+    {
+        let Ready { entry, book } = ready;
+        self.entries.push_reserved(entry.copy());
+        self.books.follow(book, &entry);
+        entry
     }
 
     /// Journals the command with the book's reply to it, also where the book refuses it.
     ///
     /// All memory is taken before anything changes.
     pub fn apply(&mut self, command: Command) -> Result<Entry, KeeperFault>
-        ensures entry { IfOk result (λ entry. entry ≡ next_entry self.old command) }
-        ensures step { OnOk result (self.new ≡ journal_after self.old command) }
-        ensures room { OnOk result (is_full (length self.old.entries) command ≡ false) }
-        ensures err { OnErr result (self.new ≡ self.old) }
-        ensures fault { IfErr result (IsKeeperFault (length self.old.entries) command) }
+        ensures entry { IfOk result (λ entry. entry ≡ next_entry self.old.journal command) }
+        ensures step { OnOk result (self.new.journal ≡ journal_after self.old.journal command) }
+        ensures room { OnOk result
+            (is_full (length self.old.journal.entries) command ≡ false) }
+        ensures err { OnErr result (self.new.journal ≡ self.old.journal) }
+        ensures fault { IfErr result (IsKeeperFault (length self.old.journal.entries) command) }
     {
-        self.journal.append(command)
+        let ready = self.ready(&command)?;
+        Ok(self.put(ready))
     }
 
     /// The number of entries held.
     pub fn len(&self) -> u32
-        ensures value { result ≡ length self.now.entries }
-        ensures valid { IsJournal self.now }
+        ensures value { result ≡ length self.now.journal.entries }
+        ensures valid { IsJournal self.now.journal }
     {
-        self.journal.len()
+        self.entries.len() as u32
     }
 
     /// The entries, numbered from 1.
     pub fn entries(&self) -> &[Entry]
-        ensures value { result.now ≡ self.now.entries }
-        ensures valid { IsJournal self.now }
+        ensures value { result.now ≡ self.now.journal.entries }
+        ensures valid { IsJournal self.now.journal }
     {
-        self.journal.entries()
+        self.entries.as_slice()
     }
 
     /// The book that the commands of the entries make of the empty book of the day.
     pub fn book(&self) -> &Book<A>
-        ensures value { result.now ≡ self.now.book }
-        ensures valid { IsJournal self.now }
+        ensures value { result.now ≡ self.now.journal.book }
+        ensures valid { IsJournal self.now.journal }
     {
-        self.journal.book()
+        self.books.book()
+    }
+
+    /// A share of the book.
+    pub(crate) fn share(&self) -> Result<Arc<Book<A>, A>, AllocError>
+        ensures value { IfOk result (λ book. arc_value book ≡ self.now.journal.book) }
+        ensures valid { IsJournal self.now.journal }
+    {
+        self.books.share()
     }
 
     /// Makes room for so many entries more.
     pub(crate) fn make_room(&mut self, entries: usize) -> Result<(), AllocError>
-        ensures { self.new ≡ self.old }
+        ensures { self.new.journal ≡ self.old.journal }
     {
-        self.journal.make_room(entries)
+        self.entries.reserve(entries)
     }
 
     pub(crate) fn into_journal(self) -> Journal<A>
-        ensures { result ≡ self }
+        ensures { result ≡ self.journal }
     {
-        let Keeper { journal } = self;
-        journal
+        let Keeper { books, entries } = self;
+        Journal {
+            book: books.into_book(),
+            entries,
+        }
     }
 }
 
@@ -137,107 +312,28 @@ pub(crate) fn is_full(held: u32, command: &Command) -> bool
     }
 }
 
-/// All of a step that may be refused: the room in the journal, and then the book's step, for which the book takes its
-/// memory before it changes.
-///
-/// The entries stay, and a refusal leaves the book, too.
-fn ready<A: Allocator + Copy>(
-    entries: &mut Vec<Entry, A>,
-    book: &mut Book<A>,
-    command: &Command,
-) -> Result<Reply, KeeperFault>
-    requires { length entries.old.items ≤ most_entries }
-    ensures entries { entries.new.items ≡ entries.old.items }
-    ensures reply { IfOk result (λ reply. reply ≡ reply_to book.old command.now) }
-    ensures book { OnOk result (book.new ≡ book_after book.old command.now) }
-    ensures left { OnOk result (is_full (length entries.old.items) command.now ≡ false) }
-    ensures room { OnOk result (vec_len entries.new < vec_capacity entries.new) }
-    ensures err { OnErr result (book.new ≡ book.old) }
-    ensures fault { IfErr result (IsKeeperFault (length entries.old.items) command.now) }
-{
-    let held = entries.len() as u32;
-    if is_full(held, command) {
-        return Err(KeeperFault::JournalFull { held });
-    }
-    entries.reserve(1)?;
-    Ok(book.apply(command)?)
-}
-
-/// The rest of the step, which takes no memory and can't be refused: the entry.
-fn put<A: Allocator>(entries: &mut Vec<Entry, A>, command: Command, reply: Reply) -> Entry
-    requires few { length entries.old.items < most_entries }
-    requires room { vec_len entries.old < vec_capacity entries.old }
-    ensures entry { result ≡ record {
-      number = length entries.old.items + 1;
-      command = command;
-      reply = reply;
-    } }
-    ensures entries { entries.new.items ≡ entries.old.items ++ result ∷ [] }
-{
-    let entry = Entry {
-        number: entries.len() as u32 + 1,
-        command,
-        reply,
-    };
-    entries.push_reserved(entry.copy());
-    entry
-}
-
 /// What a gate leaves: its entries, and the book that they made.
 ///
 /// A contract sees the entries and the book, as those of a `Keeper`.
 #[derive(Debug, Drop)]
 pub struct Journal<A: Allocator = Global> {
-    book: Book<A>,
+    book: Arc<Book<A>, A>,
     entries: Vec<Entry, A>,
 }
 
 impl<A: Allocator> Model for Journal<A> {
+    ghost use Rattle.std.specs.Arc.{arc_value};
     ghost use Rattle.dam_gate.specs.Journal.{JournalState, IsJournal};
 
     ghost Value = { JournalState };
 
-    ghost view = { λ j. record { entries = j.entries.items; book = j.book } };
+    ghost view = { λ j. record { entries = j.entries.items; book = arc_value j.book } };
 
-    ghost invariant = { λ j. IsJournal (record { entries = j.entries.items; book = j.book }) };
+    ghost invariant = { λ j.
+        IsJournal (record { entries = j.entries.items; book = arc_value j.book }) };
 }
 
 impl<A: Allocator + Copy> Journal<A> {
-    fn begin(alloc: A, periods: u8, seed: Seed) -> Result<Journal<A>, BeginFault>
-        ensures { MatchResult result
-            (λ journal. (is_day periods ≡ true) × (journal ≡ empty_journal periods))
-            (λ _. is_day periods ≡ false) }
-    {
-        Ok(Journal {
-            book: Book::begin_seeded(alloc, periods, seed)?,
-            entries: Vec::new(alloc),
-        })
-    }
-
-    fn make_room(&mut self, entries: usize) -> Result<(), AllocError>
-        ensures { self.new ≡ self.old }
-    {
-        self.entries.reserve(entries)
-    }
-
-    fn append(&mut self, command: Command) -> Result<Entry, KeeperFault>
-        ensures entry { IfOk result (λ entry. entry ≡ next_entry self.old command) }
-        ensures step { OnOk result (self.new ≡ journal_after self.old command) }
-        ensures room { OnOk result (is_full (length self.old.entries) command ≡ false) }
-        ensures err { OnErr result (self.new ≡ self.old) }
-        ensures fault { IfErr result (IsKeeperFault (length self.old.entries) command) }
-    {
-        let reply = ready(&mut self.entries, &mut self.book, &command)?;
-        Ok(put(&mut self.entries, command, reply))
-    }
-
-    fn len(&self) -> u32
-        ensures value { result ≡ length self.now.entries }
-        ensures valid { IsJournal self.now }
-    {
-        self.entries.len() as u32
-    }
-
     /// How many periods the delivery day has.
     pub fn periods(&self) -> u8
         ensures { result ≡ self.now.book.periods }

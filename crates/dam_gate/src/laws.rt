@@ -6,15 +6,15 @@ ghost use Rattle.dam_gate.specs.Pass.{IsPass};
 ghost use Rattle.dam_gate.specs.Settled.{IsSettled};
 ghost use Rattle.dam_gate.specs.Headline.{IsWholeAccount};
 
+use crate::account::Account;
 use crate::limits::{MOST_PARTICIPANTS, MOST_PASSES};
-use crate::pass::Pass;
 use crate::settlement::Settled;
 use dam_book::laws::histories_are_runs;
 use std::alloc::Allocator;
 
 /// Once a gate is settled, its journal's commands, run one by one from the empty book, give exactly the recorded replies
 /// and the book held, and the participants' receipts are its entries, each once, in each holder's order.
-pub fn whole_account<A: Allocator + Copy>(settled: &Settled<A>, passes: &[Pass])
+pub fn whole_account<A: Allocator + Copy>(settled: &Settled<A>, passes: &[Account])
     requires { IsSettled settled.now passes.now }
     ensures { IsWholeAccount settled.now passes.now }
 {
@@ -31,7 +31,7 @@ pub fn limits()
 {}
 
 // What every pass keeps holds of these.
-fn are_passes(passes: &[Pass])
+fn are_passes(passes: &[Account])
     ensures { All IsPass passes.now }
 {
     for pass in passes {

@@ -2,47 +2,59 @@
 //! settlement shows that what each participant was answered is what the journal has.
 //!
 //! ```
-//! let gate = Gate::begin(alloc, 24)?;
+//! // in a function that is generic in the gate's name `J`, with `opening: Opening` among its arguments
+//! let gate = Gate::<J, &R>::begin(alloc, rt, opening, 24)?;
 //! let mut pass = gate.pass(rt, who)?; // one a participant; each may go to a thread of its own
 //! let entry = gate.call(rt, &mut pass, submit)?;
+//! let look = pass.look(who, name); // takes no lock, and waits for nobody
 //! let mut operator = gate.operator(rt)?;
 //! let _closed = gate.call(rt, &mut operator, Command::Close)?;
 //!
 //! let journal = gate.finish();
-//! match settle(alloc, journal, &passes) {
-//!     Ok(settled) => whole_account(&settled, &passes), // a law: what a settled journal accounts for
+//! let accounts = [pass.into_account(), operator.into_account()];
+//! match settle(alloc, journal, &accounts) {
+//!     Ok(settled) => whole_account(&settled, &accounts), // a law: what a settled journal accounts for
 //!     Err(unsettled) => return Err(unsettled.why), // with the journal in it
 //! }
 //! ```
 //!
-//! A contract sees a journal, a [`Keeper`] and a [`Settled`] as their entries with the book that these make,
-//! and a [`Pass`] as its holder, the number of entries that it has seen, and its receipts. What these words
-//! mean stands in `specs/`. Of what lies under the lock it sees only what is true of any gate. So only
-//! tested is that a gate begins with its day and no entry, that a call journals at this gate and just once,
-//! or, refused, not at all, that a look shows this gate's book, that calls are refused and looks are `None`
+//! A contract sees a journal and a [`Settled`] as their entries with the book that these make, a [`Keeper`] as its journal
+//! and the room in it, and a [`Pass`] as what it knows: its account, that is its holder, the number of entries that it
+//! has seen, and its receipts; the history that it has seen, the longest that it was told of, and the one that its last
+//! call made. What these words mean stands in `specs/`. Of what lies under the lock it sees only what is true of any gate.
+//! So only tested is that a gate begins with its day and no entry, that a call journals at this gate and just once,
+//! or, refused, not at all, that each entry's version is shown, that calls are refused and looks are `None`
 //! only where they should be, that `finish` hands over the journal of these calls, and that a gate gives nine
 //! passes; besides, that memory isn't said to have run out where it hasn't.
 //!
 //! The crate knows nothing of texts, of prices that clear, and of how the best selection is found.
 #![tactic(auto)]
 
+mod account;
+mod books;
 mod day;
+mod desk;
 mod doorkeeper;
 mod gate;
+mod history;
 mod keeper;
 pub mod laws;
 mod limits;
 mod pass;
 mod settlement;
 mod tally;
+mod version;
 
+pub use account::Account;
 pub use day::{DayFault, SettledDay, run_commands};
 pub use doorkeeper::{Doorkeeper, OpenDoor};
 pub use gate::{Gate, GateFault, PassFault};
-pub use keeper::{Journal, Keeper, KeeperFault};
+pub use history::{Naming, Opening};
+pub use keeper::{BeginFault, Journal, Keeper, KeeperFault, Ready};
 pub use limits::{MOST_PARTICIPANTS, MOST_PASSES};
-pub use pass::{Look, Pass};
+pub use pass::{Look, Note, Pass};
 pub use settlement::{Mismatch, Settled, Unsettled, settle};
+pub use version::{Change, Shown};
 
 #[cfg(test)]
 mod tests;

@@ -1,36 +1,72 @@
-ghost use Rattle.std.specs.Prelude.{◌≡◌, ◌<◌, ◌≤◌, true, length, IfOk, IfErr, IfSome, OnOk, OnErr, OnSome, IfNone};
+ghost use Rattle.std.specs.Prelude.{◌≡◌, ◌<◌, ◌≤◌, ◌⊎◌, ◌∷◌, ◌++◌, [], true, length, IfOk, IfErr, IfSome, OnOk, OnErr, OnSome, IfNone};
+ghost use Rattle.std.specs.Option.{option_copied};
+ghost use mathlib.Core.List.{IsPrefix};
 ghost use Rattle.dam_book.specs.Limits.{most_entries};
 ghost use Rattle.dam_gate.specs.Journal.{journal_after, next_entry};
-ghost use Rattle.dam_gate.specs.Pass.{IsPass, having_seen, is_from, is_own, new_pass, with_receipt};
-ghost use Rattle.dam_gate.specs.Gate.{EndsHistory, IsFaultAt, IsLook};
-ghost use Rattle.dam_gate.specs.inside.Looks.{IsLookAt};
+ghost use Rattle.dam_gate.specs.Pass.{IsKnowledge, after_call, after_learning, after_look, is_own, knowing_nothing};
+ghost use Rattle.dam_gate.specs.Gate.{BeginsWithAll, IsAnswered, IsFaultAt, IsLook};
 
+use crate::account::{Account, copy_of, owns};
+use crate::desk::Desk;
 use crate::gate::GateFault;
-use crate::keeper::{Keeper, is_full};
+use crate::history::{Front, Naming};
+use crate::keeper::is_full;
+use crate::version::{Change, Shown};
 use dam_book::{Command, Entry, Name, Order, Participant};
+use left_right::{Absorb, ReadHandle};
 use std::alloc::{AllocError, Global};
 use std::marker::Model;
+use std::sync::Wait;
 
-/// What a holder carries through the gate's calls: how many entries of the journal it has seen, and a receipt of each
-/// of its own commands that reached the book, in the order of its calls.
-///
-/// A contract sees the holder, the number seen and the receipts. The receipts are of the holder's own commands; their
-/// numbers increase, and none is above the number seen.
-#[derive(Debug, Drop)]
-pub struct Pass {
-    holder: Option<Participant>,
-    seen: u32,
-    receipts: Vec<Entry>,
+/// What a call had made: the gate's history up to its entry. Another pass of the gate can learn it.
+#[derive(Drop)]
+pub struct Note<J: Naming> {
+    front: Front<J>,
 }
 
-impl Model for Pass {
-    ghost use Rattle.dam_gate.specs.Pass.{PassState, IsPass};
+impl<J: Naming> Model for Note<J> {
+    ghost use Rattle.std.specs.Prelude.{List};
+    ghost use Rattle.dam_book.specs.declared.command.Entry.{Entry};
 
-    ghost Value = { PassState };
+    ghost Value = { List Entry };
 
-    ghost view = { λ p. record { holder = p.holder; seen = p.seen; receipts = p.receipts.items } };
+    ghost view = { λ n. n.front };
+}
 
-    ghost invariant = { λ p. IsPass (record { holder = p.holder; seen = p.seen; receipts = p.receipts.items }) };
+/// What a holder carries through the gate's calls: what it has seen of the gate's history and been told of it, and a
+/// receipt of each of its own commands that reached the book, in the order of its calls.
+///
+/// A contract sees what the pass knows. Each history in it is a beginning of the one that the gate of the name `J` has
+/// published: nothing else makes such a value.
+#[derive(Drop)]
+pub struct Pass<J: Naming> {
+    holder: Option<Participant>,
+    receipts: Vec<Entry>,
+    history: Front<J>,
+    told: Front<J>,
+    note: Option<Note<J>>,
+    reader: ReadHandle<Shown<J>>,
+}
+
+impl<J: Naming> Model for Pass<J> {
+    ghost use Rattle.std.specs.Prelude.{length};
+    ghost use Rattle.dam_gate.specs.Pass.{Knowledge, IsKnowledge};
+
+    ghost Value = { Knowledge };
+
+    ghost view = { λ p. record {
+      account = record { holder = p.holder; seen = length p.history; receipts = p.receipts.items };
+      history = p.history;
+      told = p.told;
+      note = p.note;
+    } };
+
+    ghost invariant = { λ p. IsKnowledge (record {
+      account = record { holder = p.holder; seen = length p.history; receipts = p.receipts.items };
+      history = p.history;
+      told = p.told;
+      note = p.note;
+    }) };
 }
 
 /// What a look finds, in the book after the first `seen` entries of the journal.
@@ -44,63 +80,97 @@ pub struct Look {
     pub order: Option<Order>,
 }
 
-/// Whether the command is this participant's.
-fn is_from(who: &Participant, command: &Command) -> bool
-    ensures { result ≡ is_from who.now command.now }
-{
-    match command {
-        Command::Submit { who: giver, .. }
-        | Command::Amend { who: giver, .. }
-        | Command::Cancel { who: giver, .. } => *who == *giver,
-        Command::Close => false,
-    }
-}
-
-impl Pass {
+impl<J: Naming> Pass<J> {
     /// A pass that has seen nothing.
-    pub(crate) fn new(alloc: Global, holder: Option<Participant>) -> Result<Pass, AllocError>
-        ensures { IfOk result (λ pass. pass ≡ new_pass holder) }
+    pub(crate) fn new(
+        alloc: Global,
+        holder: Option<Participant>,
+        front: Front<J>,
+        reader: ReadHandle<Shown<J>>,
+    ) -> Result<Pass<J>, AllocError>
+        requires { front ≡ [] }
+        ensures { IfOk result (λ pass. pass ≡ knowing_nothing holder) }
     {
         Ok(Pass {
             holder,
-            seen: 0,
             receipts: Vec::with_capacity(alloc, FIRST_RECEIPTS)?,
+            told: front.again(),
+            history: front,
+            note: None,
+            reader,
         })
     }
 
     /// The participant that holds it; `None` of the operator's.
     pub fn holder(&self) -> Option<Participant>
-        ensures { result ≡ self.now.holder }
+        ensures { result ≡ self.now.account.holder }
     {
-        match &self.holder {
-            None => None,
-            Some(who) => Some(who.copy()),
-        }
+        copy_of(&self.holder)
     }
 
     /// How many entries of the journal it has seen.
     pub fn seen(&self) -> u32
-        ensures { result ≡ self.now.seen }
+        ensures value { result ≡ self.now.account.seen }
+        ensures valid { IsKnowledge self.now }
     {
-        self.seen
+        self.history.len()
     }
 
     /// The entries that its calls were answered with, by increasing number.
     pub fn receipts(&self) -> &[Entry]
-        ensures value { result.now ≡ self.now.receipts }
-        ensures valid { IsPass self.now }
+        ensures value { result.now ≡ self.now.account.receipts }
+        ensures valid { IsKnowledge self.now }
     {
         &self.receipts
     }
 
     /// Whether the command is for the holder to give: a participant's own commands, or the operator's close.
     pub(crate) fn owns(&self, command: &Command) -> bool
-        ensures { result ≡ is_own self.now.holder command.now }
+        ensures { result ≡ is_own self.now.account.holder command.now }
     {
-        match &self.holder {
-            None => matches!(command, Command::Close),
-            Some(who) => is_from(who, command),
+        owns(&self.holder, command)
+    }
+
+    /// The participant's order of that name, and whether the book is closed, in the version that is shown. It takes no
+    /// lock and waits for nobody.
+    ///
+    /// `None` once the gate was finished.
+    pub fn look(&mut self, who: &Participant, name: &Name) -> Option<Look>
+        ensures look { IfSome result (IsLook self.new.history (who.now, name.now)) }
+        ensures begins { OnSome result (BeginsWithAll self.old self.new.history) }
+        ensures pass { OnSome result (self.new ≡ after_look self.old self.new.history) }
+        ensures none { IfNone result (self.new ≡ self.old) }
+    {
+        let guard = self.reader.enter()?;
+        let version = guard.place.get()?;
+        let front = version.front();
+        if !front.begins_with(&self.history) || !front.begins_with(&self.told) {
+            return None;
         }
+        let look = Look {
+            seen: front.len(),
+            closed: version.book().is_closed(),
+            order: version.book().find(who, name).map(|order| order.copy()),
+        };
+        self.history = front.again();
+        Some(look)
+    }
+
+    /// What the last call that was answered had made; `None` before the first.
+    pub fn note(&self) -> Option<&Note<J>>
+        ensures { option_copied result ≡ self.now.note }
+    {
+        self.note.as_ref()
+    }
+
+    /// From now on this pass sees no less than what the note's call had made.
+    pub fn learn(&mut self, note: &Note<J>)
+        ensures pass { self.new ≡ after_learning self.old self.new.told }
+        ensures told { IsPrefix self.old.told self.new.told }
+        ensures learnt { IsPrefix note.now self.new.told }
+        ensures one { (self.new.told ≡ self.old.told) ⊎ (self.new.told ≡ note.now) }
+    {
+        self.told = self.told.longer(&note.front);
     }
 
     /// Makes room for so many receipts more.
@@ -113,54 +183,50 @@ impl Pass {
     /// A call's step under the lock.
     ///
     /// The room for the receipt is made before the journal's step, so that a refused call changes nothing.
-    pub(crate) fn step(&mut self, keeper: &mut Keeper, command: Command) -> Result<Entry, GateFault>
-        requires { is_own self.old.holder command ≡ true }
-        ensures entry { IfOk result (λ entry. entry ≡ next_entry keeper.old command) }
-        ensures history { IfOk result EndsHistory }
-        ensures journal { OnOk result (keeper.new ≡ journal_after keeper.old command) }
-        ensures later { IfOk result (λ entry. self.old.seen < entry.number) }
-        ensures receipt { IfOk result (λ entry. self.new ≡ with_receipt self.old entry) }
-        ensures err { OnErr result ((keeper.new ≡ keeper.old) × (self.new ≡ self.old)) }
-        ensures fault { IfErr result (IsFaultAt (length keeper.old.entries) self.old command) }
-        ensures few { length keeper.old.entries ≤ most_entries }
+    pub(crate) fn step<R: Wait + Drop>(
+        &mut self,
+        desk: &mut Desk<J, R>,
+        command: Command,
+    ) -> Result<Entry, GateFault>
+        requires { is_own self.old.account.holder command ≡ true }
+        ensures entry { IfOk result (λ entry. entry ≡ next_entry desk.old.journal command) }
+        ensures journal { OnOk result (desk.new.journal ≡ journal_after desk.old.journal command) }
+        ensures passes { desk.new.passes ≡ desk.old.passes }
+        ensures answered { IfOk result (IsAnswered self.old self.new.history) }
+        ensures later { IfOk result (λ entry. self.old.account.seen < entry.number) }
+        ensures pass { IfOk result (λ entry. self.new ≡ after_call self.old self.new.history entry) }
+        ensures err { OnErr result ((desk.new ≡ desk.old) × (self.new ≡ self.old)) }
+        ensures fault { IfErr result
+            (IsFaultAt (length desk.old.journal.entries) self.old.account command) }
+        ensures few { length desk.old.journal.entries ≤ most_entries }
     {
-        let held = keeper.len();
-        if self.seen > held {
-            return Err(GateFault::Behind {
-                seen: self.seen,
-                held,
-            });
-        }
+        let held = desk.len();
         if is_full(held, &command) {
             return Err(GateFault::JournalFull { held });
         }
         self.receipts.reserve(1)?;
-        let entry = keeper.apply(command)?;
-        self.seen = entry.number;
+        let (entry, front) = desk.enter(&self.history, &self.told, command)?;
         self.receipts.push_reserved(entry.copy());
+        self.note = Some(Note {
+            front: front.again(),
+        });
+        self.history = front;
         Ok(entry)
     }
 
-    /// A look at the book under the lock.
-    pub(crate) fn look(&mut self, keeper: &Keeper, who: &Participant, name: &Name) -> Option<Look>
-        ensures look { IfSome result (IsLookAt keeper.now (who.now, name.now)) }
-        ensures legal { IfSome result (IsLook self.old.seen (who.now, name.now)) }
-        ensures later { OnSome result (self.old.seen ≤ length keeper.now.entries) }
-        ensures seen { OnSome result
-            (self.new ≡ having_seen self.old (length keeper.now.entries)) }
-        ensures none { IfNone result (length keeper.now.entries < self.old.seen) }
-        ensures kept { IfNone result (self.new ≡ self.old) }
+    /// What is left of it once its gate was finished.
+    pub fn into_account(self) -> Account
+        ensures { result ≡ self.account }
     {
-        let held = keeper.len();
-        if self.seen > held {
-            return None;
-        }
-        self.seen = held;
-        Some(Look {
-            seen: held,
-            closed: keeper.book().is_closed(),
-            order: keeper.book().find(who, name).map(|order| order.copy()),
-        })
+        let Pass {
+            holder,
+            receipts,
+            history,
+            told: _told,
+            note: _note,
+            reader: _reader,
+        } = self;
+        Account::new(holder, history.len(), receipts)
     }
 }
 

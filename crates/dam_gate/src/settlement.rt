@@ -2,8 +2,8 @@ ghost use Rattle.std.specs.Prelude.{◌≡◌, true, IfOk, IfErr};
 ghost use Rattle.dam_gate.specs.Settled.{IsMismatch, IsSettled, receipts_of};
 ghost use Rattle.dam_gate.specs.inside.Tally.{IsFirstFault};
 
+use crate::account::Account;
 use crate::keeper::Journal;
-use crate::pass::Pass;
 use crate::tally::Tally;
 use std::alloc::{AllocError, Allocator, Global};
 use std::marker::Model;
@@ -76,7 +76,7 @@ pub struct Unsettled<A: Allocator = Global> {
 pub fn settle<A: Allocator + Copy, B: Allocator>(
     alloc: B,
     journal: Journal<A>,
-    passes: &[Pass],
+    passes: &[Account],
 ) -> Result<Settled<A>, Unsettled<A>>
     ensures journal { IfOk result (λ settled. settled ≡ journal) }
     ensures settled { IfOk result (λ settled. IsSettled settled passes.now) }
@@ -105,7 +105,7 @@ pub fn settle<A: Allocator + Copy, B: Allocator>(
 fn compare<A: Allocator + Copy, B: Allocator>(
     alloc: B,
     journal: &Journal<A>,
-    passes: &[Pass],
+    passes: &[Account],
 ) -> Result<Option<Mismatch>, AllocError>
     ensures { IfOk result (λ why. IsFirstFault journal.now.entries (receipts_of passes.now) why) }
 {

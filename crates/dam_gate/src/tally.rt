@@ -6,7 +6,7 @@ ghost use Rattle.dam_gate.specs.Pass.{AreInOrder};
 ghost use Rattle.dam_gate.specs.Settled.{receipts_of};
 ghost use Rattle.dam_gate.specs.inside.Tally.{IsFirstFault, IsTally, first_fault, found_with, lesser};
 
-use crate::pass::Pass;
+use crate::account::Account;
 use crate::settlement::Mismatch;
 use dam_book::Entry;
 use dam_book::laws::equality;
@@ -106,7 +106,11 @@ impl<A: Allocator> Tally<A> {
     }
 
     /// The tally of the receipts of all passes.
-    pub(crate) fn of(alloc: A, entries: &[Entry], passes: &[Pass]) -> Result<Tally<A>, AllocError>
+    pub(crate) fn of(
+        alloc: A,
+        entries: &[Entry],
+        passes: &[Account],
+    ) -> Result<Tally<A>, AllocError>
         ensures as_long { IfOk result (λ tally. length tally.found.items ≡ length entries.now) }
         ensures tally { IfOk result (λ tally.
             IsTally entries.now tally.found.items tally.extra (receipts_of passes.now)) }

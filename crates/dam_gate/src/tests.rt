@@ -5,7 +5,7 @@ mod settlements;
 mod storm;
 mod threads;
 
-use crate::{Gate, Journal, Look, Pass};
+use crate::{Gate, Journal, Look, Naming, Pass};
 use dam_book::{
     Book, Command, Entry, HourOrder, Name, Order, Participant, Period, Price, Qty, Side,
 };
@@ -53,28 +53,27 @@ fn cancel(who: &[u8], text: &[u8]) -> Result<Command, Fail> {
     })
 }
 
-fn look(
-    rt: &impl Wait,
-    gate: &Gate,
-    pass: &mut Pass,
-    who: &[u8],
-    text: &[u8],
-) -> Result<Look, Fail> {
-    let look = gate.look(rt, pass, &participant(who)?, &name(text)?);
+fn look<J: Naming>(pass: &mut Pass<J>, who: &[u8], text: &[u8]) -> Result<Look, Fail> {
+    let look = pass.look(&participant(who)?, &name(text)?);
     Ok(look.ok_or("a look")?)
 }
 
 /// A call that is answered with an entry.
-fn enter(rt: &impl Wait, gate: &Gate, pass: &mut Pass, command: Command) -> Result<(), Fail> {
+fn enter<J: Naming, H: Wait + Drop>(
+    rt: &impl Wait,
+    gate: &Gate<J, H>,
+    pass: &mut Pass<J>,
+    command: Command,
+) -> Result<(), Fail> {
     let _entry: Entry = gate.call(rt, pass, command)?;
     Ok(())
 }
 
 /// The calls of these commands by one pass.
-fn enter_all(
+fn enter_all<J: Naming, H: Wait + Drop>(
     rt: &impl Wait,
-    gate: &Gate,
-    pass: &mut Pass,
+    gate: &Gate<J, H>,
+    pass: &mut Pass<J>,
     commands: &[Command],
 ) -> Result<(), Fail> {
     for command in commands {
@@ -84,7 +83,12 @@ fn enter_all(
 }
 
 /// So many commands of participant A, each refused by the book and journalled.
-fn cancels(rt: &impl Wait, gate: &Gate, pass: &mut Pass, count: usize) -> Result<(), Fail> {
+fn cancels<J: Naming, H: Wait + Drop>(
+    rt: &impl Wait,
+    gate: &Gate<J, H>,
+    pass: &mut Pass<J>,
+    count: usize,
+) -> Result<(), Fail> {
     for _ in 0..count {
         enter(rt, gate, pass, cancel(b"A", b"S1")?)?;
     }

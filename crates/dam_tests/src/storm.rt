@@ -1,10 +1,12 @@
 //! Eight threads at one gate until its journal is full, and each entry compared with the plain book.
+ghost use Rattle.std.specs.Prelude.{◌≡◌};
 
 use crate::plain::{POOL, PlainBook, drawn};
 use crate::support::commands;
 use dam_book::{Command, Participant};
-use dam_gate::{Gate, Journal, Pass};
+use dam_gate::{Gate, Journal, Naming, Opening, Pass};
 use std::alloc::{AllocError, Global};
+use std::marker::Brand;
 use std::sync::Wait;
 use std::test::Fail;
 use std::thread;
@@ -12,15 +14,15 @@ use std::thread::Threads;
 
 /// A participant's pass, and the commands that it draws from.
 #[derive(Drop)]
-struct Trader {
-    pass: Pass,
+struct Trader<J: Naming> {
+    pass: Pass<J>,
     pool: Vec<Command>,
     state: u32,
 }
 
-impl Trader {
+impl<J: Naming> Trader<J> {
     /// Gives commands until one is refused a place in the journal.
-    fn trade(&mut self, rt: &impl Wait, gate: &Gate) {
+    fn trade<H: Wait + Drop>(&mut self, rt: &impl Wait, gate: &Gate<J, H>) {
         for _ in 0..20_000 {
             let Some(command) = drawn(&self.pool, &mut self.state) else {
                 return;
@@ -58,13 +60,13 @@ fn participant(code: u8) -> Result<Participant, Fail> {
     Ok(Participant::new(&[code]).ok_or("a participant")?)
 }
 
-fn trader_of(
+fn trader_of<J: Naming, H: Wait + Drop>(
     rt: &impl Wait,
     alloc: Global,
-    gate: &Gate,
+    gate: &Gate<J, H>,
     code: u8,
     seed: u32,
-) -> Result<Trader, Fail> {
+) -> Result<Trader<J>, Fail> {
     let who = participant(code)?;
     let pool = pool_of(alloc, &who)?;
     let pass = gate.pass(rt, who)?;
@@ -73,7 +75,12 @@ fn trader_of(
 }
 
 /// Eight traders, each with a seed of its own.
-fn traders(rt: &impl Wait, alloc: Global, gate: &Gate, seed: u32) -> Result<Vec<Trader>, Fail> {
+fn traders<J: Naming, H: Wait + Drop>(
+    rt: &impl Wait,
+    alloc: Global,
+    gate: &Gate<J, H>,
+    seed: u32,
+) -> Result<Vec<Trader<J>>, Fail> {
     let mut traders = Vec::new(alloc);
     for code in b"ABCDEFGH" {
         let trader = trader_of(rt, alloc, gate, *code, seed)?;
@@ -95,17 +102,17 @@ fn replays(alloc: Global, journal: &Journal) -> Result<bool, AllocError> {
 }
 
 /// Closes the gate, and answers the number of the entry.
-fn close(rt: &impl Wait, gate: &Gate) -> Result<u32, Fail> {
+fn close<J: Naming, H: Wait + Drop>(rt: &impl Wait, gate: &Gate<J, H>) -> Result<u32, Fail> {
     let mut operator = gate.operator(rt)?;
     let closed = gate.call(rt, &mut operator, Command::Close)?;
     Ok(closed.number)
 }
 
 /// The eight traders at the gate, and then its close; answers the number of the close's entry.
-fn day<R: Threads + Wait + Sync>(
+fn day<J: Naming + Send + Sync, R: Threads + Wait + Sync>(
     rt: &R,
     alloc: Global,
-    gate: &Gate,
+    gate: &Gate<J, &R>,
     seed: u32,
 ) -> Result<u32, Fail> {
     let mut traders = traders(rt, alloc, gate, seed)?;
@@ -114,8 +121,15 @@ fn day<R: Threads + Wait + Sync>(
 }
 
 /// Whether the journal of a day of eight traders is full, and what the plain book makes of its commands.
-fn stands<R: Threads + Wait + Sync>(rt: &R, alloc: Global, seed: u32) -> Result<bool, Fail> {
-    let gate = Gate::begin(alloc, 24)?;
+fn stands<J: Naming + Send + Sync, R: Threads + Wait + Sync>(
+    rt: &R,
+    alloc: Global,
+    opening: Opening,
+    seed: u32,
+) -> Result<bool, Fail>
+    requires { opening.seen.book ≡ J.book }
+{
+    let gate = Gate::<J, &R>::begin(alloc, rt, opening, 24)?;
     let last = day(rt, alloc, &gate, seed)?;
     let journal = gate.finish();
     Ok(last == 10_000 && replays(alloc, &journal)?)
@@ -124,7 +138,8 @@ fn stands<R: Threads + Wait + Sync>(rt: &R, alloc: Global, seed: u32) -> Result<
 #[test]
 fn storms_are_as_the_plain_book(rt: HostRuntime) -> Result<(), Fail> {
     for seed in 0..12 {
-        assert!(rt; stands(&rt, rt.alloc(), seed)?, "seed {seed}");
+        let stands = stands::<Brand, _>(&rt, rt.alloc(), Opening::new(), seed)?;
+        assert!(rt; stands, "seed {seed}");
     }
     Ok(())
 }

@@ -1,5 +1,5 @@
 use super::{cancel, participant, submit};
-use crate::{DayFault, Doorkeeper, OpenDoor, Pass, run_commands};
+use crate::{Account, DayFault, Doorkeeper, OpenDoor, run_commands};
 use dam_book::{Command, Entry, Participant, Seed, Side};
 use std::alloc::Global;
 use std::sync::Wait;
@@ -59,7 +59,7 @@ fn each_keeps_its_order(rt: HostRuntime) -> Result<(), Fail> {
 }
 
 /// Whether the passes are those of these participants, in this order, and then the operator's.
-fn are_held_by(passes: &[Pass], codes: &[&[u8]]) -> Result<bool, Fail> {
+fn are_held_by(passes: &[Account], codes: &[&[u8]]) -> Result<bool, Fail> {
     for (place, code) in codes.iter().enumerate() {
         let pass = passes.get(place).ok_or("a pass for each")?;
         if pass.holder() != Some(participant(code)?) {

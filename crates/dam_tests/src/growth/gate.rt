@@ -1,9 +1,14 @@
+ghost use Rattle.std.specs.Prelude.{◌≡◌};
+
 use super::{FAMILY, MIXED, REFUSED, TRIES, TWO, are_equal, run_of};
 use crate::support::commands;
 use dam_book::{Command, Entry, Participant};
-use dam_gate::{Gate, Journal, Keeper, KeeperFault, Mismatch, Pass, Unsettled, settle};
+use dam_gate::{
+    Account, Gate, Journal, Keeper, KeeperFault, Mismatch, Naming, Opening, Pass, Unsettled, settle,
+};
 use limited_alloc::RefusesNth;
 use std::alloc::{Allocator, Global};
+use std::marker::Brand;
 use std::process::Abort;
 use std::sync::Wait;
 use std::test::Fail;
@@ -121,21 +126,29 @@ fn each_refused_growth_leaves_the_keeper(rt: HostRuntime) -> Result<(), Fail> {
     Ok(())
 }
 
-/// A gate's journal, and the passes of A, of B and of the operator.
+/// A gate's journal, and the accounts of the passes of A, of B and of the operator.
 #[derive(Drop)]
 struct Finished {
     journal: Journal,
-    passes: Vec<Pass>,
+    passes: Vec<Account>,
 }
 
 /// A pass of the participant of this code.
-fn pass_of(rt: &impl Wait, gate: &Gate, code: &[u8]) -> Result<Pass, Fail> {
+fn pass_of<J: Naming, H: Wait + Drop>(
+    rt: &impl Wait,
+    gate: &Gate<J, H>,
+    code: &[u8],
+) -> Result<Pass<J>, Fail> {
     let who = Participant::new(code).ok_or("a participant")?;
     Ok(gate.pass(rt, who)?)
 }
 
 /// A pass of A, one of B, and the operator's.
-fn passes_of(rt: &impl Wait, alloc: Global, gate: &Gate) -> Result<Vec<Pass>, Fail> {
+fn passes_of<J: Naming, H: Wait + Drop>(
+    rt: &impl Wait,
+    alloc: Global,
+    gate: &Gate<J, H>,
+) -> Result<Vec<Pass<J>>, Fail> {
     let mut passes = Vec::new(alloc);
     for code in [b"A".as_slice(), b"B".as_slice()] {
         passes.push(pass_of(rt, gate, code)?)?;
@@ -159,34 +172,60 @@ fn place_of(command: &Command) -> usize {
 }
 
 /// Gives a command by its giver's pass.
-fn give(rt: &impl Wait, gate: &Gate, passes: &mut [Pass], command: &Command) -> Result<(), Fail> {
+fn give<J: Naming, H: Wait + Drop>(
+    rt: &impl Wait,
+    gate: &Gate<J, H>,
+    passes: &mut [Pass<J>],
+    command: &Command,
+) -> Result<(), Fail> {
     let pass = passes.get_mut(place_of(command)).ok_or("a pass")?;
     gate.call(rt, pass, command.copy())?;
     Ok(())
 }
 
-/// Gives the commands of these records, each by its giver's pass, and answers the passes.
-fn give_all(rt: &impl Wait, alloc: Global, gate: &Gate, records: &str) -> Result<Vec<Pass>, Fail> {
+/// Gives the commands of these records, each by its giver's pass, and answers what is left of the passes.
+fn give_all<J: Naming, H: Wait + Drop>(
+    rt: &impl Wait,
+    alloc: Global,
+    gate: &Gate<J, H>,
+    records: &str,
+) -> Result<Vec<Account>, Fail> {
     let mut passes = passes_of(rt, alloc, gate)?;
     for command in &commands(alloc, records)? {
         give(rt, gate, passes.as_mut_slice(), command)?;
     }
-    Ok(passes)
+    let mut accounts = Vec::new(alloc);
+    for pass in passes {
+        accounts.push(pass.into_account())?;
+    }
+    Ok(accounts)
 }
 
-/// The commands of these records, each by its giver's pass, through a gate.
-fn through_gate(rt: &impl Wait, alloc: Global, records: &str) -> Result<Finished, Fail> {
-    let gate = Gate::begin(alloc, 24)?;
+/// The commands of these records, each by its giver's pass, through a gate of this opening.
+fn through_named<J: Naming, R: Wait>(
+    rt: &R,
+    alloc: Global,
+    opening: Opening,
+    records: &str,
+) -> Result<Finished, Fail>
+    requires { opening.seen.book ≡ J.book }
+{
+    let gate = Gate::<J, &R>::begin(alloc, rt, opening, 24)?;
     let passes = give_all(rt, alloc, &gate, records)?;
     let journal = gate.finish();
     Ok(Finished { journal, passes })
+}
+
+/// The commands of these records, each by its giver's pass, through a gate.
+fn through_gate<R: Wait>(rt: &R, alloc: Global, records: &str) -> Result<Finished, Fail> {
+    through_named::<Brand, R>(rt, alloc, Opening::new(), records)
 }
 
 /// Why a settlement failed, if it did; where memory was refused, the journal that was handed back.
 fn settle_once<A: Allocator>(
     alloc: A,
     journal: Journal,
-    passes: &[Pass],
+    passes: &[Account],
 ) -> Result<Option<Mismatch>, Journal> {
     let Err(Unsettled { why, journal }) = settle(alloc, journal, passes) else {
         return Ok(None);
@@ -209,7 +248,7 @@ fn settle_again<A: Allocator>(
     ample: Global,
     alloc: A,
     journal: Journal,
-    passes: &[Pass],
+    passes: &[Account],
     wanted: Option<Mismatch>,
 ) -> Result<(), Fail> {
     assert!(rt; is_journal_of(ample, &journal, TWO)?);
@@ -223,7 +262,7 @@ fn is_refused_once(
     rt: &impl Abort,
     alloc: Global,
     journal: Journal,
-    passes: &[Pass],
+    passes: &[Account],
     nth: u64,
     wanted: Option<Mismatch>,
 ) -> Result<bool, Fail> {

@@ -4,4 +4,4 @@ use Rattle.dam_book.specs.Book.{commands_of}
 use Rattle.dam_example.proofs.day.enter.Given as goal
 
 abbrev pub invariant-loop-command : goal.invariant-loop-command
-invariant-loop-command g l = commands_of l.pass.receipts ≡ commands_of l.initial.pass.receipts ++ take l.command-index l.commands
+invariant-loop-command g l = commands_of l.pass.account.receipts ≡ commands_of l.initial.pass.account.receipts ++ take l.command-index l.commands

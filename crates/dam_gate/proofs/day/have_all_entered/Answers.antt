@@ -1,9 +1,9 @@
-use Rattle.std.proofs.Common.{All, List, length, subst, sym, ap, ◌∙◌, arith}
+use Rattle.std.proofs.Common.{All, ℕ, List, Option, length, subst, sym, ap, ◌∙◌, arith}
 use Rattle.std.proofs.lemmas.List.{take_all}
 use Rattle.std.proofs.lemmas.List.Elements.{All-more}
 use Rattle.dam_gate.specs.Pass.{PassState}
 use Rattle.dam_book.specs.declared.command.Entry.{Entry}
-use Rattle.dam_gate.specs.inside.Entering.{HasAll}
+use Rattle.dam_gate.specs.inside.Entering.{HasAll, own_commands}
 use Rattle.dam_gate.proofs.day.have_all_entered.Goals as goal
 
 pub loop-pass-preserved : goal.loop-pass-preserved
@@ -13,7 +13,9 @@ loop-pass-preserved c =
     (subst P c.pass-item.is
     (record {
       pass = c.receipts.ensures.valid;
-      as_many = ap (λ (es : List Entry). length es) (sym c.receipts.ensures.value) ∙ c.if-receipts-count_own.false ∙ c.count_own.ensures;
+      as_many =
+          ap (λ (es : List Entry). length es) (sym c.receipts.ensures.value) ∙ c.if-receipts-count_own.false ∙ c.count_own.ensures
+          ∙ ap (λ (h : Option (List ℕ)). length (own_commands h c.args.commands.now)) c.holder.ensures;
     }))
 
 pub returns : goal.returns

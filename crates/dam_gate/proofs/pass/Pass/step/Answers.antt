@@ -1,30 +1,60 @@
-use Rattle.std.proofs.Common.{◌≡◌, ◌-◌, ℕ, true, false, length, sym, ap, ap₂, subst, ◌∙◌, arith}
+use Rattle.std.proofs.Common.{◌≡◌, ◌-◌, ◌++◌, ◌∷◌, [], ℕ, true, false, length, refl, sym, ap, ap₂, subst, ◌∙◌, arith, length-append}
+use mathlib.Core.List.{IsPrefix}
 use Rattle.dam_book.specs.declared.command.Command.{Command}
 use Rattle.dam_book.specs.declared.command.Entry.{Entry}
-use Rattle.dam_gate.specs.Journal.{is_full}
-use Rattle.dam_gate.specs.Pass.{PassState, is_own}
-use Rattle.dam_gate.specs.Gate.{EndsHistory}
+use Rattle.dam_gate.specs.Journal.{IsHistory, is_full}
+use Rattle.dam_gate.specs.Pass.{Knowledge, AreInOrder, is_own}
+use Rattle.dam_gate.proofs.Beginnings.{prefix_length}
 use Rattle.dam_gate.proofs.Receipts.{AreInOrder-snoc, AreOwn-snoc}
-use Rattle.dam_gate.proofs.Histories.{ends_history}
+use Rattle.dam_gate.proofs.Histories.{history-after}
 use Rattle.dam_gate.proofs.pass.Pass.step.Goals as goal
 
 pub invariant_of-self-2 : goal.invariant_of-self-2
-invariant_of-self-2 c =
+invariant_of-self-2 g c =
     let e = c.in_ok-entry.entry in
+    let held = c.args.desk.now.journal.entries in
     let holder = c.self.inside.holder in
+    let receipts = c.self.inside.receipts.items in
     let number = ap (λ (x : Entry). x.number) c.in_ok-entry.ensures.entry in
     let command = ap (λ (x : Entry). x.command) c.in_ok-entry.ensures.entry in
-    let before : e.number - 1 ≡ length c.args.keeper.now.entries = omega (arith, number) in
+    let whole : e.number ≡ length c.in_ok-entry.front = omega (arith, number, ap length c.in_ok-entry.ensures.history, length-append held (e ∷ [])) in
+    let before : e.number - 1 ≡ length held = omega (arith, number) in
     let mine : is_own holder e.command ≡ true =
-    ap (is_own holder) command ∙ ap (λ (p : PassState). is_own p.holder c.args.command) c.self.view_is ∙ c.requires in
-    let room : is_full (e.number - 1) e.command ≡ false = ap₂ (λ (n : ℕ) (d : Command). is_full n d) before command ∙ c.in_ok-entry.ensures.room in
+    ap (is_own holder) command ∙ (ap (λ (k : Knowledge). is_own k.account.holder c.args.command) c.self.view_is ∙ c.requires) in
+    let left : is_full (length held) c.args.command ≡ false =
+    ap (λ (n : ℕ). is_full n c.args.command) (sym c.len-held.ensures.value) ∙ (sym c.is_full.ensures ∙ c.if-is_full.false) in
+    let room : is_full (e.number - 1) e.command ≡ false = ap₂ (λ (n : ℕ) (d : Command). is_full n d) before command ∙ left in
+    let earlier = prefix_length c.self.inside.history held c.in_ok-entry.ensures.seen in
     rw (c.push_reserved.ensures.items, c.reserve.ensures.items, c.copy.ensures)
     (record {
-      in_order = AreInOrder-snoc 0 c.self.inside.seen c.self.inside.receipts.items e c.self.invariant.in_order
-          (omega (arith, number, c.len-held.ensures.value, c.if-self-held.false));
-      own = AreOwn-snoc holder c.self.inside.receipts.items e c.self.invariant.own mine room;
+      account = record {
+        in_order = subst (λ (n : ℕ). AreInOrder 0 n (receipts ++ e ∷ [])) whole
+            (AreInOrder-snoc 0 (length c.self.inside.history) receipts e c.self.invariant.account.in_order (omega (arith, number, earlier)));
+        own = AreOwn-snoc holder receipts e c.self.invariant.account.own mine room;
+      };
+      seen = refl;
     })
 
-pub returns-clause-history : goal.returns-clause-history
-returns-clause-history c =
-    subst EndsHistory (sym c.in_ok-entry.ensures.entry) (ends_history c.args.keeper.now c.args.command c.len-held.ensures.valid c.in_ok-entry.ensures.room)
+pub returns-clause-answered : goal.returns-clause-answered
+returns-clause-answered g c =
+    let e = c.in_ok-entry.entry in
+    let j = c.args.desk.now.journal in
+    let number = ap (λ (x : Entry). x.number) c.in_ok-entry.ensures.entry in
+    let left : is_full (length j.entries) c.args.command ≡ false =
+    ap (λ (n : ℕ). is_full n c.args.command) (sym c.len-held.ensures.value) ∙ (sym c.is_full.ensures ∙ c.if-is_full.false) in
+    record {
+      periods = j.book.periods;
+      before = j.entries;
+      legal = subst (IsHistory j.book.periods) (sym (c.in_ok-entry.ensures.history ∙ ap (λ (x : Entry). j.entries ++ x ∷ []) c.in_ok-entry.ensures.entry))
+          (history-after j c.args.command c.len-held.ensures.valid left);
+      last = c.in_ok-entry.ensures.history;
+      number = omega (arith, number, ap length c.in_ok-entry.ensures.history, length-append j.entries (e ∷ []));
+      seen = subst (λ (k : Knowledge). IsPrefix k.history j.entries) c.self.view_is c.in_ok-entry.ensures.seen;
+      told = subst (λ (k : Knowledge). IsPrefix k.told j.entries) c.self.view_is c.in_ok-entry.ensures.told;
+    }
+
+pub returns-clause-later : goal.returns-clause-later
+returns-clause-later g c =
+    let number = ap (λ (x : Entry). x.number) c.in_ok-entry.ensures.entry in
+    let earlier = prefix_length c.self.inside.history c.args.desk.now.journal.entries c.in_ok-entry.ensures.seen in
+    omega (arith, number, earlier, ap (λ (k : Knowledge). k.account.seen) c.self.view_is)

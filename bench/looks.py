@@ -1,0 +1,55 @@
+#!/usr/bin/env python3
+"""looks.py: looks at versions of a book of 4,000 orders beside a plain program's, alone and with threads that call and look beside
+them; what a call costs with 100, 1,000 and 4,000 orders; and a day of 9,999 commands."""
+
+import statistics
+
+from figures import BASELINE, DAM, MEASURES, at_most, by_turns, line, peak, ratio, run, seconds
+
+PLAIN = "out/looks"
+DAY = "out/day.csv"
+LOOKS, CALLS = 1_000_000, 2_000
+
+
+def laps(runs, name, repeats):
+    return [one.lap(name) / repeats for one in runs]
+
+
+def looks():
+    none = None
+    for beside in (0, 1, 3):
+        words = ["looks", str(beside), str(LOOKS)]
+        runs = by_turns({"one": [MEASURES, *words], "other": [PLAIN, *words]}, "out/hourly.csv", most=9)
+        ones, others = laps(runs["one"], "looks", LOOKS), laps(runs["other"], "looks", LOOKS)
+        ratio(f"a look beside a plain one, {beside} threads call and look", ones, others, 3)
+        if none is None:
+            none = ones
+        else:
+            ratio(f"looks a second, {beside} threads call and look, beside none", [1 / one for one in ones], [1 / one for one in none],
+                  least=0.5 if beside == 3 else None, shown="{:,.0f}".format)
+
+
+def calls():
+    for orders in (100, 1_000, 4_000):
+        book = f"out/hourly-{orders}.csv"
+        with open(book, "wb") as made:
+            made.write(run(["./make_clearing.py", str(orders), "0"]).text)
+        runs = by_turns({"one": [MEASURES, "calls", str(CALLS)], "other": [PLAIN, "calls", str(CALLS)]}, book, most=5)
+        one, other = (statistics.median(laps(runs[name], "calls", CALLS)) for name in ("one", "other"))
+        what, detail = f"a call, {orders:,} orders held", f"{seconds(one)} beside {seconds(other)} of a plain one"
+        if orders == 4_000:
+            at_most(what, one, 150e-6, detail=detail)
+        else:
+            line(what, seconds(one), detail=detail)
+
+
+def day():
+    runs = by_turns({"": [DAM, "day"]}, DAY, most=9)[""]
+    at_most("dam day, 9,999 commands", statistics.median(each.wall for each in runs), 1.5)
+    ratio("dam day beside the baseline's lock, peak memory", [peak([DAM, "day"], DAY)], [peak([BASELINE, "day"], DAY)],
+          shown="{:.1f} MiB".format)
+
+
+looks()
+calls()
+day()

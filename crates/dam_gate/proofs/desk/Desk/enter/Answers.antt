@@ -1,0 +1,18 @@
+use Rattle.std.proofs.Common.{◌≡◌, false, length, sym, ap, ◌∙◌}
+use Rattle.std.specs.Arc.{arc_value}
+use Rattle.dam_book.specs.Book.{book_after}
+use Rattle.dam_gate.specs.Journal.{JournalState, is_full, next_entry}
+use Rattle.dam_gate.proofs.Histories.{journal_after_is}
+use Rattle.dam_gate.proofs.desk.Desk.enter.Goals as goal
+
+pub new-requires : goal.new-requires
+new-requires g c =
+    let j : JournalState = c.self.inside.keeper.journal in
+    let command = c.args.command in
+    let ready = c.in_ok-ready.ensures.ready in
+    let same : c.ready.new.self.journal ≡ j = c.ready.ensures.journal in
+    let entry : c.in_ok-ready.ready.entry ≡ next_entry j command = ready.entry ∙ ap (λ (x : JournalState). next_entry x command) same in
+    let book : arc_value c.in_ok-book.book ≡ book_after j.book command =
+    c.in_ok-book.ensures ∙ (ready.book ∙ ap (λ (x : JournalState). book_after x.book command) same) in
+    let left : is_full (length j.entries) command ≡ false = ap (λ (x : JournalState). is_full (length x.entries) command) (sym same) ∙ ready.left in
+    rw (c.again.ensures, c.in-Some.ensures.added, c.entry.ensures, c.self.invariant, entry, book) (journal_after_is j command c.len-journal.ensures.valid left)

@@ -1,0 +1,12 @@
+use Rattle.std.proofs.Common.{◌≡◌, sym, ap, ◌∙◌}
+use Rattle.std.proofs.lemmas.Result.{IfOk-weaker}
+use Rattle.dam_gate.specs.Keeper.{KeeperState}
+use Rattle.dam_gate.proofs.Histories.{refused_stays}
+use Rattle.dam_gate.proofs.keeper.Keeper.book_after.Goals as goal
+
+pub returns-in-Refused-clause-book : goal.returns-in-Refused-clause-book
+returns-in-Refused-clause-book g c =
+    let b = c.args.self.now.journal.book in
+    let same = refused_stays b c.args.command.now c.in-Refused.field-0 (sym c.requires ∙ c.in-Refused.is) in
+    let here : c.self.inside.books ≡ b = ap (λ (k : KeeperState). k.journal.book) c.self.view_is in
+    IfOk-weaker c.share.result _ _ (λ book is. is ∙ (here ∙ sym same)) c.share.ensures

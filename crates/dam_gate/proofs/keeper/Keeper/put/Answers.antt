@@ -1,0 +1,15 @@
+use Rattle.std.proofs.Common.{◌≡◌, false, length, sym, ap, ◌∙◌}
+use Rattle.dam_gate.specs.Journal.{JournalState, is_full, next_entry}
+use Rattle.dam_gate.specs.Keeper.{KeeperState, ReadyState}
+use Rattle.dam_gate.proofs.Histories.{journal_after_is}
+use Rattle.dam_gate.proofs.keeper.Keeper.put.Goals as goal
+
+pub invariant_of-self : goal.invariant_of-self
+invariant_of-self g c =
+    let j : JournalState = record { entries = c.self.inside.entries.items; book = c.self.inside.books } in
+    let command = c.args.ready.entry.command in
+    let entry : c.ready.inside.entry ≡ next_entry j command =
+    ap (λ (r : ReadyState). r.entry) c.ready.view_is ∙ (c.requires.entry ∙ ap (λ (k : KeeperState). next_entry k.journal command) (sym c.self.view_is)) in
+    let left : is_full (length j.entries) command ≡ false =
+    ap (λ (k : KeeperState). is_full (length k.journal.entries) command) c.self.view_is ∙ c.requires.left in
+    rw (c.push_reserved.ensures.items, c.copy.ensures, c.follow.ensures, entry) (journal_after_is j command c.self.invariant left)

@@ -1,0 +1,22 @@
+-- What a keeper holds, and a step of it that is ready to be taken.
+use Rattle.std.specs.Prelude.{◌≡◌, ℕ, ◌<◌, false, length}
+use Rattle.dam_book.specs.Book.{BookState, book_after}
+use Rattle.dam_book.specs.declared.command.Command.{Command}
+use Rattle.dam_book.specs.declared.command.Entry.{Entry}
+use Rattle.dam_gate.specs.Journal.{JournalState, is_full, next_entry}
+
+-- the journal, and for how many entries more there is room
+pub record KeeperState : Type 0 where
+  pub journal : JournalState
+  pub room : ℕ
+
+pub record ReadyState : Type 0 where
+  pub entry : Entry
+  pub book : BookState
+
+-- the step of the command is ready: its entry is the next, and there is room for it
+pub record IsReadyFor (k : KeeperState) (c : Command) (r : ReadyState) : Type 0 where
+  pub entry : r.entry ≡ next_entry k.journal c
+  pub book : r.book ≡ book_after k.journal.book c
+  pub left : is_full (length k.journal.entries) c ≡ false
+  pub room : 0 < k.room

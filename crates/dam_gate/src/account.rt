@@ -1,0 +1,101 @@
+ghost use Rattle.std.specs.Prelude.{◌≡◌};
+ghost use Rattle.dam_gate.specs.Pass.{IsPass, is_from, is_own};
+
+use dam_book::{Command, Entry, Participant};
+use std::marker::Model;
+
+/// What is left of a pass after its day: its holder, how many entries of the journal it had seen, and a receipt of each
+/// of its own commands that reached the book, in the order of its calls.
+///
+/// A contract sees the holder, the number seen and the receipts. The receipts are of the holder's own commands; their
+/// numbers increase, and none is above the number seen.
+#[derive(Debug, Drop)]
+pub struct Account {
+    holder: Option<Participant>,
+    seen: u32,
+    receipts: Vec<Entry>,
+}
+
+impl Model for Account {
+    ghost use Rattle.dam_gate.specs.Pass.{PassState, IsPass};
+
+    ghost Value = { PassState };
+
+    ghost view = { λ p. record { holder = p.holder; seen = p.seen; receipts = p.receipts.items } };
+
+    ghost invariant = { λ p. IsPass (record { holder = p.holder; seen = p.seen; receipts = p.receipts.items }) };
+}
+
+/// Whether the command is this participant's.
+fn is_from(who: &Participant, command: &Command) -> bool
+    ensures { result ≡ is_from who.now command.now }
+{
+    match command {
+        Command::Submit { who: giver, .. }
+        | Command::Amend { who: giver, .. }
+        | Command::Cancel { who: giver, .. } => *who == *giver,
+        Command::Close => false,
+    }
+}
+
+/// Whether the command is for the holder to give: a participant's own commands, or the operator's close.
+pub(crate) fn owns(holder: &Option<Participant>, command: &Command) -> bool
+    ensures { result ≡ is_own holder.now command.now }
+{
+    match holder {
+        None => matches!(command, Command::Close),
+        Some(who) => is_from(who, command),
+    }
+}
+
+/// A copy of the holder.
+pub(crate) fn copy_of(holder: &Option<Participant>) -> Option<Participant>
+    ensures { result ≡ holder.now }
+{
+    match holder {
+        None => None,
+        Some(who) => Some(who.copy()),
+    }
+}
+
+impl Account {
+    pub(crate) fn new(holder: Option<Participant>, seen: u32, receipts: Vec<Entry>) -> Account
+        requires { IsPass (record { holder = holder; seen = seen; receipts = receipts.items }) }
+        ensures { result ≡ record { holder = holder; seen = seen; receipts = receipts.items } }
+    {
+        Account {
+            holder,
+            seen,
+            receipts,
+        }
+    }
+
+    /// The participant that held it; `None` of the operator's.
+    pub fn holder(&self) -> Option<Participant>
+        ensures { result ≡ self.now.holder }
+    {
+        copy_of(&self.holder)
+    }
+
+    /// How many entries of the journal it had seen.
+    pub fn seen(&self) -> u32
+        ensures { result ≡ self.now.seen }
+    {
+        self.seen
+    }
+
+    /// The entries that its calls were answered with, by increasing number.
+    pub fn receipts(&self) -> &[Entry]
+        ensures value { result.now ≡ self.now.receipts }
+        ensures valid { IsPass self.now }
+    {
+        &self.receipts
+    }
+
+    /// Whether the command was for the holder to give.
+    pub(crate) fn owns(&self, command: &Command) -> bool
+        ensures { result ≡ is_own self.now.holder command.now }
+    {
+        owns(&self.holder, command)
+    }
+}

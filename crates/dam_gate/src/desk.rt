@@ -1,0 +1,193 @@
+ghost use Rattle.std.specs.Prelude.{◌≡◌, ◌⊎◌, ◌<◌, ◌≤◌, ◌+◌, ◌∷◌, ◌++◌, [], true, false, length, IfOk, IfErr, IsErrOf, OnOk, OnErr};
+ghost use mathlib.Core.List.{IsPrefix};
+ghost use Rattle.dam_book.specs.Book.{is_day};
+ghost use Rattle.dam_gate.specs.Journal.{IsJournal, empty_journal, is_full, journal_after, next_entry};
+ghost use Rattle.dam_gate.specs.Limits.{most_passes};
+ghost use Rattle.dam_gate.specs.Pass.{knowing_nothing};
+ghost use Rattle.dam_gate.specs.Gate.{IsBeginFault};
+ghost use Rattle.dam_gate.specs.inside.Desk.{IsPassFault};
+
+use crate::gate::{GateFault, PassFault};
+use crate::history::{Front, Head, Naming, Opening};
+use crate::keeper::{BeginFault, Journal, Keeper};
+use crate::limits::MOST_PASSES;
+use crate::pass::Pass;
+use crate::version::{Change, Place, Shown, Version};
+use dam_book::{Command, Entry, Participant, Seed};
+use left_right::{Absorb, WriteHandle};
+use std::alloc::{AllocError, Global};
+use std::marker::Model;
+use std::sync::{Arc, OnceLock, Wait};
+
+/// What lies under the lock: the keeper, and what publishes its versions.
+///
+/// A contract sees the journal, and how many passes were given. The history of the name `J` that it has is just the
+/// journal's entries.
+#[derive(Drop)]
+pub struct Desk<J: Naming, R: Wait + Drop>
+where
+    Shown<J>: Absorb<Change<J>, State = ()>,
+{
+    alloc: Global,
+    pub(crate) keeper: Keeper,
+    head: Head<J>,
+    // the history before the first entry, and after the last one
+    start: Front<J>,
+    front: Front<J>,
+    writer: WriteHandle<Shown<J>, Change<J>, R>,
+    // how many passes were given
+    passes: u8,
+    ghost starts: { start ≡ [] },
+}
+
+impl<J: Naming, R: Wait + Drop> Model for Desk<J, R>
+where
+    Shown<J>: Absorb<Change<J>, State = ()>,
+{
+    ghost use Rattle.std.specs.Prelude.{◌≡◌};
+    ghost use Rattle.dam_gate.specs.inside.Desk.{DeskState};
+
+    ghost Value = { DeskState };
+
+    ghost view = { λ d. record { journal = d.keeper.journal; passes = d.passes } };
+
+    ghost invariant = { λ d. d.front ≡ d.keeper.journal.entries };
+}
+
+/// A place for a version, with none in it yet.
+fn place<J: Naming>(alloc: Global) -> Result<Place<J>, AllocError> {
+    match Arc::new(alloc, OnceLock::new()) {
+        Ok(place) => Ok(place),
+        Err(_) => Err(AllocError),
+    }
+}
+
+impl<J: Naming, R: Wait + Drop> Desk<J, R> {
+    /// A day without entries, whose first version is shown.
+    pub(crate) fn begin(
+        alloc: Global,
+        rt: R,
+        opening: Opening,
+        periods: u8,
+        seed: Seed,
+    ) -> Result<Desk<J, R>, BeginFault>
+        requires { opening.seen.book ≡ J.book }
+        ensures ok { IfOk result (λ desk. (is_day periods ≡ true)
+            × (desk ≡ record { journal = empty_journal periods; passes = 0 })) }
+        ensures fault { IfErr result (IsBeginFault periods) }
+    {
+        let keeper = Keeper::begin_seeded(alloc, periods, seed)?;
+        let (head, front) = opening.named::<J>();
+        let first: Place<J> = place(alloc)?;
+        let second = Arc::try_clone(&first)?;
+        if first
+            .try_set(Version::new(keeper.share()?, front.again()))
+            .is_err()
+        {
+            return Err(BeginFault::Memory);
+        }
+        let writer = WriteHandle::new(
+            alloc,
+            rt,
+            Shown { place: first },
+            Shown { place: second },
+            MOST_PASSES as usize,
+        )?;
+        Ok(Desk {
+            alloc,
+            keeper,
+            head,
+            start: front.again(),
+            front,
+            writer,
+            passes: 0,
+        })
+    }
+
+    /// The number of entries held.
+    pub(crate) fn len(&self) -> u32
+        ensures value { result ≡ length self.now.journal.entries }
+        ensures valid { IsJournal self.now.journal }
+    {
+        self.keeper.len()
+    }
+
+    /// Makes room in the journal for so many entries more.
+    pub(crate) fn make_room(&mut self, entries: usize) -> Result<(), AllocError>
+        ensures { self.new ≡ self.old }
+    {
+        self.keeper.make_room(entries)
+    }
+
+    /// The journal. It ends the showing of versions, after those who look.
+    pub(crate) fn into_journal(self) -> Journal
+        ensures value { result ≡ self.journal }
+        ensures valid { IsJournal result }
+    {
+        let Desk { keeper, .. } = self;
+        keeper.into_journal()
+    }
+
+    /// A pass that has seen nothing.
+    pub(crate) fn pass(&mut self, holder: Option<Participant>) -> Result<Pass<J>, PassFault>
+        ensures pass { IfOk result (λ pass. pass ≡ knowing_nothing holder) }
+        ensures room { OnOk result (self.old.passes < most_passes) }
+        ensures count { OnOk result (self.new.passes ≡ self.old.passes + 1) }
+        ensures journal { self.new.journal ≡ self.old.journal }
+        ensures err { OnErr result (self.new ≡ self.old) }
+        ensures fault { IfErr result (IsPassFault self.old.passes) }
+    {
+        if self.passes >= MOST_PASSES {
+            return Err(PassFault::PassesUsed);
+        }
+        let Ok(reader) = self.writer.handle() else {
+            return Err(PassFault::NoPlace);
+        };
+        let pass = Pass::new(self.alloc, holder, self.start.again(), reader)?;
+        self.passes += 1;
+        Ok(pass)
+    }
+
+    /// Journals the command, and shows the version after it. It answers the entry and the history that it ends.
+    ///
+    /// All that may be refused comes first.
+    pub(crate) fn enter(
+        &mut self,
+        seen: &Front<J>,
+        told: &Front<J>,
+        command: Command,
+    ) -> Result<(Entry, Front<J>), GateFault>
+        requires { is_full (length self.old.journal.entries) command ≡ false }
+        ensures entry { IfOk result (λ r. r.0 ≡ next_entry self.old.journal command) }
+        ensures history { IfOk result (λ r. r.1 ≡ self.old.journal.entries ++ r.0 ∷ []) }
+        ensures journal { OnOk result (self.new.journal ≡ journal_after self.old.journal command) }
+        ensures passes { self.new.passes ≡ self.old.passes }
+        ensures seen { OnOk result (IsPrefix seen.now self.old.journal.entries) }
+        ensures told { OnOk result (IsPrefix told.now self.old.journal.entries) }
+        ensures err { OnErr result (self.new ≡ self.old) }
+        ensures fault { IfErr result (λ fault. (fault ≡ GateFault.Memory) ⊎ (fault ≡ GateFault.NoVersion)) }
+    {
+        // Its contract tells that these are the entries of a journal.
+        let _journal = self.keeper.len();
+        let ready = self.keeper.ready(&command)?;
+        let place = place(self.alloc)?;
+        let book = ready.book()?;
+        let change = Change {
+            place: Arc::try_clone(&place)?,
+        };
+        if self.writer.append(change).is_err() {
+            return Err(GateFault::Memory);
+        }
+        let Some(front) = self.head.add(&self.front, seen, told, ready.entry()) else {
+            return Err(GateFault::NoVersion);
+        };
+        if place.try_set(Version::new(book, front.again())).is_err() {
+            return Err(GateFault::NoVersion);
+        }
+        let entry = self.keeper.put(ready);
+        self.front = front.again();
+        // It can't be refused: the places are shares, of which there can't be too many.
+        let _published = self.writer.publish();
+        Ok((entry, front))
+    }
+}
