@@ -237,9 +237,9 @@ fn looks_named<J: Naming + Send + Sync, R: Clock + Threads + Wait + Sync>(
     beside: u8,
     times: u32,
 ) -> Option<Looks>
-    requires { opening.seen.book ≡ J.book }
+    requires { opening ≡ J.book }
 {
-    let gate = &Gate::<J, &R>::begin(alloc, rt, opening, 24).ok()?;
+    let gate = &Gate::<J, &R>::begin(rt, alloc, opening, 24).ok()?;
     let mut guests = guests(rt, alloc, gate, commands)?;
     let keys = keys_of(alloc, commands)?;
     let stage = &Stage {
@@ -294,9 +294,9 @@ fn calls_named<J: Naming, R: Clock + Wait>(
     commands: &[Command],
     times: u32,
 ) -> Option<Looks>
-    requires { opening.seen.book ≡ J.book }
+    requires { opening ≡ J.book }
 {
-    let gate = Gate::<J, &R>::begin(alloc, rt, opening, 24).ok()?;
+    let gate = Gate::<J, &R>::begin(rt, alloc, opening, 24).ok()?;
     let mut guests = guests(rt, alloc, &gate, commands)?;
     let guest = guests.get_mut(1)?;
     let begun = Instant::now(rt).ok()?;

@@ -61,9 +61,9 @@ fn enter_named<J: Naming, R: Wait>(
     periods: u8,
     commands: &[Command],
 ) -> Option<Finished>
-    requires { opening.seen.book ≡ J.book }
+    requires { opening ≡ J.book }
 {
-    let gate = Gate::<J, &R>::begin(alloc, rt, opening, periods).ok()?;
+    let gate = Gate::<J, &R>::begin(rt, alloc, opening, periods).ok()?;
     let mut passes = Vec::new(alloc);
     for command in commands {
         enter(rt, &gate, &mut passes, command)?;

@@ -55,12 +55,12 @@ fn hold_named<J: Naming + Send + Sync, R: Threads + Wait + Sync>(
     first: Trader,
     second: Trader,
 ) -> Result<Day>
-    requires { opening.seen.book ≡ J.book }
+    requires { opening ≡ J.book }
     ensures account { IfOk result (λ day. IsWholeAccount day.settled day.passes.items) }
     ensures entered { IfOk result (λ day.
         AreReceiptsOf first.entry.commands.now second.entry.commands.now day.passes.items) }
 {
-    let gate = Gate::<J, &R>::begin(alloc, rt, opening, 24)?;
+    let gate = Gate::<J, &R>::begin(rt, alloc, opening, 24)?;
     let mut one = gate.pass(rt, first.who.copy())?;
     let mut other = gate.pass(rt, second.who.copy())?;
     let (entered, beside) = join_mut(

@@ -91,11 +91,4 @@ impl Account {
     {
         &self.receipts
     }
-
-    /// Whether the command was for the holder to give.
-    pub(crate) fn owns(&self, command: &Command) -> bool
-        ensures { result ≡ is_own self.now.holder command.now }
-    {
-        owns(&self.holder, command)
-    }
 }

@@ -347,7 +347,7 @@ fn run_day<J: Naming + Send + Sync, R: Threads + Wait + Sync, D: Doorkeeper + Sy
     participants: &[Participant],
     commands: &[Command],
 ) -> Result<SettledDay, DayFault>
-    requires name { opening.seen.book ≡ J.book }
+    requires name { opening ≡ J.book }
     requires day { is_day periods ≡ true }
     requires givers { AreGivers participants.now commands.now }
     requires few { length participants.now ≤ most_participants }
@@ -359,7 +359,7 @@ fn run_day<J: Naming + Send + Sync, R: Threads + Wait + Sync, D: Doorkeeper + Sy
         holders day.passes.items ≡ map (λ who. Some who) participants.now ++ None ∷ []) }
     ensures err { IfErr result IsLateFault }
 {
-    let gate = match Gate::<J, &R>::begin_seeded(alloc, rt, opening, periods, seed) {
+    let gate = match Gate::<J, &R>::begin_seeded(rt, alloc, opening, periods, seed) {
         Ok(gate) => gate,
         Err(BeginFault::Memory) => return Err(DayFault::Memory),
         Err(BeginFault::BadDay) => unreachable!(),

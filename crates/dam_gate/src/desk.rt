@@ -1,4 +1,4 @@
-ghost use Rattle.std.specs.Prelude.{◌≡◌, ◌⊎◌, ◌<◌, ◌≤◌, ◌+◌, ◌∷◌, ◌++◌, [], true, false, length, IfOk, IfErr, IsErrOf, OnOk, OnErr};
+ghost use Rattle.std.specs.Prelude.{◌≡◌, ◌⊎◌, ◌<◌, ◌+◌, ◌∷◌, ◌++◌, [], true, false, length, IfOk, IfErr, OnOk, OnErr};
 ghost use mathlib.Core.List.{IsPrefix};
 ghost use Rattle.dam_book.specs.Book.{is_day};
 ghost use Rattle.dam_gate.specs.Journal.{IsJournal, empty_journal, is_full, journal_after, next_entry};
@@ -56,36 +56,28 @@ where
 
 /// A place for a version, with none in it yet.
 fn place<J: Naming>(alloc: Global) -> Result<Place<J>, AllocError> {
-    match Arc::new(alloc, OnceLock::new()) {
-        Ok(place) => Ok(place),
-        Err(_) => Err(AllocError),
-    }
+    Arc::new(alloc, OnceLock::new()).map_err(|_| AllocError)
 }
 
 impl<J: Naming, R: Wait + Drop> Desk<J, R> {
     /// A day without entries, whose first version is shown.
     pub(crate) fn begin(
-        alloc: Global,
         rt: R,
+        alloc: Global,
         opening: Opening,
         periods: u8,
         seed: Seed,
     ) -> Result<Desk<J, R>, BeginFault>
-        requires { opening.seen.book ≡ J.book }
+        requires { opening ≡ J.book }
         ensures ok { IfOk result (λ desk. (is_day periods ≡ true)
             × (desk ≡ record { journal = empty_journal periods; passes = 0 })) }
         ensures fault { IfErr result (IsBeginFault periods) }
     {
         let keeper = Keeper::begin_seeded(alloc, periods, seed)?;
         let (head, front) = opening.named::<J>();
-        let first: Place<J> = place(alloc)?;
+        let version = Version::new(keeper.share()?, front.again());
+        let first = Arc::new(alloc, OnceLock::from(version)).map_err(|_| AllocError)?;
         let second = Arc::try_clone(&first)?;
-        if first
-            .try_set(Version::new(keeper.share()?, front.again()))
-            .is_err()
-        {
-            return Err(BeginFault::Memory);
-        }
         let writer = WriteHandle::new(
             alloc,
             rt,

@@ -1,4 +1,4 @@
-ghost use Rattle.std.specs.Prelude.{◌≡◌, ◌<◌, true, Some, None, IfSome, IfOk, IfErr, OnOk, OnErr};
+ghost use Rattle.std.specs.Prelude.{◌≡◌, ◌<◌, true, Some, None, IfOk, IfErr, OnOk, OnErr};
 ghost use Rattle.dam_book.specs.Book.{is_day};
 ghost use Rattle.dam_gate.specs.Journal.{IsJournal};
 ghost use Rattle.dam_gate.specs.Pass.{after_call, is_own, knowing_nothing};
@@ -103,33 +103,33 @@ where
 impl<J: Naming, R: Wait + Drop> Gate<J, R> {
     /// The gate of a day of 23, 24 or 25 periods, with an empty journal, on the fixed seed that everybody knows.
     pub fn begin(
-        alloc: Global,
         rt: R,
+        alloc: Global,
         opening: Opening,
         periods: u8,
     ) -> Result<Gate<J, R>, BeginFault>
-        requires { opening.seen.book ≡ J.book }
+        requires { opening ≡ J.book }
         ensures ok { OnOk result (is_day periods ≡ true) }
         ensures fault { IfErr result (IsBeginFault periods) }
     {
-        Gate::begin_seeded(alloc, rt, opening, periods, Seed::fixed())
+        Gate::begin_seeded(rt, alloc, opening, periods, Seed::fixed())
     }
 
     /// The gate that `begin` gives, whose book hashes names with the seed. With a secret one nobody can choose names that collide
     /// in the book's map, and so make each call slow, those of the others too.
     pub fn begin_seeded(
-        alloc: Global,
         rt: R,
+        alloc: Global,
         opening: Opening,
         periods: u8,
         seed: Seed,
     ) -> Result<Gate<J, R>, BeginFault>
-        requires { opening.seen.book ≡ J.book }
+        requires { opening ≡ J.book }
         ensures ok { OnOk result (is_day periods ≡ true) }
         ensures fault { IfErr result (IsBeginFault periods) }
     {
         Ok(Gate {
-            desk: Mutex::new(Desk::begin(alloc, rt, opening, periods, seed)?),
+            desk: Mutex::new(Desk::begin(rt, alloc, opening, periods, seed)?),
         })
     }
 

@@ -69,8 +69,16 @@ impl Naming for Brand {
 pub struct Opening {
     word: Word<Entry, u64, Law>,
     seen: Seen<Entry, u64, Law>,
-    pub ghost empty: { seen.log ≡ [] },
-    pub ghost head_is: { word ≡ head_of seen.book },
+    ghost empty: { seen.log ≡ [] },
+    ghost head_is: { word ≡ head_of seen.book },
+}
+
+impl Model for Opening {
+    ghost use Rattle.logbook.specs.Pages.{Book};
+
+    ghost Value = { Book };
+
+    ghost view = { λ o. o.seen.book };
 }
 
 impl Opening {
@@ -83,8 +91,8 @@ impl Opening {
     }
 
     /// The word under a name, and the front that has seen nothing.
-    pub fn named<J: Naming>(self) -> (Head<J>, Front<J>)
-        requires { self.seen.book ≡ J.book }
+    pub(crate) fn named<J: Naming>(self) -> (Head<J>, Front<J>)
+        requires { self ≡ J.book }
         ensures { result.1 ≡ [] }
     {
         let Opening { word, seen } = self;

@@ -3,7 +3,7 @@
 //!
 //! ```
 //! // in a function that is generic in the gate's name `J`, with `opening: Opening` among its arguments
-//! let gate = Gate::<J, &R>::begin(alloc, rt, opening, 24)?;
+//! let gate = Gate::<J, &R>::begin(rt, alloc, opening, 24)?;
 //! let mut pass = gate.pass(rt, who)?; // one a participant; each may go to a thread of its own
 //! let entry = gate.call(rt, &mut pass, submit)?;
 //! let look = pass.look(who, name); // takes no lock, and waits for nobody

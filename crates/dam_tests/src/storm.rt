@@ -127,9 +127,9 @@ fn stands<J: Naming + Send + Sync, R: Threads + Wait + Sync>(
     opening: Opening,
     seed: u32,
 ) -> Result<bool, Fail>
-    requires { opening.seen.book ≡ J.book }
+    requires { opening ≡ J.book }
 {
-    let gate = Gate::<J, &R>::begin(alloc, rt, opening, 24)?;
+    let gate = Gate::<J, &R>::begin(rt, alloc, opening, 24)?;
     let last = day(rt, alloc, &gate, seed)?;
     let journal = gate.finish();
     Ok(last == 10_000 && replays(alloc, &journal)?)

@@ -20,9 +20,9 @@ fn is_held_by<J: Naming>(pass: &Pass<J>, code: &[u8]) -> Result<bool, Fail> {
 
 /// Whether the first passes of a gate have seen nothing.
 fn are_new<J: Naming, R: Wait>(rt: &R, alloc: Global, opening: Opening) -> Result<bool, Fail>
-    requires { opening.seen.book ≡ J.book }
+    requires { opening ≡ J.book }
 {
-    let gate = Gate::<J, &R>::begin(alloc, rt, opening, 24)?;
+    let gate = Gate::<J, &R>::begin(rt, alloc, opening, 24)?;
     let pass = gate.pass(rt, participant(b"A")?)?;
     let operator = gate.operator(rt)?;
     let held = is_held_by(&pass, b"A")? && operator.holder().is_none();
@@ -60,9 +60,9 @@ fn sells_twice<J: Naming, H: Wait + Drop>(
 
 /// Whether the calls of A are answered at a gate.
 fn gives_receipts<J: Naming, R: Wait>(rt: &R, alloc: Global, opening: Opening) -> Result<bool, Fail>
-    requires { opening.seen.book ≡ J.book }
+    requires { opening ≡ J.book }
 {
-    let gate = Gate::<J, &R>::begin(alloc, rt, opening, 24)?;
+    let gate = Gate::<J, &R>::begin(rt, alloc, opening, 24)?;
     let mut a = gate.pass(rt, participant(b"A")?)?;
     Ok(sells_twice(rt, &gate, &mut a)? && is_held_by(&a, b"A")?)
 }
@@ -124,9 +124,9 @@ fn see_each_other<J: Naming, H: Wait + Drop>(
 
 /// Whether A and B see each other's calls at a gate.
 fn shows_calls<J: Naming, R: Wait>(rt: &R, alloc: Global, opening: Opening) -> Result<bool, Fail>
-    requires { opening.seen.book ≡ J.book }
+    requires { opening ≡ J.book }
 {
-    let gate = Gate::<J, &R>::begin(alloc, rt, opening, 24)?;
+    let gate = Gate::<J, &R>::begin(rt, alloc, opening, 24)?;
     see_each_other(rt, &gate)
 }
 
@@ -172,9 +172,9 @@ fn sees_a_close<J: Naming, H: Wait + Drop>(
 
 /// Whether A sees a close at a gate.
 fn shows_a_close<J: Naming, R: Wait>(rt: &R, alloc: Global, opening: Opening) -> Result<bool, Fail>
-    requires { opening.seen.book ≡ J.book }
+    requires { opening ≡ J.book }
 {
-    let gate = Gate::<J, &R>::begin(alloc, rt, opening, 24)?;
+    let gate = Gate::<J, &R>::begin(rt, alloc, opening, 24)?;
     let mut a = gate.pass(rt, participant(b"A")?)?;
     let empty = sees(&mut a, (b"A", b"S1"), &found(0, None))?;
     Ok(empty && closes(rt, &gate)? && sees_a_close(rt, &gate, &mut a)?)
@@ -214,9 +214,9 @@ fn finishes<J: Naming, R: Wait>(
     opening: Opening,
     periods: u8,
 ) -> Result<bool, Fail>
-    requires { opening.seen.book ≡ J.book }
+    requires { opening ≡ J.book }
 {
-    let gate = Gate::<J, &R>::begin(alloc, rt, opening, periods)?;
+    let gate = Gate::<J, &R>::begin(rt, alloc, opening, periods)?;
     enter_two(rt, &gate)?;
     Ok(finished(gate, periods, 2, 1))
 }
@@ -261,9 +261,9 @@ fn operator_is_refused<J: Naming, H: Wait + Drop>(
 
 /// Whether a gate refuses what is another's to give, and journals none of it.
 fn refuses_others<J: Naming, R: Wait>(rt: &R, alloc: Global, opening: Opening) -> Result<bool, Fail>
-    requires { opening.seen.book ≡ J.book }
+    requires { opening ≡ J.book }
 {
-    let gate = Gate::<J, &R>::begin(alloc, rt, opening, 23)?;
+    let gate = Gate::<J, &R>::begin(rt, alloc, opening, 23)?;
     Ok(a_is_refused(rt, &gate)? && operator_is_refused(rt, &gate)? && finished(gate, 23, 0, 0))
 }
 
@@ -288,9 +288,9 @@ fn b_learns<J: Naming, H: Wait + Drop>(
 
 /// Whether B learns at a gate what A had made.
 fn learns<J: Naming, R: Wait>(rt: &R, alloc: Global, opening: Opening) -> Result<bool, Fail>
-    requires { opening.seen.book ≡ J.book }
+    requires { opening ≡ J.book }
 {
-    let gate = Gate::<J, &R>::begin(alloc, rt, opening, 24)?;
+    let gate = Gate::<J, &R>::begin(rt, alloc, opening, 24)?;
     let mut a = gate.pass(rt, participant(b"A")?)?;
     let mut b = gate.pass(rt, participant(b"B")?)?;
     Ok(b_learns(rt, &gate, &mut a, &mut b)? && b.note().is_none())
@@ -304,9 +304,9 @@ fn a_note_is_learnt(rt: HostRuntime) -> Result<(), Fail> {
 
 /// Whether a pass of a finished gate sees nothing, and has seen what it had.
 fn is_over<J: Naming, R: Wait>(rt: &R, alloc: Global, opening: Opening) -> Result<bool, Fail>
-    requires { opening.seen.book ≡ J.book }
+    requires { opening ≡ J.book }
 {
-    let gate = Gate::<J, &R>::begin(alloc, rt, opening, 24)?;
+    let gate = Gate::<J, &R>::begin(rt, alloc, opening, 24)?;
     let mut a = gate.pass(rt, participant(b"A")?)?;
     cancels(rt, &gate, &mut a, 2)?;
     let journal = gate.finish();
@@ -330,9 +330,9 @@ fn take_eight<J: Naming, H: Wait + Drop>(rt: &impl Wait, gate: &Gate<J, H>) -> R
 
 /// Whether a gate gives nine passes and no more.
 fn gives_nine<J: Naming, R: Wait>(rt: &R, alloc: Global, opening: Opening) -> Result<bool, Fail>
-    requires { opening.seen.book ≡ J.book }
+    requires { opening ≡ J.book }
 {
-    let gate = Gate::<J, &R>::begin(alloc, rt, opening, 25)?;
+    let gate = Gate::<J, &R>::begin(rt, alloc, opening, 25)?;
     take_eight(rt, &gate)?;
     let ninth = gate.operator(rt).is_ok();
     let used = Some(PassFault::PassesUsed);
@@ -348,9 +348,9 @@ fn a_gate_gives_nine_passes(rt: HostRuntime) -> Result<(), Fail> {
 
 /// Whether no gate of a day of so many periods is begun.
 fn is_no_day<J: Naming, R: Wait>(rt: &R, alloc: Global, opening: Opening, periods: u8) -> bool
-    requires { opening.seen.book ≡ J.book }
+    requires { opening ≡ J.book }
 {
-    let gate = Gate::<J, &R>::begin(alloc, rt, opening, periods);
+    let gate = Gate::<J, &R>::begin(rt, alloc, opening, periods);
     matches!(gate, Err(BeginFault::BadDay))
 }
 

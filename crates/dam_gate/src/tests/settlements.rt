@@ -131,9 +131,9 @@ fn three_entries_at<J: Naming, R: Wait>(
     alloc: Global,
     opening: Opening,
 ) -> Result<Finished, Fail>
-    requires { opening.seen.book ≡ J.book }
+    requires { opening ≡ J.book }
 {
-    let gate = Gate::<J, &R>::begin(alloc, rt, opening, 24)?;
+    let gate = Gate::<J, &R>::begin(rt, alloc, opening, 24)?;
     let mut passes = three_passes(rt, alloc, &gate)?;
     enter_three(rt, &gate, &mut passes)?;
     Ok(Finished {
@@ -203,9 +203,9 @@ fn foreign_at<J: Naming, R: Wait>(
     opening: Opening,
     before: usize,
 ) -> Result<Account, Fail>
-    requires { opening.seen.book ≡ J.book }
+    requires { opening ≡ J.book }
 {
-    let gate = Gate::<J, &R>::begin(alloc, rt, opening, 24)?;
+    let gate = Gate::<J, &R>::begin(rt, alloc, opening, 24)?;
     enter_before(rt, &gate, before)?;
     Ok(one_receipt(rt, &gate)?.into_account())
 }
@@ -261,9 +261,9 @@ fn two_entries_at<J: Naming, R: Wait>(
     alloc: Global,
     opening: Opening,
 ) -> Result<Finished, Fail>
-    requires { opening.seen.book ≡ J.book }
+    requires { opening ≡ J.book }
 {
-    let gate = Gate::<J, &R>::begin(alloc, rt, opening, 24)?;
+    let gate = Gate::<J, &R>::begin(rt, alloc, opening, 24)?;
     let mut passes = two_passes(rt, alloc, &gate)?;
     enter_two(rt, &gate, &mut passes)?;
     Ok(Finished {
@@ -319,9 +319,9 @@ fn open_gate<J: Naming, R: Wait>(
     opening: Opening,
     commands: &[Command],
 ) -> Result<Finished, Fail>
-    requires { opening.seen.book ≡ J.book }
+    requires { opening ≡ J.book }
 {
-    let gate = Gate::<J, &R>::begin(alloc, rt, opening, 24)?;
+    let gate = Gate::<J, &R>::begin(rt, alloc, opening, 24)?;
     let mut a = gate.pass(rt, participant(b"A")?)?;
     enter_all(rt, &gate, &mut a, commands)?;
     let mut passes = Vec::new(alloc);
@@ -381,9 +381,9 @@ fn ends_with_a_close<J: Naming, R: Wait>(
     alloc: Global,
     opening: Opening,
 ) -> Result<bool, Fail>
-    requires { opening.seen.book ≡ J.book }
+    requires { opening ≡ J.book }
 {
-    let gate = Gate::<J, &R>::begin(alloc, rt, opening, 24)?;
+    let gate = Gate::<J, &R>::begin(rt, alloc, opening, 24)?;
     let mut a = gate.pass(rt, participant(b"A")?)?;
     let mut operator = gate.operator(rt)?;
     cancels(rt, &gate, &mut a, 9_998)?;

@@ -272,9 +272,9 @@ fn stands<J: Naming + Send + Sync, R: Threads + Wait + Sync>(
     opening: Opening,
     seed: u64,
 ) -> Result<bool, Fail>
-    requires { opening.seen.book ≡ J.book }
+    requires { opening ≡ J.book }
 {
-    let gate = Gate::<J, &R>::begin(alloc, rt, opening, 24)?;
+    let gate = Gate::<J, &R>::begin(rt, alloc, opening, 24)?;
     let mut visitors = visitors(rt, alloc, &gate, seed)?;
     storm(rt, &gate, &mut visitors);
     let mut operator = gate.operator(rt)?;

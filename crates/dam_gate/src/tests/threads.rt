@@ -150,9 +150,9 @@ fn both_served<J: Naming + Send + Sync, R: Threads + Wait + Sync>(
     alloc: Global,
     opening: Opening,
 ) -> Result<bool, Fail>
-    requires { opening.seen.book ≡ J.book }
+    requires { opening ≡ J.book }
 {
-    let gate = Gate::<J, &R>::begin(alloc, rt, opening, 24)?;
+    let gate = Gate::<J, &R>::begin(rt, alloc, opening, 24)?;
     let neighbours = both(rt, alloc, &gate)?;
     let (mut accounts, served) = accounts_of(alloc, neighbours)?;
     accounts.push(closing(rt, &gate)?.into_account())?;

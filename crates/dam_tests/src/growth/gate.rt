@@ -208,9 +208,9 @@ fn through_named<J: Naming, R: Wait>(
     opening: Opening,
     records: &str,
 ) -> Result<Finished, Fail>
-    requires { opening.seen.book ≡ J.book }
+    requires { opening ≡ J.book }
 {
-    let gate = Gate::<J, &R>::begin(alloc, rt, opening, 24)?;
+    let gate = Gate::<J, &R>::begin(rt, alloc, opening, 24)?;
     let passes = give_all(rt, alloc, &gate, records)?;
     let journal = gate.finish();
     Ok(Finished { journal, passes })

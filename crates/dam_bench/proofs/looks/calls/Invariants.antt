@@ -2,4 +2,4 @@
 use Rattle.dam_bench.proofs.looks.calls.Given as goal
 
 abbrev pub ghosts-calls_named : goal.ghosts-calls_named
-ghosts-calls_named g a = record { book = a.opening.seen.book }
+ghosts-calls_named g a = record { book = a.opening }

@@ -2,4 +2,4 @@
 use Rattle.dam_bench.proofs.looks.looks.Given as goal
 
 abbrev pub ghosts-looks_named : goal.ghosts-looks_named
-ghosts-looks_named g a = record { book = a.opening.seen.book }
+ghosts-looks_named g a = record { book = a.opening }

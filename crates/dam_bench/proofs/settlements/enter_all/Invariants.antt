@@ -2,4 +2,4 @@
 use Rattle.dam_bench.proofs.settlements.enter_all.Given as goal
 
 abbrev pub ghosts-enter_named : goal.ghosts-enter_named
-ghosts-enter_named g a = record { book = a.opening.seen.book }
+ghosts-enter_named g a = record { book = a.opening }

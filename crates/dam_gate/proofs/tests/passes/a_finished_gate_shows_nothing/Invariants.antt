@@ -2,4 +2,4 @@
 use Rattle.dam_gate.proofs.tests.passes.a_finished_gate_shows_nothing.Given as goal
 
 abbrev pub ghosts-is_over : goal.ghosts-is_over
-ghosts-is_over g a = record { book = a.opening.seen.book }
+ghosts-is_over g a = record { book = a.opening }

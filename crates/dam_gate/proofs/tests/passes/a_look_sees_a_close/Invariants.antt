@@ -2,4 +2,4 @@
 use Rattle.dam_gate.proofs.tests.passes.a_look_sees_a_close.Given as goal
 
 abbrev pub ghosts-shows_a_close : goal.ghosts-shows_a_close
-ghosts-shows_a_close g a = record { book = a.opening.seen.book }
+ghosts-shows_a_close g a = record { book = a.opening }

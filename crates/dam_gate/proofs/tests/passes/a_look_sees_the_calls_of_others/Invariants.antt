@@ -2,4 +2,4 @@
 use Rattle.dam_gate.proofs.tests.passes.a_look_sees_the_calls_of_others.Given as goal
 
 abbrev pub ghosts-shows_calls : goal.ghosts-shows_calls
-ghosts-shows_calls g a = record { book = a.opening.seen.book }
+ghosts-shows_calls g a = record { book = a.opening }

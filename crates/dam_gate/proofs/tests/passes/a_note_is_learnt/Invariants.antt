@@ -2,4 +2,4 @@
 use Rattle.dam_gate.proofs.tests.passes.a_note_is_learnt.Given as goal
 
 abbrev pub ghosts-learns : goal.ghosts-learns
-ghosts-learns g a = record { book = a.opening.seen.book }
+ghosts-learns g a = record { book = a.opening }

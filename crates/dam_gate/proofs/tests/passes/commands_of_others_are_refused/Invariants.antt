@@ -2,4 +2,4 @@
 use Rattle.dam_gate.proofs.tests.passes.commands_of_others_are_refused.Given as goal
 
 abbrev pub ghosts-refuses_others : goal.ghosts-refuses_others
-ghosts-refuses_others g a = record { book = a.opening.seen.book }
+ghosts-refuses_others g a = record { book = a.opening }

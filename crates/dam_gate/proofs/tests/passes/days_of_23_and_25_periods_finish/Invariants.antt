@@ -2,4 +2,4 @@
 use Rattle.dam_gate.proofs.tests.passes.days_of_23_and_25_periods_finish.Given as goal
 
 abbrev pub ghosts-finishes : goal.ghosts-finishes
-ghosts-finishes g a = record { book = a.opening.seen.book }
+ghosts-finishes g a = record { book = a.opening }

@@ -2,4 +2,4 @@
 use Rattle.dam_gate.proofs.tests.settlements.an_open_gate_is_given_back.Given as goal
 
 abbrev pub ghosts-open_gate : goal.ghosts-open_gate
-ghosts-open_gate g a = record { book = a.opening.seen.book }
+ghosts-open_gate g a = record { book = a.opening }

@@ -2,4 +2,4 @@
 use Rattle.dam_gate.proofs.tests.settlements.foreign.Given as goal
 
 abbrev pub ghosts-foreign_at : goal.ghosts-foreign_at
-ghosts-foreign_at g a = record { book = a.opening.seen.book }
+ghosts-foreign_at g a = record { book = a.opening }

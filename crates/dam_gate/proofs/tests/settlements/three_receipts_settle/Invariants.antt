@@ -2,4 +2,4 @@
 use Rattle.dam_gate.proofs.tests.settlements.three_receipts_settle.Given as goal
 
 abbrev pub ghosts-three_entries_at : goal.ghosts-three_entries_at
-ghosts-three_entries_at g a = record { book = a.opening.seen.book }
+ghosts-three_entries_at g a = record { book = a.opening }

@@ -2,4 +2,4 @@
 use Rattle.dam_gate.proofs.tests.settlements.two_entries.Given as goal
 
 abbrev pub ghosts-two_entries_at : goal.ghosts-two_entries_at
-ghosts-two_entries_at g a = record { book = a.opening.seen.book }
+ghosts-two_entries_at g a = record { book = a.opening }

@@ -2,4 +2,4 @@
 use Rattle.dam_gate.proofs.tests.storm.both_stand.Given as goal
 
 abbrev pub ghosts-stands : goal.ghosts-stands
-ghosts-stands g a = record { book = a.opening.seen.book }
+ghosts-stands g a = record { book = a.opening }

@@ -2,4 +2,4 @@
 use Rattle.dam_tests.proofs.growth.gate.through_gate.Given as goal
 
 abbrev pub ghosts-through_named : goal.ghosts-through_named
-ghosts-through_named g a = record { book = a.opening.seen.book }
+ghosts-through_named g a = record { book = a.opening }
