@@ -12,6 +12,7 @@ from typing import NamedTuple
 sys.dont_write_bytecode = True
 
 import colliding
+import gates
 import judge
 from preload import EVERY, SECONDS, Printed, Program, Refusal
 
@@ -248,6 +249,7 @@ def main():
     runs.run_rows("random bytes refused", random_rows())
     runs.run_rows("reads and writes that fail", device_rows())
     devices(runs)
+    gates.run(runs, room, OPEN_AUCTION)
     colliding.run(runs)
     if runs.left_out:
         print(f"{runs.left_out} runs or fewer were left out, since {END} seconds were over")

@@ -7,6 +7,8 @@
 //! - `looks BESIDE TIMES` enters a journal's submits at a gate, and looks there, with so many threads that call and look
 //!   beside it.
 //! - `calls TIMES` enters a journal's submits at a gate, and amends them.
+//! - `refusals` enters a journal's commands at a gate and settles it, makes each call again that memory was refused to, and
+//!   counts these; it is for tests that refuse memory.
 //! - `scores TIMES` scores selections of a journal's blocks, and goes as often over its hourly orders.
 //! - `levels TIMES` builds what the bounds of a journal are read off.
 //! - `nodes WORKERS CUT TIMES` counts the nodes that a journal's search visits.
@@ -19,6 +21,7 @@ mod clears;
 mod looks;
 mod nodes;
 mod problem;
+mod refusals;
 mod scores;
 mod settlements;
 mod words;
@@ -32,6 +35,7 @@ use dam_search::{FreeTurn, Plan, first_selection, search};
 use looks::{calls, looks};
 use nodes::Cutting;
 use problem::problem_of;
+use refusals::{Stop, refusals};
 use scores::{sum_of_passes, sum_of_scores};
 use settlements::{enter_all, equal_receipts};
 use std::alloc::Global;
@@ -71,6 +75,7 @@ fn take<R: Clock + Print + Eprint + Threads + Wait + Sync>(
         Measure::Settlements { times } => measure_settlements(rt, alloc, text, *times),
         Measure::Looks { beside, times } => measure_looks(rt, alloc, text, *beside, *times),
         Measure::Calls { times } => measure_calls(rt, alloc, text, *times),
+        Measure::Refusals => count_refusals(rt, alloc, text),
         Measure::OfProblem(measure) => match problem_of(alloc, text) {
             Some(problem) => take_of_problem(rt, alloc, measure, &problem),
             None => Err(invalid()),
@@ -156,6 +161,18 @@ fn measure_calls<R: Clock + Print + Eprint + Wait>(
     let calls = calls(rt, alloc, &read.commands, times).ok_or(invalid())?;
     eprintln!(rt; "calls {}", calls.taken)?;
     println!(rt; "{} calls", calls.called)
+}
+
+/// `memory` where it was refused to what comes before the gate.
+fn count_refusals<R: Print + Wait>(rt: &R, alloc: Global, text: &[u8]) -> io::Result<()> {
+    let Ok(read) = read_journal(alloc, text) else {
+        return println!(rt; "memory");
+    };
+    match refusals(rt, alloc, read.periods, &read.commands) {
+        Ok(done) => println!(rt; "{} entries, {} calls refused", done.entries, done.refused),
+        Err(Stop::Memory) => println!(rt; "memory"),
+        Err(Stop::Wrong) => println!(rt; "wrong"),
+    }
 }
 
 fn measure_scores<R: Clock + Print + Eprint>(

@@ -15,7 +15,7 @@ pub struct Finished {
 }
 
 /// Who gives the command; a close is nobody's.
-fn giver(command: &Command) -> Option<Participant> {
+pub fn giver(command: &Command) -> Option<Participant> {
     match command {
         Command::Submit { who, .. } | Command::Amend { who, .. } | Command::Cancel { who, .. } => {
             Some(who.copy())

@@ -10,6 +10,7 @@ pub enum Measure {
     Settlements { times: u32 },
     Looks { beside: u8, times: u32 },
     Calls { times: u32 },
+    Refusals,
     OfProblem(OfProblem),
 }
 
@@ -77,6 +78,7 @@ pub fn read_measure(words: &mut Args) -> Option<Measure> {
         "calls" => Some(Measure::Calls {
             times: number(words)?,
         }),
+        "refusals" => Some(Measure::Refusals),
         name => Some(Measure::OfProblem(read_of_problem(name, words)?)),
     }
 }

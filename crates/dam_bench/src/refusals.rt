@@ -1,0 +1,173 @@
+//! A day at a gate, each of whose calls is made again where memory was refused to it.
+ghost use Rattle.std.specs.Prelude.{◌≡◌};
+
+use crate::settlements::giver;
+use dam_book::{Command, Participant};
+use dam_gate::{
+    Account, Gate, GateFault, Journal, Keeper, MOST_PASSES, Mismatch, Naming, Opening, Pass,
+    PassFault, Settled, settle,
+};
+use std::alloc::{AllocError, Global};
+use std::marker::Brand;
+use std::sync::Wait;
+
+/// How often a call is made at most.
+const TRIES: u32 = 10;
+
+/// Why a day came to no end.
+#[derive(Clone, Copy, PartialEq, Eq)]
+pub enum Stop {
+    /// Memory was refused to what stands before the first call at the gate.
+    Memory,
+    /// A call was answered what it shouldn't be, or one that was refused changed something.
+    Wrong,
+}
+
+impl From<AllocError> for Stop {
+    fn from(_error: AllocError) -> Stop {
+        Stop::Memory
+    }
+}
+
+/// What came of a day.
+pub struct Refusals {
+    pub entries: usize,
+    /// How many calls were refused memory.
+    pub refused: u32,
+}
+
+/// The gate's day as it goes on: all room that it needs is made before the first call.
+struct Round<J: Naming> {
+    passes: Vec<Pass<J>>,
+    refused: u32,
+}
+
+impl<J: Naming> Round<J> {
+    /// The place of the pass of this holder, which is a new one where there is none.
+    fn place_of<H: Wait + Drop>(
+        &mut self,
+        rt: &impl Wait,
+        gate: &Gate<J, H>,
+        holder: &Option<Participant>,
+    ) -> Result<usize, Stop> {
+        if let Some(place) = self.passes.iter().position(|pass| pass.holder() == *holder) {
+            return Ok(place);
+        }
+        for _ in 0..TRIES {
+            let given = match holder {
+                Some(who) => gate.pass(rt, who.copy()),
+                None => gate.operator(rt),
+            };
+            match given {
+                Ok(pass) => {
+                    self.passes.push(pass)?;
+                    return Ok(self.passes.len().wrapping_sub(1));
+                }
+                Err(PassFault::PassesUsed) => return Err(Stop::Wrong),
+                Err(PassFault::NoPlace | PassFault::Memory) => {
+                    self.refused = self.refused.wrapping_add(1);
+                }
+            }
+        }
+        Err(Stop::Wrong)
+    }
+
+    /// Has the gate take the command, and looks whether a refused call has left the pass as it was.
+    fn enter<H: Wait + Drop>(
+        &mut self,
+        rt: &impl Wait,
+        gate: &Gate<J, H>,
+        command: &Command,
+    ) -> Result<(), Stop> {
+        let place = self.place_of(rt, gate, &giver(command))?;
+        let pass = self.passes.get_mut(place).ok_or(Stop::Wrong)?;
+        let (seen, receipts, noted) = (pass.seen(), pass.receipts().len(), pass.note().is_some());
+        for _ in 0..TRIES {
+            match gate.call(rt, pass, command.copy()) {
+                Ok(entry) => {
+                    let is_last = pass.receipts().last() == Some(&entry);
+                    return if is_last { Ok(()) } else { Err(Stop::Wrong) };
+                }
+                Err(GateFault::Memory) => {
+                    let now = (pass.seen(), pass.receipts().len(), pass.note().is_some());
+                    if now != (seen, receipts, noted) {
+                        return Err(Stop::Wrong);
+                    }
+                    self.refused = self.refused.wrapping_add(1);
+                }
+                Err(_) => return Err(Stop::Wrong),
+            }
+        }
+        Err(Stop::Wrong)
+    }
+}
+
+/// Settles the journal, and how many calls were refused memory.
+fn settled(
+    alloc: Global,
+    journal: Journal,
+    accounts: &[Account],
+) -> Result<(Settled, u32), Stop> {
+    let mut journal = journal;
+    for refused in 0..TRIES {
+        match settle(alloc, journal, accounts) {
+            Ok(settled) => return Ok((settled, refused)),
+            Err(unsettled) => {
+                if unsettled.why != Mismatch::Memory {
+                    return Err(Stop::Wrong);
+                }
+                journal = unsettled.journal;
+            }
+        }
+    }
+    Err(Stop::Wrong)
+}
+
+/// The day at a gate of this opening, whose journal has to be the keeper's.
+fn day_named<J: Naming, R: Wait>(
+    rt: &R,
+    alloc: Global,
+    opening: Opening,
+    keeper: &Keeper,
+) -> Result<Refusals, Stop>
+    requires { opening ≡ J.book }
+{
+    let mut accounts = Vec::with_capacity(alloc, MOST_PASSES as usize)?;
+    let mut round = Round::<J> {
+        passes: Vec::with_capacity(alloc, MOST_PASSES as usize)?,
+        refused: 0,
+    };
+    let periods = keeper.book().periods();
+    let gate = Gate::<J, &R>::begin(rt, alloc, opening, periods).map_err(|_| Stop::Memory)?;
+    for entry in keeper.entries() {
+        round.enter(rt, &gate, &entry.command)?;
+    }
+    let journal = gate.finish();
+    let Round { passes, refused } = round;
+    for pass in passes {
+        accounts.push(pass.into_account())?;
+    }
+    let (settled, again) = settled(alloc, journal, &accounts)?;
+    if settled.journal().entries() != keeper.entries() {
+        return Err(Stop::Wrong);
+    }
+    Ok(Refusals {
+        entries: keeper.entries().len(),
+        refused: refused.wrapping_add(again),
+    })
+}
+
+/// The commands and then a close, entered at a gate by one thread; beside a keeper, which has them first.
+pub fn refusals<R: Wait>(
+    rt: &R,
+    alloc: Global,
+    periods: u8,
+    commands: &[Command],
+) -> Result<Refusals, Stop> {
+    let mut keeper = Keeper::begin(alloc, periods).map_err(|_| Stop::Memory)?;
+    for command in commands {
+        keeper.apply(command.copy()).map_err(|_| Stop::Memory)?;
+    }
+    keeper.apply(Command::Close).map_err(|_| Stop::Memory)?;
+    day_named::<Brand, R>(rt, alloc, Opening::new(), &keeper)
+}

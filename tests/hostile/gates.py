@@ -1,0 +1,34 @@
+"""Memory refused to the calls at a gate: `dam_bench refusals` makes each call again that memory was refused to, and looks whether the
+refused one has changed nothing."""
+
+from pathlib import Path
+
+import judge
+from preload import EVERY, Printed, Program, Refusal
+
+MEASURES = Path(__file__).resolve().parents[2] / "crates/dam_bench/out/dam_bench"
+# What is printed where memory is refused before the first call at the gate.
+BEFORE = Printed(0, b"memory\n", b"")
+
+
+def told(entries, refused):
+    return Printed(0, b"%d entries, %d calls refused\n" % (entries, refused), b"")
+
+
+def run(runs, room, data):
+    """Refuses each call for memory in turn: up to some call they are of what comes before the gate, and then of calls at the gate,
+    each of which is refused once and then answered."""
+    if not MEASURES.exists():
+        print("dam_bench wasn't built, so no call at a gate was refused memory")
+        return
+    program = Program(MEASURES, room)
+    words, entries = ["refusals"], data.count(b"\n")
+    runs.check("a day at a gate, nothing refused", program.run(words, data, judge.NOTHING_REFUSED)[0] == told(entries, 0))
+    _, total = program.run(words, data, Refusal("memory", EVERY, EVERY))
+    refusals = [Refusal("memory", number, number) for number in range(1, total + 2)]
+    printed = list(runs.pool.map(lambda refusal: program.run(words, data, refusal)[0], refusals))
+    before = next((at for at, got in enumerate(printed) if got != BEFORE), len(printed))
+    for number, got in enumerate(printed[before:-1], before + 1):
+        runs.check(f"a day at a gate: call {number}: {got.stdout!r}, {got.stderr[:80]!r}", got == told(entries, 1))
+    runs.check("a day at a gate, no such call", printed[-1] == told(entries, 0))
+    runs.check("a day at a gate: a call of each command is refused", total - before >= entries)
