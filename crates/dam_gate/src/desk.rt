@@ -24,7 +24,7 @@ use std::sync::{Arc, OnceLock, Wait};
 /// A contract sees the journal, and how many passes were given. The history of the name `J` that it has is just the
 /// journal's entries.
 #[derive(Drop)]
-pub struct Desk<J: Naming, R: Wait + Drop>
+pub(crate) struct Desk<J: Naming, R: Wait + Drop>
 where
     Shown<J>: Absorb<Change<J>, State = ()>,
 {

@@ -7,7 +7,7 @@ use logbook::{Gain, Offer, Plain, Play, Rule, Seen, Start, Word};
 use std::marker::{Brand, Model, PhantomData};
 
 /// The rule of the word that counts a gate's entries.
-pub struct Law;
+pub(crate) struct Law;
 
 impl Rule<Entry, u64> for Law {
     ghost use Rattle.std.specs.Prelude.{[]};
@@ -28,7 +28,7 @@ impl Rule<Entry, u64> for Law {
 }
 
 /// Callers trade nothing.
-pub struct Nothing;
+pub(crate) struct Nothing;
 
 impl Gain<Entry, u64> for Nothing {
     ghost use base.Fml.{ftrue};
@@ -37,7 +37,7 @@ impl Gain<Entry, u64> for Nothing {
 }
 
 /// A step that adds an entry.
-pub struct Add;
+pub(crate) struct Add;
 
 impl Play<Entry, u64> for Add {
     ghost use Rattle.dam_gate.specs.inside.History.{Adds};
@@ -112,7 +112,7 @@ impl Opening {
 
 /// The word that counts the entries.
 #[derive(Drop)]
-pub struct Head<J: Naming> {
+pub(crate) struct Head<J: Naming> {
     word: Word<Entry, u64, Law>,
     of: PhantomData<J>,
     ghost head_is: { word ≡ head_of J.book },
@@ -120,7 +120,7 @@ pub struct Head<J: Naming> {
 
 /// A beginning of the history that was seen. Contracts see it as its entries.
 #[derive(Drop)]
-pub struct Front<J: Naming> {
+pub(crate) struct Front<J: Naming> {
     held: u32,
     seen: Seen<Entry, u64, Law>,
     of: PhantomData<J>,
@@ -139,14 +139,14 @@ impl<J: Naming> Model for Front<J> {
 
 impl<J: Naming> Front<J> {
     /// How many entries it has.
-    pub fn len(&self) -> u32
+    pub(crate) fn len(&self) -> u32
         ensures { result ≡ length self.now }
     {
         self.held
     }
 
     /// A copy.
-    pub fn again(&self) -> Front<J>
+    pub(crate) fn again(&self) -> Front<J>
         ensures { result ≡ self.now }
     {
         Front {
@@ -157,7 +157,7 @@ impl<J: Naming> Front<J> {
     }
 
     /// Whether the other begins it: it does where it is no longer.
-    pub fn begins_with(&self, other: &Front<J>) -> bool
+    pub(crate) fn begins_with(&self, other: &Front<J>) -> bool
         ensures { result ≡ true → IsPrefix other.now self.now }
     {
         let mut both = self.seen.again();
@@ -169,7 +169,7 @@ impl<J: Naming> Front<J> {
     }
 
     /// The longer of two fronts, which the other begins.
-    pub fn longer(&self, other: &Front<J>) -> Front<J>
+    pub(crate) fn longer(&self, other: &Front<J>) -> Front<J>
         ensures one { (result ≡ self.now) ⊎ (result ≡ other.now) }
         ensures this { IsPrefix self.now result }
         ensures that { IsPrefix other.now result }
@@ -187,7 +187,7 @@ impl<J: Naming> Front<J> {
 impl<J: Naming> Head<J> {
     /// The history after the entry, which came to just the history of `front`, and that to all that was seen and told. `None`
     /// where the history is another.
-    pub fn add(
+    pub(crate) fn add(
         &self,
         front: &Front<J>,
         seen: &Front<J>,

@@ -1,13 +1,16 @@
-//! What a settled gate shows, and the limits of a gate, each as the contract of a function that does nothing but cite the
-//! laws that it rests on.
-ghost use Rattle.std.specs.Prelude.{◌≡◌, All};
+//! What a settled gate shows, that nobody is shown another history, and the limits of a gate, each as the contract of a
+//! function that does nothing but cite the laws that it rests on.
+ghost use Rattle.std.specs.Prelude.{◌≡◌, ◌⊎◌, All};
+ghost use mathlib.Core.List.{IsPrefix};
 ghost use Rattle.dam_gate.specs.Limits.{most_participants, most_passes};
 ghost use Rattle.dam_gate.specs.Pass.{IsPass};
 ghost use Rattle.dam_gate.specs.Settled.{IsSettled};
 ghost use Rattle.dam_gate.specs.Headline.{IsWholeAccount};
 
 use crate::account::Account;
+use crate::history::Naming;
 use crate::limits::{MOST_PARTICIPANTS, MOST_PASSES};
+use crate::pass::{Note, Pass};
 use crate::settlement::Settled;
 use dam_book::laws::histories_are_runs;
 use std::alloc::Allocator;
@@ -22,6 +25,22 @@ pub fn whole_account<A: Allocator + Copy>(settled: &Settled<A>, passes: &[Accoun
     let _journal = settled.journal().entries();
     are_passes(passes);
     histories_are_runs();
+}
+
+/// Of what two passes of one gate have seen, one history begins the other: what one participant saw never contradicts what
+/// another saw.
+pub fn one_history<J: Naming>(one: &Pass<J>, other: &Pass<J>)
+    ensures { (IsPrefix one.now.history other.now.history)
+        ⊎ (IsPrefix other.now.history one.now.history) }
+{
+    one.one_history(other);
+}
+
+/// The same of what two calls of one gate had made: no participant is answered from another history than the others.
+pub fn one_history_of_calls<J: Naming>(one: &Note<J>, other: &Note<J>)
+    ensures { (IsPrefix one.now other.now) ⊎ (IsPrefix other.now one.now) }
+{
+    one.one_history(other);
 }
 
 /// Each exported constant is the number of its limit.

@@ -33,6 +33,15 @@ impl<J: Naming> Model for Note<J> {
     ghost view = { λ n. n.front };
 }
 
+impl<J: Naming> Note<J> {
+    /// One of the two histories begins the other.
+    pub(crate) fn one_history(&self, other: &Note<J>)
+        ensures { (IsPrefix self.now other.now) ⊎ (IsPrefix other.now self.now) }
+    {
+        let _longer = self.front.longer(&other.front);
+    }
+}
+
 /// What a holder carries through the gate's calls: what it has seen of the gate's history and been told of it, and a
 /// receipt of each of its own commands that reached the book, in the order of its calls.
 ///
@@ -171,6 +180,14 @@ impl<J: Naming> Pass<J> {
         ensures one { (self.new.told ≡ self.old.told) ⊎ (self.new.told ≡ note.now) }
     {
         self.told = self.told.longer(&note.front);
+    }
+
+    /// Of what the two have seen one begins the other.
+    pub(crate) fn one_history(&self, other: &Pass<J>)
+        ensures { (IsPrefix self.now.history other.now.history)
+            ⊎ (IsPrefix other.now.history self.now.history) }
+    {
+        let _longer = self.history.longer(&other.history);
     }
 
     /// Makes room for so many receipts more.

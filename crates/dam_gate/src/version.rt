@@ -11,7 +11,7 @@ use std::sync::{Arc, OnceLock};
 
 /// The book after some number of entries. A contract sees the entries and the book.
 #[derive(Drop)]
-pub struct Version<J: Naming> {
+pub(crate) struct Version<J: Naming> {
     book: Arc<Book, Global>,
     front: Front<J>,
 }
@@ -28,21 +28,21 @@ impl<J: Naming> Model for Version<J> {
 }
 
 impl<J: Naming> Version<J> {
-    pub fn new(book: Arc<Book, Global>, front: Front<J>) -> Version<J>
+    pub(crate) fn new(book: Arc<Book, Global>, front: Front<J>) -> Version<J>
         requires { IsJournal (record { entries = front; book = arc_value book }) }
         ensures { result ≡ record { entries = front; book = arc_value book } }
     {
         Version { book, front }
     }
 
-    pub fn front(&self) -> &Front<J>
+    pub(crate) fn front(&self) -> &Front<J>
         ensures value { result.now ≡ self.now.entries }
         ensures valid { IsJournal self.now }
     {
         &self.front
     }
 
-    pub fn book(&self) -> &Book
+    pub(crate) fn book(&self) -> &Book
         ensures { result.now ≡ self.now.book }
     {
         &self.book
@@ -50,7 +50,7 @@ impl<J: Naming> Version<J> {
 }
 
 /// Where a version comes to stand.
-pub type Place<J> = Arc<OnceLock<Version<J>>, Global>;
+pub(crate) type Place<J> = Arc<OnceLock<Version<J>>, Global>;
 
 /// What the pair of `left_right` has two of: the place of the last version.
 #[derive(Drop)]
