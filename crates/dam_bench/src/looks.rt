@@ -18,6 +18,7 @@ const MOST_WAITS: u32 = 1_000_000_000;
 const LOOKS_A_CALL: u32 = 16;
 
 /// What the guests look for, and how often the first of them does.
+#[derive(Drop)]
 struct Stage<'a> {
     keys: &'a [(Participant, Name)],
     times: u32,
@@ -39,14 +40,15 @@ struct Guest<J: Naming> {
     /// How many calls the gate answered.
     called: u64,
     /// How many nanoseconds the looks of the first guest took.
-    taken: u64,
+    taken: u128,
 }
 
 /// What was counted and timed.
+#[derive(Drop)]
 pub struct Looks {
     pub found: u64,
     pub called: u64,
-    pub taken: u64,
+    pub taken: u128,
 }
 
 impl Stage<'_> {
@@ -97,7 +99,7 @@ impl<J: Naming> Guest<J> {
         }
         if let Ok(begun) = begun {
             if let Ok(taken) = begun.elapsed(clock) {
-                self.taken = taken.as_nanos() as u64;
+                self.taken = taken.as_nanos();
             }
         }
         stage.over.store(1, Ordering::SeqCst);
@@ -221,9 +223,7 @@ fn guests<J: Naming, H: Wait + Drop>(
     let mut guests = Vec::new(alloc);
     guests.push(Guest::new(first, Vec::new(alloc))).ok()?;
     for who in &givers {
-        guests
-            .push(guest_of(rt, alloc, gate, who, commands)?)
-            .ok()?;
+        guests.push(guest_of(rt, alloc, gate, who, commands)?).ok()?;
     }
     Some(guests)
 }
@@ -249,11 +249,15 @@ fn looks_named<J: Naming + Send + Sync, R: Clock + Threads + Wait + Sync>(
         begun: AtomicU64::new(0),
         over: AtomicU64::new(0),
     };
-    let seats = guests.get_mut(..usize::from(beside) + 1)?;
+    let seats = usize::from(beside) + 1;
+    if guests.len() < seats {
+        return None;
+    }
+    guests.truncate(seats);
     thread::for_each_mut(
         rt,
+        &mut guests,
         seats,
-        usize::from(beside) + 1,
         &|seat, guest| {
             if seat == 0 {
                 guest.look_all(rt, stage);
@@ -276,7 +280,7 @@ fn looks_named<J: Naming + Send + Sync, R: Clock + Threads + Wait + Sync>(
 
 /// So many looks of one thread at a gate to which the commands were entered, with so many other threads that call and look
 /// beside it; `None` where a command or a pass is refused.
-pub fn looks<R: Clock + Threads + Wait + Sync>(
+pub fn looks_of<R: Clock + Threads + Wait + Sync>(
     rt: &R,
     alloc: Global,
     commands: &[Command],
@@ -303,7 +307,7 @@ fn calls_named<J: Naming, R: Clock + Wait>(
     for turn in 0..times {
         guest.call(rt, &gate, turn as usize);
     }
-    let taken = begun.elapsed(rt).ok()?.as_nanos() as u64;
+    let taken = begun.elapsed(rt).ok()?.as_nanos();
     Some(Looks {
         found: 0,
         called: guest.called,
@@ -312,7 +316,7 @@ fn calls_named<J: Naming, R: Clock + Wait>(
 }
 
 /// So many amends of one participant at a gate to which the commands were entered.
-pub fn calls<R: Clock + Wait>(
+pub fn calls_of<R: Clock + Wait>(
     rt: &R,
     alloc: Global,
     commands: &[Command],

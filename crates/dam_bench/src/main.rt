@@ -32,10 +32,10 @@ use dam_bound::Relaxed;
 use dam_gate::settle;
 use dam_results::read_journal;
 use dam_search::{FreeTurn, Plan, first_selection, search};
-use looks::{calls, looks};
+use looks::{calls_of, looks_of};
 use nodes::Cutting;
 use problem::problem_of;
-use refusals::{Stop, refusals};
+use refusals::{Stop, refusals_of};
 use scores::{sum_of_passes, sum_of_scores};
 use settlements::{enter_all, equal_receipts};
 use std::alloc::Global;
@@ -146,9 +146,12 @@ fn measure_looks<R: Clock + Print + Eprint + Threads + Wait + Sync>(
     times: u32,
 ) -> io::Result<()> {
     let read = read_journal(alloc, text).map_err(|_| invalid())?;
-    let looks = looks(rt, alloc, &read.commands, beside, times).ok_or(invalid())?;
+    let looks = looks_of(rt, alloc, &read.commands, beside, times).ok_or(invalid())?;
     eprintln!(rt; "looks {}", looks.taken)?;
-    println!(rt; "{} looks found an order, {} calls beside", looks.found, looks.called)
+    println!(rt;
+        "{} looks found an order, {} calls beside",
+        looks.found, looks.called
+    )
 }
 
 fn measure_calls<R: Clock + Print + Eprint + Wait>(
@@ -158,7 +161,7 @@ fn measure_calls<R: Clock + Print + Eprint + Wait>(
     times: u32,
 ) -> io::Result<()> {
     let read = read_journal(alloc, text).map_err(|_| invalid())?;
-    let calls = calls(rt, alloc, &read.commands, times).ok_or(invalid())?;
+    let calls = calls_of(rt, alloc, &read.commands, times).ok_or(invalid())?;
     eprintln!(rt; "calls {}", calls.taken)?;
     println!(rt; "{} calls", calls.called)
 }
@@ -168,7 +171,7 @@ fn count_refusals<R: Print + Wait>(rt: &R, alloc: Global, text: &[u8]) -> io::Re
     let Ok(read) = read_journal(alloc, text) else {
         return println!(rt; "memory");
     };
-    match refusals(rt, alloc, read.periods, &read.commands) {
+    match refusals_of(rt, alloc, read.periods, &read.commands) {
         Ok(done) => println!(rt; "{} entries, {} calls refused", done.entries, done.refused),
         Err(Stop::Memory) => println!(rt; "memory"),
         Err(Stop::Wrong) => println!(rt; "wrong"),

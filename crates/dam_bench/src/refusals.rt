@@ -30,6 +30,7 @@ impl From<AllocError> for Stop {
 }
 
 /// What came of a day.
+#[derive(Drop)]
 pub struct Refusals {
     pub entries: usize,
     /// How many calls were refused memory.
@@ -37,6 +38,7 @@ pub struct Refusals {
 }
 
 /// The gate's day as it goes on: all room that it needs is made before the first call.
+#[derive(Drop)]
 struct Round<J: Naming> {
     passes: Vec<Pass<J>>,
     refused: u32,
@@ -60,7 +62,7 @@ impl<J: Naming> Round<J> {
             };
             match given {
                 Ok(pass) => {
-                    self.passes.push(pass)?;
+                    self.passes.push(pass).map_err(|_| Stop::Memory)?;
                     return Ok(self.passes.len().wrapping_sub(1));
                 }
                 Err(PassFault::PassesUsed) => return Err(Stop::Wrong),
@@ -103,11 +105,7 @@ impl<J: Naming> Round<J> {
 }
 
 /// Settles the journal, and how many calls were refused memory.
-fn settled(
-    alloc: Global,
-    journal: Journal,
-    accounts: &[Account],
-) -> Result<(Settled, u32), Stop> {
+fn settled(alloc: Global, journal: Journal, accounts: &[Account]) -> Result<(Settled, u32), Stop> {
     let mut journal = journal;
     for refused in 0..TRIES {
         match settle(alloc, journal, accounts) {
@@ -145,7 +143,9 @@ fn day_named<J: Naming, R: Wait>(
     let journal = gate.finish();
     let Round { passes, refused } = round;
     for pass in passes {
-        accounts.push(pass.into_account())?;
+        accounts
+            .push(pass.into_account())
+            .map_err(|_| Stop::Memory)?;
     }
     let (settled, again) = settled(alloc, journal, &accounts)?;
     if settled.journal().entries() != keeper.entries() {
@@ -158,7 +158,7 @@ fn day_named<J: Naming, R: Wait>(
 }
 
 /// The commands and then a close, entered at a gate by one thread; beside a keeper, which has them first.
-pub fn refusals<R: Wait>(
+pub fn refusals_of<R: Wait>(
     rt: &R,
     alloc: Global,
     periods: u8,
