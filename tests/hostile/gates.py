@@ -7,8 +7,8 @@ import judge
 from preload import EVERY, Printed, Program, Refusal
 
 MEASURES = Path(__file__).resolve().parents[2] / "crates/dam_bench/out/dam_bench"
-# What is printed where memory is refused before the first call at the gate.
-BEFORE = Printed(0, b"memory\n", b"")
+# What is printed where memory is refused before the first call at the gate: to the words and the input, or to the keeper.
+BEFORE = {Printed(1, b"", b"Error: Kind(OutOfMemory)\n"), Printed(0, b"memory\n", b"")}
 
 
 def told(entries, refused):
@@ -27,8 +27,9 @@ def run(runs, room, data):
     _, total = program.run(words, data, Refusal("memory", EVERY, EVERY))
     refusals = [Refusal("memory", number, number) for number in range(1, total + 2)]
     printed = list(runs.pool.map(lambda refusal: program.run(words, data, refusal)[0], refusals))
-    before = next((at for at, got in enumerate(printed) if got != BEFORE), len(printed))
+    before = next((at for at, got in enumerate(printed) if got not in BEFORE), len(printed))
     for number, got in enumerate(printed[before:-1], before + 1):
         runs.check(f"a day at a gate: call {number}: {got.stdout!r}, {got.stderr[:80]!r}", got == told(entries, 1))
     runs.check("a day at a gate, no such call", printed[-1] == told(entries, 0))
     runs.check("a day at a gate: a call of each command is refused", total - before >= entries)
+    print(f"memory refused at a gate: {total - before} calls made again", flush=True)
