@@ -21,7 +21,9 @@
 //! A contract sees a journal and a [`Settled`] as their entries with the book that these make, a [`Keeper`] as its journal
 //! and the room in it, and a [`Pass`] as what it knows: its account, that is its holder, the number of entries that it
 //! has seen, and its receipts; the history that it has seen, the longest that it was told of, and the one that its last
-//! call made. What these words mean stands in `specs/`. Of what lies under the lock it sees only what is true of any gate.
+//! call made. What these words mean stands in `specs/`. What two passes have seen is one history ([`laws::one_history`]).
+//!
+//! Of what lies under the lock a contract sees only what is true of any gate.
 //! So only tested is that a gate begins with its day and no entry, that a call journals at this gate and just once,
 //! or, refused, not at all, that each entry's version is shown, that calls are refused and looks are `None`
 //! only where they should be, that `finish` hands over the journal of these calls, and that a gate gives nine

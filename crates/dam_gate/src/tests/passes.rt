@@ -1,6 +1,7 @@
 ghost use Rattle.std.specs.Prelude.{◌≡◌};
 
 use super::{cancel, cancels, enter, found, hour, look, name, participant, submit};
+use crate::laws::{one_history, one_history_of_calls};
 use crate::{BeginFault, Gate, GateFault, Keeper, Look, Naming, Opening, Pass, PassFault};
 use dam_book::{Command, Entry, Reason, Reply, Side};
 use std::alloc::Global;
@@ -115,11 +116,12 @@ fn see_each_other<J: Naming, H: Wait + Drop>(
 ) -> Result<bool, Fail> {
     let mut a = gate.pass(rt, participant(b"A")?)?;
     let mut b = gate.pass(rt, participant(b"B")?)?;
-    Ok(
-        both_see_a_sell(rt, gate, &mut a, &mut b)?
-            && a_sees_a_buy(rt, gate, &mut a, &mut b)?
-            && sees(&mut b, (b"B", b"S1"), &found(2, None))?,
-    )
+    let seen = both_see_a_sell(rt, gate, &mut a, &mut b)?
+        && a_sees_a_buy(rt, gate, &mut a, &mut b)?
+        && sees(&mut b, (b"B", b"S1"), &found(2, None))?;
+    one_history(&a, &b);
+    one_history_of_calls(a.note().ok_or("a note")?, b.note().ok_or("a note")?);
+    Ok(seen)
 }
 
 /// Whether A and B see each other's calls at a gate.
