@@ -7,6 +7,7 @@
 //! - `looks BESIDE TIMES` enters a journal's submits at a gate, and looks there, with so many threads that call and look
 //!   beside it.
 //! - `calls TIMES` enters a journal's submits at a gate, and amends them.
+//! - `copies TIMES` copies the book that a journal makes.
 //! - `refusals` enters a journal's commands at a gate and settles it, makes each call again that memory was refused to, and
 //!   counts these; it is for tests that refuse memory.
 //! - `scores TIMES` scores selections of a journal's blocks, and goes as often over its hourly orders.
@@ -28,9 +29,10 @@ mod words;
 
 use clears::{hour_of, sum_of_clears};
 use dam_blocks::{Problem, Selection};
+use dam_book::Seed;
 use dam_bound::Relaxed;
 use dam_gate::settle;
-use dam_results::read_journal;
+use dam_results::{book_of_text, read_journal};
 use dam_search::{FreeTurn, Plan, first_selection, search};
 use looks::{calls_of, looks_of};
 use nodes::Cutting;
@@ -75,6 +77,7 @@ fn take<R: Clock + Print + Eprint + Threads + Wait + Sync>(
         Measure::Settlements { times } => measure_settlements(rt, alloc, text, *times),
         Measure::Looks { beside, times } => measure_looks(rt, alloc, text, *beside, *times),
         Measure::Calls { times } => measure_calls(rt, alloc, text, *times),
+        Measure::Copies { times } => measure_copies(rt, alloc, text, *times),
         Measure::Refusals => count_refusals(rt, alloc, text),
         Measure::OfProblem(measure) => match problem_of(alloc, text) {
             Some(problem) => take_of_problem(rt, alloc, measure, &problem),
@@ -164,6 +167,24 @@ fn measure_calls<R: Clock + Print + Eprint + Wait>(
     let calls = calls_of(rt, alloc, &read.commands, times).ok_or(invalid())?;
     eprintln!(rt; "calls {}", calls.taken)?;
     println!(rt; "{} calls", calls.called)
+}
+
+/// Prints how many orders the copies had in all.
+fn measure_copies<R: Clock + Print + Eprint>(
+    rt: &R,
+    alloc: Global,
+    text: &[u8],
+    times: u32,
+) -> io::Result<()> {
+    let book = book_of_text(alloc, Seed::fixed(), text).map_err(|_| invalid())?;
+    let mut orders = 0usize;
+    let begun = Instant::now(rt)?;
+    for _ in 0..times {
+        let copy = book.try_copy()?;
+        orders = orders.wrapping_add(copy.len());
+    }
+    tell(rt, "copies", begun)?;
+    println!(rt; "{orders}")
 }
 
 /// `memory` where it was refused to what comes before the gate.

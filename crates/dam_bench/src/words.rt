@@ -10,6 +10,7 @@ pub enum Measure {
     Settlements { times: u32 },
     Looks { beside: u8, times: u32 },
     Calls { times: u32 },
+    Copies { times: u32 },
     Refusals,
     OfProblem(OfProblem),
 }
@@ -76,6 +77,9 @@ pub fn read_measure(words: &mut Args) -> Option<Measure> {
             times: number(words)?,
         }),
         "calls" => Some(Measure::Calls {
+            times: number(words)?,
+        }),
+        "copies" => Some(Measure::Copies {
             times: number(words)?,
         }),
         "refusals" => Some(Measure::Refusals),
