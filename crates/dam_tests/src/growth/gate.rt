@@ -4,7 +4,8 @@ use super::{FAMILY, MIXED, REFUSED, TRIES, TWO, are_equal, run_of};
 use crate::support::commands;
 use dam_book::{Command, Entry, Participant};
 use dam_gate::{
-    Account, Gate, Journal, Keeper, KeeperFault, Mismatch, Naming, Opening, Pass, Unsettled, settle,
+    Account, BeginFault, Gate, Journal, Keeper, KeeperFault, Mismatch, Naming, Opening, Pass,
+    Unsettled, settle,
 };
 use limited_alloc::RefusesNth;
 use std::alloc::{Allocator, Global};
@@ -73,6 +74,17 @@ fn apply_each<A: Allocator + Copy>(
     Ok(())
 }
 
+/// Begins a keeper, anew where a growth is refused.
+fn begin<A: Allocator + Copy>(rt: &impl Abort, alloc: A) -> Result<Keeper<A>, Fail> {
+    match Keeper::begin(alloc, 24) {
+        Ok(keeper) => Ok(keeper),
+        Err(fault) => {
+            assert!(rt; fault == BeginFault::Memory);
+            Ok(Keeper::begin(alloc, 24)?)
+        }
+    }
+}
+
 /// Applies the commands to two keepers, of which the first may be refused growths.
 fn apply_all<A: Allocator + Copy>(
     rt: &impl Abort,
@@ -80,7 +92,7 @@ fn apply_all<A: Allocator + Copy>(
     commands: &[Command],
     mut ample: Keeper,
 ) -> Result<(), Fail> {
-    let mut keeper = Keeper::begin(alloc, 24)?;
+    let mut keeper = begin(rt, alloc)?;
     apply_each(rt, &mut keeper, &mut ample, commands)
 }
 
