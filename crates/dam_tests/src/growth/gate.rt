@@ -195,15 +195,15 @@ fn give<J: Naming, H: Wait + Drop>(
     Ok(())
 }
 
-/// Gives the commands of these records, each by its giver's pass, and answers what is left of the passes.
+/// Gives the commands, each by its giver's pass, and answers what is left of the passes.
 fn give_all<J: Naming, H: Wait + Drop>(
     rt: &impl Wait,
     alloc: Global,
     gate: &Gate<J, H>,
-    records: &str,
+    commands: &[Command],
 ) -> Result<Vec<Account>, Fail> {
     let mut passes = passes_of(rt, alloc, gate)?;
-    for command in &commands(alloc, records)? {
+    for command in commands {
         give(rt, gate, passes.as_mut_slice(), command)?;
     }
     let mut accounts = Vec::new(alloc);
@@ -213,24 +213,25 @@ fn give_all<J: Naming, H: Wait + Drop>(
     Ok(accounts)
 }
 
-/// The commands of these records, each by its giver's pass, through a gate of this opening.
+/// The commands, each by its giver's pass, through a gate of this opening.
 fn through_named<J: Naming, R: Wait>(
     rt: &R,
     alloc: Global,
     opening: Opening,
-    records: &str,
+    commands: &[Command],
 ) -> Result<Finished, Fail>
     requires { opening ≡ J.book }
 {
     let gate = Gate::<J, &R>::begin(rt, alloc, opening, 24)?;
-    let passes = give_all(rt, alloc, &gate, records)?;
+    let passes = give_all(rt, alloc, &gate, commands)?;
     let journal = gate.finish();
     Ok(Finished { journal, passes })
 }
 
 /// The commands of these records, each by its giver's pass, through a gate.
 fn through_gate<R: Wait>(rt: &R, alloc: Global, records: &str) -> Result<Finished, Fail> {
-    through_named::<Brand, R>(rt, alloc, Opening::new(), records)
+    let commands = commands(alloc, records)?;
+    through_named::<Brand, R>(rt, alloc, Opening::new(), &commands)
 }
 
 /// Why a settlement failed, if it did; where memory was refused, the journal that was handed back.
