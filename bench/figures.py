@@ -20,6 +20,9 @@ TIME = "/usr/bin/time"
 LIMIT = float(os.environ.get("LIMIT", "60"))
 HIGHS_LIMIT = float(os.environ.get("HIGHS_LIMIT", "20"))
 
+# How many bytes a program's stack is moved by from turn to turn; the ninth turn has it where the first one has.
+STACKS = 16
+
 
 class Run(NamedTuple):
     """What a program printed, and its seconds."""
@@ -39,11 +42,13 @@ class Run(NamedTuple):
         return statistics.median(self.laps(name))
 
 
-def run(words, given=os.devnull, statuses=(0,), limit=LIMIT):
-    """Runs a program on a file; None where it didn't end in time. Ends this one where that fails."""
+def run(words, given=os.devnull, statuses=(0,), limit=LIMIT, padding=0):
+    """Runs a program on a file; None where it didn't end in time. Ends this one where that fails. The padding is so many bytes more of
+    its environment, which move its stack."""
     with open(given, "rb") as text, tempfile.TemporaryFile() as printed, tempfile.TemporaryFile() as told:
         begun = time.perf_counter()
-        started = subprocess.Popen(words, stdin=text, stdout=printed, stderr=told)
+        surroundings = {**os.environ, "PADDING": "." * padding}
+        started = subprocess.Popen(words, stdin=text, stdout=printed, stderr=told, env=surroundings)
         clock = threading.Timer(limit, started.kill)
         clock.start()
         _, status, used = os.wait4(started.pid, 0)
@@ -61,13 +66,13 @@ def run(words, given=os.devnull, statuses=(0,), limit=LIMIT):
 
 def by_turns(programs, given=os.devnull, most=31, seconds=5.0):
     """Runs programs by turns: for each name its runs, at most so many, and no further one after so many seconds. A program that
-    didn't end in time has no runs."""
+    didn't end in time has no runs. Each turn has their stacks elsewhere, since a walk's time varies with that by half."""
     runs = {name: [] for name in programs}
     begun = time.perf_counter()
     for turn in range(most):
         for name, words in programs.items():
             if turn == 0 or runs[name]:
-                runs[name] += [each for each in [run(words, given)] if each]
+                runs[name] += [each for each in [run(words, given, padding=STACKS * (turn % 8))] if each]
         if time.perf_counter() - begun > seconds:
             break
     return runs
