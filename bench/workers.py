@@ -44,7 +44,7 @@ def ties():
 
 def speed(name, book):
     plans = [(workers, CUT) for workers in ("1", *LEAST)]
-    found = searched(plans, book, most=5)
+    found = searched(plans, book, most=8)
     one = found["1", CUT]
     line(f"{name}, cut {CUT}: the search with 1 worker", seconds(statistics.median(one)))
     for workers, least in LEAST.items():
@@ -54,7 +54,7 @@ def speed(name, book):
 def private(name, book):
     """One worker's whole search, and the same steps with an incumbent of its own."""
     programs = {"shared": [MEASURES, "search", "1", CUT], "private": [MEASURES, "nodes", "1", CUT, "1"]}
-    runs = by_turns(programs, book, most=5, seconds=20)
+    runs = by_turns(programs, book, most=8, seconds=20)
     shared = [each.lap("search") for each in runs["shared"]]
     own = [sum(each.lap(name) for name in ("levels", "first", "walk")) for each in runs["private"]]
     ratio(f"{name}, cut {CUT}: 1 worker on shared words beside its own", shared, own, 1.05)
