@@ -31,8 +31,8 @@ pub enum GateFault {
     /// Memory ran out.
     #[error("out of memory")]
     Memory,
-    /// The history had gone on without the journal, so that no version of the command could be shown. No call of a gate
-    /// leaves it so.
+    /// The history had gone on without the journal, or the place of the version was taken, so that no version of the command
+    /// could be shown. In the tests no call leaves it so.
     #[error("no version could be shown")]
     NoVersion,
 }

@@ -45,8 +45,8 @@ impl<J: Naming> Note<J> {
 /// What a holder carries through the gate's calls: what it has seen of the gate's history and been told of it, and a
 /// receipt of each of its own commands that reached the book, in the order of its calls.
 ///
-/// A contract sees what the pass knows. Each history in it is a beginning of the one that the gate of the name `J` has
-/// published: nothing else makes such a value.
+/// A contract sees what the pass knows. Each history in it is a beginning of the one of the gate of the name `J`:
+/// nothing else makes such a value.
 #[derive(Drop)]
 pub struct Pass<J: Naming> {
     holder: Option<Participant>,
