@@ -290,7 +290,8 @@ fn close<J: Naming, H: Wait + Drop>(rt: &impl Wait, gate: &Gate<J, H>) -> Result
 
 /// What is left of the passes.
 fn accounts_of<J: Naming>(alloc: Global, passes: Vec<Pass<J>>) -> Result<Vec<Account>, DayFault>
-    ensures ok { IfOk result (λ accounts. accounts.items ≡ map (λ pass. pass.account) passes.items) }
+    ensures ok { IfOk result (λ accounts.
+        accounts.items ≡ map (λ pass. pass.account) passes.items) }
     ensures err { IfErr result (λ fault. fault ≡ DayFault.Memory) }
 {
     let mut accounts = Vec::with_capacity(alloc, passes.len() + 1)?;

@@ -152,12 +152,14 @@ impl<J: Naming, R: Wait + Drop> Desk<J, R> {
         requires { is_full (length self.old.journal.entries) command ≡ false }
         ensures entry { IfOk result (λ r. r.0 ≡ next_entry self.old.journal command) }
         ensures history { IfOk result (λ r. r.1 ≡ self.old.journal.entries ++ r.0 ∷ []) }
-        ensures journal { OnOk result (self.new.journal ≡ journal_after self.old.journal command) }
+        ensures journal { OnOk result
+            (self.new.journal ≡ journal_after self.old.journal command) }
         ensures passes { self.new.passes ≡ self.old.passes }
         ensures seen { OnOk result (IsPrefix seen.now self.old.journal.entries) }
         ensures told { OnOk result (IsPrefix told.now self.old.journal.entries) }
         ensures err { OnErr result (self.new ≡ self.old) }
-        ensures fault { IfErr result (λ fault. (fault ≡ GateFault.Memory) ⊎ (fault ≡ GateFault.NoVersion)) }
+        ensures fault { IfErr result (λ fault.
+            (fault ≡ GateFault.Memory) ⊎ (fault ≡ GateFault.NoVersion)) }
     {
         // Its contract tells that these are the entries of a journal.
         let _journal = self.keeper.len();

@@ -207,11 +207,13 @@ impl<J: Naming> Pass<J> {
     ) -> Result<Entry, GateFault>
         requires { is_own self.old.account.holder command ≡ true }
         ensures entry { IfOk result (λ entry. entry ≡ next_entry desk.old.journal command) }
-        ensures journal { OnOk result (desk.new.journal ≡ journal_after desk.old.journal command) }
+        ensures journal { OnOk result
+            (desk.new.journal ≡ journal_after desk.old.journal command) }
         ensures passes { desk.new.passes ≡ desk.old.passes }
         ensures answered { IfOk result (IsAnswered self.old self.new.history) }
         ensures later { IfOk result (λ entry. self.old.account.seen < entry.number) }
-        ensures pass { IfOk result (λ entry. self.new ≡ after_call self.old self.new.history entry) }
+        ensures pass { IfOk result (λ entry.
+            self.new ≡ after_call self.old self.new.history entry) }
         ensures err { OnErr result ((desk.new ≡ desk.old) × (self.new ≡ self.old)) }
         ensures fault { IfErr result
             (IsFaultAt (length desk.old.journal.entries) self.old.account command) }
