@@ -20,8 +20,8 @@ TIME = "/usr/bin/time"
 LIMIT = float(os.environ.get("LIMIT", "60"))
 HIGHS_LIMIT = float(os.environ.get("HIGHS_LIMIT", "20"))
 
-# How many bytes a program's stack is moved by from turn to turn; the ninth turn has it where the first one has.
-STACKS = 16
+# How many bytes a program's stack is moved by from turn to turn, over so many places.
+STACKS, PLACES = 32, 32
 
 
 class Run(NamedTuple):
@@ -72,7 +72,7 @@ def by_turns(programs, given=os.devnull, most=31, seconds=5.0):
     for turn in range(most):
         for name, words in programs.items():
             if turn == 0 or runs[name]:
-                runs[name] += [each for each in [run(words, given, padding=STACKS * (turn % 8))] if each]
+                runs[name] += [each for each in [run(words, given, padding=STACKS * (turn % PLACES))] if each]
         if time.perf_counter() - begun > seconds:
             break
     return runs

@@ -54,14 +54,14 @@ def speed(name, book):
 def private(name, book):
     """One worker's whole search, and the same steps with an incumbent of its own."""
     programs = {"shared": [MEASURES, "search", "1", CUT], "private": [MEASURES, "nodes", "1", CUT, "1"]}
-    runs = by_turns(programs, book, most=8, seconds=20)
+    runs = by_turns(programs, book, most=32, seconds=20)
     shared = [each.lap("search") for each in runs["shared"]]
     own = [sum(each.lap(name) for name in ("levels", "first", "walk")) for each in runs["private"]]
     ratio(f"{name}, cut {CUT}: 1 worker on shared words beside its own", shared, own, 1.05)
 
 
 def default(family, orders):
-    found = searched([DEFAULT, ONE], make(family, orders), most=9)
+    found = searched([DEFAULT, ONE], make(family, orders), most=32)
     ratio(f"{family} {orders}: the search by the default plan beside 1 worker", found[DEFAULT], found[ONE], 1)
 
 
