@@ -31,7 +31,7 @@ def journals():
     beside = [BASELINE, "day"]
     compare("dam day beside the baseline with threads, 9,999 commands", [DAM, "day"], beside, DAY, 2)
     what = "dam day beside the baseline with threads, peak memory"
-    ratio(what, [peak([DAM, "day"], DAY)], [peak(beside, DAY)], shown=MIB)
+    ratio(what, [peak([DAM, "day"], DAY)], [peak(beside, DAY)], 1.5, shown=MIB)
     compare("dam day beside dam replay, 9,999 commands", [DAM, "day"], [DAM, "replay"], DAY, None)
 
 
