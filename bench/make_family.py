@@ -1,7 +1,7 @@
 #!/usr/bin/env python3
-"""make_family.py FAMILY HOURLY [BLOCKS]: prints the journal of a closed day of 24 periods, with so many hourly orders and 24 blocks
-or so many. The families are hard in different ways for a search over selections of blocks; every run with the same words prints
-the same bytes.
+"""make_family.py FAMILY HOURLY [BLOCKS [PARTS]]: prints the journal of a closed day of 24 hours, with so many hourly orders, and 24
+blocks or as many as are asked for. With 4 for PARTS each hour is four periods, so that the day has 96; without it, one. The families are
+hard in different ways for a search over selections of blocks; every run with the same words prints the same bytes.
 
 market    hourly orders round a daily curve of prices, and blocks round it
 paradox   blocks that gain alone and lose together, since each moves the price
@@ -16,8 +16,9 @@ import random
 import sys
 from dataclasses import dataclass, field
 
-PERIODS = 24
+HOURS = 24
 BLOCKS = 24
+parts = 1  # of an hour, each of them a period
 PARTICIPANTS = ["ALPHA", "BRAVO", "CHARLIE", "DELTA", "ECHO", "FOXTROT", "GOLF", "HOTEL"]
 SEED = 20_251_001
 
@@ -37,22 +38,32 @@ class Block:
         return f"submit,{self.who},{self.name},block,{self.side},{self.price},{volumes},{self.parent},{self.group}"
 
 
+def periods_of_day():
+    return HOURS * parts
+
+
 def curve(period):
     """The price that the hourly orders of a period lie round, in cents per MWh."""
-    return round(6_000 + 2_500 * math.sin((period - 7) * math.pi / 12))
+    hour = 1 + (period - 1) // parts
+    return round(6_000 + 2_500 * math.sin((hour - 7) * math.pi / 12))
 
 
 def hourly(number, rng):
-    period = 1 + number % PERIODS
-    side = "buy" if (number // PERIODS) % 2 == 0 else "sell"
+    period = 1 + number % periods_of_day()
+    side = "buy" if (number // periods_of_day()) % 2 == 0 else "sell"
     price = curve(period) + round(rng.gauss(0, 1_500)) + (700 if side == "buy" else -700)
     return f"submit,{rng.choice(PARTICIPANTS)},HOUR-{number},hour,{side},{price},{period}:{rng.randint(50, 500)},,"
 
 
+def periods_of(first, last):
+    """The periods of these hours, the last one not among them."""
+    return range(1 + parts * (first - 1), 1 + parts * (last - 1))
+
+
 def span(rng, least, most):
     length = rng.randint(least, most)
-    first = rng.randint(1, PERIODS - length + 1)
-    return range(first, first + length)
+    first = rng.randint(1, HOURS - length + 1)
+    return periods_of(first, first + length)
 
 
 def mean_price(periods):
@@ -84,7 +95,7 @@ def spread(count, rng, volume):
 
 
 def nearties(count, rng, volume):
-    periods = range(8, 21)
+    periods = periods_of(8, 21)
     for number in range(count):
         price = round(mean_price(periods)) - 300 + 20 * number
         yield Block("sell", price, {period: volume // 4 for period in periods})
@@ -113,7 +124,7 @@ def ties(count, rng, volume):
 
 def flat(number, _rng):
     """Of each period, one buy and one sell that leave much of both at 6,000 cents, and small ones that never matter."""
-    period, rank = 1 + number % PERIODS, number // PERIODS
+    period, rank = 1 + number % periods_of_day(), number // periods_of_day()
     side = "buy" if rank % 2 == 0 else "sell"
     if rank < 2:
         return f"submit,ALPHA,HOUR-{number},hour,{side},6000,{period}:{50_000},,"
@@ -124,16 +135,18 @@ FAMILIES = {"market": market, "paradox": paradox, "spread": spread, "nearties": 
 
 
 def main():
+    global parts
     words = sys.argv[1:]
-    if len(words) not in (2, 3) or words[0] not in FAMILIES:
+    if not 2 <= len(words) <= 4 or words[0] not in FAMILIES:
         sys.exit(__doc__)
     family, orders = words[0], int(words[1])
-    count = int(words[2]) if len(words) == 3 else BLOCKS
+    count = int(words[2]) if len(words) > 2 else BLOCKS
+    parts = int(words[3]) if len(words) > 3 else 1
     rng = random.Random(f"{SEED} {family} {orders}")
     order = flat if family == "ties" else hourly
     # a tenth of what stands on one side of a period
-    volume = max(orders * 275 // PERIODS // 20, 10)
-    print(f"day,{PERIODS},,,,,,,")
+    volume = max(orders * 275 // periods_of_day() // 20, 10)
+    print(f"day,{periods_of_day()},,,,,,,")
     for number in range(orders):
         print(order(number, rng))
     for number, block in enumerate(FAMILIES[family](count, rng, volume)):

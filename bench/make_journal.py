@@ -1,6 +1,8 @@
 #!/usr/bin/env python3
-"""make_journal.py [day]: prints a journal of 10,000 records: a day of 24 periods, hourly orders of 8 participants with cancels
-among them, and a close; with `day` one command more stands in place of the close. Every run prints the same bytes."""
+"""make_journal.py [day | blocks]: prints a journal of 10,000 records: a day of 24 periods, hourly orders of 8 participants with
+cancels among them, and a close; with `day` one command more stands in place of the close. With `blocks` it prints a day of 100 periods
+and 10,000 commands, each of them a block with a volume of five digits in every period: 9 MB of the 16,777,216 bytes that may be read,
+about as long as a written journal gets. Every run prints the same bytes."""
 
 import random
 import sys
@@ -38,8 +40,17 @@ def commands(count, rng):
             yield f"cancel,{rng.choice(PARTICIPANTS)},NEVER-{made},,,,,,"
 
 
+def blocks(count, rng):
+    for number in range(count):
+        volumes = ";".join(f"{period}:{rng.randint(10_000, 99_999)}" for period in range(1, 101))
+        yield f"submit,{rng.choice(PARTICIPANTS)},BLOCK-{number},block,{rng.choice(['buy', 'sell'])},{rng.randint(10_000, 99_999)},{volumes},,"
+
+
 def main():
     rng = random.Random(20_240_601)
+    if sys.argv[1:] == ["blocks"]:
+        print("day,100,,,,,,,", *blocks(RECORDS, rng), sep="\n")
+        return
     is_open = sys.argv[1:] == ["day"]
     print(f"day,{PERIODS},,,,,,,")
     for command in commands(RECORDS - 1 if is_open else RECORDS - 2, rng):

@@ -1,8 +1,8 @@
 //! What `dam replay` does, as a plain Rust program over std alone: the measure that `dam` is timed against.
 //!
-//! It reads the same journals, and prints the same replies and fault lines. With the word `day` it does what `dam day` does before it
-//! clears: one thread a participant enters its commands round a `Mutex`, and the journal that they made is compared with what the
-//! threads were answered, and printed.
+//! It reads the same journals, but for amends and for blocks with a parent or a group, and prints the same replies and fault lines.
+//! With the word `day` it does what `dam day` does before it clears: one thread a participant enters its commands round a `Mutex`, and
+//! the journal that they made is compared with what the threads were answered, and printed.
 
 use std::collections::HashMap;
 use std::env;
@@ -12,15 +12,23 @@ use std::process::ExitCode;
 use std::sync::Mutex;
 use std::thread;
 
-const MOST_BYTES: usize = 4_194_304;
+const MOST_BYTES: usize = 16_777_216;
 const MOST_RECORDS: usize = 10_001;
 const MOST_HOURLY: usize = 4_000;
+const MOST_BLOCKS: usize = 24;
+const LAST_PERIOD: u32 = 100;
 const FIELDS: usize = 9;
 
 #[derive(Clone, Copy, PartialEq, Eq)]
 enum Side {
     Buy,
     Sell,
+}
+
+impl Display for Side {
+    fn fmt(&self, f: &mut fmt::Formatter<'_>) -> fmt::Result {
+        f.write_str(if *self == Side::Buy { "buy" } else { "sell" })
+    }
 }
 
 #[derive(Clone, Copy, PartialEq, Eq)]
@@ -31,11 +39,33 @@ struct HourOrder {
     volume: u32,
 }
 
+#[derive(Clone, PartialEq, Eq)]
+struct BlockOrder {
+    side: Side,
+    price: i32,
+    volumes: Vec<(u8, u32)>,
+}
+
+#[derive(Clone, PartialEq, Eq)]
+enum Order {
+    Hour(HourOrder),
+    Block(Box<BlockOrder>),
+}
+
+impl Order {
+    fn last_period(&self) -> u8 {
+        match self {
+            Order::Hour(order) => order.period,
+            Order::Block(order) => order.volumes.last().map_or(0, |(period, _)| *period),
+        }
+    }
+}
+
 type Key = (String, String);
 
 #[derive(Clone, PartialEq, Eq)]
 enum Command {
-    Submit(Key, HourOrder),
+    Submit(Key, Order),
     Cancel(Key),
     Close,
 }
@@ -52,10 +82,17 @@ impl Command {
 impl Display for Command {
     fn fmt(&self, f: &mut fmt::Formatter<'_>) -> fmt::Result {
         match self {
-            Command::Submit((who, name), order) => {
-                let side = if order.side == Side::Buy { "buy" } else { "sell" };
-                let HourOrder { price, period, volume, .. } = order;
+            Command::Submit((who, name), Order::Hour(order)) => {
+                let HourOrder { side, price, period, volume } = order;
                 writeln!(f, "submit,{who},{name},hour,{side},{price},{period}:{volume},,")
+            }
+            Command::Submit((who, name), Order::Block(order)) => {
+                let BlockOrder { side, price, volumes } = &**order;
+                write!(f, "submit,{who},{name},block,{side},{price},")?;
+                for (place, (period, volume)) in volumes.iter().enumerate() {
+                    write!(f, "{}{period}:{volume}", if place == 0 { "" } else { ";" })?;
+                }
+                writeln!(f, ",,")
             }
             Command::Cancel((who, name)) => writeln!(f, "cancel,{who},{name},,,,,,"),
             Command::Close => writeln!(f, "close,,,,,,,,"),
@@ -70,6 +107,7 @@ enum Reason {
     NameTaken,
     UnknownOrder,
     HourlyFull,
+    BlocksFull,
 }
 
 impl Display for Reason {
@@ -80,6 +118,7 @@ impl Display for Reason {
             Reason::NameTaken => "NameTaken",
             Reason::UnknownOrder => "UnknownOrder",
             Reason::HourlyFull => "HourlyFull",
+            Reason::BlocksFull => "BlocksFull",
         })
     }
 }
@@ -111,7 +150,8 @@ impl Display for Fault {
 /// The orders by participant and name, and their keys in book order; a cancelled one leaves a gap.
 struct Book {
     periods: u8,
-    places: HashMap<Key, (usize, HourOrder)>,
+    places: HashMap<Key, (usize, Order)>,
+    blocks: usize,
     order: Vec<Option<Key>>,
     closed: bool,
 }
@@ -121,6 +161,7 @@ impl Book {
         Book {
             periods,
             places: HashMap::new(),
+            blocks: 0,
             order: Vec::new(),
             closed: false,
         }
@@ -131,10 +172,11 @@ impl Book {
             return Err(Reason::Closed);
         }
         match command {
-            Command::Submit(key, order) => self.submit(key, *order),
+            Command::Submit(key, order) => self.submit(key, order),
             Command::Cancel(key) => {
-                let (place, _) = self.places.remove(key).ok_or(Reason::UnknownOrder)?;
+                let (place, order) = self.places.remove(key).ok_or(Reason::UnknownOrder)?;
                 self.order[place] = None;
+                self.blocks -= usize::from(matches!(order, Order::Block(_)));
                 Ok(())
             }
             Command::Close => {
@@ -144,17 +186,20 @@ impl Book {
         }
     }
 
-    fn submit(&mut self, key: &Key, order: HourOrder) -> Result<(), Reason> {
-        if order.period > self.periods {
+    fn submit(&mut self, key: &Key, order: &Order) -> Result<(), Reason> {
+        if order.last_period() > self.periods {
             return Err(Reason::PeriodOutOfDay);
         }
         if self.places.contains_key(key) {
             return Err(Reason::NameTaken);
         }
-        if self.places.len() >= MOST_HOURLY {
-            return Err(Reason::HourlyFull);
+        match order {
+            Order::Hour(_) if self.places.len() - self.blocks >= MOST_HOURLY => return Err(Reason::HourlyFull),
+            Order::Block(_) if self.blocks >= MOST_BLOCKS => return Err(Reason::BlocksFull),
+            Order::Hour(_) => (),
+            Order::Block(_) => self.blocks += 1,
         }
-        self.places.insert(key.clone(), (self.order.len(), order));
+        self.places.insert(key.clone(), (self.order.len(), order.clone()));
         self.order.push(Some(key.clone()));
         Ok(())
     }
@@ -211,9 +256,15 @@ fn price(text: &[u8]) -> Option<i32> {
 
 fn pair(text: &[u8]) -> Option<(u8, u32)> {
     let colon = text.iter().position(|byte| *byte == b':')?;
-    let period = number(&text[..colon]).filter(|n| (1..=25).contains(n))?;
+    let period = number(&text[..colon]).filter(|n| (1..=LAST_PERIOD).contains(n))?;
     let volume = number(&text[colon + 1..]).filter(|n| (1..=99_999).contains(n))?;
     Some((period as u8, volume))
+}
+
+/// Pairs by increasing period.
+fn pairs(text: &[u8]) -> Option<Vec<(u8, u32)>> {
+    let pairs = text.split(|byte| *byte == b';').map(pair).collect::<Option<Vec<_>>>()?;
+    pairs.is_sorted_by(|one, next| one.0 < next.0).then_some(pairs)
 }
 
 fn word(text: &[u8], most: usize, is_fine: impl Fn(u8) -> bool) -> Option<String> {
@@ -240,7 +291,7 @@ fn all_empty(fields: &[Vec<u8>], from: usize) -> Result<(), usize> {
 }
 
 fn day(fields: &[Vec<u8>]) -> Result<u8, usize> {
-    let periods = number(&fields[1]).filter(|n| (23..=25).contains(n)).ok_or(2usize)?;
+    let periods = number(&fields[1]).filter(|n| matches!(n, 23..=25 | 92 | 96 | 100)).ok_or(2usize)?;
     all_empty(fields, 3)?;
     Ok(periods as u8)
 }
@@ -250,7 +301,7 @@ fn command(fields: &[Vec<u8>]) -> Result<Command, usize> {
     match fields[0].as_slice() {
         b"submit" => {
             let key = (participant(&fields[1]).ok_or(2usize)?, name(&fields[2]).ok_or(3usize)?);
-            if fields[3] != b"hour" {
+            if fields[3] != b"hour" && fields[3] != b"block" {
                 return Err(4);
             }
             let side = match fields[4].as_slice() {
@@ -259,9 +310,15 @@ fn command(fields: &[Vec<u8>]) -> Result<Command, usize> {
                 _ => return Err(5),
             };
             let price = price(&fields[5]).ok_or(6usize)?;
-            let (period, volume) = pair(&fields[6]).ok_or(7usize)?;
+            let order = if fields[3] == b"hour" {
+                let (period, volume) = pair(&fields[6]).ok_or(7usize)?;
+                Order::Hour(HourOrder { side, price, period, volume })
+            } else {
+                let volumes = pairs(&fields[6]).ok_or(7usize)?;
+                Order::Block(Box::new(BlockOrder { side, price, volumes }))
+            };
             all_empty(fields, 8)?;
-            Ok(Command::Submit(key, HourOrder { side, price, period, volume }))
+            Ok(Command::Submit(key, order))
         }
         b"cancel" => {
             let key = (participant(&fields[1]).ok_or(2usize)?, name(&fields[2]).ok_or(3usize)?);

@@ -1,7 +1,7 @@
 //! The search for the best selection of blocks, in plain Rust over std, to compare with: the same rules for what is visited,
 //! without any proof. `twin WORKERS CUT [TIMES] < JOURNAL` prints the welfare, the selection, and the nodes visited by the last
-//! of so many walks; and on standard error, a line each, what was timed and the nanoseconds that it took. It takes journals that
-//! `make_family.py` prints: submits alone, each of them accepted.
+//! of so many walks; and on standard error, a line each, what was timed and the nanoseconds that it took. It takes the journals of
+//! 24 periods that `make_family.py` prints: submits alone, each of them accepted.
 //!
 //! A period's hourly orders and undecided blocks stand in one stack of supply: the sells, and each buy as supply of
 //! what of it isn't served, by rising price. With x units taken from the bottom, all buys less the net volume, the

@@ -81,7 +81,8 @@ class Draft:
 
     def late(self):
         """A period that the day may not have."""
-        return self.rng.randint(min(rules.DAYS), rules.GREATEST_PERIOD)
+        least = self.rng.choice([self.periods, min(rules.DAYS)])
+        return self.rng.randint(least, rules.GREATEST_PERIOD)
 
     def period(self):
         if self.rng.random() < 0.01:

@@ -3,7 +3,7 @@
 import html
 import re
 
-from . import decisions, pictures, text, trades
+from . import clock, decisions, pictures, text, trades
 
 # The pictures' colours and the page's own, by light and dark.
 COLOURS = {
@@ -148,14 +148,16 @@ def supporting(found):
 
 
 def period_table(day):
-    heads = [("period", "n"), ("price, EUR/MWh", "n"), ("supporting prices", "n"), ("volume, MW", "n")]
+    heads = [("period", "n"), ("begins", "n"), ("price, EUR/MWh", "n"), ("supporting prices", "n"), ("volume, MW", "n")]
     heads += [(f"{words}, MW", "n") for words in ("hourly buys", "block buys", "hourly sells", "block sells")]
     shares = [side for of in ("buy", "sell") for side in pictures.shares(day, of)]
     rows = []
     for number, found in day.outcome.cleared.items():
         ends = supporting(found)
         parts = [f"{share[number - 1]:,.1f}" for share in shares]
-        rows.append([number, price(day.said.prices[number - 1]), ends, volume(day.said.volumes[number - 1]), *parts])
+        begins = clock.begins(day.problem.periods, number)
+        traded = price(day.said.prices[number - 1]), ends, volume(day.said.volumes[number - 1])
+        rows.append([number, begins, *traded, *parts])
     return table(heads, rows)
 
 

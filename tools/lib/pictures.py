@@ -12,7 +12,7 @@ matplotlib.use("Agg")
 from matplotlib import pyplot
 from matplotlib.patches import Patch, Rectangle
 
-from . import decisions, selection
+from . import clock, decisions, selection
 
 # No two are equal, so that each can be told from the text of a picture.
 COLOURS = {
@@ -125,12 +125,12 @@ def period_picture(day, number):
 
 
 def period_axis(axes, day):
-    """Periods along the bottom: as many numbers as there is room for."""
+    """Periods along the bottom: the number of the first one of each hour, and under it when it begins."""
     periods = day.problem.periods
-    step = 1 if periods <= 25 else 4
+    numbers = range(1, periods + 1, int(1 / day.problem.hours))
     axes.set_xlim(0.5, periods + 0.5)
-    axes.set_xticks(range(1, periods + 1, step))
-    axes.set_xlabel("period of the day")
+    axes.set_xticks(numbers, [f"{number}\n{clock.begins(periods, number)}" for number in numbers], fontsize=6.5)
+    axes.set_xlabel("period of the day, and when it begins")
 
 
 def edges(values):
@@ -305,7 +305,7 @@ def draw_curves(axes, day, number):
     axes.set_xlabel("volume, MW")
     axes.set_ylabel("limit price, EUR/MWh")
     axes.legend(loc="lower right", bbox_to_anchor=(1, 1), ncols=2, borderaxespad=0.2)
-    heading(axes, f"Period {number}")
+    heading(axes, f"Period {number}, {clock.span(day.problem.periods, number)}")
 
 
 def draw_net(axes, net, bottom, top):

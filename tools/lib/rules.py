@@ -3,15 +3,17 @@
 
 from fractions import Fraction
 
-# The periods that a delivery day may have, and the length of one in hours.
-DAYS = {23: Fraction(1), 24: Fraction(1), 25: Fraction(1)}
+# The periods that a delivery day may have, and the length of one in hours: hours or their quarters, of 24 hours, or of one less or
+# more where the clocks change.
+HOURS = (23, 24, 25)
+DAYS = {hours * parts: Fraction(1, parts) for parts in (1, 4) for hours in HOURS}
 GREATEST_PERIOD = max(DAYS)
 
 LEAST_PRICE, GREATEST_PRICE = -50_000, 400_000  # cents per MWh
 GREATEST_VOLUME = 99_999  # tenths of a MW, of one order in one period
 
 MOST_HOURLY, MOST_BLOCKS = 4_000, 24  # orders in a book
-MOST_BYTES, MOST_RECORDS = 4_194_304, 10_001  # of a journal
+MOST_BYTES, MOST_RECORDS = 16_777_216, 10_001  # of a journal
 MOST_DAY_COMMANDS, MOST_DAY_PARTICIPANTS = 9_999, 8  # of what `dam day` reads
 
 

@@ -12,6 +12,7 @@ sys.path[:0] = [str(TOOLS), str(TOP / "tests" / "fuzz")]
 from lib import book, command, journal, results, selection
 
 AUCTION = TOP / "tests" / "cases" / "clear" / "auction-day.csv"
+QUARTERS = AUCTION.with_name("quarter-hour-day.csv")
 
 
 def status(case):

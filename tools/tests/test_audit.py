@@ -37,9 +37,10 @@ class Results(unittest.TestCase):
     def test_each_changed_number_is_refused_at_its_line(self):
         refused = 0
         for name, data, text in cleared_cases():
+            day = problem(data)
             for other, line in changed_numbers(text):
                 with self.subTest(name, line=line):
-                    self.assertIn(f"results line {line}:", "\n".join(differences(data, other)))
+                    self.assertIn(f"results line {line}:", "\n".join(check.differences(day, other)[1]))
                 refused += 1
         self.assertGreater(refused, 1_000)
 

@@ -6,7 +6,7 @@ import unittest
 from pathlib import Path
 
 import support
-from support import AUCTION, day_of, journal_of, results_of, tool
+from support import AUCTION, QUARTERS, day_of, journal_of, results_of, tool
 
 from lib import command, decisions
 
@@ -77,10 +77,24 @@ class Pictures(unittest.TestCase):
 
         day = day_of(AUCTION.read_bytes(), support.printed(AUCTION))
         drawn = pictures.picture(pictures.day_picture(day), "svg", words_as_text=True).decode()
-        for words in ("GAS EVENING", "sell 90 MW at 93.00 EUR/MWh", "paradoxically rejected", "supporting prices", ">24<"):
+        said = ["GAS EVENING", "sell 90 MW at 93.00 EUR/MWh", "paradoxically rejected", "supporting prices", ">24<", ">23:00<"]
+        for words in said:
             self.assertIn(words, drawn)
         drawn = pictures.picture(pictures.period_picture(day, 19), "svg", words_as_text=True).decode()
         for words in ("165.00", "accepted blocks sell 350.0 MW net", "730.0 MW of hourly buys are executed", "volume, MW"):
+            self.assertIn(words, drawn)
+
+    def test_what_the_pictures_of_a_quarter_hour_day_say(self):
+        from lib import pictures
+
+        day = day_of(QUARTERS.read_bytes(), support.printed(QUARTERS))
+        drawn = pictures.picture(pictures.day_picture(day), "svg", words_as_text=True).decode()
+        for words in ("GAS RAMP", ">00:00<", ">93<", ">23:00<"):
+            self.assertIn(words, drawn)
+        for words in (">94<", ">23:15<"):
+            self.assertNotIn(words, drawn)
+        drawn = pictures.picture(pictures.period_picture(day, 75), "svg", words_as_text=True).decode()
+        for words in ("Period 75, 18:30 to 18:45", "165.00", "726.0 MW of hourly buys are executed"):
             self.assertIn(words, drawn)
 
     def test_the_same_day_gives_the_same_bytes(self):

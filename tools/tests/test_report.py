@@ -7,7 +7,7 @@ import unittest
 from pathlib import Path
 
 import support
-from support import AUCTION, day_of, journal_of, printed, results_of, tool
+from support import AUCTION, QUARTERS, day_of, journal_of, printed, results_of, tool
 
 from lib import command, trades
 
@@ -103,6 +103,20 @@ class Page(unittest.TestCase):
             "loses at the prices by itself, and with STAY EVENING it gains 9,760.000 EUR",
             "HasChildren",
             "521,550.000 EUR",
+        ):
+            self.assertTrue(any(words in text for text in read.texts), words)
+
+    def test_what_it_says_of_a_quarter_hour_day(self):
+        read = Reader(self.page(QUARTERS.read_bytes(), printed(QUARTERS)))
+        # 4,000 units of welfare and surplus are one EUR.
+        for words in (
+            "96 periods",
+            "18:30",
+            "65 to 84",
+            "3,098,696.75000",
+            "paradoxically rejected",
+            "would gain 675.00000 EUR at the prices, but with it COAL,PEAK would lose 3,780.00000 EUR",
+            "PeriodOutOfDay",
         ):
             self.assertTrue(any(words in text for text in read.texts), words)
 

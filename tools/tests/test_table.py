@@ -8,7 +8,7 @@ from fractions import Fraction
 from pathlib import Path
 
 import support
-from support import AUCTION, day_of, printed, tool
+from support import AUCTION, QUARTERS, day_of, printed, tool
 
 from lib import book, command, journal, order_table, tables
 
@@ -39,8 +39,8 @@ class Results(unittest.TestCase):
             bought = total(periods, "hourly_buys_mw") + total(periods, "block_buys_mw")
             sold = total(periods, "hourly_sells_mw") + total(periods, "block_sells_mw")
             self.assertEqual([bought, sold], [total(periods, "volume_mw")] * 2)
-            self.assertEqual(total(participants, "bought_mwh"), bought)
-            self.assertEqual(total(orders, "executed_mwh"), bought + sold)
+            self.assertEqual(total(participants, "bought_mwh"), bought * day.problem.hours)
+            self.assertEqual(total(orders, "executed_mwh"), (bought + sold) * day.problem.hours)
             self.assertEqual([total(orders, "amount_eur"), total(participants, "net_eur")], [0, 0])
             self.assertEqual(total(participants, "orders"), len(orders))
 
@@ -114,10 +114,11 @@ class Orders(unittest.TestCase):
             ("12.5", "-500.01", "price_eur_mwh", "from -500.00 to 4000.00 EUR/MWh"),
             (",8,", ",,", "periods", "it should name a period"),
             (",8,", ",0,", "periods", "periods and runs of them"),
-            (",8,", ",26,", "periods", "from 1 to 25"),
+            (",8,", ",101,", "periods", "from 1 to 100"),
             (",8,", ",9-8,", "periods", "periods and runs of them"),
             (",8,", ",8-9,", "periods", "an hourly order has one period"),
             (",8,", ",25,", "periods", "the day doesn't have that period"),
+            (",8,", ",100,", "periods", "the day doesn't have that period"),
             (",45,", ",,", "volume_mw", "there are 0 volumes for 1 period"),
             (",45,", ",0,", "volume_mw", "from 0.1 to 9999.9 MW"),
             (",45,", ",-1,", "volume_mw", "from 0.1 to 9999.9 MW"),
@@ -172,6 +173,21 @@ class CommandLine(unittest.TestCase):
             self.assertEqual((status, out.splitlines()[0], out.splitlines()[-1]), (0, b"day,24,,,,,,,", b"close,,,,,,,,"))
             status, out, _ = tool("table", "--journal", "-", "--open", "--periods=25", data=f"{HEADER}\n{HOUR}\n".encode())
             self.assertEqual((status, out), (0, b"day,25,,,,,,,\nsubmit,NORD,WIND-8,hour,sell,1250,8:450,,\n"))
+
+    def test_quarter_hours(self):
+        rows = f"{HEADER}\nNORD,WIND,hour,sell,12.5,96,45,,\nA,K1,block,sell,60,1-96,0.1,,\n"
+        status, out, _ = tool("table", "--journal", "-", "--periods=96", data=rows.encode())
+        day, hour, block, close = out.splitlines()
+        self.assertEqual((status, day, hour), (0, b"day,96,,,,,,,", b"submit,NORD,WIND,hour,sell,1250,96:450,,"))
+        self.assertEqual((block.count(b":1;"), close), (95, b"close,,,,,,,,"))
+        self.assertEqual(tool("table", "--journal", "-", "--periods=91", data=rows.encode())[0], command.COMMAND_LINE)
+        texts = [QUARTERS, QUARTERS.with_suffix(".stdout")]
+        periods = tool("table", *texts)[1].decode().splitlines()
+        self.assertEqual((len(periods), periods[96].split(",")[:4]), (97, ["96", "0.25", "74.00", "385.0"]))
+        orders = tool("table", *texts, "--rows", "orders")[1].decode().splitlines()
+        # A quarter of an hour of 375 MW, at 50 EUR; and 15 MW at 98 EUR.
+        self.assertIn("STAD,LOAD-1,hour,buy,300.00,1,375.0,,,93.750,93.750,in full,,-4687.50000", orders)
+        self.assertIn("GAS,FLEX-60,hour,sell,98.00,60,205.0,,,51.250,3.750,in part,,367.50000", orders)
 
     def test_faults(self):
         status, out, err = tool("table", "--journal", "-", data=f"{HEADER}\n{HOUR},x\n".encode())

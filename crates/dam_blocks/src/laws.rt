@@ -25,9 +25,9 @@ use crate::problem::MOST_PERIODS;
 pub fn limits()
     ensures periods { MOST_PERIODS ≡ last_period }
     ensures hourly_value { greatest_hourly_value ≡ 159998400000000 }
-    ensures block_value { greatest_block_value ≡ 23999760000000 }
-    ensures surplus { greatest_surplus ≡ 1124988750000 }
-    ensures selection_welfare { greatest_selection_welfare ≡ 183998160000000 }
+    ensures block_value { greatest_block_value ≡ 95999040000000 }
+    ensures surplus { greatest_surplus ≡ 4499955000000 }
+    ensures selection_welfare { greatest_selection_welfare ≡ 255997440000000 }
 {}
 
 /// The empty selection is eligible.

@@ -1,6 +1,8 @@
 mod families;
 
-use crate::{Place, Problem, ProblemFault, Selection, Verdict, best_of_all, ranks_above, score};
+use crate::{
+    Place, Problem, ProblemFault, Selection, Verdict, best_of_all, ranks_above, score, surplus,
+};
 use dam_book::{
     BlockOrder, Book, Command, HourOrder, Name, Order, Participant, Period, Price, Qty, Reply,
     Side, Volumes,
@@ -326,6 +328,50 @@ fn buying_block(rt: HostRuntime) -> Result<(), Fail> {
     )?;
     let problem = problem_of(rt.alloc(), book)?;
     check(&rt, &problem, 35_000, &[true]);
+    Ok(())
+}
+
+/// A block that nobody buys from, in every period of the longest day.
+#[test]
+fn block_of_a_hundred_periods(rt: HostRuntime) -> Result<(), Fail> {
+    let mut book = Book::begin(rt.alloc(), 100)?;
+    selling_block(rt.alloc(), &mut book, b"K1", 0, (1, 100), 10)?;
+    let problem = problem_of(rt.alloc(), book)?;
+    assert_eq!(rt; problem.periods(), 100);
+    assert!(rt; problem.steps(period_of(100)?).is_some());
+    assert_eq!(rt;
+        score(&problem, Selection::none().with(0)),
+        Verdict::Unbalanced(period_of(1)?)
+    );
+    check(&rt, &problem, 0, &[false]);
+    Ok(())
+}
+
+/// A quarter-hour market in the last periods of a day, and a block over both of them.
+#[test]
+fn quarter_hours(rt: HostRuntime) -> Result<(), Fail> {
+    let mut book = Book::begin(rt.alloc(), 96)?;
+    market(&mut book, b"B1", b"S1", 95, 20)?;
+    market(&mut book, b"B2", b"S2", 96, 20)?;
+    selling_block(rt.alloc(), &mut book, b"K1", 4_000, (95, 96), 10)?;
+    let problem = problem_of(rt.alloc(), book)?;
+    assert!(rt; problem.steps(period_of(97)?).is_none());
+    check(&rt, &problem, 60_000, &[true]);
+    Ok(())
+}
+
+/// The greatest surplus of a block, of either sign.
+#[test]
+fn greatest_surpluses(rt: HostRuntime) -> Result<(), Fail> {
+    for (side, limit, price, greatest) in [
+        (SELL, -50_000, 400_000, 4_499_955_000_000),
+        (BUY, 400_000, -50_000, 4_499_955_000_000),
+        (BUY, -50_000, 400_000, -4_499_955_000_000),
+    ] {
+        let volumes = volumes_of(rt.alloc(), (1, 100), 99_999)?;
+        let order = BlockOrder::new(side, price_of(limit)?, volumes, None, None);
+        assert_eq!(rt; surplus(&order, &[price_of(price)?; 100]), greatest);
+    }
     Ok(())
 }
 

@@ -2,7 +2,7 @@
 use Rattle.std.specs.Prelude.{◌≡◌, ℕ, suc, ◌+◌, ◌≤◌, Bool, true, false, ◌==◌, ◌&&◌, ◌||◌, nat_le, not, List, [], ◌∷◌, ◌++◌, length, map, find, count_by, Option, Some, None, is_some, if◌then◌else◌}
 use Rattle.std.specs.Map.{lookup, remove_entry}
 use Rattle.std.specs.List.{list_any}
-use Rattle.dam_book.specs.Limits.{most_hourly, most_blocks}
+use Rattle.dam_book.specs.Limits.{last_period, most_hourly, most_blocks}
 use Rattle.dam_book.specs.Name.{IsName, IsParticipant, same_text}
 use Rattle.dam_book.specs.Volumes.{have_beyond}
 use Rattle.dam_book.specs.Order.{IsOrder, is_hour, is_block, is_beyond, is_parent, parent_of, amended}
@@ -35,9 +35,12 @@ pub record BookState : Type 0 where
 abbrev pub empty_book : ℕ → BookState
 empty_book periods = record { periods = periods; rows = []; closed = false }
 
--- a delivery day has 24 hours, or one less or more where the clocks change
+-- a delivery day has 24 hours, or one less or more where the clocks change; its periods are these hours
+-- or the quarters of each
 abbrev pub is_day : ℕ → Bool
-is_day periods = (periods == 23) || ((periods == 24) || (periods == 25))
+is_day periods =
+    (periods == 23) || ((periods == 24) || ((periods == 25)
+    || ((periods == 92) || ((periods == 96) || (periods == last_period)))))
 
 -- the order of that participant and name, if there is one
 abbrev pub order_at : BookState → Key → Option Order

@@ -16,7 +16,7 @@ greatest_volume = 99999
 
 -- the number of the last period that a delivery day has
 abbrev pub last_period : ℕ
-last_period = 25
+last_period = 100
 
 -- bytes of an order's name
 abbrev pub longest_name : ℕ

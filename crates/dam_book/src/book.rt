@@ -55,7 +55,8 @@ impl<A: Allocator> Model for Book<A> {
 }
 
 impl<A: Allocator + Copy> Book<A> {
-    /// The empty book of a day of 23, 24 or 25 periods, open, on the fixed seed that everybody knows.
+    /// The empty book of a day of 23, 24, 25, 92, 96 or 100 periods, open, on the fixed seed that
+    /// everybody knows.
     pub fn begin(alloc: A, periods: u8) -> Result<Book<A>, BeginFault>
         ensures { MatchResult result
             (λ book. (is_day periods ≡ true) × (book ≡ empty_book periods))
@@ -279,7 +280,7 @@ impl<A: Allocator + Copy> Book<A> {
         let _who = who.as_bytes();
         let _name = name.as_bytes();
         let _order = order.is_beyond(self.periods);
-        let boxed = BoxedOrder::new(*self.orders.allocator(), order.copy())?;
+        let boxed = BoxedOrder::of(*self.orders.allocator(), order)?;
         self.orders.insert((who.copy(), name.copy()), boxed)?;
         if order.is_hour() {
             self.hourly += 1;

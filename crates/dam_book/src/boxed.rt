@@ -23,12 +23,16 @@ impl<A: Allocator> Model for BoxedOrder<A> {
 }
 
 impl<A: Allocator> BoxedOrder<A> {
-    pub(crate) fn new(alloc: A, order: Order) -> Result<BoxedOrder<A>, AllocError>
-        ensures { IfOk result (λ boxed. boxed ≡ order) }
+    // A copy of the order. An hourly one is made where it will lie, so that the room for the volumes of a
+    // block, which it doesn't use, isn't copied.
+    pub(crate) fn of(alloc: A, order: &Order) -> Result<BoxedOrder<A>, AllocError>
+        ensures { IfOk result (λ boxed. boxed ≡ order.now) }
     {
-        Ok(BoxedOrder {
-            inner: Box::new(alloc, order)?,
-        })
+        let inner = match order {
+            Order::Hour(order) => Box::new(alloc, Order::Hour(*order))?,
+            Order::Block(order) => Box::new(alloc, Order::Block(order.copy()))?,
+        };
+        Ok(BoxedOrder { inner })
     }
 
     pub(crate) fn get(&self) -> &Order
@@ -49,6 +53,6 @@ impl<A: Allocator + Copy> Clone for BoxedOrder<A> {
     ghost is_clone = { λ x y. y ≡ x };
 
     fn clone(&self) -> Result<BoxedOrder<A>, AllocError> {
-        BoxedOrder::new(*Box::allocator(&self.inner), self.inner.copy())
+        BoxedOrder::of(*Box::allocator(&self.inner), &self.inner)
     }
 }

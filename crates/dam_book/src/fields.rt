@@ -121,6 +121,21 @@ pub fn read_qty(bytes: &[u8]) -> Option<Qty>
     parse_qty(text)
 }
 
+/// The period and the volume whose text is `bytes`, or `None` where no pair has that text.
+///
+/// The text is `period:volume`, both in decimal without leading zeros, the volume in tenths of a MW: that
+/// of volumes in one period.
+pub fn read_pair(bytes: &[u8]) -> Option<(Period, Qty)>
+    ensures { MatchOption result
+        ((p : Pair) → IsPeriod p.0 → IsQuantity p.1 → bytes.now ≢ pair_text p)
+        (λ p. IsPeriod p.0 × IsQuantity p.1 × (bytes.now ≡ pair_text p)) }
+{
+    let Ok(text) = str::from_utf8(bytes) else {
+        return None;
+    };
+    parse_pair(text)
+}
+
 /// The volumes whose text is `bytes`, or `None` where no volumes have that text.
 ///
 /// The text is 1 to `LAST_PERIOD` pairs `period:volume` with a `;` between each two, by increasing
@@ -156,7 +171,7 @@ pub fn write_qty<A: Allocator>(out: &mut Vec<u8, A>, qty: Qty) -> Result<(), All
     out.extend_from_slice(Buffer::new().format(qty.get()).as_bytes())
 }
 
-fn write_pair<A: Allocator>(out: &mut Vec<u8, A>, pair: (Period, Qty)) -> Result<(), AllocError>
+fn put_pair<A: Allocator>(out: &mut Vec<u8, A>, pair: (Period, Qty)) -> Result<(), AllocError>
     ensures ok { OnOk result (out.new.items ≡ out.old.items ++ pair_text pair) }
     ensures err { OnErr result (take (length out.old.items) out.new.items ≡ out.old.items) }
 {
@@ -176,12 +191,27 @@ fn write_pairs<A: Allocator>(
     let Some((first, rest)) = pairs.split_first() else {
         return Ok(());
     };
-    write_pair(out, *first)?;
+    put_pair(out, *first)?;
     for pair in rest {
         out.push(b';')?;
-        write_pair(out, *pair)?;
+        put_pair(out, *pair)?;
     }
     Ok(())
+}
+
+/// Appends the text of the period and the volume, the one that `read_pair` reads, whole or not at all.
+///
+/// It fails only where `out` can't grow.
+pub fn write_pair<A: Allocator>(out: &mut Vec<u8, A>, pair: (Period, Qty)) -> Result<(), AllocError>
+    ensures ok { OnOk result (out.new.items ≡ out.old.items ++ pair_text pair) }
+    ensures err { OnErr result (out.new.items ≡ out.old.items) }
+{
+    let length = out.len();
+    let written = put_pair(out, pair);
+    if written.is_err() {
+        out.truncate(length);
+    }
+    written
 }
 
 /// Appends the text of `volumes`, the one that `read_volumes` reads, whole or not at all.

@@ -58,9 +58,10 @@ pub fn limits()
     ensures most_entries { MOST_ENTRIES ≡ most_entries }
 {}
 
-/// No delivery day has more periods than the last number of a period.
+/// No delivery day has more periods than the last number of a period, and the longest has as many.
 pub fn days_are_short()
-    ensures { (periods : ℕ) → is_day periods ≡ true → periods ≤ last_period }
+    ensures short { (periods : ℕ) → is_day periods ≡ true → periods ≤ last_period }
+    ensures longest { is_day last_period ≡ true }
 {}
 
 /// A legal history is the entries of the run of its commands, and the entries of the run of any

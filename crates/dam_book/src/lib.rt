@@ -39,7 +39,10 @@ mod volumes;
 
 pub use book::{BeginFault, Book};
 pub use command::{Command, Entry, Reason, Reply};
-pub use fields::{read_price, read_qty, read_volumes, write_price, write_qty, write_volumes};
+pub use fields::{
+    read_pair, read_price, read_qty, read_volumes, write_pair, write_price, write_qty,
+    write_volumes,
+};
 pub use limits::{MOST_BLOCKS, MOST_ENTRIES, MOST_HOURLY};
 pub use name::{LONGEST_NAME, LONGEST_PARTICIPANT, Name, Participant};
 pub use order::{BlockOrder, HourOrder, Order, Side};

@@ -222,7 +222,7 @@ impl BlockOrder {
         self.group.as_ref()
     }
 
-    fn copy(&self) -> BlockOrder
+    pub(crate) fn copy(&self) -> BlockOrder
         ensures { result ≡ self.now }
     {
         BlockOrder {

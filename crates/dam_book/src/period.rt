@@ -6,7 +6,7 @@ ghost use Rattle.dam_book.specs.Period.{IsPeriod};
 use std::marker::Model;
 
 /// The number of the last period that any delivery day has.
-pub const LAST_PERIOD: u8 = 25;
+pub const LAST_PERIOD: u8 = 100;
 
 /// A period of the delivery day, numbered from 1 to `LAST_PERIOD`.
 ///
@@ -59,11 +59,12 @@ impl Period {
     }
 }
 
-/// Whether a delivery day has so many periods: 24 hours, or one less or more where the clocks change.
+/// Whether a delivery day has so many periods: 24 hours, or one less or more where the clocks change,
+/// or the quarters of so many hours.
 pub fn is_day(periods: u8) -> bool
     ensures { result ≡ Book.is_day periods }
 {
-    23 <= periods && periods <= LAST_PERIOD
+    matches!(periods, 23 | 24 | 25 | 92 | 96 | 100)
 }
 
 impl Default for Period {

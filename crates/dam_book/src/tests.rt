@@ -20,14 +20,14 @@ fn ranges_of_numbers(rt: HostRuntime) {
             if fits { Some(tenths) } else { None }
         );
     }
-    for (number, fits) in [(0, false), (1, true), (25, true), (26, false)] {
+    for (number, fits) in [(0, false), (1, true), (26, true), (100, true), (101, false)] {
         assert_eq!(rt;
             Period::new(number).map(|period| period.get()),
             if fits { Some(number) } else { None }
         );
     }
     assert_eq!(rt; Period::at(0).get(), 1);
-    assert_eq!(rt; Period::at(24).get(), 25);
+    assert_eq!(rt; Period::at(99).get(), 100);
 }
 
 #[test]
@@ -67,11 +67,11 @@ fn faults_of_volumes(rt: HostRuntime) -> Result<(), Fail> {
     let qty = Qty::new(10).ok_or("a volume")?;
     assert_eq!(rt; Volumes::new(&[]).err(), Some(VolumesFault::NoVolume));
     assert_eq!(rt;
-        Volumes::new(&[(one, qty); 26]).err(),
+        Volumes::new(&[(one, qty); 101]).err(),
         Some(VolumesFault::TooManyPeriods)
     );
     assert_eq!(rt;
-        Volumes::new(&[(one, qty); 25]).err(),
+        Volumes::new(&[(one, qty); 100]).err(),
         Some(VolumesFault::PeriodsNotIncreasing)
     );
     assert_eq!(rt;
@@ -87,11 +87,11 @@ fn faults_of_volumes(rt: HostRuntime) -> Result<(), Fail> {
 
 #[test]
 fn days(rt: HostRuntime) -> Result<(), Fail> {
-    for periods in [0, 22, 26, 255] {
+    for periods in [0, 22, 26, 91, 93, 94, 95, 97, 99, 101, 255] {
         assert!(rt; !is_day(periods));
         assert!(rt; matches!(Book::begin(rt.alloc(), periods), Err(BeginFault::BadDay)));
     }
-    for periods in [23, 24, 25] {
+    for periods in [23, 24, 25, 92, 96, 100] {
         assert!(rt; is_day(periods));
         let book = Book::begin(rt.alloc(), periods)?;
         assert_eq!(rt; book.periods(), periods);

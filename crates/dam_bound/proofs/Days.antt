@@ -84,6 +84,17 @@ day_without problem left place t prefix periods ss total at period is none so_fa
     ap (λ (bs : List Block). welfare_from problem.blocks prefix 1 (relaxed_hours bs 1 problem.hours)) is
     ∙ sym (none_bound problem.blocks prefix left problem.hours place t ss total at period (sym none) so_far.sum)
 
+-- a day that has the same of each of the problem's periods
+pub copied : (problem : ProblemState) (prefix : List Bool) (count : ℕ) (from to : Day) → length problem.hours ≤ count
+    → ((i : ℕ) (d : DayPeriod) → i < count → get_or to.periods i d ≡ get_or from.periods i d) → to.total ≡ from.total → length to.periods ≡ last_period
+    → IsDay problem prefix from → IsDay problem prefix to
+copied problem prefix count from to few same total long is = record {
+  long = long;
+  each = λ i ss d at. subst (λ (own : DayPeriod). IsPeriodOfDay problem.blocks prefix (i + 1) (ss ++ as_steps (i + 1) (drop (length prefix) problem.blocks)) own)
+      (sym (same i d (let within = slice_get_within problem.hours i ss at in omega (arith, within, few)))) (is.each i ss d at);
+  total_is = ap Some total ∙ is.total_is;
+}
+
 pub whole_day : (problem : ProblemState) (left : List Block) (place : ℕ) (prefix : List Bool) (day : Day) → length problem.hours ≤ place
     → drop (length prefix) problem.blocks ≡ left → length day.periods ≡ last_period
     → IsDaySoFar problem.blocks left problem.hours place prefix day.periods day.total → IsDay problem prefix day

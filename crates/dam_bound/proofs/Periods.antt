@@ -1,15 +1,16 @@
 -- The levels of the day, period by period.
-use Rattle.std.proofs.Common.{◌≡◌, ℕ, zero, suc, ◌+◌, ◌≤◌, ◌⊎◌, inl, inr, Some, List, [], ◌∷◌, ◌++◌, length, map, take, length-append, ap, ap₂, ◌∙◌, sym, subst, refl, arith}
-use Rattle.std.specs.List.{slice_get}
+use Rattle.std.proofs.Common.{◌≡◌, ℕ, zero, suc, ◌+◌, ◌<◌, ◌≤◌, ◌⊎◌, inl, inr, true, Option, Some, Result, Ok, Err, IfSome, IfOk, List, [], ◌∷◌, ◌++◌, length, map, length-append, ap, ap₂, ◌∙◌, sym, subst, refl, arith}
+use Rattle.std.specs.List.{slice_get, slice_index_or}
 use Rattle.std.specs.Option.{option_map}
-use Rattle.std.proofs.lemmas.List.{take_more, take_all, map-append}
+use Rattle.std.proofs.lemmas.Bool.Decides.{nat_tests}
+use Rattle.std.proofs.lemmas.List.{length-map}
 use Rattle.std.proofs.lemmas.Option.{get_or_from_slice_get, slice_get-map, slice_get_within}
-use Rattle.dam_book.specs.Limits.{most_blocks}
-use Rattle.dam_hour.specs.declared.step.Step.{Step}
+use Rattle.dam_book.specs.Book.{is_day}
 use Rattle.dam_book.specs.Limits.{last_period}
+use Rattle.dam_hour.specs.declared.step.Step.{Step}
 use Rattle.dam_blocks.specs.declared.problem.Block.{Block}
-use Rattle.dam_blocks.specs.Problem.{hourly_orders}
-use Rattle.dam_bound.specs.inside.Levels.{LevelsState, AreLevels, last_steps, AreDayLevels}
+use Rattle.dam_blocks.specs.Problem.{ProblemState, IsProblem, AreBlocks, hourly_orders}
+use Rattle.dam_bound.specs.inside.Levels.{LevelsState, AreLevels, AreLevelsAt, last_steps, AreDayLevels}
 
 -- an element of a list with one more at its end
 of_pushed : {X : Type 0} (xs : List X) (y : X) (i : ℕ) (x : X) → slice_get (xs ++ y ∷ []) i ≡ Some x → (slice_get xs i ≡ Some x) ⊎ ((i ≡ length xs) × (y ≡ x))
@@ -24,44 +25,80 @@ few_in_period [] i most ss few e = absurd (cc)
 few_in_period (hour ∷ hours) zero most ss few e = let same : hour ≡ ss = cc in omega (arith, few, ap length same)
 few_in_period (hour ∷ hours) (suc i) most ss few e = few_in_period hours i most ss (omega (arith, few)) e
 
+-- the levels that are made of the steps of the period at a place
+pub made_at : {E : Type 0} (hours : List (List Step)) (blocks bs : List Block) (place t : ℕ) (ss : List Step) (made : Result LevelsState E)
+    → slice_get hours place ≡ Some ss → t ≡ place + 1 → bs ≡ blocks
+    → IfOk made (λ levels. AreLevels t ss bs levels) → IfOk made (λ levels. last_steps levels ≡ ss) → IfOk made (AreLevelsAt hours blocks place)
+made_at hours blocks bs place t ss (Ok levels) at period same are last = record {
+  last = at ∙ ap (λ (hs : List Step). Some hs) (sym last);
+  each = subst (λ (hs : List Step). AreLevels (place + 1) hs blocks levels) (sym last)
+      (subst (λ (u : ℕ). AreLevels u ss blocks levels) period (subst (λ (others : List Block). AreLevels t ss others levels) same are));
+}
+made_at hours blocks bs place t ss (Err e) at period same are last = tt
+
 -- the levels of the periods so far
 pub record AreDaySoFar (blocks : List Block) (hours : List (List Step)) (count : ℕ) (periods : List LevelsState) : Type 0 where
   pub long : length periods ≡ count
-  pub hours_are : map last_steps periods ≡ take count hours
-  pub each : (i : ℕ) (levels : LevelsState) → slice_get periods i ≡ Some levels → AreLevels (i + 1) (last_steps levels) blocks levels
+  pub each : (i : ℕ) (levels : LevelsState) → slice_get periods i ≡ Some levels → AreLevelsAt hours blocks i levels
 
 pub no_period : (blocks : List Block) (hours : List (List Step)) → AreDaySoFar blocks hours 0 []
-no_period blocks hours = record { long = refl; hours_are = refl; each = λ i levels e. absurd (cc) }
+no_period blocks hours = record { long = refl; each = λ i levels e. absurd (cc) }
 
-pub one_period : (blocks : List Block) (hours : List (List Step)) (count t : ℕ) (periods : List LevelsState) (ss : List Step) (levels : LevelsState)
-    → slice_get hours count ≡ Some ss → t ≡ count + 1 → last_steps levels ≡ ss → AreLevels t ss blocks levels
-    → AreDaySoFar blocks hours count periods → AreDaySoFar blocks hours (count + 1) (periods ++ levels ∷ [])
-one_period blocks hours count t periods ss levels at period last are so_far =
+pub one_period : (blocks : List Block) (hours : List (List Step)) (count : ℕ) (periods : List LevelsState) (levels : LevelsState)
+    → AreLevelsAt hours blocks count levels → AreDaySoFar blocks hours count periods → AreDaySoFar blocks hours (count + 1) (periods ++ levels ∷ [])
+one_period blocks hours count periods levels at so_far =
     let long = so_far.long in
-    let own : AreLevels (count + 1) (last_steps levels) blocks levels =
-    subst (λ (hs : List Step). AreLevels (count + 1) hs blocks levels) (sym last) (subst (λ (u : ℕ). AreLevels u ss blocks levels) period are) in
     record {
       long = omega (arith, length-append periods (levels ∷ []), long);
-      hours_are = map-append last_steps periods (levels ∷ [])
-          ∙ ap₂ (λ (xs : List (List Step)) (x : List Step). xs ++ x ∷ []) so_far.hours_are (last ∙ sym (get_or_from_slice_get hours count ss [] at))
-          ∙ sym (take_more hours count [] (slice_get_within hours count ss at));
       each = λ i other e. elim (of_pushed periods levels i other e) [
         | inl old ↦ so_far.each i other old
         | inr new ↦
             (let here : count ≡ i = omega (arith, new.0, long) in
-            subst (λ (l : LevelsState). AreLevels (i + 1) (last_steps l) blocks l) new.1
-            (subst (λ (n : ℕ). AreLevels (n + 1) (last_steps levels) blocks levels) here own))
+            subst (λ (l : LevelsState). AreLevelsAt hours blocks i l) new.1 (subst (λ (n : ℕ). AreLevelsAt hours blocks n levels) here at))
       ];
     }
 
-pub all_periods : (blocks : List Block) (hours : List (List Step)) (count : ℕ) (periods : List LevelsState) → count ≤ last_period → length blocks ≤ most_blocks
-    → AreDaySoFar blocks hours count periods → AreDayLevels blocks periods
-all_periods blocks hours count periods few_periods few_blocks so_far =
-    let long = so_far.long in record { few_periods = omega (arith, long, few_periods); few_blocks = few_blocks; each = so_far.each }
+-- levels that were made at every place
+pub every_period : (blocks : List Block) (hours : List (List Step)) (made : List (Option LevelsState)) (periods : List LevelsState)
+    → ((i : ℕ) (d : Option LevelsState) → i < length made → IfSome (slice_index_or made i d) (AreLevelsAt hours blocks i))
+    → map (λ (l : LevelsState). Some l) periods ≡ made → AreDaySoFar blocks hours (length made) periods
+every_period blocks hours made periods each same = record {
+  long = sym (length-map periods (λ (l : LevelsState). Some l)) ∙ ap length same;
+  each = λ i levels e.
+      let at : slice_get made i ≡ Some (Some levels) = ap (λ (ls : List (Option LevelsState)). slice_get ls i) (sym same) ∙ slice_get-map (λ (l : LevelsState). Some l) periods i ∙ ap (option_map (λ (l : LevelsState). Some l)) e in
+      subst (λ (o : Option LevelsState). IfSome o (AreLevelsAt hours blocks i)) (get_or_from_slice_get made i (Some levels) (Some levels) at) (each i (Some levels) (slice_get_within made i (Some levels) at));
+}
 
-pub all_hours : (blocks : List Block) (hours : List (List Step)) (count : ℕ) (periods : List LevelsState) → length hours ≤ count
-    → AreDaySoFar blocks hours count periods → map last_steps periods ≡ hours
-all_hours blocks hours count periods all so_far = so_far.hours_are ∙ take_all count hours all
+-- a day has so many periods at most
+short_day : (periods : ℕ) → is_day periods ≡ true → periods ≤ last_period
+short_day periods day = grind (arith, nat_tests)
+
+pub all_periods : (problem : ProblemState) (count : ℕ) (periods : List LevelsState) → IsProblem problem → count ≡ length problem.hours
+    → AreDaySoFar problem.blocks problem.hours count periods → AreDayLevels problem.blocks periods
+all_periods problem count periods is all so_far =
+    let long = so_far.long in let short = short_day (length problem.hours) is.day in
+    record { few_periods = omega (arith, long, all, short); few_blocks = is.few_blocks; each = λ i levels e. (so_far.each i levels e).each }
+
+some_same : {X : Type 0} (x y : X) → Some x ≡ Some y → x ≡ y
+some_same x y e = cc
+
+-- the last steps of each period are its own
+steps_of_each : (periods : List LevelsState) (hours : List (List Step)) → length periods ≡ length hours
+    → ((i : ℕ) (levels : LevelsState) → slice_get periods i ≡ Some levels → slice_get hours i ≡ Some (last_steps levels)) → map last_steps periods ≡ hours
+steps_of_each [] [] long each = refl
+steps_of_each [] (hour ∷ hours) long each = absurd (omega (arith, long))
+steps_of_each (levels ∷ periods) [] long each = absurd (omega (arith, long))
+steps_of_each (levels ∷ periods) (hour ∷ hours) long each =
+    ap₂ (λ (x : List Step) (xs : List (List Step)). x ∷ xs) (sym (some_same hour (last_steps levels) (each zero levels refl)))
+    (steps_of_each periods hours (omega (arith, long)) (λ i other e. each (suc i) other e))
+
+pub all_hours : (problem : ProblemState) (count : ℕ) (periods : List LevelsState) → count ≡ length problem.hours
+    → AreDaySoFar problem.blocks problem.hours count periods → map last_steps periods ≡ problem.hours
+all_hours problem count periods all so_far = steps_of_each periods problem.hours (so_far.long ∙ all) (λ i levels e. (so_far.each i levels e).last)
+
+pub all_blocks : (problem : ProblemState) (count : ℕ) (periods : List LevelsState) → IsProblem problem → count ≡ length problem.hours
+    → AreDaySoFar problem.blocks problem.hours count periods → AreBlocks (length periods) problem.blocks
+all_blocks problem count periods is all so_far = subst (λ (n : ℕ). AreBlocks n problem.blocks) (sym (so_far.long ∙ all)) is.blocks
 
 -- the steps of a period of the day
 pub hour_of : (periods : List LevelsState) (i : ℕ) (levels : LevelsState) → slice_get periods i ≡ Some levels → slice_get (map last_steps periods) i ≡ Some (last_steps levels)

@@ -79,16 +79,8 @@ periods_size laws periods t bs prefix (ss ∷ hours) w are few ranges e =
     let a = here.at_least in let b = rest.at_least in let c = here.at_most in let d = rest.at_most in let sum = parts.4 in
     record { at_least = omega (arith, ints, a, b, sum, few); at_most = omega (arith, ints, c, d, sum, few) }
 
-day_is : (a b c : Bool) → (a || (b || c)) ≡ true → (a ≡ true) ⊎ ((b ≡ true) ⊎ (c ≡ true))
-day_is true b c e = inl refl
-day_is false true c e = inr (inl refl)
-day_is false false c e = inr (inr e)
-
 pub day_small : (n : ℕ) → is_day n ≡ true → n ≤ last_period
-day_small n e = elim (day_is (n == 23) (n == 24) (n == 25) e) [
-  | inl a ↦ (let is : n ≡ 23 = grind (arith, nat_tests) in omega (arith, is))
-  | inr r ↦ elim r [ inl b ↦ (let is : n ≡ 24 = grind (arith, nat_tests) in omega (arith, is)) | inr d ↦ (let is : n ≡ 25 = grind (arith, nat_tests) in omega (arith, is)) ]
-]
+day_small n e = grind (arith, nat_tests)
 
 pub relaxed_size : Laws → (problem : ProblemState) (prefix : List Bool) (w : ℤ) → IsProblem problem → relaxed_welfare problem prefix ≡ Some w → IsWithin greatest_selection_welfare w
 relaxed_size laws problem prefix w is e =

@@ -1,4 +1,4 @@
-ghost use Rattle.std.specs.Prelude.{◌≡◌, ◌*◌, false, ◌<◌, ◌≤◌, pos, neg_ℤ, ◌+ℤ◌, ◌-ℤ◌, ◌*ℤ◌, ◌≤ℤ◌, ◌<ℤ◌, ◌↔◌, List, Bool, [], ◌++◌, length, drop, IsTrue, IfSome, MatchBool, MatchOption, Some, None, option_map};
+ghost use Rattle.std.specs.Prelude.{◌≡◌, ◌*◌, false, ◌<◌, ◌≤◌, pos, neg_ℤ, ◌+ℤ◌, ◌-ℤ◌, ◌*ℤ◌, ◌≤ℤ◌, ◌<ℤ◌, ◌↔◌, ℕ, List, Bool, [], ◌++◌, length, drop, slice_index_or, IsTrue, IfSome, MatchBool, MatchOption, Some, None, option_map};
 ghost use Rattle.dam_book.specs.Limits.{greatest_volume, last_period};
 ghost use Rattle.dam_hour.specs.Limits.{most_steps, greatest_price, greatest_value};
 ghost use Rattle.dam_hour.specs.Best.{signed, greatest_welfare};
@@ -10,6 +10,7 @@ ghost use Rattle.dam_bound.specs.Relaxed.{relaxed_welfare};
 ghost use Rattle.dam_bound.specs.Day.{IsDay};
 ghost use Rattle.dam_bound.specs.inside.Change.{by, IsChange, IsGivenUp};
 ghost use Rattle.dam_bound.specs.inside.Levels.{greatest_period_bound, IsAtDepth, AreDayLevels, problem_kept};
+ghost use Rattle.dam_bound.specs.declared.day.DayPeriod.{DayPeriod};
 
 use crate::levels::Levels;
 use dam_blocks::{Block, MOST_PERIODS};
@@ -51,6 +52,19 @@ impl Day {
             total: 0,
         }
     }
+}
+
+/// Gives a day what another one has of the first so many periods, and its total. Nothing is copied of the
+/// periods that the delivery day doesn't have.
+pub(crate) fn copy_periods(from: &Day, to: &mut Day, count: usize)
+    requires { count ≤ last_period }
+    ensures periods { (i : ℕ) (own : DayPeriod) → i < count
+        → slice_index_or to.new.periods i own ≡ slice_index_or from.now.periods i own }
+    ensures total { to.new.total ≡ from.now.total }
+    ensures long { length to.new.periods ≡ last_period }
+{
+    to.periods[..count].copy_from_slice(&from.periods[..count]);
+    to.total = from.total;
 }
 
 /// What becomes of a block on a day.

@@ -6,8 +6,8 @@
 //! let bound = relaxed.bound(Selection::none().with(0), 2); // block 0 accepted, block 1 not, the others open
 //! ```
 //!
-//! A walk down the tree of prefixes carries the [`Day`] of each (`root`), and makes of a copy the day of
-//! the prefix with one more decision (`extend`): the same welfare, with only the periods of the last
+//! A walk down the tree of prefixes carries the [`Day`] of each (`root`), and makes of a copy (`copy_day`) the
+//! day of the prefix with one more decision (`extend`): the same welfare, with only the periods of the last
 //! block looked up anew, and no further than until it is seen to be less than what is asked for. Of the
 //! day of a prefix that decides every block, `turn` makes that with one decision turned round, and
 //! `gain` tells what an accepted block gains with its accepted descendants.

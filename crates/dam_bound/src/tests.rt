@@ -1,6 +1,8 @@
+ghost use Rattle.std.specs.Prelude.{◌<◌, length};
+
 mod days;
 
-use crate::Relaxed;
+use crate::{Day, Relaxed};
 use dam_blocks::{Problem, Selection};
 use dam_book::{
     BlockOrder, Book, Command, HourOrder, MOST_BLOCKS, Name, Order, Participant, Period, Price,
@@ -180,6 +182,78 @@ fn no_block(rt: HostRuntime) -> Result<(), Fail> {
     market(&mut book, b"B1", b"S1", 25, 20)?;
     let problem = problem_of(alloc, book)?;
     check(&rt, alloc, &problem, &[], Some(20_000))?;
+    Ok(())
+}
+
+/// A market in each of two periods of a day, and a block that sells in both.
+fn block_of_two_periods(alloc: Global, periods: u8, two: (u8, u8)) -> Result<Problem, Fail> {
+    let mut book = Book::begin(alloc, periods)?;
+    market(&mut book, b"B1", b"S1", two.0, 20)?;
+    market(&mut book, b"B2", b"S2", two.1, 20)?;
+    block(alloc, &mut book, b"K1", SELL, 4_000, two, 10)?;
+    problem_of(alloc, book)
+}
+
+#[test]
+fn bounds_of_quarter_hours(rt: HostRuntime) -> Result<(), Fail> {
+    let alloc = rt.alloc();
+    for (periods, two) in [(92, (91, 92)), (96, (95, 96)), (100, (99, 100))] {
+        let problem = block_of_two_periods(alloc, periods, two)?;
+        check(&rt, alloc, &problem, &[], Some(60_000))?;
+        check(&rt, alloc, &problem, &[true], Some(60_000))?;
+        check(&rt, alloc, &problem, &[false], Some(40_000))?;
+    }
+    Ok(())
+}
+
+/// The bounds of no decision, and of either on the first block.
+fn first_bounds(relaxed: &Relaxed) -> [Option<i64>; 3]
+    requires { 0 < length relaxed.now.blocks }
+{
+    let none = Selection::none();
+    [
+        relaxed.bound(none, 0),
+        relaxed.bound(none.with(0), 1),
+        relaxed.bound(none, 1),
+    ]
+}
+
+#[test]
+fn levels_made_in_threads(rt: HostRuntime) -> Result<(), Fail> {
+    let alloc = rt.alloc();
+    let problem = block_of_two_periods(alloc, 25, (1, 25))?;
+    assert!(rt; problem.block_count() == 1);
+    let bounds = first_bounds(&Relaxed::build(alloc, &problem)?);
+    for threads in [1, 3, 8] {
+        let relaxed = Relaxed::build_parallel(&rt, alloc, &problem, threads)?;
+        assert_eq!(rt; first_bounds(&relaxed), bounds);
+    }
+    Ok(())
+}
+
+/// The bound of the first extension of a day's copy.
+fn extended_copy(relaxed: &Relaxed, accept: bool) -> Option<i64>
+    requires { 0 < length relaxed.now.blocks }
+{
+    let root = relaxed.root()?;
+    let mut day = Day::empty();
+    relaxed.copy_day(&root, &mut day);
+    if relaxed.extend(&mut day, 0, accept, 0) {
+        Some(day.total)
+    } else {
+        None
+    }
+}
+
+#[test]
+fn copied_days(rt: HostRuntime) -> Result<(), Fail> {
+    for (periods, two) in [(24, (23, 24)), (100, (99, 100))] {
+        let problem = block_of_two_periods(rt.alloc(), periods, two)?;
+        let relaxed = Relaxed::build(rt.alloc(), &problem)?;
+        assert!(rt; problem.block_count() == 1);
+        assert_eq!(rt; extended_copy(&relaxed, true), Some(60_000));
+        assert_eq!(rt; extended_copy(&relaxed, false), Some(40_000));
+    }
     Ok(())
 }
 

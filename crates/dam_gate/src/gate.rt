@@ -101,7 +101,8 @@ where
 }
 
 impl<J: Naming, R: Wait + Drop> Gate<J, R> {
-    /// The gate of a day of 23, 24 or 25 periods, with an empty journal, on the fixed seed that everybody knows.
+    /// The gate of a day of 23, 24, 25, 92, 96 or 100 periods, with an empty journal, on the fixed seed
+    /// that everybody knows.
     pub fn begin(
         rt: R,
         alloc: Global,

@@ -152,7 +152,8 @@ impl<A: Allocator> Ready<A> {
 }
 
 impl<A: Allocator + Copy> Keeper<A> {
-    /// The empty journal and the empty book of a day of 23, 24 or 25 periods, on the fixed seed that everybody knows.
+    /// The empty journal and the empty book of a day of 23, 24, 25, 92, 96 or 100 periods, on the fixed
+    /// seed that everybody knows.
     pub fn begin(alloc: A, periods: u8) -> Result<Keeper<A>, BeginFault>
         ensures ok { IfOk result (λ keeper.
             (is_day periods ≡ true) × (keeper.journal ≡ empty_journal periods)) }

@@ -1,13 +1,17 @@
 -- The first fault of records.
-use Rattle.std.proofs.Common.{◌≡◌, ℕ, ◌+◌, ◌≤◌, inl, inr, true, List, [], ◌∷◌, ◌++◌, length, map, Result, Ok, Err, refl, ap, subst, ◌∙◌, arith, append_assoc, append-nil, MatchResult}
+use Rattle.std.proofs.Common.{◌≡◌, ℕ, ◌+◌, ◌≤◌, ◌<◌, ◌==◌, inl, inr, true, false, if◌then◌else◌, sym, List, [], ◌∷◌, ◌++◌, length, map, Result, Ok, Err, refl, ap, subst, ◌∙◌, arith, append_assoc, append-nil, MatchResult}
 use Rattle.std.specs.List.{AllByRecursion}
 use Rattle.std.proofs.lemmas.List.{map-append, length-map, length-append}
+use Rattle.std.proofs.lemmas.Bool.Decides.{nat_tests}
 use Rattle.dam_book.specs.Book.{is_day}
 use Rattle.dam_book.specs.declared.command.Command.{Command}
 use Rattle.dam_results.specs.Limits.{most_records}
 use Rattle.dam_results.specs.declared.journal.JournalFault.{JournalFault}
 use Rattle.dam_results.specs.declared.journal.JournalFault.TheVariants.{TooLong, NotAscii, TooManyRecords, NotDay, FieldCount, BadField, Memory}
 use Rattle.dam_results.specs.Records.{Fields, day_row, row_of}
+use Rattle.dam_results.specs.Rules.{day_rules, command_rules, IsLeastBroken}
+use Rattle.dam_results.specs.inside.Row.{fields_in}
+use Rattle.dam_results.specs.declared.row.Row.{Row}
 use Rattle.dam_results.specs.Journal.{AreRecords, IsCommand}
 use Rattle.dam_results.specs.Faults.{IsRecordFault, HasFault, IsFaultOfRecords}
 
@@ -30,6 +34,14 @@ pub first_record : {Open : Type 0} (rows rest : List Fields) (row : Fields) (rea
     → MatchResult read (λ periods. (is_day periods ≡ true) × Open × (rows ≡ day_row periods ∷ rest)) (IsFaultOfRecords rows)
 first_record rows rest row (Ok periods) opened e h = (h.0, opened, e ∙ ap (λ (r : Fields). r ∷ rest) h.1)
 first_record rows rest row (Err fault) opened e h = in_first rows rest row fault e h
+
+-- a later record of nine fields, one of which breaks its rule
+pub bad_later : (number : ℕ) (row : Fields) (own : Row) (field : ℕ) → 1 < number → number ≤ most_records → row ≡ fields_in own → IsLeastBroken (command_rules (fields_in own)) (fields_in own) field
+    → IsRecordFault number row (BadField number field)
+bad_later number row own field later few same broken =
+    let other : (number == 1) ≡ false = grind (arith, nat_tests, later) in
+    let rules : IsLeastBroken (if number == 1 then day_rules else command_rules (fields_in own)) (fields_in own) field = rw other broken in
+    ((few, λ first. absurd (omega (arith, later, first))), refl, ap length same, subst (λ (r : Fields). IsLeastBroken (if number == 1 then day_rules else command_rules r) r field) (sym same) rules)
 
 -- the commands read so far of the records after the day, and the records left
 pub record Reads (rows : List Fields) (commands : List Command) (rest : List Fields) : Type 0 where

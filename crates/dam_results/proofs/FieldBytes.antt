@@ -67,9 +67,9 @@ price z h =
     let small = small_price z h in
     record { fits = length_signed_le 6 z (omega arith) (omega arith); bytes = signed_digits z (omega arith) }
 
-pair : (p : Pair) → IsPeriod p.0 → IsQuantity p.1 → IsFieldText 8 (pair_text p)
+pair : (p : Pair) → IsPeriod p.0 → IsQuantity p.1 → IsFieldText 9 (pair_text p)
 pair p h g =
-    let period : length (decimal p.0) ≤ 2 = length-decimal-le 2 p.0 (omega arith) (omega arith) (omega arith) in
+    let period : length (decimal p.0) ≤ 3 = length-decimal-le 3 p.0 (omega arith) (omega arith) (omega arith) in
     let qty : length (decimal p.1) ≤ 5 = length-decimal-le 5 p.1 (omega arith) (omega arith) (omega arith) in
     record {
       fits = omega (arith, length-append (decimal p.0) (58 ∷ decimal p.1));
@@ -82,7 +82,7 @@ volumes_bytes (p ∷ []) h = (pair p h.0 h.1).bytes
 volumes_bytes (p ∷ q ∷ ps) h =
     HasFieldBytes-append (pair_text p) (59 ∷ volumes_text (q ∷ ps)) (pair p h.0 h.1).bytes (HasFieldBytes-cons 59 (volumes_text (q ∷ ps)) (omega arith) (omega arith) (volumes_bytes (q ∷ ps) h.2))
 
-volumes_length : (ps : List Pair) → 0 < length ps → ArePairs ps → length (volumes_text ps) + 1 ≤ 9 * length ps
+volumes_length : (ps : List Pair) → 0 < length ps → ArePairs ps → length (volumes_text ps) + 1 ≤ 10 * length ps
 volumes_length [] some h = absurd (omega arith)
 volumes_length (p ∷ []) some h = let first = (pair p h.0 h.1).fits in omega arith
 volumes_length (p ∷ q ∷ ps) some h =
@@ -90,7 +90,7 @@ volumes_length (p ∷ q ∷ ps) some h =
     let more = volumes_length (q ∷ ps) (omega arith) h.2 in
     omega (arith, length-append (pair_text p) (59 ∷ volumes_text (q ∷ ps)))
 
-volumes : (ps : List Pair) → IsVolumes ps → IsFieldText 224 (volumes_text ps)
+volumes : (ps : List Pair) → IsVolumes ps → IsFieldText 999 (volumes_text ps)
 volumes ps h = let long = volumes_length ps h.nonempty h.ranges in let few = h.fits in record { fits = omega arith; bytes = volumes_bytes ps h.ranges }
 
 -- names
@@ -125,7 +125,7 @@ side Sell = record { fits = omega arith; bytes = refl }
 
 -- records: field by field, within these lengths
 unfoldable pub limits : List ℕ
-limits = 6 ∷ 8 ∷ 12 ∷ 5 ∷ 4 ∷ 7 ∷ 224 ∷ 12 ∷ 12 ∷ []
+limits = 6 ∷ 8 ∷ 12 ∷ 5 ∷ 4 ∷ 7 ∷ 999 ∷ 12 ∷ 12 ∷ []
 
 abbrev pub AreFields : List ℕ → Fields → Type 0
 AreFields [] [] = Unit {0}
@@ -137,7 +137,7 @@ pub day_fields : (periods : ℕ) → is_day periods ≡ true → AreFields limit
 unfolding limits
 day_fields periods day =
     let small = short_day periods day in
-    let two : length (decimal periods) ≤ 2 = length-decimal-le 2 periods (omega arith) (omega arith) (omega arith) in
+    let three : length (decimal periods) ≤ 3 = length-decimal-le 3 periods (omega arith) (omega arith) (omega arith) in
     let word : IsFieldText 6 (codes "day") = record { fits = omega arith; bytes = refl } in
     let number : IsFieldText 8 (decimal periods) = record { fits = omega arith; bytes = digits periods (omega arith) } in
     (word, (number, (empty _, (empty _, (empty _, (empty _, (empty _, (empty _, (empty _, tt)))))))))
@@ -148,7 +148,7 @@ command_fields (Submit who text (Hour o)) h =
     let word : IsFieldText 6 (codes "submit") = record { fits = omega arith; bytes = refl } in
     let form : IsFieldText 5 (codes "hour") = record { fits = omega arith; bytes = refl } in
     let one = pair (o.period, o.qty) h.2.period h.2.qty in
-    let qty : IsFieldText 224 (volumes_text ((o.period, o.qty) ∷ [])) = record { fits = let f = one.fits in omega arith; bytes = one.bytes } in
+    let qty : IsFieldText 999 (volumes_text ((o.period, o.qty) ∷ [])) = record { fits = let f = one.fits in omega arith; bytes = one.bytes } in
     (word, (participant who h.0, (name text h.1, (form, (side o.side, (price o.price h.2.price, (qty, (empty _, (empty _, tt)))))))))
 command_fields (Submit who text (Block o)) h =
     let word : IsFieldText 6 (codes "submit") = record { fits = omega arith; bytes = refl } in

@@ -168,11 +168,11 @@ line_length (n ∷ m ∷ ns) (x ∷ y ∷ xs) h =
     let more = line_length (m ∷ ns) (y ∷ xs) h.1 in
     omega (arith, length-append x (44 ∷ join_with_byte 44 (y ∷ xs)))
 
-short_line : (row : Fields) → AreFields limits row → length (row_line row) ≤ 300
+short_line : (row : Fields) → AreFields limits row → length (row_line row) ≤ 1075
 unfolding limits
 short_line row h = let f = line_length limits row h in omega (arith, length-append (join_with_byte 44 row) (10 ∷ []))
 
-short_lines : (commands : List Command) → AllByRecursion IsCommand commands → length (flat_map command_line commands) ≤ 300 * length commands
+short_lines : (commands : List Command) → AllByRecursion IsCommand commands → length (flat_map command_line commands) ≤ 1075 * length commands
 short_lines [] h = omega arith
 short_lines (c ∷ cs) h =
     let first = short_line (row_of c) (command_fields c h.0) in

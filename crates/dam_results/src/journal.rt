@@ -4,11 +4,12 @@ ghost use Rattle.csv.specs.Records.{fields_of};
 ghost use Rattle.dam_book.specs.Book.{is_day};
 ghost use Rattle.dam_book.specs.declared.command.Command.{Command};
 ghost use Rattle.dam_results.specs.Limits.{most_bytes, most_records};
-ghost use Rattle.dam_results.specs.Records.{records_of, kind_field, day_row, row_of};
-ghost use Rattle.dam_results.specs.Journal.{AreRecords, IsCommand, IsMadeFrom, ReadsAs};
+ghost use Rattle.dam_results.specs.Records.{records_of, kind_field, day_row};
+ghost use Rattle.dam_results.specs.Journal.{AreRecords, IsMadeFrom, ReadsAs};
 ghost use Rattle.dam_results.specs.Journal;
 ghost use Rattle.dam_results.specs.Faults.{IsFaultOf, IsFaultOfRecords, IsRecordFault};
 ghost use Rattle.dam_results.specs.inside.Reader.{IsOpen, rows_left};
+ghost use Rattle.dam_results.specs.inside.Row.{fields_in};
 
 use crate::from_journal::FromJournal;
 use crate::laws;
@@ -41,8 +42,8 @@ impl FromJournal for JournalRead {
         })
     }
 
-    fn take(&mut self, _number: u32, command: Command) -> Result<(), AllocError> {
-        self.commands.push(command)?;
+    fn take(&mut self, _number: u32, command: &Command) -> Result<(), AllocError> {
+        self.commands.push(command.copy())?;
         Ok(())
     }
 }
@@ -139,12 +140,12 @@ fn read_first(fields: &ByteRecord) -> Result<u8, JournalFault>
     read_day(&row).map_err(|field| JournalFault::BadField(1, field))
 }
 
-fn read_later(number: usize, fields: &ByteRecord) -> Result<Command, JournalFault>
+/// The fields of a later record, which may stand there and has nine.
+fn later_row<'a>(number: usize, fields: &'a ByteRecord) -> Result<Row<'a>, JournalFault>
     requires { 1 < number }
     ensures { MatchResult result
-        (λ command. (number ≤ most_records) × IsCommand command
-        × (fields_of fields.now ≡ row_of command))
-        (IsRecordFault number (fields_of fields.now)) }
+        (λ row. (number ≤ most_records) × (fields_of fields.entry.now ≡ fields_in row))
+        (IsRecordFault number (fields_of fields.entry.now)) }
 {
     if number > MOST_RECORDS {
         return Err(JournalFault::TooManyRecords);
@@ -152,7 +153,7 @@ fn read_later(number: usize, fields: &ByteRecord) -> Result<Command, JournalFaul
     let Some(row) = Row::of(fields) else {
         return Err(JournalFault::FieldCount(number));
     };
-    read_command(&row).map_err(|field| JournalFault::BadField(number, field))
+    Ok(row)
 }
 
 type Records<'a> = ByteRecordsIntoIter<&'a [u8]>;
@@ -209,8 +210,13 @@ fn read_commands<T: FromJournal>(
             return Err(JournalFault::Memory);
         };
         number += 1;
-        let command = read_later(number as usize + 1, &record)?;
-        made.take(number, command)?;
+        let place = number as usize + 1;
+        let row = later_row(place, &record)?;
+        // The command is taken where it was made: it has room for the volumes of a block, and isn't moved.
+        match &read_command(&row) {
+            Ok(command) => made.take(number, command)?,
+            Err(field) => return Err(JournalFault::BadField(place, *field)),
+        }
     }
     Ok(made)
 }

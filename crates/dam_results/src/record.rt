@@ -1,17 +1,18 @@
 ghost use Rattle.std.specs.Prelude.{◌≡◌, ◌≢◌, ◌<◌, ◌^◌, ℕ, [], ◌∷◌, true, false, codes, decimal, IfSome, MatchOption, MatchResult};
 ghost use Rattle.dam_book.specs.Period.{IsPeriod};
 ghost use Rattle.dam_book.specs.Quantity.{IsQuantity};
-ghost use Rattle.dam_book.specs.Name.{IsName, IsParticipant};
+ghost use Rattle.std.specs.Str.{bytes_eq};
+ghost use Rattle.dam_book.specs.Name.{IsName};
 ghost use Rattle.dam_book.specs.Fields.{volumes_text};
 ghost use Rattle.dam_book.specs.Book.{is_day};
 ghost use Rattle.dam_results.specs.Records.{day_row, optional_text, side_word};
-ghost use Rattle.dam_results.specs.inside.Row.{fields_in, ReadsCommand, ReadsOrder};
+ghost use Rattle.dam_results.specs.inside.Row.{fields_in, ReadsCommand};
 ghost use Rattle.dam_results.specs.Rules.{OneOf, Periods, OneVolume, NameOrEmpty, Keeps, IsLeastBroken, day_rules, hour_rules, block_rules, submit_of, submit_rules, amend_rules, cancel_rules, close_rules, command_rules};
 
 use crate::row::Row;
 use dam_book::{
-    BlockOrder, Command, HourOrder, Name, Order, Participant, Period, Qty, Side, laws, read_price,
-    read_volumes,
+    BlockOrder, Command, HourOrder, Name, Order, Participant, Period, Qty, Side, laws, read_pair,
+    read_price, read_volumes,
 };
 use itoa::Buffer;
 
@@ -70,22 +71,16 @@ fn read_side(field: &[u8]) -> Option<Side>
     }
 }
 
-fn read_pair(field: &[u8]) -> Option<(Period, Qty)>
+fn read_one_volume(field: &[u8]) -> Option<(Period, Qty)>
     ensures { MatchOption result
         (¬ (Keeps OneVolume field.now))
         (λ pair. IsPeriod pair.0 × IsQuantity pair.1
         × (field.now ≡ volumes_text ((pair.0, pair.1) ∷ []))) }
 {
-    laws::volumes_texts_differ();
-    let Some(volumes) = read_volumes(field) else {
+    let Some(pair) = read_pair(field) else {
         return None;
     };
-    let pairs = volumes.pairs();
-    if pairs.len() == 1 {
-        Some(pairs[0])
-    } else {
-        None
-    }
+    Some(pair)
 }
 
 // A name, or none where the field is empty.
@@ -119,28 +114,32 @@ pub(crate) fn read_day(row: &Row) -> Result<u8, usize>
     Ok(periods)
 }
 
-fn read_hour(row: &Row) -> Result<Order, usize>
+// A command has room for the volumes of a block: that of a submit is made whole where its fields are read,
+// and is moved as little as may be.
+
+fn read_hour(row: &Row) -> Result<Command, usize>
     requires kind { row.now.kind.now ≡ codes "submit" }
-    requires who { IsParticipant row.now.who.now }
-    requires name { IsName row.now.name.now }
     requires form { row.now.form.now ≡ codes "hour" }
-    ensures { ReadsOrder (submit_of hour_rules) row.now result }
+    ensures { ReadsCommand (submit_of hour_rules) row.now result }
 {
+    let who = Participant::new(row.who).ok_or(2usize)?;
+    let name = Name::new(row.name).ok_or(3usize)?;
     let side = read_side(row.side).ok_or(5usize)?;
     let price = read_price(row.price).ok_or(6usize)?;
-    let (period, qty) = read_pair(row.volumes).ok_or(7usize)?;
+    let (period, qty) = read_one_volume(row.volumes).ok_or(7usize)?;
     check(row.parent.is_empty(), 8)?;
     check(row.group.is_empty(), 9)?;
-    Ok(Order::Hour(HourOrder::new(side, price, period, qty)))
+    let order = Order::Hour(HourOrder::new(side, price, period, qty));
+    Ok(Command::Submit { who, name, order })
 }
 
-fn read_block(row: &Row) -> Result<Order, usize>
+fn read_block(row: &Row) -> Result<Command, usize>
     requires kind { row.now.kind.now ≡ codes "submit" }
-    requires who { IsParticipant row.now.who.now }
-    requires name { IsName row.now.name.now }
     requires form { row.now.form.now ≡ codes "block" }
-    ensures { ReadsOrder (submit_of block_rules) row.now result }
+    ensures { ReadsCommand (submit_of block_rules) row.now result }
 {
+    let who = Participant::new(row.who).ok_or(2usize)?;
+    let name = Name::new(row.name).ok_or(3usize)?;
     let side = read_side(row.side).ok_or(5usize)?;
     let price = read_price(row.price).ok_or(6usize)?;
     let volumes = read_volumes(row.volumes).ok_or(7usize)?;
@@ -148,30 +147,31 @@ fn read_block(row: &Row) -> Result<Order, usize>
     let group = read_name_or_empty(row.group).ok_or(9usize)?;
     let block = BlockOrder::new(side, price, volumes, parent, group);
     let _valid = block.price(); // for the proof: a block order is within its limits
-    Ok(Order::Block(block))
+    let order = Order::Block(block);
+    Ok(Command::Submit { who, name, order })
 }
 
-fn read_order(row: &Row) -> Result<Order, usize>
+/// A submit of something that is no form of an order.
+fn read_no_form(row: &Row) -> Result<Command, usize>
     requires kind { row.now.kind.now ≡ codes "submit" }
-    requires who { IsParticipant row.now.who.now }
-    requires name { IsName row.now.name.now }
-    ensures { ReadsOrder (submit_rules (fields_in row.now)) row.now result }
+    requires hour { bytes_eq row.now.form.now (codes "hour") ≡ false }
+    requires block { bytes_eq row.now.form.now (codes "block") ≡ false }
+    ensures { ReadsCommand (submit_rules (fields_in row.now)) row.now result }
 {
-    match row.form {
-        b"hour" => read_hour(row),
-        b"block" => read_block(row),
-        _ => Err(4),
-    }
+    let _who = Participant::new(row.who).ok_or(2usize)?;
+    let _name = Name::new(row.name).ok_or(3usize)?;
+    Err(4)
 }
 
 fn read_submit(row: &Row) -> Result<Command, usize>
     requires { row.now.kind.now ≡ codes "submit" }
     ensures { ReadsCommand (submit_rules (fields_in row.now)) row.now result }
 {
-    let who = Participant::new(row.who).ok_or(2usize)?;
-    let name = Name::new(row.name).ok_or(3usize)?;
-    let order = read_order(row)?;
-    Ok(Command::Submit { who, name, order })
+    match row.form {
+        b"hour" => read_hour(row),
+        b"block" => read_block(row),
+        _ => read_no_form(row),
+    }
 }
 
 fn read_amend(row: &Row) -> Result<Command, usize>

@@ -38,9 +38,9 @@ impl FromJournal for Book {
         Ok(empty_book(alloc, seed, periods))
     }
 
-    fn take(&mut self, _number: u32, command: Command) -> Result<(), AllocError> {
+    fn take(&mut self, _number: u32, command: &Command) -> Result<(), AllocError> {
         runs_grow();
-        let _reply = self.apply(&command)?;
+        let _reply = self.apply(command)?;
         Ok(())
     }
 }
@@ -86,9 +86,9 @@ impl FromJournal for Replay {
         Replay::on(alloc, empty_book(alloc, seed, periods))
     }
 
-    fn take(&mut self, number: u32, command: Command) -> Result<(), AllocError> {
+    fn take(&mut self, number: u32, command: &Command) -> Result<(), AllocError> {
         runs_grow();
-        self.apply(number, &command)
+        self.apply(number, command)
     }
 }
 

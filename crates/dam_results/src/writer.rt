@@ -16,7 +16,7 @@ ghost use Rattle.dam_results.specs.inside.Writer.{Wrote, PutsCommand};
 use csv::{Writer, WriterBuilder};
 use dam_book::{
     BlockOrder, Command, Entry, HourOrder, Name, Order, Participant, Price, Side, Volumes,
-    write_price, write_volumes,
+    write_pair, write_price, write_volumes,
 };
 use itoa::Buffer;
 use std::alloc::{AllocError, Global};
@@ -58,14 +58,15 @@ fn name_field(name: Option<&Name>) -> &[u8]
     }
 }
 
-fn one_volume(order: &HourOrder) -> Volumes
-    ensures value { result ≡ (order.now.period, order.now.qty) ∷ [] }
-    ensures valid { IsHourOrder order.now }
+// The period and the volume of an hourly order; no list of volumes is made for it, which would have room
+// for every period of a day.
+fn pair_field(alloc: Global, order: &HourOrder) -> Result<Vec<u8>, AllocError>
+    ensures { IfOk result (λ field. IsHourOrder order.now
+        × (field.items ≡ volumes_text ((order.now.period, order.now.qty) ∷ []))) }
 {
-    match Volumes::new(&[(order.period(), order.qty())]) {
-        Ok(volumes) => volumes,
-        Err(_) => unreachable!(),
-    }
+    let mut field = Vec::new(alloc);
+    write_pair(&mut field, (order.period(), order.qty()))?;
+    Ok(field)
 }
 
 fn put_row(out: &mut Writer<Vec<u8>>, row: &[&[u8]]) -> Result<(), AllocError>
@@ -99,7 +100,7 @@ fn put_hour(
         (Command.Submit who.now name.now (Order.Hour order.now))) }
 {
     let price = price_field(alloc, order.price())?;
-    let volumes = volumes_field(alloc, &one_volume(order))?;
+    let volumes = pair_field(alloc, order)?;
     put_row(
         out,
         &[

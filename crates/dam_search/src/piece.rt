@@ -1,4 +1,4 @@
-ghost use Rattle.std.specs.Prelude.{◌≡◌, ◌⊎◌, ◌-◌, ◌^◌, ◌<◌, ◌≤◌, max, ℤ, pos, ◌<ℤ◌, ◌≤ℤ◌, true, false, Some, None};
+ghost use Rattle.std.specs.Prelude.{◌≡◌, ◌⊎◌, ◌+◌, ◌-◌, ◌^◌, ◌<◌, ◌≤◌, max, ℤ, pos, ◌<ℤ◌, ◌≤ℤ◌, true, false, Some, None};
 ghost use Rattle.std.specs.Prelude.{Option, List, Bool, [], ◌∷◌, ◌++◌, length, MatchBool, IfSome, IfNone};
 ghost use Rattle.dam_blocks.specs.Selection.{choice, padded, IsAdmissible};
 ghost use Rattle.dam_blocks.specs.Eligible.{IsEligible};
@@ -12,6 +12,7 @@ use crate::answer::PieceAnswer;
 use crate::incumbent::Incumbent;
 use crate::prefix::Prefix;
 use dam_blocks::{Best, Problem, Selection, ranks_above};
+use dam_book::MOST_BLOCKS;
 use dam_bound::{Day, Relaxed};
 use std::alloc::Allocator;
 
@@ -114,7 +115,8 @@ fn try_selection<A: Allocator, B: Allocator, I: Incumbent>(
 /// A prefix whose bound is less than what was read is passed over after its own visit. 'Rejected' is
 /// explored before 'accepted', which finds good selections sooner; where the links and the groups don't
 /// admit the next block, that is passed over without a visit, and no day is made of it. An extension's
-/// day is made no further than until its bound is under what was read: it isn't `bounded` then.
+/// day is made no further than until its bound is under what was read: it isn't `bounded` then. Days are made
+/// in `below`, one for each undecided block.
 fn explore<A: Allocator, B: Allocator, I: Incumbent>(
     problem: &Problem<A>,
     relaxed: &Relaxed<B>,
@@ -122,6 +124,7 @@ fn explore<A: Allocator, B: Allocator, I: Incumbent>(
     prefix: Prefix,
     day: &Day,
     bounded: bool,
+    below: &mut [Day],
     incumbent: &mut I,
     found: &mut Found,
 ) -> bool
@@ -130,6 +133,7 @@ fn explore<A: Allocator, B: Allocator, I: Incumbent>(
     requires day { MatchBool bounded (IsDay relaxed.now prefix day.now)
         (IsUnder relaxed.now prefix found.old.read) }
     requires admissible { IsAdmissible problem.now.blocks (padded prefix) }
+    requires days { length problem.now.blocks ≤ length prefix + length below.old }
     requires room { found.old.visited ≤ nodes }
     requires read { found.old.read ≤ I.told incumbent.old }
     requires best { IsFind problem.now [] found.old.best }
@@ -159,17 +163,21 @@ fn explore<A: Allocator, B: Allocator, I: Incumbent>(
     let Some(open) = prefix.opened(day, bounded, found.read) else {
         return true;
     };
+    let Some((next, below)) = below.split_first_mut() else {
+        unreachable!();
+    };
     let place = open.depth();
     let rejected = open.extended(false);
-    let mut next = *day;
-    let bounded_without = relaxed.extend(&mut next, place, false, found.read);
+    relaxed.copy_day(day, next);
+    let bounded_without = relaxed.extend(next, place, false, found.read);
     if !explore(
         problem,
         relaxed,
         nodes,
         rejected,
-        &next,
+        next,
         bounded_without,
+        below,
         incumbent,
         found,
     ) {
@@ -179,15 +187,16 @@ fn explore<A: Allocator, B: Allocator, I: Incumbent>(
     if !accepted.is_still_admissible(problem) {
         return true;
     }
-    next = *day;
-    let bounded_with = relaxed.extend(&mut next, place, true, found.read);
+    relaxed.copy_day(day, next);
+    let bounded_with = relaxed.extend(next, place, true, found.read);
     explore(
         problem,
         relaxed,
         nodes,
         accepted,
-        &next,
+        next,
         bounded_with,
+        below,
         incumbent,
         found,
     )
@@ -248,8 +257,9 @@ pub fn search_piece<A: Allocator, B: Allocator, I: Incumbent>(
         read: 0,
         visited: 0,
     };
+    let mut below = [Day::empty(); MOST_BLOCKS];
     let done = explore(
-        problem, relaxed, nodes, prefix, &day, bounded, incumbent, &mut found,
+        problem, relaxed, nodes, prefix, &day, bounded, &mut below, incumbent, &mut found,
     );
     PieceAnswer {
         piece,

@@ -163,13 +163,13 @@ fn three_blocks(alloc: Global) -> Result<Problem, Fail> {
     problem_of(alloc, book)
 }
 
-/// A block of two periods, which gains in both.
-fn two_periods(alloc: Global) -> Result<Problem, Fail> {
-    let mut book = Book::begin(alloc, 24)?;
-    market(&mut book, b"B1", b"S1", 1)?;
-    market(&mut book, b"B2", b"S2", 2)?;
+/// A block of two periods of a day, which gains in both.
+fn two_periods(alloc: Global, periods: u8, two: (u8, u8)) -> Result<Problem, Fail> {
+    let mut book = Book::begin(alloc, periods)?;
+    market(&mut book, b"B1", b"S1", two.0)?;
+    market(&mut book, b"B2", b"S2", two.1)?;
     let ten = qty_of(10)?;
-    let volumes = Volumes::new(&[(period_of(1)?, ten), (period_of(2)?, ten)])?;
+    let volumes = Volumes::new(&[(period_of(two.0)?, ten), (period_of(two.1)?, ten)])?;
     sell_block(&mut book, b"K1", 4_000, volumes, FREE)?;
     problem_of(alloc, book)
 }
@@ -398,8 +398,17 @@ fn three_blocks_under_every_plan(rt: HostRuntime) -> Result<(), Fail> {
 
 #[test]
 fn a_block_of_two_periods_under_every_plan(rt: HostRuntime) -> Result<(), Fail> {
-    let problem = two_periods(rt.alloc())?;
+    let problem = two_periods(rt.alloc(), 24, (1, 2))?;
     check_every_plan(&rt, rt.alloc(), &problem, 60_000)
+}
+
+#[test]
+fn quarter_hours_under_every_plan(rt: HostRuntime) -> Result<(), Fail> {
+    for (periods, two) in [(92, (1, 92)), (96, (26, 96)), (100, (99, 100))] {
+        let problem = two_periods(rt.alloc(), periods, two)?;
+        check_every_plan(&rt, rt.alloc(), &problem, 60_000)?;
+    }
+    Ok(())
 }
 
 #[test]

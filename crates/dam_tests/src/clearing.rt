@@ -2,7 +2,7 @@
 
 use crate::drawn::{Dice, draw};
 use crate::enumeration::{
-    Accepted, Executed, MOST_BLOCKS, MOST_ORDERS, PERIODS, PlainBest, PlainClearing, PlainMarket,
+    Accepted, Executed, MOST_BLOCKS, MOST_ORDERS, PlainBest, PlainClearing, PlainMarket,
     PlainVerdict, better, clear_day, clear_period, net_volume, subset, subsets, surplus, verdict,
 };
 use dam_blocks::{Problem, Selection, Verdict, best_of_all, score};
@@ -231,7 +231,8 @@ fn compare_best(
     assert_eq!(rt; found.selection, selection_of(&best.accepted));
     assert_eq!(rt; i64::try_from(found.welfare).ok(), Some(best.welfare));
     cases.note_day(market, best);
-    for place in 0..PERIODS {
+    assert_eq!(rt; usize::from(problem.periods()), market.periods.len());
+    for place in 0..market.periods.len() {
         let cleared = compare_period(rt, problem, market, &best.accepted, place);
         assert!(rt; cleared.is_some());
         if let Some(cleared) = cleared {

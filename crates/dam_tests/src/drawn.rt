@@ -1,8 +1,6 @@
 //! Small books drawn from a seed, each as a closed book and as a plain market.
 
-use crate::enumeration::{
-    BUSY, MOST_BLOCKS, MOST_ORDERS, PERIODS, PlainBlock, PlainMarket, PlainOrder,
-};
+use crate::enumeration::{BUSY, MOST_BLOCKS, MOST_ORDERS, PlainBlock, PlainMarket, PlainOrder};
 use dam_book::{
     BlockOrder, Book, Command, HourOrder, Name, Order, Participant, Period, Price, Qty, Reply,
     Side, Volumes,
@@ -12,6 +10,9 @@ use std::test::Fail;
 
 /// Few limits, so that equal ones come often; odd sums below zero and the ends of the range come too.
 const LIMITS: [i64; 12] = [-7, -4, -3, -3, -1, 0, 0, 2, 2, 5, -50_000, 400_000];
+
+/// The numbers of periods that a day may have.
+const DAYS: [u8; 6] = [23, 24, 25, 92, 96, 100];
 
 const LETTERS: &[u8] = b"ABCDEFGHIJKLMNOPQRSTUVWXYZ";
 
@@ -38,6 +39,11 @@ impl Dice {
     /// True once in so many times.
     fn comes(&mut self, times: usize) -> bool {
         self.below(times) == 0
+    }
+
+    /// The number of periods of a day.
+    fn day(&mut self) -> u8 {
+        DAYS.get(self.below(6)).copied().unwrap_or(24)
     }
 
     fn side(&mut self) -> Side {
@@ -185,13 +191,13 @@ pub(crate) struct Drawn {
 }
 
 /// A day without orders.
-fn nothing(alloc: Global) -> Result<Drawn, Fail> {
+fn nothing(alloc: Global, day: u8) -> Result<Drawn, Fail> {
     let mut periods = Vec::new(alloc);
-    for _ in 0..PERIODS {
+    for _ in 0..day {
         periods.push(Vec::new(alloc))?;
     }
     let blocks = Vec::new(alloc);
-    let book = Book::begin(alloc, 23)?;
+    let book = Book::begin(alloc, day)?;
     Ok(Drawn {
         book,
         market: PlainMarket { periods, blocks },
@@ -252,14 +258,15 @@ fn add_block(alloc: Global, drawn: &mut Drawn, dice: &mut Dice, busy: usize) -> 
 /// The most blocks of a book that is too large for the plain market's enumeration.
 pub(crate) const MANY_BLOCKS: usize = 10;
 
-/// A closed book of a day of 23 periods, with orders in the first two or three alone, and few blocks.
+/// A closed book of a day of hours or quarter-hours, with orders in the first two or three periods alone,
+/// and few blocks.
 pub(crate) fn draw(alloc: Global, dice: &mut Dice) -> Result<Drawn, Fail> {
     draw_with(alloc, dice, MOST_BLOCKS)
 }
 
 /// Such a book with so many blocks at most.
 pub(crate) fn draw_with(alloc: Global, dice: &mut Dice, blocks: usize) -> Result<Drawn, Fail> {
-    let mut drawn = nothing(alloc)?;
+    let mut drawn = nothing(alloc, dice.day())?;
     let busy = dice.below(2).saturating_add(2);
     let most = dice.below(blocks.saturating_add(1));
     let entries = dice.below(10).saturating_add(blocks).saturating_add(1);
@@ -276,7 +283,7 @@ pub(crate) fn draw_with(alloc: Global, dice: &mut Dice, blocks: usize) -> Result
 
 /// A closed book of such a day with just so many blocks, and up to as many hourly orders.
 pub(crate) fn draw_blocks(alloc: Global, dice: &mut Dice, blocks: usize) -> Result<Drawn, Fail> {
-    let mut drawn = nothing(alloc)?;
+    let mut drawn = nothing(alloc, dice.day())?;
     let busy = dice.below(2).saturating_add(2);
     for number in 0..blocks {
         add_order(&mut drawn, dice, busy, number)?;

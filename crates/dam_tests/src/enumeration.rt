@@ -9,8 +9,8 @@ const LOWEST: i64 = -50_000;
 
 const HIGHEST: i64 = 400_000;
 
-/// The number of periods of the day.
-pub(crate) const PERIODS: usize = 23;
+/// The most periods of a day.
+pub(crate) const MOST_PERIODS: usize = 100;
 
 /// The number of periods, from the first on, in which there may be orders.
 pub(crate) const BUSY: usize = 3;
@@ -338,13 +338,13 @@ fn value_of_blocks(market: &PlainMarket, accepted: &Accepted) -> i64 {
 /// The prices of the day under a selection, and the welfare of the hourly orders.
 #[derive(Clone, Copy)]
 pub(crate) struct PlainDay {
-    pub(crate) prices: [i64; PERIODS],
+    pub(crate) prices: [i64; MOST_PERIODS],
     pub(crate) welfare: i64,
 }
 
 /// Clears each period; the `Err` is the first that doesn't balance.
 pub(crate) fn clear_day(market: &PlainMarket, accepted: &Accepted) -> Result<PlainDay, usize> {
-    let mut prices = [0; PERIODS];
+    let mut prices = [0; MOST_PERIODS];
     let mut welfare = 0i64;
     for (period, (price, orders)) in prices.iter_mut().zip(&market.periods).enumerate() {
         let net = net_volume(market, accepted, period);

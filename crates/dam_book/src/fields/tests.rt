@@ -45,11 +45,26 @@ fn quantities_are_read(rt: HostRuntime) {
     }
 }
 
-const ALL_PERIODS: &str =
-    "1:1;2:1;3:1;4:1;5:1;6:1;7:1;8:1;9:1;10:1;11:1;12:1;13:1;14:1;15:1;16:1;17:1;18:1;19:1;20:1;21:1;22:1;23:1;24:1;25:1";
-
-const TWENTY_SIX_PAIRS: &str =
-    "1:1;1:1;2:1;3:1;4:1;5:1;6:1;7:1;8:1;9:1;10:1;11:1;12:1;13:1;14:1;15:1;16:1;17:1;18:1;19:1;20:1;21:1;22:1;23:1;24:1;25:1";
+#[test]
+fn pairs_are_read(rt: HostRuntime) {
+    for text in [
+        "", ":", "1", "1:", ":1", "0:1", "101:1", "1:0", "01:1", "1:01", "1:1;", "1:1;2:1", "1:1:1",
+    ] {
+        assert!(rt; read_pair(text.as_bytes()).is_none(), "{text}");
+    }
+    for (text, number, tenths) in [
+        ("1:1", 1, 1),
+        ("26:450", 26, 450),
+        ("100:99999", 100, 99_999),
+    ] {
+        assert_eq!(rt;
+            read_pair(text.as_bytes()).map(|(period, qty)| (period.get(), qty.get())),
+            Some((number, tenths)),
+            "{text}"
+        );
+    }
+    assert!(rt; read_pair(&[b'1', b':', 0xff]).is_none());
+}
 
 #[test]
 fn volumes_are_read(rt: HostRuntime) {
@@ -61,16 +76,15 @@ fn volumes_are_read(rt: HostRuntime) {
         "1:0",
         "01:1",
         "0:1",
-        "26:1",
+        "101:1",
         "1:10;",
         "1:10:2",
         "1:10;1:10",
         "2:10;1:10",
-        TWENTY_SIX_PAIRS,
     ] {
         assert!(rt; read_volumes(text.as_bytes()).is_none(), "{text}");
     }
-    for (text, count) in [("1:10", 1), ("1:10;2:10", 2), (ALL_PERIODS, 25)] {
+    for (text, count) in [("1:10", 1), ("1:10;2:10", 2), ("26:10;100:10", 2)] {
         assert_eq!(rt;
             read_volumes(text.as_bytes()).map(|volumes| volumes.pairs().len()),
             Some(count),
@@ -79,17 +93,38 @@ fn volumes_are_read(rt: HostRuntime) {
     }
 }
 
+/// A volume in each period that any day has.
+fn all_periods() -> Result<Volumes, Fail> {
+    let qty = Qty::new(10).ok_or("a volume")?;
+    let mut pairs = [(Period::at(0), qty); 100];
+    for place in 0..100 {
+        pairs[place] = (Period::at(place), qty);
+    }
+    Ok(Volumes::new(&pairs).ok().ok_or("volumes")?)
+}
+
+#[test]
+fn volumes_of_every_period_are_read_back(rt: HostRuntime) -> Result<(), Fail> {
+    let volumes = all_periods()?;
+    let mut text = Vec::new(rt.alloc());
+    text.extend_from_slice(b"1:10;")?;
+    write_volumes(&mut text, &volumes)?;
+    assert!(rt; read_volumes(text.as_slice()).is_none());
+    assert!(rt; read_volumes(&text.as_slice()[5..]) == Some(volumes));
+    Ok(())
+}
+
 #[test]
 fn fields_are_written(rt: HostRuntime) -> Result<(), Fail> {
     let price = Price::new(-50_000).ok_or("price")?;
     let qty = Qty::new(99_999).ok_or("volume")?;
-    let volumes = read_volumes(b"1:10;25:99999").ok_or("volumes")?;
+    let volumes = read_volumes(b"1:10;100:99999").ok_or("volumes")?;
     let mut out = Vec::new(rt.alloc());
     write_price(&mut out, price)?;
     out.push(b',')?;
     write_qty(&mut out, qty)?;
     out.push(b',')?;
     write_volumes(&mut out, &volumes)?;
-    assert_eq!(rt; out.as_slice(), b"-50000,99999,1:10;25:99999".as_slice());
+    assert_eq!(rt; out.as_slice(), b"-50000,99999,1:10;100:99999".as_slice());
     Ok(())
 }

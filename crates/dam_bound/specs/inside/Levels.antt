@@ -28,6 +28,11 @@ AreLevels t ss blocks levels =
 abbrev pub last_steps : LevelsState → List Step
 last_steps levels = slice_index_or levels.hours (length levels.hours - 1) []
 
+-- these are the levels of the period at the place
+pub record AreLevelsAt (hours : List (List Step)) (blocks : List Block) (place : ℕ) (levels : LevelsState) : Type 0 where
+  pub last : slice_get hours place ≡ Some (last_steps levels)
+  pub each : AreLevels (place + 1) (last_steps levels) blocks levels
+
 -- the steps of each period at every depth
 pub record AreDayLevels (blocks : List Block) (periods : List LevelsState) : Type 0 where
   pub few_periods : length periods ≤ last_period

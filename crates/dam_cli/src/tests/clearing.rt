@@ -1,10 +1,12 @@
 use super::{Breakage, Broken, Dripping, Holding};
 use crate::clear::run_clear;
 use crate::fault::RunFault;
+use crate::replay::run_replay;
 use dam_book::Seed;
 use dam_search::{FreeTurn, MOST_NODES, Plan};
 use std::alloc::Global;
 use std::io::{Read, Write};
+use std::test::Fail;
 use std::thread::Threads;
 
 const OPEN_DAY: &[u8] = b"day,24,,,,,,,\n";
@@ -84,6 +86,58 @@ hour,A,S2,10
 block,A,K1,accepted,20000
 ";
 
+/// A quarter-hour that is traded, and an order in one that the day doesn't have.
+const QUARTER_HOURS: &[u8] = b"day,96,,,,,,,
+submit,A,B1,hour,buy,5000,96:10,,
+submit,A,S1,hour,sell,3000,96:10,,
+submit,A,B2,hour,buy,5000,97:10,,
+close,,,,,,,,
+";
+
+const QUARTER_HOUR_REPLIES: &[u8] = b"day,96
+1,done
+2,done
+3,refused,PeriodOutOfDay
+4,done
+";
+
+/// Writes the lines of the first so many periods, in which nothing is traded.
+fn write_untraded(alloc: Global, text: &mut Vec<u8>, periods: u8) -> Result<(), Fail> {
+    for number in 1..=periods {
+        let line = format!(in alloc; "period,{number},175000,0\n")?;
+        text.extend_from_slice(line.as_bytes())?;
+    }
+    Ok(())
+}
+
+fn quarter_hour_results(alloc: Global) -> Result<Vec<u8>, Fail> {
+    let mut text = Vec::new(alloc);
+    text.extend_from_slice(b"day,96\nwelfare,20000\n")?;
+    write_untraded(alloc, &mut text, 95)?;
+    text.extend_from_slice(b"period,96,4000,10\nhour,A,B1,10\nhour,A,S1,10\n")?;
+    Ok(text)
+}
+
+/// A day of 100 periods with a block in all of them, which nobody buys.
+fn hundred_periods(alloc: Global) -> Result<Vec<u8>, Fail> {
+    let mut text = Vec::new(alloc);
+    text.extend_from_slice(b"day,100,,,,,,,\nsubmit,A,K1,block,sell,0,1:10")?;
+    for number in 2..=100u8 {
+        let pair = format!(in alloc; ";{number}:10")?;
+        text.extend_from_slice(pair.as_bytes())?;
+    }
+    text.extend_from_slice(b",,\nclose,,,,,,,,\n")?;
+    Ok(text)
+}
+
+fn hundred_period_results(alloc: Global) -> Result<Vec<u8>, Fail> {
+    let mut text = Vec::new(alloc);
+    text.extend_from_slice(b"day,100\nwelfare,0\n")?;
+    write_untraded(alloc, &mut text, 100)?;
+    text.extend_from_slice(b"block,A,K1,rejected,175000000\n")?;
+    Ok(text)
+}
+
 /// A run of the engine by the plan that the program takes where it is told none.
 fn cleared<H: Threads + Sync, R: Read, W: Write>(
     rt: &H,
@@ -127,6 +181,38 @@ fn clears_a_day_with_a_block(rt: HostRuntime) {
     assert_eq!(rt; cleared(&rt, rt.alloc(), &mut reader, &mut written), Ok(()));
     assert_eq!(rt; written.as_slice(), BLOCK_RESULTS);
     assert_eq!(rt; reader.asked, BLOCK_DAY.len() + 1);
+}
+
+#[test]
+fn clears_a_day_of_quarter_hours(rt: HostRuntime) -> Result<(), Fail> {
+    let mut reader = QUARTER_HOURS;
+    let mut written = Vec::new(rt.alloc());
+    assert_eq!(rt; cleared(&rt, rt.alloc(), &mut reader, &mut written), Ok(()));
+    let wanted = quarter_hour_results(rt.alloc())?;
+    assert!(rt; written.as_slice() == wanted.as_slice());
+    Ok(())
+}
+
+#[test]
+fn replays_a_day_of_quarter_hours(rt: HostRuntime) {
+    let mut reader = QUARTER_HOURS;
+    let mut written = Vec::new(rt.alloc());
+    assert_eq!(rt;
+        run_replay(rt.alloc(), Seed::fixed(), &mut reader, &mut written),
+        Ok(())
+    );
+    assert_eq!(rt; written.as_slice(), QUARTER_HOUR_REPLIES);
+}
+
+#[test]
+fn clears_a_day_of_a_hundred_periods(rt: HostRuntime) -> Result<(), Fail> {
+    let text = hundred_periods(rt.alloc())?;
+    let mut reader = text.as_slice();
+    let mut written = Vec::new(rt.alloc());
+    assert_eq!(rt; cleared(&rt, rt.alloc(), &mut reader, &mut written), Ok(()));
+    let wanted = hundred_period_results(rt.alloc())?;
+    assert!(rt; written.as_slice() == wanted.as_slice());
+    Ok(())
 }
 
 #[test]

@@ -84,7 +84,7 @@ fn the_passes_come_back(rt: HostRuntime) -> Result<(), Fail> {
 
 #[test]
 fn a_day_of_nobody(rt: HostRuntime) -> Result<(), Fail> {
-    for periods in [23, 24, 25] {
+    for periods in [23, 24, 25, 92, 96, 100] {
         let day = run_commands(&rt, rt.alloc(), periods, Seed::fixed(), &[], &OpenDoor)?;
         let journal = day.settled.journal();
         assert!(rt; journal.entries().len() == 1 && journal.book().is_closed());

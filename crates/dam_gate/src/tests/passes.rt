@@ -224,8 +224,8 @@ fn finishes<J: Naming, R: Wait>(
 }
 
 #[test]
-fn days_of_23_and_25_periods_finish(rt: HostRuntime) -> Result<(), Fail> {
-    for periods in [23, 25] {
+fn days_of_other_lengths_finish(rt: HostRuntime) -> Result<(), Fail> {
+    for periods in [23, 25, 92, 96, 100] {
         assert!(rt; finishes::<Brand, _>(&rt, rt.alloc(), Opening::new(), periods)?);
     }
     Ok(())
@@ -358,7 +358,7 @@ fn is_no_day<J: Naming, R: Wait>(rt: &R, alloc: Global, opening: Opening, period
 
 #[test]
 fn other_days_are_refused(rt: HostRuntime) {
-    for periods in [0, 1, 22, 26, 92, 255] {
+    for periods in [0, 1, 22, 26, 91, 93, 101, 255] {
         assert!(rt;
             is_no_day::<Brand, _>(&rt, rt.alloc(), Opening::new(), periods),
             "{periods} periods"

@@ -1,9 +1,7 @@
 -- The fields of a record of nine, in their order, and what its readers answer.
-use Rattle.std.specs.Prelude.{◌≡◌, ℕ, [], ◌∷◌, List, codes, Result, MatchResult}
-use Rattle.dam_book.specs.Order.{IsOrder}
-use Rattle.dam_book.specs.declared.order.Order.{Order}
+use Rattle.std.specs.Prelude.{◌≡◌, ℕ, [], ◌∷◌, List, Result, MatchResult}
 use Rattle.dam_book.specs.declared.command.Command.{Command}
-use Rattle.dam_results.specs.Records.{Fields, row_of, order_fields}
+use Rattle.dam_results.specs.Records.{Fields, row_of}
 use Rattle.dam_results.specs.Rules.{FieldRule, IsLeastBroken}
 use Rattle.dam_results.specs.Journal.{IsCommand}
 use Rattle.dam_results.specs.declared.row.Row.{Row}
@@ -17,11 +15,4 @@ fields_in r =
 abbrev pub ReadsCommand : List FieldRule → Row → Result Command ℕ → Type 0
 ReadsCommand rules row read = MatchResult read
     (λ command. IsCommand command × (fields_in row ≡ row_of command))
-    (IsLeastBroken rules (fields_in row))
-
--- the record of a submit of an order within its limits, or the least field that breaks its rule
-abbrev pub ReadsOrder : List FieldRule → Row → Result Order ℕ → Type 0
-ReadsOrder rules row read = MatchResult read
-    (λ order. IsOrder order
-    × (fields_in row ≡ codes "submit" ∷ row.who.now ∷ row.name.now ∷ order_fields order))
     (IsLeastBroken rules (fields_in row))

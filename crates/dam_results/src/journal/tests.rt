@@ -23,6 +23,9 @@ fn texts_without_a_good_day(rt: HostRuntime) {
         ("close\n", JournalFault::NotDay),
         ("day,24\n", JournalFault::FieldCount(1)),
         ("day,26,,,,,,,\n", JournalFault::BadField(1, 2)),
+        ("day,91,,,,,,,\n", JournalFault::BadField(1, 2)),
+        ("day,93,,,,,,,\n", JournalFault::BadField(1, 2)),
+        ("day,101,,,,,,,\n", JournalFault::BadField(1, 2)),
         ("day,024,,,,,,,\n", JournalFault::BadField(1, 2)),
         ("day,24,,,,,,,x\n", JournalFault::BadField(1, 9)),
     ] {
@@ -40,6 +43,8 @@ fn bad_fields_of_the_second_record(rt: HostRuntime) -> Result<(), Fail> {
         ("submit,A,B1,hour,buy,400001,1:10,,", 6),
         ("submit,A,B1,hour,buy,,1:10,,", 6),
         ("submit,A,B1,hour,buy,1,1:0,,", 7),
+        ("submit,A,B1,hour,buy,1,101:10,,", 7),
+        ("submit,A,K1,block,buy,1,1:10;101:10,,", 7),
         ("submit,A,B1,hour,buy,1,1:10;2:10,,", 7),
         ("submit,A,B1,hour,buy,1,1:10,K1,", 8),
         ("submit,A,B1,hour,buy,1,1:10,,G1", 9),
@@ -116,7 +121,7 @@ fn quotes_line_ends_and_empty_lines(rt: HostRuntime) -> Result<(), Fail> {
 
 #[test]
 fn commands_are_read(rt: HostRuntime) -> Result<(), Fail> {
-    let text = b"day,25,,,,,,,\nsubmit,AB,S-1,hour,sell,-500,25:30,,\ncancel,AB,S-1,,,,,,\n";
+    let text = b"day,25,,,,,,,\nsubmit,AB,S-1,hour,sell,-500,100:30,,\ncancel,AB,S-1,,,,,,\n";
     let journal = read_journal(rt.alloc(), text)
         .ok()
         .ok_or("it is a journal")?;
@@ -125,7 +130,7 @@ fn commands_are_read(rt: HostRuntime) -> Result<(), Fail> {
     let order = Order::Hour(HourOrder::new(
         Side::Sell,
         Price::new(-500).ok_or("a price")?,
-        Period::new(25).ok_or("a period")?,
+        Period::new(100).ok_or("a period")?,
         Qty::new(30).ok_or("a volume")?,
     ));
     let submit = Command::Submit {

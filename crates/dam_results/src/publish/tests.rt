@@ -3,6 +3,7 @@ use crate::journal::read_journal;
 use crate::text::results_text;
 use dam_blocks::best_of_all;
 use dam_book::Book;
+use std::alloc::Global;
 use std::test::Fail;
 
 // In period 1 the buying block is accepted, so its volume counts. In period 2 the selling block is
@@ -22,17 +23,42 @@ const FIRST: &[u8] =
 const LAST: &[u8] =
     b"period,24,175000,0\nhour,A,S1,20\nhour,A,B2,0\nblock,A,K1,accepted,5000\nhour,A,B1,10\nblock,A,K2,rejected,150000\n";
 
-#[test]
-fn best_selection_is_published(rt: HostRuntime) -> Result<(), Fail> {
-    let journal = read_journal(rt.alloc(), JOURNAL.as_bytes())?;
-    let mut book = Book::begin(rt.alloc(), journal.periods)?;
+/// The results text of a journal's text.
+fn cleared(alloc: Global, text: &[u8]) -> Result<Vec<u8>, Fail> {
+    let journal = read_journal(alloc, text)?;
+    let mut book = Book::begin(alloc, journal.periods)?;
     for command in &journal.commands {
         book.apply(command)?;
     }
-    let problem = Problem::of_book(rt.alloc(), &book)?;
-    let published = results(rt.alloc(), &problem, best_of_all(&problem))?;
-    let text = results_text(rt.alloc(), &published)?;
+    let problem = Problem::of_book(alloc, &book)?;
+    let published = results(alloc, &problem, best_of_all(&problem))?;
+    Ok(results_text(alloc, &published)?)
+}
+
+#[test]
+fn best_selection_is_published(rt: HostRuntime) -> Result<(), Fail> {
+    let text = cleared(rt.alloc(), JOURNAL.as_bytes())?;
     assert!(rt; text.starts_with(FIRST));
     assert!(rt; text.ends_with(LAST));
+    Ok(())
+}
+
+/// A quarter-hour that is traded, and a block that no quarter-hour of it can take.
+const QUARTER_HOURS: &[u8] = b"day,92,,,,,,,
+submit,A,B1,hour,buy,5000,92:10,,
+submit,A,S1,hour,sell,3000,92:10,,
+submit,A,K1,block,sell,0,91:10;92:10,,
+close,,,,,,,,
+";
+
+#[test]
+fn quarter_hours_are_published(rt: HostRuntime) -> Result<(), Fail> {
+    let text = cleared(rt.alloc(), QUARTER_HOURS)?;
+    assert!(rt; text.starts_with(b"day,92\nwelfare,20000\nperiod,1,175000,0\n"));
+    assert!(rt;
+        text.ends_with(
+            b"period,91,175000,0\nperiod,92,4000,10\nhour,A,B1,10\nhour,A,S1,10\nblock,A,K1,rejected,1790000\n"
+        )
+    );
     Ok(())
 }

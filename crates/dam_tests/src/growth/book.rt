@@ -1,8 +1,8 @@
 use super::{Call, FAMILY, MIXED, REFUSED, Run, TRIES, are_equal, check_each, run_over, whole_run};
 use crate::support::commands;
 use dam_book::{
-    Book, Command, Price, Qty, Volumes, read_price, read_qty, read_volumes, write_price, write_qty,
-    write_volumes,
+    Book, Command, Period, Price, Qty, Volumes, read_pair, read_price, read_qty, read_volumes,
+    write_pair, write_price, write_qty, write_volumes,
 };
 use limited_alloc::RefusesNth;
 use std::alloc::{AllocError, Allocator, Global};
@@ -157,11 +157,12 @@ fn each_refused_growth_of_a_replay(rt: HostRuntime) -> Result<(), Fail> {
     check_each(&rt, rt.alloc(), &Replayed { run }, 9)
 }
 
-/// A price, a volume and volumes.
+/// A price, a volume, a pair of a period and a volume, and volumes.
 #[derive(Drop)]
 struct Fields {
     price: Price,
     qty: Qty,
+    pair: (Period, Qty),
     volumes: Volumes,
 }
 
@@ -170,6 +171,7 @@ impl Fields {
         Some(Fields {
             price: read_price(b"-50000")?,
             qty: read_qty(b"99999")?,
+            pair: read_pair(b"100:7")?,
             volumes: read_volumes(b"1:10;2:20;25:99999")?,
         })
     }
@@ -200,7 +202,20 @@ impl Fields {
         write_qty(text, self.qty)
     }
 
-    /// Writes the volumes behind both. Refused ones leave the text, and are then written.
+    /// Writes the pair behind both. A refused one leaves the text, and is then written.
+    fn put_pair<A: Allocator>(
+        &self,
+        rt: &impl Abort,
+        text: &mut Vec<u8, A>,
+    ) -> Result<(), AllocError> {
+        if write_pair(text, self.pair).is_ok() {
+            return Ok(());
+        }
+        assert!(rt; text.as_slice() == b"-5000099999".as_slice());
+        write_pair(text, self.pair)
+    }
+
+    /// Writes the volumes behind the three. Refused ones leave the text, and are then written.
     fn put_volumes<A: Allocator>(
         &self,
         rt: &impl Abort,
@@ -209,7 +224,7 @@ impl Fields {
         if write_volumes(text, &self.volumes).is_ok() {
             return Ok(());
         }
-        assert!(rt; text.as_slice() == b"-5000099999".as_slice());
+        assert!(rt; text.as_slice() == b"-5000099999100:7".as_slice());
         write_volumes(text, &self.volumes)
     }
 
@@ -221,8 +236,9 @@ impl Fields {
     ) -> Result<(), AllocError> {
         self.put_price(rt, text)?;
         self.put_qty(rt, text)?;
+        self.put_pair(rt, text)?;
         self.put_volumes(rt, text)?;
-        assert!(rt; text.as_slice() == b"-50000999991:10;2:20;25:99999".as_slice());
+        assert!(rt; text.as_slice() == b"-5000099999100:71:10;2:20;25:99999".as_slice());
         Ok(())
     }
 }

@@ -29,7 +29,7 @@ overflow_add-welfare-in-loop-place g c =
     let at = slice_get_read _ _ c.loop-place.place _ (search rules) c.loop-place-test.true c.index-hours-place.is in
     let there = ap (λ (hs : List (List Step)). slice_get hs c.loop-place.place) (sym c.hours-hours.ensures.value) ∙ at in
     let w = period_within c.args.problem.now.hours c.loop-place.place c.index-hours-place.result _ _ _ _ c.hours-hours.ensures.valid.hours c.hours-hours.ensures.valid.few_hourly there c.in-Some.ensures.totals in
-    let few = c.days_are_short.ensures (length c.args.problem.now.hours) c.hours-hours.ensures.valid.day in
+    let few = c.days_are_short.ensures.short (length c.args.problem.now.hours) c.hours-hours.ensures.valid.day in
     let same = ap length c.hours-hours.ensures.value in
     omega (arith, ints, w.0, w.1, c.block_value.ensures.size.at_least, c.block_value.ensures.size.at_most, few, same)
 
@@ -38,7 +38,7 @@ loop-place-preserved g c =
     let at = slice_get_read _ _ c.loop-place.place _ (search rules) c.loop-place-test.true c.index-hours-place.is in
     let there = ap (λ (hs : List (List Step)). slice_get hs c.loop-place.place) (sym c.hours-hours.ensures.value) ∙ at in
     let w = period_within c.args.problem.now.hours c.loop-place.place c.index-hours-place.result _ _ _ _ c.hours-hours.ensures.valid.hours c.hours-hours.ensures.valid.few_hourly there c.in-Some.ensures.totals in
-    let few = c.days_are_short.ensures (length c.args.problem.now.hours) c.hours-hours.ensures.valid.day in
+    let few = c.days_are_short.ensures.short (length c.args.problem.now.hours) c.hours-hours.ensures.valid.day in
     let same = ap length c.hours-hours.ensures.value in
     let net = c.net_volume.ensures.value ∙ ap (λ (bs : List Block). net_volume bs c.args.selection c.at-period.result) c.blocks-blocks.ensures.value in
     let value = c.block_value.ensures.value ∙ ap (λ (bs : List Block). block_value bs c.args.selection c.at-period.result) c.blocks-blocks.ensures.value in
@@ -51,7 +51,7 @@ loop-place-preserved g c =
 
 pub returns : goal.returns
 returns g c =
-    let few = c.days_are_short.ensures (length c.args.problem.now.hours) c.hours-hours.ensures.valid.day in
+    let few = c.days_are_short.ensures.short (length c.args.problem.now.hours) c.hours-hours.ensures.valid.day in
     let same = ap length c.hours-hours.ensures.value in (
       subst (λ (hs : List (List Step)). ArePrices c.args.problem.now.blocks c.args.selection 1 hs (take (length hs) c.loop-place.prices)) c.hours-hours.ensures.value
           (all_prices _ _ _ _ _ _ c.loop-place-test.false (omega (arith, few, same)) c.loop-place.invariant),

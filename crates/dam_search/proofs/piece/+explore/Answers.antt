@@ -7,8 +7,9 @@ use Rattle.dam_blocks.specs.Selection.{padded, IsAdmissible}
 use Rattle.dam_blocks.specs.Eligible.{selection_welfare}
 use Rattle.dam_bound.specs.Day.{IsDay, IsUnder}
 use Rattle.dam_bound.specs.Relaxed.{without_rows, relaxed_welfare, reaches}
+use Rattle.dam_search.specs.Piece.{IsFind, welfare_found}
 use Rattle.dam_search.specs.inside.Walk.{Finds, Covers, Spends}
-use Rattle.dam_search.proofs.Ranks.{finds_nothing, finds_shorter, finds_twice, covers_both, welfare_rises}
+use Rattle.dam_search.proofs.Ranks.{found_after, finds_nothing, finds_shorter, finds_twice, covers_both, welfare_rises}
 use Rattle.dam_search.proofs.LastBlock.{extension_front, still_rejected}
 use Rattle.dam_search.proofs.Walks.{spends_none, spends_nothing, spends_one, spends_first, spends_both}
 use Rattle.dam_search.proofs.piece.+explore.Goals as goal
@@ -49,7 +50,7 @@ extend-bounded_without-requires-clause-depth g t c =
 
 pub extend-bounded_without-requires-clause-day : goal.extend-bounded_without-requires-clause-day
 extend-bounded_without-requires-clause-day g t c =
-    (c.args.prefix, sym (c.depth-place.ensures.value ∙ ap (λ (xs : List Bool). length xs) (c.in-Some.ensures c.args.relaxed.now c.args.found.now.read (omega (arith, c.requires.read, c.read-found.ensures.rises)) c.requires.day).0), (c.in-Some.ensures c.args.relaxed.now c.args.found.now.read (omega (arith, c.requires.read, c.read-found.ensures.rises)) c.requires.day).2)
+    (c.args.prefix, sym (c.depth-place.ensures.value ∙ ap (λ (xs : List Bool). length xs) (c.in-Some.ensures c.args.relaxed.now c.args.found.now.read (omega (arith, c.requires.read, c.read-found.ensures.rises)) c.requires.day).0), c.copy_day.ensures c.args.prefix (c.in-Some.ensures c.args.relaxed.now c.args.found.now.read (omega (arith, c.requires.read, c.read-found.ensures.rises)) c.requires.day).2)
 
 pub extend-bounded_with-requires-clause-depth : goal.extend-bounded_with-requires-clause-depth
 extend-bounded_with-requires-clause-depth g t c =
@@ -58,7 +59,7 @@ extend-bounded_with-requires-clause-depth g t c =
 
 pub extend-bounded_with-requires-clause-day : goal.extend-bounded_with-requires-clause-day
 extend-bounded_with-requires-clause-day g t c =
-    (c.args.prefix, sym (c.depth-place.ensures.value ∙ ap (λ (xs : List Bool). length xs) (c.in-Some.ensures c.args.relaxed.now c.args.found.now.read (omega (arith, c.requires.read, c.read-found.ensures.rises)) c.requires.day).0), (c.in-Some.ensures c.args.relaxed.now c.args.found.now.read (omega (arith, c.requires.read, c.read-found.ensures.rises)) c.requires.day).2)
+    (c.args.prefix, sym (c.depth-place.ensures.value ∙ ap (λ (xs : List Bool). length xs) (c.in-Some.ensures c.args.relaxed.now c.args.found.now.read (omega (arith, c.requires.read, c.read-found.ensures.rises)) c.requires.day).0), c.copy_day-2.ensures c.args.prefix (c.in-Some.ensures c.args.relaxed.now c.args.found.now.read (omega (arith, c.requires.read, c.read-found.ensures.rises)) c.requires.day).2)
 
 pub returns-then-found-nodes-clause-finds : goal.returns-then-found-nodes-clause-finds
 returns-then-found-nodes-clause-finds g t c = finds_nothing c.args.problem.now c.args.prefix c.args.found.now.best
@@ -150,7 +151,7 @@ explore-requires g t c =
     let few : length c.args.prefix < most_blocks = omega (arith, inside, c.block_count.ensures.valid.few_blocks) in
     let day : MatchBool c.extend-bounded_without.result (IsDay c.args.relaxed.now c.extended-rejected.result c.extend-bounded_without.new.day) (IsUnder c.args.relaxed.now c.extended-rejected.result c.read-found.result) =
     next_day c.args.relaxed.now c.extended-rejected.result c.in-Some.open c.args.prefix false c.depth-place.result c.read-found.result c.extend-bounded_without.result c.extend-bounded_without.new.day c.extended-rejected.ensures same c.depth-place.ensures.value
-    (λ is. c.extend-bounded_without.ensures c.args.prefix is (c.in-Some.ensures c.args.relaxed.now c.args.found.now.read (omega (arith, c.requires.read, c.read-found.ensures.rises)) c.requires.day).2) in
+    (λ is. c.extend-bounded_without.ensures c.args.prefix is (c.copy_day.ensures c.args.prefix (c.in-Some.ensures c.args.relaxed.now c.args.found.now.read (omega (arith, c.requires.read, c.read-found.ensures.rises)) c.requires.day).2)) in
     let admissible : IsAdmissible c.args.problem.now.blocks (padded c.extended-rejected.result) =
     subst (λ (xs : List Bool). IsAdmissible c.args.problem.now.blocks (padded xs)) (sym (next_is c.extended-rejected.result c.in-Some.open c.args.prefix false c.extended-rejected.ensures same))
     (still_rejected c.args.problem.now.blocks c.args.prefix few c.requires.admissible) in
@@ -167,9 +168,15 @@ explore-requires-2 g t c =
     let inside : length c.args.prefix < length c.args.problem.now.blocks = (undecided c.args.prefix c.depth.result c.block_count.result (length c.args.problem.now.blocks) c.depth.ensures.value c.block_count.ensures.value c.requires.depth c.if-depth-block_count.false) in
     let day : MatchBool c.extend-bounded_with.result (IsDay c.args.relaxed.now c.extended-accepted.result c.extend-bounded_with.new.day) (IsUnder c.args.relaxed.now c.extended-accepted.result c.explore.new.found.read) =
     next_day c.args.relaxed.now c.extended-accepted.result c.in-Some.open c.args.prefix true c.depth-place.result c.explore.new.found.read c.extend-bounded_with.result c.extend-bounded_with.new.day c.extended-accepted.ensures same c.depth-place.ensures.value
-    (λ is. c.extend-bounded_with.ensures c.args.prefix is (c.in-Some.ensures c.args.relaxed.now c.args.found.now.read (omega (arith, c.requires.read, c.read-found.ensures.rises)) c.requires.day).2) in
+    (λ is. c.extend-bounded_with.ensures c.args.prefix is (c.copy_day-2.ensures c.args.prefix (c.in-Some.ensures c.args.relaxed.now c.args.found.now.read (omega (arith, c.requires.read, c.read-found.ensures.rises)) c.requires.day).2)) in
     let admissible : IsAdmissible c.args.problem.now.blocks (padded c.extended-accepted.result) = c.is_still_admissible.ensures.value.0 (search rules) in
-    search rules
+    let below : length c.args.problem.now.blocks ≤ length c.extended-accepted.result + length c.explore.new.below = omega (arith, long, c.requires.days, c.explore.auto.below, c.in-Some-split_first_mut.ensures.cases.1) in
+    let depth : length c.extended-accepted.result ≤ length c.args.problem.now.blocks = omega (arith, long, inside) in
+    let room : c.explore.new.found.visited ≤ c.args.nodes = c.explore.ensures.spends.within in
+    let read : c.explore.new.found.read ≤ g.I.Incumbent.told c.explore.new.incumbent = let told = c.explore.ensures.reads.told in omega (arith, told) in
+    let best : IsFind c.args.problem.now [] c.explore.new.found.best = found_after c.args.problem.now c.extended-rejected.result c.args.found.now.best c.explore.new.found.best c.requires.best c.explore.ensures.finds in
+    let offered : welfare_found c.explore.new.found.best ≤ g.I.Incumbent.top c.explore.new.incumbent = let top = c.explore.ensures.offered in omega (arith, top) in
+    λ κs lives. (search rules, (search rules, (search rules, (search rules, (c.requires.same, (depth, (day, (admissible, (below, (room, (read, (best, offered))))))))))))
 
 -- the next block isn't admitted
 pub returns-then-not-is_still_admissible-clause-finds : goal.returns-then-not-is_still_admissible-clause-finds

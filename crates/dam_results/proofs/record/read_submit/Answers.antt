@@ -3,7 +3,7 @@ use Rattle.std.proofs.Common.{◌≡◌, ℕ, codes, arith}
 use Rattle.std.proofs.lemmas.Grind.{common_steps}
 use Rattle.dam_results.specs.inside.Row.{fields_in}
 use Rattle.dam_results.proofs.Rules.{hour_broken, block_broken, other_fault}
-use Rattle.dam_results.proofs.record.read_order.Goals as goal
+use Rattle.dam_results.proofs.record.read_submit.Goals as goal
 
 pub returns-in-hour : goal.returns-in-hour
 returns-in-hour c =

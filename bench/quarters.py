@@ -1,0 +1,45 @@
+#!/usr/bin/env python3
+"""quarters.py: days of quarter-hours: the families with 96 periods beside those with 24, and a journal of 10,000 blocks that each have
+a volume in all of 100 periods."""
+
+import make_family
+from figures import BASELINE, DAM, by_turns, line, ratio, run
+
+ORDERS = "4000"
+# Of its books every selection is visited, which takes minutes with either number of periods.
+LONG = "ties"
+JOURNAL = "out/blocks.csv"
+
+
+def clearing(family, parts):
+    """`dam clear` of a family's book with so many periods an hour."""
+    path = f"out/{family}-{ORDERS}-{parts}.csv"
+    with open(path, "wb") as made:
+        made.write(run(["./make_family.py", family, ORDERS, "24", parts]).text)
+    return ["sh", "-c", 'exec "$0" clear < "$1"', DAM, path]
+
+
+def families():
+    for family in make_family.FAMILIES:
+        if family == LONG:
+            continue
+        runs = by_turns({parts: clearing(family, parts) for parts in ("1", "4")}, most=15)
+        what = f"{family} {ORDERS}: dam clear of 96 periods beside 24"
+        if all(runs.values()):
+            ratio(what, *([each.wall for each in runs[parts]] for parts in ("4", "1")), most=4.5)
+        else:
+            line(what, "?", "ends", False)
+
+
+def longest_journal():
+    with open(JOURNAL, "wb") as made:
+        made.write(run(["./make_journal.py", "blocks"]).text)
+    runs = by_turns({"dam": [DAM, "replay"], "plain": [BASELINE]}, JOURNAL, most=15)
+    if {each.text for each in runs["dam"]} != {each.text for each in runs["plain"]}:
+        line("dam replay of 10,000 blocks in 100 periods", "differs", "as the baseline", False)
+    what = "dam replay of 10,000 blocks in 100 periods beside the baseline, processor time"
+    ratio(what, *([each.processor for each in runs[name]] for name in ("dam", "plain")), most=3)
+
+
+families()
+longest_journal()
