@@ -1,10 +1,9 @@
 -- The levels of the day, period by period.
-use Rattle.std.proofs.Common.{◌≡◌, ℕ, zero, suc, ◌+◌, ◌<◌, ◌≤◌, ◌⊎◌, inl, inr, true, Option, Some, Result, Ok, Err, IfSome, IfOk, List, [], ◌∷◌, ◌++◌, length, map, length-append, ap, ap₂, ◌∙◌, sym, subst, refl, arith}
-use Rattle.std.specs.List.{slice_get, slice_index_or}
+use Rattle.std.proofs.Common.{◌≡◌, ℕ, zero, suc, ◌+◌, ◌≤◌, ◌⊎◌, inl, inr, true, Some, Result, Ok, Err, IfOk, List, [], ◌∷◌, ◌++◌, length, map, length-append, ap, ap₂, ◌∙◌, sym, subst, refl, arith}
+use Rattle.std.specs.List.{slice_get}
 use Rattle.std.specs.Option.{option_map}
 use Rattle.std.proofs.lemmas.Bool.Decides.{nat_tests}
-use Rattle.std.proofs.lemmas.List.{length-map}
-use Rattle.std.proofs.lemmas.Option.{get_or_from_slice_get, slice_get-map, slice_get_within}
+use Rattle.std.proofs.lemmas.Option.{slice_get-map}
 use Rattle.dam_book.specs.Book.{is_day}
 use Rattle.dam_book.specs.Limits.{last_period}
 use Rattle.dam_hour.specs.declared.step.Step.{Step}
@@ -57,17 +56,6 @@ one_period blocks hours count periods levels at so_far =
             subst (λ (l : LevelsState). AreLevelsAt hours blocks i l) new.1 (subst (λ (n : ℕ). AreLevelsAt hours blocks n levels) here at))
       ];
     }
-
--- levels that were made at every place
-pub every_period : (blocks : List Block) (hours : List (List Step)) (made : List (Option LevelsState)) (periods : List LevelsState)
-    → ((i : ℕ) (d : Option LevelsState) → i < length made → IfSome (slice_index_or made i d) (AreLevelsAt hours blocks i))
-    → map (λ (l : LevelsState). Some l) periods ≡ made → AreDaySoFar blocks hours (length made) periods
-every_period blocks hours made periods each same = record {
-  long = sym (length-map periods (λ (l : LevelsState). Some l)) ∙ ap length same;
-  each = λ i levels e.
-      let at : slice_get made i ≡ Some (Some levels) = ap (λ (ls : List (Option LevelsState)). slice_get ls i) (sym same) ∙ slice_get-map (λ (l : LevelsState). Some l) periods i ∙ ap (option_map (λ (l : LevelsState). Some l)) e in
-      subst (λ (o : Option LevelsState). IfSome o (AreLevelsAt hours blocks i)) (get_or_from_slice_get made i (Some levels) (Some levels) at) (each i (Some levels) (slice_get_within made i (Some levels) at));
-}
 
 -- a day has so many periods at most
 short_day : (periods : ℕ) → is_day periods ≡ true → periods ≤ last_period

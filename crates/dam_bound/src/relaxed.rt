@@ -1,4 +1,4 @@
-ghost use Rattle.std.specs.Prelude.{ℕ, ℤ, ◌≡◌, not, ◌<◌, ◌≤◌, [], ◌∷◌, ◌++◌, List, Bool, Some, None, length, drop, map, slice_get, slice_set, slice_index_or, vec_len, IfOk, IfSome, MatchBool, MatchOption};
+ghost use Rattle.std.specs.Prelude.{ℤ, ◌≡◌, not, ◌<◌, ◌≤◌, [], ◌∷◌, ◌++◌, List, Bool, Some, None, length, drop, map, slice_get, slice_set, IfOk, IfSome, MatchBool, MatchOption};
 ghost use Rattle.dam_book.specs.Limits.{most_blocks};
 ghost use Rattle.dam_blocks.specs.Problem.{AreBlocks};
 ghost use Rattle.dam_blocks.specs.Selection.{padded};
@@ -17,8 +17,6 @@ use dam_blocks::{Block, Problem, Selection, block_value, laws, net_volume};
 use dam_book::Period;
 use std::alloc::{AllocError, Allocator, Global};
 use std::marker::Model;
-use std::thread;
-use std::thread::Threads;
 
 /// What the bounds of a problem's prefixes are read off: at each depth each period's hourly orders,
 /// and with them every undecided block as an order of its own in each of its periods.
@@ -90,115 +88,16 @@ fn periods_of<A: Allocator + Copy, B: Allocator>(
     Ok(periods)
 }
 
-/// So many places for levels that are still to be made.
-fn unmade(alloc: Global, count: usize) -> Result<Vec<Option<Levels>>, AllocError>
-    ensures { IfOk result (λ made. vec_len made ≡ count) }
-{
-    let mut made = Vec::with_capacity(alloc, count)?;
-    for _ in 0..count {
-        made.push(None)?;
-    }
-    Ok(made)
-}
-
-/// Makes the levels of each period at its place, in at most so many threads; `None` where memory
-/// ran out.
-fn make_each<R: Threads + Sync>(
-    rt: &R,
-    alloc: Global,
-    problem: &Problem,
-    threads: usize,
-    made: &mut [Option<Levels>],
-)
-    requires threads { 0 < threads }
-    requires places { length made.old ≡ length problem.now.hours }
-    ensures { (place : ℕ) (d : _) → place < length made.old
-        → IfSome (slice_index_or made.new place d)
-        (AreLevelsAt problem.now.hours problem.now.blocks place) }
-{
-    thread::for_each_mut(
-        rt,
-        made,
-        threads,
-        &|place: usize, levels: &mut Option<Levels>|
-            requires { place < length problem.now.hours }
-            ensures { IfSome levels.exit.now
-                (AreLevelsAt problem.entry.now.hours problem.entry.now.blocks place) }
-        {
-            *levels = levels_at(alloc, problem, place).ok();
-        },
-    );
-}
-
-/// The levels, where all were made.
-fn all_made(alloc: Global, made: Vec<Option<Levels>>) -> Result<Vec<Levels>, AllocError>
-    ensures { IfOk result (λ periods. map Some periods.items ≡ made.items) }
-{
-    let mut periods = Vec::with_capacity(alloc, made.len())?;
-    for levels in made {
-        periods.push(levels.ok_or(AllocError)?)?;
-    }
-    Ok(periods)
-}
-
-/// The levels of each period of the day, made in at most so many threads, and in one at least.
-fn periods_by<R: Threads + Sync>(
-    rt: &R,
-    alloc: Global,
-    problem: &Problem,
-    threads: u8,
-) -> Result<Vec<Levels>, AllocError>
-    ensures levels { IfOk result (λ periods. AreDayLevels problem.now.blocks periods.items) }
-    ensures hours { IfOk result (λ periods. map last_steps periods.items ≡ problem.now.hours) }
-    ensures blocks { IfOk result (λ periods.
-        AreBlocks (length periods.items) problem.now.blocks) }
-{
-    let mut made = unmade(alloc, usize::from(problem.periods()))?;
-    make_each(rt, alloc, problem, usize::from(threads).max(1), &mut made);
-    all_made(alloc, made)
-}
-
-/// The levels of a problem whose periods have theirs.
-fn relaxed_of<A: Allocator + Copy, B: Allocator>(
-    alloc: A,
-    problem: &Problem<B>,
-    periods: Vec<Levels<A>, A>,
-) -> Result<Relaxed<A>, AllocError>
-    requires levels { AreDayLevels problem.now.blocks periods.items }
-    requires hours { map last_steps periods.items ≡ problem.now.hours }
-    requires blocks { AreBlocks (length periods.items) problem.now.blocks }
-    ensures { IfOk result (λ relaxed. relaxed ≡ without_rows problem.now) }
-{
-    Ok(Relaxed {
-        periods,
-        blocks: copies_of(alloc, problem.blocks())?,
-        families: families_of(alloc, problem.blocks())?,
-    })
-}
-
 impl<A: Allocator + Copy> Relaxed<A> {
     /// The levels of a problem. The error is want of memory.
     pub fn build<B: Allocator>(alloc: A, problem: &Problem<B>) -> Result<Relaxed<A>, AllocError>
         ensures { IfOk result (λ relaxed. relaxed ≡ without_rows problem.now) }
     {
-        let periods = periods_of(alloc, problem)?;
-        relaxed_of(alloc, problem, periods)
-    }
-}
-
-impl Relaxed<Global> {
-    /// The levels of a problem, with the periods shared out among at most so many threads. Where no
-    /// thread can be made the calling one makes them all. The error is want of memory.
-    pub fn build_parallel<R: Threads + Sync>(
-        rt: &R,
-        alloc: Global,
-        problem: &Problem,
-        threads: u8,
-    ) -> Result<Relaxed, AllocError>
-        ensures { IfOk result (λ relaxed. relaxed ≡ without_rows problem.now) }
-    {
-        let periods = periods_by(rt, alloc, problem, threads)?;
-        relaxed_of(alloc, problem, periods)
+        Ok(Relaxed {
+            periods: periods_of(alloc, problem)?,
+            blocks: copies_of(alloc, problem.blocks())?,
+            families: families_of(alloc, problem.blocks())?,
+        })
     }
 }
 

@@ -206,31 +206,6 @@ fn bounds_of_quarter_hours(rt: HostRuntime) -> Result<(), Fail> {
     Ok(())
 }
 
-/// The bounds of no decision, and of either on the first block.
-fn first_bounds(relaxed: &Relaxed) -> [Option<i64>; 3]
-    requires { 0 < length relaxed.now.blocks }
-{
-    let none = Selection::none();
-    [
-        relaxed.bound(none, 0),
-        relaxed.bound(none.with(0), 1),
-        relaxed.bound(none, 1),
-    ]
-}
-
-#[test]
-fn levels_made_in_threads(rt: HostRuntime) -> Result<(), Fail> {
-    let alloc = rt.alloc();
-    let problem = block_of_two_periods(alloc, 25, (1, 25))?;
-    assert!(rt; problem.block_count() == 1);
-    let bounds = first_bounds(&Relaxed::build(alloc, &problem)?);
-    for threads in [1, 3, 8] {
-        let relaxed = Relaxed::build_parallel(&rt, alloc, &problem, threads)?;
-        assert_eq!(rt; first_bounds(&relaxed), bounds);
-    }
-    Ok(())
-}
-
 /// The bound of the first extension of a day's copy.
 fn extended_copy(relaxed: &Relaxed, accept: bool) -> Option<i64>
     requires { 0 < length relaxed.now.blocks }

@@ -203,10 +203,9 @@ pub(crate) fn explore_all<R: Threads + Sync, T: Turnstile + Sync>(
 /// that accepts at the first place where two differ. No plan and no order in which the workers
 /// happen to run changes it.
 ///
-/// The levels of the periods are made first, shared out among at most as many threads as the plan has
-/// workers. A first good selection is found, and its welfare is offered before any worker starts.
-/// The workers, each on a thread of its own, draw the pieces of the cutting that decides as many of
-/// the first blocks as the plan says, or all of them, as they come free, and prune by the greatest
+/// A first good selection is found, and its welfare is offered before any worker starts. The
+/// workers, each on a thread of its own, draw the pieces of the cutting that decides as many of the
+/// first blocks as the plan says, or all of them, as they come free, and prune by the greatest
 /// welfare that any of them has found; where no thread can be made the calling one does its work.
 /// `Memory` comes first of the faults, then `Collected`, and then `Unfinished`.
 pub fn search<R: Threads + Sync, T: Turnstile + Sync>(
@@ -230,7 +229,7 @@ pub fn search<R: Threads + Sync, T: Turnstile + Sync>(
     // Each piece was drawn once: none lacks its answer or has two.
     ensures whole { (piece : ℕ) → ¬ (IsErrOf result (SearchFault.Collected piece)) }
 {
-    let relaxed = Relaxed::build_parallel(rt, alloc, problem, plan.workers())?;
+    let relaxed = Relaxed::build(alloc, problem)?;
     let task = Task {
         alloc,
         problem,
