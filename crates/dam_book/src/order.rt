@@ -19,7 +19,8 @@ pub enum Side {
     Sell,
 }
 
-/// An hourly order: one side, one limit price and one volume in one period.
+/// An hourly order: one side, one limit price and one volume in one period, which is a quarter of an
+/// hour on a day of those.
 ///
 /// It is a step order of one step (EUPHEMIA Public Description, "Aggregated Hourly Orders"): it is
 /// executed in full at a better price, not at all at a worse one, and may be executed in part at its

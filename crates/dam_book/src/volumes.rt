@@ -28,8 +28,9 @@ pub enum VolumesFault {
 /// The volumes of an order: 1 to `LAST_PERIOD` pairs of a period and a volume in tenths of a MW, by
 /// increasing period.
 ///
-/// A contract sees the list of the pairs. These are the hourly volumes of a profiled block order
-/// (EUPHEMIA Public Description, "Block Orders"); an amended hourly order takes them from one pair.
+/// A contract sees the list of the pairs. These are the volumes, period by period, of a profiled block
+/// order (EUPHEMIA Public Description, "Block Orders"); an amended hourly order takes its own from the
+/// one pair.
 #[derive(PartialEq, Eq, Hash, Debug, Drop)]
 pub struct Volumes {
     pairs: ArrayVec<(Period, Qty), MOST_VOLUMES>,

@@ -54,8 +54,8 @@ impl Day {
     }
 }
 
-/// Gives a day what another one has of the first so many periods, and its total. Nothing is copied of the
-/// periods that the delivery day doesn't have.
+/// Copies to a day what another one has of its first `count` periods, and its total: all that belongs to a
+/// delivery day of so many.
 pub(crate) fn copy_periods(from: &Day, to: &mut Day, count: usize)
     requires { count ≤ last_period }
     ensures periods { (i : ℕ) (own : DayPeriod) → i < count

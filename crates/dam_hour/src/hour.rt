@@ -26,7 +26,7 @@ pub const MOST_STEPS: usize = MOST_HOURLY + MOST_BLOCKS;
 /// The greatest net volume of a period, of either sign, in tenths of a MW: that of all blocks of a book.
 pub const GREATEST_NET: i64 = MOST_BLOCKS as i64 * GREATEST_VOLUME as i64;
 
-/// One period: its steps in book order, at most `MOST_STEPS`.
+/// One period, an hour or a quarter of one: its steps in book order, at most `MOST_STEPS`.
 ///
 /// Beside them it keeps the buys by falling and the sells by rising limit, each with the volume and the
 /// value that stand before it, so that a price is found by bisection. A contract sees the list of the
