@@ -10,7 +10,7 @@ use dam_blocks::{Block, volume_in};
 use dam_book::{BlockOrder, Period, Qty};
 use dam_hour::{Hour, Step};
 use dam_stack::Stack;
-use std::alloc::{AllocError, Allocator, Global};
+use std::alloc::{AllocError, Allocator};
 use std::marker::Model;
 
 /// The block as a step of the period, where it has a volume there.
@@ -65,7 +65,7 @@ fn relaxed_stack<A: Allocator + Copy>(
 ///
 /// Depths between which no block has a volume in the period share an hour.
 #[derive(Drop)]
-pub(crate) struct Levels<A: Allocator = Global> {
+pub(crate) struct Levels<A: Allocator> {
     /// The stacks with their hours, by falling number of undecided blocks.
     hours: Vec<Stack<A>, A>,
     /// For each depth the place of its stack.
