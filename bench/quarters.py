@@ -6,7 +6,7 @@ import make_family
 from figures import BASELINE, DAM, by_turns, line, ratio, run
 
 ORDERS = "4000"
-# Of its books every selection is visited, which takes minutes with either number of periods.
+# Of its books every selection is visited, which takes too long to be run by turns.
 LONG = "ties"
 JOURNAL = "out/blocks.csv"
 

@@ -123,8 +123,8 @@ pub fn read_qty(bytes: &[u8]) -> Option<Qty>
 
 /// The period and the volume whose text is `bytes`, or `None` where no pair has that text.
 ///
-/// The text is `period:volume`, both in decimal without leading zeros, the volume in tenths of a MW: that
-/// of volumes in one period.
+/// The text is `period:volume`, both in decimal without leading zeros, the volume in tenths of a MW. It is
+/// also the text of `Volumes` of one pair.
 pub fn read_pair(bytes: &[u8]) -> Option<(Period, Qty)>
     ensures { MatchOption result
         ((p : Pair) → IsPeriod p.0 → IsQuantity p.1 → bytes.now ≢ pair_text p)

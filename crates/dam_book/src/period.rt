@@ -60,7 +60,7 @@ impl Period {
 }
 
 /// Whether a delivery day has so many periods: 24 hours, or one less or more where the clocks change,
-/// or the quarters of so many hours.
+/// or four times as many quarter-hours.
 pub fn is_day(periods: u8) -> bool
     ensures { result ≡ Book.is_day periods }
 {

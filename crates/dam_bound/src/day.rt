@@ -54,8 +54,8 @@ impl Day {
     }
 }
 
-/// Copies to a day what another one has of its first `count` periods, and its total: all that belongs to a
-/// delivery day of so many.
+/// Copies the first `count` periods of a day, and its total, into another: all that counts on a delivery
+/// day of so many periods.
 pub(crate) fn copy_periods(from: &Day, to: &mut Day, count: usize)
     requires { count ≤ last_period }
     ensures periods { (i : ℕ) (own : DayPeriod) → i < count

@@ -71,7 +71,7 @@ pub fn completions()
 {}
 
 /// How large a relaxed welfare can be: as large as the welfare of a selection, 4,000 hourly orders,
-/// and 24 blocks in 100 periods, each count at most 400,000 cents per MWh times 99,999 tenths of a
+/// and 24 blocks in 100 periods, each counting at most 400,000 cents per MWh times 99,999 tenths of a
 /// MW.
 pub fn magnitude()
     ensures { (problem : ProblemState) (prefix : List Bool) (w : ℤ) → IsProblem problem

@@ -185,8 +185,8 @@ impl<A: Allocator> Relaxed<A> {
         )
     }
 
-    /// Makes the other day one of the same prefix. Only what belongs to the problem's periods is copied.
-    /// Takes no memory.
+    /// Makes `to` a day of whichever prefix `from` is the day of. Only what belongs to the problem's
+    /// periods is copied. Takes no memory.
     pub fn copy_day(&self, from: &Day, to: &mut Day)
         ensures { (prefix : List Bool) → IsDay self.now prefix from.now
             → IsDay self.now prefix to.new }

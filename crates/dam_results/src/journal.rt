@@ -140,7 +140,7 @@ fn read_first(fields: &ByteRecord) -> Result<u8, JournalFault>
     read_day(&row).map_err(|field| JournalFault::BadField(1, field))
 }
 
-/// The fields of a later record, which may stand there and has nine.
+/// The fields of a later record, where its number is within the limit and it has nine.
 fn later_row<'a>(number: usize, fields: &'a ByteRecord) -> Result<Row<'a>, JournalFault>
     requires { 1 < number }
     ensures { MatchResult result
@@ -212,7 +212,7 @@ fn read_commands<T: FromJournal>(
         number += 1;
         let place = number as usize + 1;
         let row = later_row(place, &record)?;
-        // The command is taken where it was made: it has room for the volumes of a block, and isn't moved.
+        // Lent, not moved: a command has room for the volumes of a block.
         match &read_command(&row) {
             Ok(command) => made.take(number, command)?,
             Err(field) => return Err(JournalFault::BadField(place, *field)),

@@ -114,9 +114,6 @@ pub(crate) fn read_day(row: &Row) -> Result<u8, usize>
     Ok(periods)
 }
 
-// A command has room for the volumes of a block: that of a submit is made whole where its fields are read,
-// and is moved as little as may be.
-
 fn read_hour(row: &Row) -> Result<Command, usize>
     requires kind { row.now.kind.now ≡ codes "submit" }
     requires form { row.now.form.now ≡ codes "hour" }
@@ -163,6 +160,8 @@ fn read_no_form(row: &Row) -> Result<Command, usize>
     Err(4)
 }
 
+/// Each form's reader makes the whole command, which has room for the volumes of a block, so that it is
+/// moved as little as may be.
 fn read_submit(row: &Row) -> Result<Command, usize>
     requires { row.now.kind.now ≡ codes "submit" }
     ensures { ReadsCommand (submit_rules (fields_in row.now)) row.now result }

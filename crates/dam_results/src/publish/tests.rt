@@ -43,7 +43,7 @@ fn best_selection_is_published(rt: HostRuntime) -> Result<(), Fail> {
     Ok(())
 }
 
-/// A quarter-hour that is traded, and a block that no quarter-hour of it can take.
+/// A quarter-hour that is traded, and a block with volume in another one too, in which nobody buys.
 const QUARTER_HOURS: &[u8] = b"day,92,,,,,,,
 submit,A,B1,hour,buy,5000,92:10,,
 submit,A,S1,hour,sell,3000,92:10,,
