@@ -1,7 +1,7 @@
 ghost use Rattle.std.specs.Prelude.{◌≡◌};
 
 use crate::name::{Name, Participant};
-use crate::order::Order;
+use crate::order::{BlockOrder, Order};
 use crate::price::Price;
 use crate::volumes::Volumes;
 
@@ -37,28 +37,56 @@ impl Command {
         ensures { result ≡ self.now }
     {
         match self {
-            Command::Submit { who, name, order } => Command::Submit {
-                who: who.copy(),
-                name: name.copy(),
-                order: order.copy(),
-            },
+            Command::Submit { who, name, order } => copy_of_submit(who, name, order),
             Command::Amend {
                 who,
                 name,
                 price,
                 volumes,
-            } => Command::Amend {
-                who: who.copy(),
-                name: name.copy(),
-                price: *price,
-                volumes: volumes.copy(),
-            },
+            } => copy_of_amend(who, name, *price, volumes),
             Command::Cancel { who, name } => Command::Cancel {
                 who: who.copy(),
                 name: name.copy(),
             },
             Command::Close => Command::Close,
         }
+    }
+}
+
+// A function makes room for all its values at its entry. So what has room for the volumes of a block
+// is made in functions of its own, and the others don't pay for it.
+
+fn copy_of_submit(who: &Participant, name: &Name, order: &Order) -> Command
+    ensures { result ≡ Command.Submit who.now name.now order.now }
+{
+    match order {
+        Order::Hour(order) => Command::Submit {
+            who: who.copy(),
+            name: name.copy(),
+            order: Order::Hour(*order),
+        },
+        Order::Block(order) => copy_of_block(who, name, order),
+    }
+}
+
+fn copy_of_block(who: &Participant, name: &Name, order: &BlockOrder) -> Command
+    ensures { result ≡ Command.Submit who.now name.now (Order.Block order.now) }
+{
+    Command::Submit {
+        who: who.copy(),
+        name: name.copy(),
+        order: Order::Block(order.copy()),
+    }
+}
+
+fn copy_of_amend(who: &Participant, name: &Name, price: Price, volumes: &Volumes) -> Command
+    ensures { result ≡ Command.Amend who.now name.now price volumes.now }
+{
+    Command::Amend {
+        who: who.copy(),
+        name: name.copy(),
+        price,
+        volumes: volumes.copy(),
     }
 }
 

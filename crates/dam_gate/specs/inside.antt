@@ -1,5 +1,6 @@
 -- What only contracts inside this crate cite.
 pub mod Desk
 pub mod History
+pub mod Books
 pub mod Tally
 pub mod Entering

@@ -114,7 +114,7 @@ fn enter<J: Naming, H: Wait + Drop>(
         if !pass.owns(given) {
             continue;
         }
-        let Ok(_entry) = gate.call(rt, pass, given.copy()) else {
+        let Ok(_entry) = gate.enter(rt, pass, given) else {
             return;
         };
     }

@@ -147,13 +147,13 @@ impl<J: Naming, R: Wait + Drop> Desk<J, R> {
         &mut self,
         seen: &Front<J>,
         told: &Front<J>,
-        command: Command,
+        command: &Command,
     ) -> Result<(Entry, Front<J>), GateFault>
-        requires { is_full (length self.old.journal.entries) command ≡ false }
-        ensures entry { IfOk result (λ r. r.0 ≡ next_entry self.old.journal command) }
+        requires { is_full (length self.old.journal.entries) command.now ≡ false }
+        ensures entry { IfOk result (λ r. r.0 ≡ next_entry self.old.journal command.now) }
         ensures history { IfOk result (λ r. r.1 ≡ self.old.journal.entries ++ r.0 ∷ []) }
         ensures journal { OnOk result
-            (self.new.journal ≡ journal_after self.old.journal command) }
+            (self.new.journal ≡ journal_after self.old.journal command.now) }
         ensures passes { self.new.passes ≡ self.old.passes }
         ensures seen { OnOk result (IsPrefix seen.now self.old.journal.entries) }
         ensures told { OnOk result (IsPrefix told.now self.old.journal.entries) }
@@ -163,7 +163,7 @@ impl<J: Naming, R: Wait + Drop> Desk<J, R> {
     {
         // Its contract tells that these are the entries of a journal.
         let _journal = self.keeper.len();
-        let ready = self.keeper.ready(&command)?;
+        let ready = self.keeper.ready(command)?;
         let place = place(self.alloc)?;
         let book = ready.book()?;
         let change = Change {

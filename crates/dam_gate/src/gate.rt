@@ -168,7 +168,27 @@ impl<J: Naming, R: Wait + Drop> Gate<J, R> {
         ensures err { OnErr result (pass.new ≡ pass.old) }
         ensures fault { IfErr result (IsGateFault pass.old.account command) }
     {
-        if !pass.owns(&command) {
+        self.enter(rt, pass, &command)
+    }
+
+    /// Makes the call of a command that its caller keeps.
+    pub(crate) fn enter(
+        &self,
+        rt: &impl Wait,
+        pass: &mut Pass<J>,
+        command: &Command,
+    ) -> Result<Entry, GateFault>
+        ensures command { IfOk result (λ entry. entry.command ≡ command.now) }
+        ensures reply { IfOk result EndsHistory }
+        ensures later { IfOk result (λ entry. pass.old.account.seen < entry.number) }
+        ensures receipt { IfOk result (λ entry.
+            pass.new ≡ after_call pass.old pass.new.history entry) }
+        ensures history { IfOk result (IsAnswered pass.old pass.new.history) }
+        ensures own { OnOk result (is_own pass.old.account.holder command.now ≡ true) }
+        ensures err { OnErr result (pass.new ≡ pass.old) }
+        ensures fault { IfErr result (IsGateFault pass.old.account command.now) }
+    {
+        if !pass.owns(command) {
             return Err(GateFault::NotYours);
         }
         pass.step(&mut self.desk.lock(rt), command)

@@ -107,16 +107,18 @@ impl<A: Allocator> Model for Keeper<A> {
     ghost use Rattle.std.specs.Prelude.{◌-◌, vec_len, vec_capacity};
     ghost use Rattle.dam_gate.specs.Journal.{IsJournal};
     ghost use Rattle.dam_gate.specs.Keeper.{KeeperState};
+    ghost use Rattle.dam_gate.specs.inside.Books.{AreSteps};
 
     ghost Value = { KeeperState };
 
     ghost view = { λ k. record {
-      journal = record { entries = k.entries.items; book = k.books };
+      journal = record { entries = k.entries.items; book = k.books.book };
       room = vec_capacity k.entries - vec_len k.entries;
     } };
 
     ghost invariant = { λ k.
-        IsJournal (record { entries = k.entries.items; book = k.books }) };
+        IsJournal (record { entries = k.entries.items; book = k.books.book })
+        × AreSteps k.entries.items k.books };
 }
 
 /// A step of a keeper that can't be refused any more: its entry, and the book after it.
@@ -212,7 +214,7 @@ impl<A: Allocator + Copy> Keeper<A> {
         match reply {
             Reply::Refused(_) => self.books.share(),
             Reply::Done => {
-                let mut book = self.books.another()?;
+                let mut book = self.books.another(&self.entries)?;
                 let _done = book.apply(command)?;
                 match Arc::new(*self.entries.allocator(), book) {
                     Ok(book) => Ok(book),
@@ -229,8 +231,9 @@ impl<A: Allocator + Copy> Keeper<A> {
         ensures step { self.new.journal ≡ journal_after self.old.journal ready.entry.command }
     {
         let Ready { entry, book } = ready;
+        let held = self.len();
         self.entries.push_reserved(entry.copy());
-        self.books.follow(book, &entry);
+        self.books.follow(book, &entry, held as usize);
         entry
     }
 

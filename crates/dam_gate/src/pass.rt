@@ -203,12 +203,12 @@ impl<J: Naming> Pass<J> {
     pub(crate) fn step<R: Wait + Drop>(
         &mut self,
         desk: &mut Desk<J, R>,
-        command: Command,
+        command: &Command,
     ) -> Result<Entry, GateFault>
-        requires { is_own self.old.account.holder command ≡ true }
-        ensures entry { IfOk result (λ entry. entry ≡ next_entry desk.old.journal command) }
+        requires { is_own self.old.account.holder command.now ≡ true }
+        ensures entry { IfOk result (λ entry. entry ≡ next_entry desk.old.journal command.now) }
         ensures journal { OnOk result
-            (desk.new.journal ≡ journal_after desk.old.journal command) }
+            (desk.new.journal ≡ journal_after desk.old.journal command.now) }
         ensures passes { desk.new.passes ≡ desk.old.passes }
         ensures answered { IfOk result (IsAnswered self.old self.new.history) }
         ensures later { IfOk result (λ entry. self.old.account.seen < entry.number) }
@@ -216,11 +216,11 @@ impl<J: Naming> Pass<J> {
             self.new ≡ after_call self.old self.new.history entry) }
         ensures err { OnErr result ((desk.new ≡ desk.old) × (self.new ≡ self.old)) }
         ensures fault { IfErr result
-            (IsFaultAt (length desk.old.journal.entries) self.old.account command) }
+            (IsFaultAt (length desk.old.journal.entries) self.old.account command.now) }
         ensures few { length desk.old.journal.entries ≤ most_entries }
     {
         let held = desk.len();
-        if is_full(held, &command) {
+        if is_full(held, command) {
             return Err(GateFault::JournalFull { held });
         }
         self.receipts.reserve(1)?;

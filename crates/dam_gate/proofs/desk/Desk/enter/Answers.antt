@@ -8,7 +8,7 @@ use Rattle.dam_gate.proofs.desk.Desk.enter.Goals as goal
 pub new-requires : goal.new-requires
 new-requires g c =
     let j : JournalState = c.self.inside.keeper.journal in
-    let command = c.args.command in
+    let command = c.args.command.now in
     let ready = c.in_ok-ready.ensures.ready in
     let same : c.ready.new.self.journal ≡ j = c.ready.ensures.journal in
     let entry : c.in_ok-ready.ready.entry ≡ next_entry j command = ready.entry ∙ ap (λ (x : JournalState). next_entry x command) same in

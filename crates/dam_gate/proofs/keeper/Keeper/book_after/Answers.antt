@@ -8,5 +8,5 @@ pub returns-in-Refused-clause-book : goal.returns-in-Refused-clause-book
 returns-in-Refused-clause-book g c =
     let b = c.args.self.now.journal.book in
     let same = refused_stays b c.args.command.now c.in-Refused.field-0 (sym c.requires ∙ c.in-Refused.is) in
-    let here : c.self.inside.books ≡ b = ap (λ (k : KeeperState). k.journal.book) c.self.view_is in
+    let here : c.self.inside.books.book ≡ b = ap (λ (k : KeeperState). k.journal.book) c.self.view_is in
     IfOk-weaker c.share.result _ _ (λ book is. is ∙ (here ∙ sym same)) c.share.ensures

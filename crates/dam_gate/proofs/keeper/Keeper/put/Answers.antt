@@ -6,10 +6,14 @@ use Rattle.dam_gate.proofs.keeper.Keeper.put.Goals as goal
 
 pub invariant_of-self : goal.invariant_of-self
 invariant_of-self g c =
-    let j : JournalState = record { entries = c.self.inside.entries.items; book = c.self.inside.books } in
+    let j : JournalState = record { entries = c.self.inside.entries.items; book = c.self.inside.books.book } in
     let command = c.args.ready.entry.command in
     let entry : c.ready.inside.entry ≡ next_entry j command =
     ap (λ (r : ReadyState). r.entry) c.ready.view_is ∙ (c.requires.entry ∙ ap (λ (k : KeeperState). next_entry k.journal command) (sym c.self.view_is)) in
     let left : is_full (length j.entries) command ≡ false =
     ap (λ (k : KeeperState). is_full (length k.journal.entries) command) c.self.view_is ∙ c.requires.left in
-    rw (c.push_reserved.ensures.items, c.copy.ensures, c.follow.ensures, entry) (journal_after_is j command c.self.invariant left)
+    let held : length j.entries ≡ c.len-held.result =
+    ap (λ (k : KeeperState). length k.journal.entries) c.self.view_is ∙ sym c.len-held.ensures.value in (
+      rw (c.push_reserved.ensures.items, c.copy.ensures, c.follow.ensures.book, entry) (journal_after_is j command c.self.invariant.0 left),
+      rw (c.push_reserved.ensures.items, c.copy.ensures) (c.follow.ensures.steps c.self.inside.entries.items held c.self.invariant.1),
+    )

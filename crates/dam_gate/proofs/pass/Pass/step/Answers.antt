@@ -20,9 +20,9 @@ invariant_of-self-2 g c =
     let whole : e.number ≡ length c.in_ok-entry.front = omega (arith, number, ap length c.in_ok-entry.ensures.history, length-append held (e ∷ [])) in
     let before : e.number - 1 ≡ length held = omega (arith, number) in
     let mine : is_own holder e.command ≡ true =
-    ap (is_own holder) command ∙ (ap (λ (k : Knowledge). is_own k.account.holder c.args.command) c.self.view_is ∙ c.requires) in
-    let left : is_full (length held) c.args.command ≡ false =
-    ap (λ (n : ℕ). is_full n c.args.command) (sym c.len-held.ensures.value) ∙ (sym c.is_full.ensures ∙ c.if-is_full.false) in
+    ap (is_own holder) command ∙ (ap (λ (k : Knowledge). is_own k.account.holder c.args.command.now) c.self.view_is ∙ c.requires) in
+    let left : is_full (length held) c.args.command.now ≡ false =
+    ap (λ (n : ℕ). is_full n c.args.command.now) (sym c.len-held.ensures.value) ∙ (sym c.is_full.ensures ∙ c.if-is_full.false) in
     let room : is_full (e.number - 1) e.command ≡ false = ap₂ (λ (n : ℕ) (d : Command). is_full n d) before command ∙ left in
     let earlier = prefix_length c.self.inside.history held c.in_ok-entry.ensures.seen in
     rw (c.push_reserved.ensures.items, c.reserve.ensures.items, c.copy.ensures)
@@ -40,13 +40,13 @@ returns-clause-answered g c =
     let e = c.in_ok-entry.entry in
     let j = c.args.desk.now.journal in
     let number = ap (λ (x : Entry). x.number) c.in_ok-entry.ensures.entry in
-    let left : is_full (length j.entries) c.args.command ≡ false =
-    ap (λ (n : ℕ). is_full n c.args.command) (sym c.len-held.ensures.value) ∙ (sym c.is_full.ensures ∙ c.if-is_full.false) in
+    let left : is_full (length j.entries) c.args.command.now ≡ false =
+    ap (λ (n : ℕ). is_full n c.args.command.now) (sym c.len-held.ensures.value) ∙ (sym c.is_full.ensures ∙ c.if-is_full.false) in
     record {
       periods = j.book.periods;
       before = j.entries;
       legal = subst (IsHistory j.book.periods) (sym (c.in_ok-entry.ensures.history ∙ ap (λ (x : Entry). j.entries ++ x ∷ []) c.in_ok-entry.ensures.entry))
-          (history-after j c.args.command c.len-held.ensures.valid left);
+          (history-after j c.args.command.now c.len-held.ensures.valid left);
       last = c.in_ok-entry.ensures.history;
       number = omega (arith, number, ap length c.in_ok-entry.ensures.history, length-append j.entries (e ∷ []));
       seen = subst (λ (k : Knowledge). IsPrefix k.history j.entries) c.self.view_is c.in_ok-entry.ensures.seen;

@@ -1,0 +1,27 @@
+-- The book of a keeper, the two before it, and how these lead to it.
+use Rattle.std.specs.Prelude.{◌≡◌, ℕ, List, Option, Some, IfSome, slice_get}
+use Rattle.dam_book.specs.Book.{BookState, book_after}
+use Rattle.dam_book.specs.declared.command.Entry.{Entry}
+
+-- an earlier book, and the place of the entry whose command changed it
+pub record StepState : Type 0 where
+  pub book : BookState
+  pub place : ℕ
+
+-- a book, the second the one before it, and the first the one before that
+pub record BooksState : Type 0 where
+  pub book : BookState
+  pub first : Option StepState
+  pub second : Option StepState
+
+-- the command of the step's entry made this book of the step's
+pub record LeadsTo (es : List Entry) (s : StepState) (after : BookState) : Type 0 where
+  pub entry : Entry
+  pub stands : slice_get es s.place ≡ Some entry
+  pub made : book_after s.book entry.command ≡ after
+
+-- the two earlier books lead to the book, one by one
+abbrev pub AreSteps : List Entry → BooksState → Type 0
+AreSteps es b =
+    IfSome b.second (λ s. LeadsTo es s b.book)
+    × IfSome b.first (λ f. IfSome b.second (λ s. LeadsTo es f s.book))
