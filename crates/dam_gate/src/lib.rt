@@ -57,6 +57,3 @@ pub use limits::{MOST_PARTICIPANTS, MOST_PASSES};
 pub use pass::{Look, Note, Pass};
 pub use settlement::{Mismatch, Settled, Unsettled, settle};
 pub use version::{Change, Shown};
-
-#[cfg(test)]
-mod tests;

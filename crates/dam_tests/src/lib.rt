@@ -12,6 +12,8 @@ mod enumeration;
 #[cfg(test)]
 mod faults;
 #[cfg(test)]
+mod gate;
+#[cfg(test)]
 mod growth;
 #[cfg(test)]
 mod kinds;
