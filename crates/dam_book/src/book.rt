@@ -323,6 +323,3 @@ impl<A: Allocator + Copy> Book<A> {
         self.closed = true;
     }
 }
-
-#[cfg(test)]
-mod tests;

@@ -52,6 +52,3 @@ pub use quantity::{GREATEST_VOLUME, Qty};
 pub use run::replay;
 pub use seed::Seed;
 pub use volumes::{Volumes, VolumesFault};
-
-#[cfg(test)]
-mod tests;

@@ -12,6 +12,8 @@ mod enumeration;
 #[cfg(test)]
 mod faults;
 #[cfg(test)]
+mod fields;
+#[cfg(test)]
 mod gate;
 #[cfg(test)]
 mod growth;
@@ -22,8 +24,12 @@ mod plain;
 #[cfg(test)]
 mod plans;
 #[cfg(test)]
+mod seeds;
+#[cfg(test)]
 mod storm;
 #[cfg(test)]
 mod support;
+#[cfg(test)]
+mod values;
 #[cfg(test)]
 mod worked;

@@ -1,4 +1,9 @@
-use super::*;
+//! The ranges and faults of the typed values, of days and of entries.
+
+use dam_book::{
+    BeginFault, Book, Command, Entry, HourOrder, Name, Order, Participant, Period, Price, Qty,
+    Reason, Reply, Side, Volumes, VolumesFault, is_day,
+};
 use std::test::Fail;
 
 #[test]
@@ -157,5 +162,3 @@ fn texts_of_faults(rt: HostRuntime) -> Result<(), Fail> {
     }
     Ok(())
 }
-
-mod seeds;

@@ -1,4 +1,8 @@
-use super::super::*;
+//! What a book's seed changes: nothing that it answers.
+
+use dam_book::{
+    Book, Command, HourOrder, Name, Order, Participant, Period, Price, Qty, Seed, Side, Volumes,
+};
 use std::hash::BuildHasher;
 use std::io;
 use std::random::RandomSource;

@@ -1,4 +1,9 @@
-use super::*;
+//! The texts of prices, volumes and periods.
+
+use dam_book::{
+    Period, Price, Qty, Volumes, read_pair, read_price, read_qty, read_volumes, write_price,
+    write_qty, write_volumes,
+};
 use std::test::Fail;
 
 #[test]
