@@ -1,6 +1,7 @@
-ghost use Rattle.std.specs.Prelude.{◌≡◌, ◌++◌, ◌∷◌, [], length, IfOk};
+ghost use Rattle.std.specs.Prelude.{◌≡◌, ◌++◌, ◌∷◌, [], length, Some, IfOk};
 ghost use Rattle.std.specs.Arc.{arc_value};
 ghost use Rattle.dam_book.specs.Book.{book_after, reply_to};
+ghost use Rattle.dam_book.specs.declared.command.Reply.TheVariants.{Done};
 ghost use Rattle.dam_gate.specs.inside.Books.{AreSteps};
 
 use dam_book::{Book, Entry, Reply};
@@ -99,6 +100,9 @@ impl<A: Allocator + Copy> Books<A> {
         ensures book { self.new.book ≡ book_after self.old.book entry.now.command }
         ensures steps { (entries : _) → length entries ≡ place → AreSteps entries self.old
             → AreSteps (entries ++ entry.now ∷ []) self.new }
+        ensures first { entry.now.reply ≡ Done → self.new.first ≡ self.old.second }
+        ensures second { entry.now.reply ≡ Done
+            → self.new.second ≡ Some (record { book = self.old.book; place = place }) }
     {
         if let Reply::Refused(_) = entry.reply {
             return;

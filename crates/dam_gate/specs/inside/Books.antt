@@ -8,7 +8,7 @@ pub record StepState : Type 0 where
   pub book : BookState
   pub place : ℕ
 
--- a book, the second the one before it, and the first the one before that
+-- a book, the one before it (`second`) and the one before that (`first`), where they are kept
 pub record BooksState : Type 0 where
   pub book : BookState
   pub first : Option StepState
