@@ -323,3 +323,6 @@ impl<A: Allocator + Copy> Book<A> {
         self.closed = true;
     }
 }
+
+#[cfg(test)]
+mod tests;
