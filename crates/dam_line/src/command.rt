@@ -40,16 +40,16 @@ const REPLAY_EXAMPLE: &str = "The journal is read from standard input. `dam --he
 Example: dam replay < first-day.csv";
 
 const CLEAR_EXAMPLE: &str =
-    "No option changes the results: --workers and --cut change how long it takes, and with --nodes
-whether it gives up, with status 3.
+    "No option changes the results. --workers and --cut change how long the search takes. With --nodes it
+may give up, with status 3; whether it does can depend on the other two as well.
 
 The journal is read from standard input. `dam --help` shows one.
 
 Example: dam clear --workers 4 --cut 6 < first-day.csv";
 
 const DAY_EXAMPLE: &str =
-    "No option changes the results: --workers and --cut change how long it takes, and with --nodes
-whether it gives up, with status 3.
+    "No option changes the results. --workers and --cut change how long the search takes. With --nodes it
+may give up, with status 3; whether it does can depend on the other two as well.
 
 The journal is read from standard input, without its last record, the close. `dam --help` shows one
 with it.

@@ -5,6 +5,7 @@ ghost use Rattle.dam_search.specs.Limits.{most_cut};
 ghost use Rattle.dam_search.specs.Piece.{Rises};
 ghost use Rattle.dam_search.specs.Search.{IsWorked, answers_about, AreOneEach, IsFirstFaulty};
 ghost use Rattle.dam_search.specs.Search.{IsLeastUnfinished, IsUnfinished, IsCollected};
+ghost use Rattle.dam_search.specs.Words.{most_pieces};
 ghost use Rattle.dam_search.specs.inside.Collect.{is_lesser, IsLong, IsHighestFound};
 
 use crate::answer::PieceAnswer;
@@ -18,7 +19,7 @@ use std::alloc::Allocator;
 pub(crate) fn pieces(depth: usize) -> u32
     requires { depth ≤ most_cut }
     ensures value { result ≡ 2 ^ depth }
-    ensures few { result ≤ 256 }
+    ensures few { result ≤ most_pieces }
 {
     1 << depth
 }
