@@ -32,8 +32,6 @@ mod result;
 mod rows;
 mod scoring;
 mod selection;
-#[cfg(test)]
-mod tests;
 
 pub use accepted::{
     block_value, bought_volume, bought_volume_of, net_volume, net_volume_of, value_of, volume_in,

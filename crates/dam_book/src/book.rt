@@ -324,5 +324,3 @@ impl<A: Allocator + Copy> Book<A> {
     }
 }
 
-#[cfg(test)]
-mod tests;

@@ -26,8 +26,6 @@ mod gain;
 pub mod laws;
 mod levels;
 mod relaxed;
-#[cfg(test)]
-mod tests;
 
 pub use day::Day;
 pub use relaxed::Relaxed;

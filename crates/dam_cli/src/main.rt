@@ -12,8 +12,6 @@ mod laws;
 mod output;
 mod progress;
 mod replay;
-#[cfg(test)]
-mod tests;
 
 use clear::run_clear;
 use dam_book::Seed;

@@ -1,7 +1,5 @@
 //! What a person at a terminal is shown of a run, on standard error. Where that is no terminal nothing is printed.
 
-#[cfg(test)]
-use dam_search::FreeTurn;
 use dam_search::Turnstile;
 use std::sync::{Mutex, Wait};
 
@@ -79,11 +77,4 @@ impl<'a, R: Wait + Eprint> Watch for Progress<'a, R> {
             let _ = eprint!(self.rt; "{CLEAR}");
         }
     }
-}
-
-#[cfg(test)]
-impl Watch for FreeTurn {
-    fn begin(&self, _pieces: u32) {}
-
-    fn end(&self) {}
 }

@@ -25,11 +25,7 @@ mod execution;
 mod hour;
 mod ladder;
 pub mod laws;
-#[cfg(test)]
-mod plain;
 mod step;
-#[cfg(test)]
-mod tests;
 mod volumes;
 
 pub use ends::price_between;

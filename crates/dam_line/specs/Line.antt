@@ -12,8 +12,8 @@ use Rattle.clap.specs.declared.builder.ArgAction.TheVariants.{Set}
 use Rattle.clap.specs.declared.builder.value_parser.ValueParser.TheVariants.{Signed}
 use Rattle.clap.specs.declared.error.ErrorKind.{ErrorKind}
 use Rattle.clap.specs.declared.error.ErrorKind.TheVariants.{DisplayHelp, OutOfMemory}
-use Rattle.dam_search.specs.Limits.{most_workers, most_cut, most_nodes}
-use Rattle.dam_search.specs.Plan.{PlanTerms}
+use Rattle.dam_plan.specs.Limits.{most_workers, most_cut, most_nodes}
+use Rattle.dam_plan.specs.Plan.{PlanTerms}
 use Rattle.dam_line.specs.declared.line.Job.{Job}
 use Rattle.dam_line.specs.declared.line.Job.TheVariants.{Replay, Clear, Day}
 use Rattle.dam_line.specs.declared.line.LineFault.{LineFault}

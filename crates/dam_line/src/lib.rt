@@ -17,7 +17,5 @@ mod command;
 pub mod laws;
 mod line;
 mod options;
-#[cfg(test)]
-mod tests;
 
 pub use line::{Job, LineFault, read_line};

@@ -9,7 +9,7 @@ use crate::command::{CLEAR, DAY, REPLAY, program_command};
 use crate::options::{CUT, NODES, NumberOption, WORKERS};
 use clap::ArgMatches;
 use clap::error::ErrorKind;
-use dam_search::Plan;
+use dam_plan::Plan;
 use std::alloc::{AllocError, Global};
 use std::convert::AsStr;
 use thiserror::Error;

@@ -1,4 +1,4 @@
-use dam_search::{MOST_CUT, MOST_NODES, MOST_WORKERS};
+use dam_plan::{MOST_CUT, MOST_NODES, MOST_WORKERS};
 
 /// An option with a number. A contract sees it without its texts of help.
 #[derive(Clone, Copy)]

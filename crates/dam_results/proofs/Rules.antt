@@ -1,15 +1,22 @@
 -- Which fields keep their rules.
-use Rattle.std.proofs.Common.{◌≡◌, ℕ, ◌≤◌, true, false, nat_lt, List, [], ◌∷◌, refl, codes, arith, sym, subst, Result, Ok, Err, MatchResult}
+use Rattle.std.proofs.Common.{◌≡◌, ℕ, ◌≤◌, Bool, true, false, length, nat_lt, List, [], ◌∷◌, refl, codes, arith, sym, subst, ◌∙◌, Result, Ok, Err, MatchResult, ap, ◌||◌}
+use Rattle.std.specs.Result.{IsErrAnd}
+use Rattle.std.proofs.lemmas.Slice.Eq.{bytes_eq-Decides}
+use Rattle.dam_book.specs.declared.command.Command.{Command}
+use Rattle.dam_results.specs.declared.row.Row.{Row}
+use Rattle.dam_results.specs.inside.Row.{fields_in, ReadsCommand}
+use Rattle.std.specs.Prelude.{◌==◌}
 use Rattle.std.specs.Str.{bytes_eq}
 use Rattle.std.proofs.lemmas.Bool.{lt-ltb}
-use Rattle.std.proofs.lemmas.Bool.Decides.{nat_tests}
+use Rattle.std.proofs.lemmas.Bool.Decides.{nat_tests, Decides-eqb}
+use Rattle.std.proofs.lemmas.List.{nil_from_length}
 use Rattle.dam_book.specs.Limits.{last_period}
 use Rattle.dam_book.specs.Period.{IsPeriod}
 use Rattle.dam_book.specs.Quantity.{IsQuantity}
 use Rattle.dam_book.specs.Volumes.{IsVolumes}
 use Rattle.dam_book.specs.Book.{is_day}
 use Rattle.dam_results.specs.Records.{Fields, form_field}
-use Rattle.dam_results.specs.Rules.{IsLeastBroken, command_rules, form_rules, hour_rules, block_rules, submit_of, submit_rules}
+use Rattle.dam_results.specs.Rules.{FieldRule, Keeps, word, IsLeastBroken, command_rules, form_rules, hour_rules, block_rules, submit_of, submit_rules}
 
 -- no day has more periods than the last number of a period
 pub short_day : (periods : ℕ) → is_day periods ≡ true → periods ≤ last_period
@@ -37,3 +44,24 @@ block_broken row n e h = let P : List ℕ → Type 0 = λ form. IsLeastBroken (s
 pub other_fault : {A E : Type 0} (r : Result A E) (P : A → Type 0) (Q R : E → Type 0) → ((e : E) → Q e → R e) → MatchResult r P Q → MatchResult r P R
 other_fault (Ok x) P Q R f h = h
 other_fault (Err e) P Q R f h = f e h
+
+-- what a test for an empty field says
+pub empty : (field : List ℕ) (t : Bool) → t ≡ (length field == 0) → t ≡ true → field ≡ []
+empty field t e k = nil_from_length field ((Decides-eqb (length field) 0).0 (sym e ∙ k))
+
+-- a record is its nine fields
+pub nine_alike : (a b c d e f g h i a' b' c' d' e' f' g' h' i' : List ℕ) → a ≡ a' → b ≡ b' → c ≡ c' → d ≡ d' → e ≡ e' → f ≡ f' → g ≡ g' → h ≡ h' → i ≡ i'
+    → (a ∷ b ∷ c ∷ d ∷ e ∷ f ∷ g ∷ h ∷ i ∷ []) ≡ (a' ∷ b' ∷ c' ∷ d' ∷ e' ∷ f' ∷ g' ∷ h' ∷ i' ∷ [])
+nine_alike a b c d e f g h i a' b' c' d' e' f' g' h' i' pa pb pc pd pe pf pg ph pi = cc
+
+-- where a reader stops, at a field that should be empty
+pub stops : (rules : List FieldRule) (row : Row) (r : Result Command ℕ) (n e : ℕ) → IsErrAnd r (λ f. f ≡ e) → e ≡ n → IsLeastBroken rules (fields_in row) n → ReadsCommand rules row r
+stops rules row (Ok x) n e h k broken = absurd h
+stops rules row (Err f) n e h k broken = rw (h ∙ k) broken
+
+pub filled : (field : List ℕ) (t : Bool) → t ≡ (length field == 0) → t ≡ false → field ≡ [] → ⊥
+filled field t e k none = let is : true ≡ false = sym ((Decides-eqb (length field) 0).1 (ap length none)) ∙ sym e ∙ k in cc
+
+-- a field that is the word keeps its rule
+pub is_word : (text field : List ℕ) → field ≡ text → Keeps (word text) field
+is_word text field e = let same : bytes_eq field text ≡ true = (bytes_eq-Decides field text).1 e in ap (λ (b : Bool). b || false) same

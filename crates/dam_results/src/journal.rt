@@ -268,5 +268,3 @@ pub fn read_journal(alloc: Global, text: &[u8]) -> Result<JournalRead, JournalFa
     read_into(alloc, Seed::fixed(), text)
 }
 
-#[cfg(test)]
-mod tests;

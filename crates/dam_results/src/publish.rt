@@ -32,5 +32,3 @@ pub fn results<A: Allocator + Copy, B: Allocator>(
     })
 }
 
-#[cfg(test)]
-mod tests;

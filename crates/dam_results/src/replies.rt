@@ -66,5 +66,3 @@ pub fn replies_text<A: Allocator>(
     Ok(text)
 }
 
-#[cfg(test)]
-mod tests;

@@ -136,5 +136,3 @@ pub fn results_text<A: Allocator, B: Allocator>(
     Ok(text)
 }
 
-#[cfg(test)]
-mod tests;

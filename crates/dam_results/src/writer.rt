@@ -207,5 +207,3 @@ pub fn journal_text(alloc: Global, periods: u8, entries: &[Entry]) -> Result<Vec
     }
 }
 
-#[cfg(test)]
-mod tests;

@@ -1,5 +1,5 @@
-pub mod Limits
-pub mod Plan
+pub use Rattle.dam_plan.specs.Limits
+pub use Rattle.dam_plan.specs.Plan
 pub mod Piece
 pub mod Answer
 pub mod Search

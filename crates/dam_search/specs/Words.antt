@@ -5,7 +5,7 @@ use mathlib.Core.Option.{some}
 use lib.ListN.{get_elem?}
 use Rattle.atomic_table.specs.Table.{State, Me, Step}
 use Rattle.dam_search.specs.declared.view.View.{View}
-use Rattle.dam_search.specs.Limits.{most_workers, most_cut}
+use Rattle.dam_plan.specs.Limits.{most_workers, most_cut}
 
 -- a number of each view, added up
 abbrev pub total : (View → ℕ) → List View → ℕ

@@ -1,7 +1,7 @@
 ghost use Rattle.std.specs.Prelude.{◌≡◌, ◌⊎◌, ◌<◌, ◌≤◌, ◌^◌, ℕ, pos, [], length, All};
 ghost use Rattle.std.specs.Prelude.{MatchOption, IfOk, IsErrOf};
 ghost use Rattle.dam_blocks.specs.Result.{IsResult};
-ghost use Rattle.dam_search.specs.Limits.{most_cut};
+ghost use Rattle.dam_plan.specs.Limits.{most_cut};
 ghost use Rattle.dam_search.specs.Piece.{Rises};
 ghost use Rattle.dam_search.specs.Search.{IsWorked, answers_about, AreOneEach, IsFirstFaulty};
 ghost use Rattle.dam_search.specs.Search.{IsLeastUnfinished, IsUnfinished, IsCollected};

@@ -12,10 +12,10 @@ ghost use Rattle.dam_blocks.specs.declared.selection.Best.{Best};
 ghost use Rattle.dam_blocks.specs.Problem.{ProblemState, IsProblem};
 ghost use Rattle.dam_blocks.specs.Result.{IsResult};
 ghost use Rattle.dam_search.specs.declared.answer.PieceAnswer.{PieceAnswer};
-ghost use Rattle.dam_search.specs.Limits.{most_workers, most_cut, most_nodes};
+ghost use Rattle.dam_plan.specs.Limits.{most_workers, most_cut, most_nodes};
 ghost use Rattle.dam_search.specs.Answer.{AreAnswered, IsReached, greatest_found, IsHighest};
 
-use crate::plan::{MOST_CUT, MOST_NODES, MOST_WORKERS};
+use dam_plan::{MOST_CUT, MOST_NODES, MOST_WORKERS};
 
 /// The limits of a plan are the exported constants.
 pub fn limits()

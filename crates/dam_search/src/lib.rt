@@ -24,15 +24,10 @@ mod first;
 mod incumbent;
 pub mod laws;
 mod piece;
-mod plan;
 mod prefix;
 mod shared;
-#[cfg(test)]
-mod tests;
 mod turnstile;
 mod view;
-#[cfg(test)]
-mod word_tests;
 mod words;
 mod worker;
 mod workers;
@@ -42,7 +37,7 @@ pub use fault::SearchFault;
 pub use first::first_selection;
 pub use incumbent::{Incumbent, Private};
 pub use piece::search_piece;
-pub use plan::{MOST_CUT, MOST_NODES, MOST_WORKERS, Plan};
+pub use dam_plan::{MOST_CUT, MOST_NODES, MOST_WORKERS, Plan};
 pub use shared::Shared;
 pub use turnstile::{FreeTurn, Turnstile};
 pub use view::View;

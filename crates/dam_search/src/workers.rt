@@ -3,7 +3,7 @@ ghost use Rattle.std.specs.Prelude.{vec_len, All, IfOk, IsErrOf};
 ghost use Rattle.atomic_table.specs.Seated.{TableId};
 ghost use Rattle.dam_blocks.specs.Result.{IsResult};
 ghost use Rattle.dam_bound.specs.Relaxed.{without_rows};
-ghost use Rattle.dam_search.specs.Limits.{most_workers, most_cut};
+ghost use Rattle.dam_plan.specs.Limits.{most_workers, most_cut};
 ghost use Rattle.dam_search.specs.Search.{IsUnfinished, IsSearched};
 ghost use Rattle.dam_search.specs.inside.Share.{IsNewSeat, IsShare, AreJoined, AreWhole};
 
@@ -12,7 +12,7 @@ use crate::collect::{collected, pieces};
 use crate::fault::SearchFault;
 use crate::first::first_selection;
 use crate::incumbent::Incumbent;
-use crate::plan::Plan;
+use dam_plan::Plan;
 use crate::shared::Shared;
 use crate::turnstile::Turnstile;
 use crate::words::{Totals, close, new_words};

@@ -19,7 +19,5 @@
 
 mod row;
 mod stack;
-#[cfg(test)]
-mod tests;
 
 pub use stack::{Reached, Stack};

@@ -1,7 +1,8 @@
-use Rattle.std.proofs.Common.{◌≡◌, ◌+◌, ◌<◌, ◌++◌, ◌∷◌, [], suc, length, take, drop, sym, ap, ap₂, ◌∙◌, arith}
-use Rattle.std.proofs.lemmas.List.{take_more}
+use Rattle.std.proofs.Common.{◌≡◌, ◌+◌, ◌<◌, ◌++◌, ◌∷◌, [], suc, length, take, drop, refl, sym, ap, ap₂, subst, ◌∙◌, arith}
+use Rattle.std.proofs.lemmas.List.{take_all, take_more}
 use Rattle.std.proofs.Math.Seq.{drop-cons}
 use Rattle.dam_book.specs.declared.command.Command.{Command}
+use Rattle.dam_gate.specs.inside.Entering.{AreGivers}
 use Rattle.dam_gate.proofs.Days.{givers-more, left-more, order-more}
 use Rattle.dam_gate.proofs.day.givers.Goals as goal
 
@@ -24,3 +25,13 @@ loop-place-preserved c =
       order = rw items (order-more participants who item (drop i cs) (drop (i + 1) cs) _ gives next c.loop-place.invariant.order);
       left = rw items (left-more i participants who item (drop i cs) (drop (i + 1) cs) _ gives (rw (← items) c.in_ok-take_giver.ensures.few) next c.loop-place.invariant.left);
     }
+
+-- nobody gives no commands
+pub loop-place-init : goal.loop-place-init
+loop-place-init c =
+    rw c.new-participants.ensures.items
+    (record { few = omega arith; givers = record { apart = tt; all = λ who none. refl }; order = refl; left = refl })
+
+pub returns-clause-ok : goal.returns-clause-ok
+returns-clause-ok c =
+    subst (AreGivers c.loop-place.participants.items) (take_all c.loop-place.place c.args.commands.now (omega arith)) c.loop-place.invariant.givers

@@ -1,7 +1,9 @@
-use Rattle.std.proofs.Common.{ℕ, List, subst, ◌∙◌}
+use Rattle.std.proofs.Common.{◌++◌, ◌∷◌, [], ℕ, List, Option, ap, ap₂, subst, ◌∙◌}
+use Rattle.std.proofs.lemmas.List.{map-append}
 use Rattle.dam_book.specs.Book.{IsLegalHistory}
-use Rattle.dam_gate.specs.Pass.{PassState}
-use Rattle.dam_gate.specs.Settled.{AreReceipts, receipts_of}
+use Rattle.dam_gate.specs.Journal.{IsJournal}
+use Rattle.dam_gate.specs.Pass.{PassState, holders}
+use Rattle.dam_gate.specs.Settled.{AreReceipts, IsSettled, receipts_of}
 use Rattle.dam_gate.specs.inside.Entering.{IsClosedDay}
 use Rattle.dam_gate.proofs.Days.{day_run}
 use Rattle.dam_gate.proofs.day.run_day.Goals as goal
@@ -14,3 +16,14 @@ returns-clause-day g c =
     (subst (λ (n : ℕ). IsLegalHistory n es) closed.periods_are closed.journal.history.legal)
     (subst (λ (ps : List PassState). AreReceipts es (receipts_of ps)) (c.deref.ensures.value ∙ c.in_ok-push.ensures.items) c.in_ok-settled.ensures.settled.received)
     c.requires.givers c.in_ok-passes.ensures.ok c.in_ok-operator.ensures.ok c.in_ok-operator.ensures.pass closed.last
+
+pub returns-clause-journal : goal.returns-clause-journal
+returns-clause-journal g c = subst IsJournal c.journal.ensures.value (c.is_closed_day.ensures c.if-not-is_closed_day.false).journal
+
+pub returns-clause-settled : goal.returns-clause-settled
+returns-clause-settled g c = subst (λ (ps : List PassState). IsSettled c.in_ok-settled.settled ps) c.deref.ensures.value c.in_ok-settled.ensures.settled
+
+pub returns-clause-passes : goal.returns-clause-passes
+returns-clause-passes g c =
+    ap holders c.in_ok-push.ensures.items ∙ map-append (λ (p : PassState). p.holder) c.in_ok-passes.passes.items (c.in_ok-operator.operator ∷ [])
+    ∙ ap₂ (λ (hs : List (Option (List ℕ))) (h : Option (List ℕ)). hs ++ h ∷ []) c.in_ok-passes.ensures.holders c.in_ok-operator.ensures.holder

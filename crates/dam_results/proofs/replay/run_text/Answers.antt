@@ -1,5 +1,6 @@
 -- A command more.
-use Rattle.std.proofs.Common.{◌≡◌, ◌<◌, ◌+◌, ◌∷◌, ◌++◌, ℕ, suc, List, length, drop, append_assoc, sym, ap, ap₂, ◌∙◌, arith}
+use Rattle.std.proofs.Common.{◌≡◌, ◌<◌, ◌≤◌, ◌+◌, ◌∷◌, ◌++◌, ℕ, suc, List, length, drop, append_assoc, sym, ap, ap₂, ◌∙◌, arith}
+use Rattle.std.proofs.lemmas.List.{drop_all, append-nil}
 use Rattle.std.proofs.Math.Seq.{drop-cons}
 use Rattle.std.specs.List.{flat_map}
 use Rattle.dam_book.specs.declared.command.Command.{Command}
@@ -30,3 +31,9 @@ loop-command-preserved g c =
           rw (c.in_ok-apply.ensures.text, c.in_ok-apply.ensures.book)
           (text_more (c.loop-command.number + 1) (c.loop-command.number + 1 + 1) c.loop-command.replay.book c.loop-command.replay.text.items _ _ _ c.command-item.result (omega arith) next c.loop-command.invariant.text);
     }
+
+pub returns : goal.returns
+returns g c =
+    let done : length c.args.commands.now ≤ c.loop-command.command-index = omega arith in
+    let all = rw (drop_all c.loop-command.command-index c.args.commands.now done) at c.loop-command.invariant.text in
+    sym (append-nil c.loop-command.replay.text.items) ∙ all

@@ -1,7 +1,9 @@
-use Rattle.std.proofs.Common.{◌≡◌, false, length, sym, ap, ◌∙◌}
+use Rattle.std.proofs.Common.{◌≡◌, false, length, sym, ap, ap₂, ◌∙◌}
 use Rattle.std.specs.Arc.{arc_value}
 use Rattle.dam_book.specs.Book.{book_after}
-use Rattle.dam_gate.specs.Journal.{JournalState, is_full, next_entry}
+use Rattle.dam_book.specs.declared.command.Entry.{Entry}
+use Rattle.dam_gate.specs.Journal.{JournalState, is_full, journal_after, next_entry}
+use Rattle.dam_gate.specs.inside.Desk.{DeskState}
 use Rattle.dam_gate.proofs.Histories.{journal_after_is}
 use Rattle.dam_gate.proofs.desk.Desk.enter.Goals as goal
 
@@ -16,3 +18,23 @@ new-requires g c =
     c.in_ok-book.ensures ∙ (ready.book ∙ ap (λ (x : JournalState). book_after x.book command) same) in
     let left : is_full (length j.entries) command ≡ false = ap (λ (x : JournalState). is_full (length x.entries) command) (sym same) ∙ ready.left in
     rw (c.again.ensures, c.in-Some.ensures.added, c.entry.ensures, c.self.invariant, entry, book) (journal_after_is j command c.len-journal.ensures.valid left)
+
+pub returns-clause-entry : goal.returns-clause-entry
+returns-clause-entry g c =
+    c.put-entry.ensures.entry
+    ∙ (c.in_ok-ready.ensures.ready.entry ∙ ap (λ (x : JournalState). next_entry x c.args.command.now) (c.ready.ensures.journal ∙ ap (λ (d : DeskState). d.journal) c.self.view_is))
+
+pub returns-clause-history : goal.returns-clause-history
+returns-clause-history g c = rw (← c.self.view_is, c.put-entry.ensures.entry, c.in-Some.ensures.added, c.entry.ensures, c.self.invariant)
+
+pub returns-clause-journal : goal.returns-clause-journal
+returns-clause-journal g c =
+    c.put-entry.ensures.step
+    ∙ ap₂ journal_after (c.ready.ensures.journal ∙ ap (λ (d : DeskState). d.journal) c.self.view_is) (ap (λ (e : Entry). e.command) c.in_ok-ready.ensures.ready.entry)
+
+pub returns-clause-passes : goal.returns-clause-passes
+returns-clause-passes g c = ap (λ (d : DeskState). d.passes) c.self.view_is
+
+-- where it is refused, the journal stays
+pub invariant_of-self : goal.invariant_of-self
+invariant_of-self g c = c.self.invariant ∙ sym (ap (λ (x : JournalState). x.entries) c.ready.ensures.journal)

@@ -15,3 +15,13 @@ invariant_of-self-2 g c =
       };
       seen = refl;
     }
+
+pub returns-clause-begins : goal.returns-clause-begins
+returns-clause-begins g c =
+    rw (← c.self.view_is, c.again.ensures) (record {
+      seen = c.begins_with.ensures c.if-not-begins_with.false;
+      told = c.begins_with-else-not-begins_with.ensures c.if-not-begins_with-2.false;
+    })
+
+pub returns-clause-pass : goal.returns-clause-pass
+returns-clause-pass g c = rw (← c.self.view_is)

@@ -1,0 +1,83 @@
+ghost use Rattle.std.specs.Prelude.{◌≡◌, SomeIff};
+ghost use Rattle.dam_plan.specs.Plan.{IsPlan};
+
+use std::marker::Model;
+
+/// The greatest number of workers.
+pub const MOST_WORKERS: u8 = 8;
+
+/// The greatest number of blocks that the cutting decides, which makes 256 pieces.
+pub const MOST_CUT: u8 = 8;
+
+/// The greatest number of nodes that may be visited in one piece.
+pub const MOST_NODES: u32 = 67_108_864;
+
+/// How a search is shared out: how many workers explore the pieces, how many of the first blocks
+/// the cutting decides, and how many nodes of one piece may be visited.
+///
+/// The first two change how long a search takes, and never its result; by the third it may end
+/// unfinished. A contract sees the three numbers.
+#[derive(Clone, Copy, PartialEq, Eq, Debug)]
+pub struct Plan {
+    workers: u8,
+    cut: u8,
+    nodes: u32,
+}
+
+impl Model for Plan {
+    ghost use Rattle.dam_plan.specs.Plan.{PlanTerms, IsPlan};
+
+    ghost Value = { PlanTerms };
+
+    ghost view = { λ p. record { workers = p.workers; cut = p.cut; nodes = p.nodes } };
+
+    ghost invariant = { λ p.
+        IsPlan (record { workers = p.workers; cut = p.cut; nodes = p.nodes }) };
+
+    ghost inverse = { λ p. record { workers = p.workers; cut = p.cut; nodes = p.nodes } };
+}
+
+impl Plan {
+    /// The plan of these numbers, or `None` where one is outside its limits: 1 to `MOST_WORKERS`, 0
+    /// to `MOST_CUT` and 1 to `MOST_NODES`.
+    pub fn new(workers: u8, cut: u8, nodes: u32) -> Option<Plan>
+        ensures { SomeIff result
+            (IsPlan (record { workers = workers; cut = cut; nodes = nodes }))
+            (record { workers = workers; cut = cut; nodes = nodes }) }
+    {
+        let has_workers = 1 <= workers && workers <= MOST_WORKERS;
+        let has_nodes = 1 <= nodes && nodes <= MOST_NODES;
+        if !has_workers || cut > MOST_CUT || !has_nodes {
+            return None;
+        }
+        Some(Plan {
+            workers,
+            cut,
+            nodes,
+        })
+    }
+
+    /// The number of workers.
+    pub fn workers(self) -> u8
+        ensures value { result ≡ self.workers }
+        ensures valid { IsPlan self }
+    {
+        self.workers
+    }
+
+    /// How many of the first blocks the cutting decides, where there are so many.
+    pub fn cut(self) -> u8
+        ensures value { result ≡ self.cut }
+        ensures valid { IsPlan self }
+    {
+        self.cut
+    }
+
+    /// How many nodes of one piece may be visited.
+    pub fn nodes(self) -> u32
+        ensures value { result ≡ self.nodes }
+        ensures valid { IsPlan self }
+    {
+        self.nodes
+    }
+}

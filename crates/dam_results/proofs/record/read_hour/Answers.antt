@@ -1,0 +1,19 @@
+-- The record is the parts that were read, and two empty fields.
+use Rattle.std.proofs.Common.{sym, ap, ap₂, ◌∙◌, ℕ}
+use Rattle.dam_book.specs.Fields.{price_text, pair_text}
+use Rattle.dam_results.specs.Records.{side_word}
+use Rattle.dam_results.proofs.Rules.{empty, nine_alike}
+use Rattle.dam_results.proofs.record.read_hour.Goals as goal
+
+pub returns : goal.returns
+returns c =
+    let who = rw c.in_ok-who.ensures.ok_part at c.new.ensures in
+    let name = rw c.in_ok-name.ensures.ok_part at c.new-2.ensures in
+    let side = rw c.in_ok-side.ensures.ok_part at c.read_side.ensures in
+    let price = rw c.in_ok-price.ensures.ok_part at c.read_price.ensures in
+    let volume = rw c.in_ok-period.ensures.ok_part at c.read_one_volume.ensures in
+    let order = c.new-3.ensures in (
+      (rw who.1 who.0, rw name.1 name.0, record { price = rw order.price price.0; period = rw order.period volume.0; qty = rw order.qty volume.1 }),
+      nine_alike _ _ _ _ _ _ _ _ _ _ _ _ _ _ _ _ _ _ c.requires.kind (sym who.1) (sym name.1) c.requires.form (side ∙ ap side_word (sym order.side)) (price.1 ∙ ap price_text (sym order.price))
+          (volume.2 ∙ ap₂ (λ (p q : ℕ). pair_text (p, q)) (sym order.period) (sym order.qty)) (empty _ _ c.is_empty.ensures c.in_ok-check.ensures) (empty _ _ c.is_empty-2.ensures c.in_ok-check-2.ensures),
+    )
