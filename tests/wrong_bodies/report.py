@@ -1,0 +1,78 @@
+"""What a check printed: whether the crate is proved, and which functions were refused for themselves.
+
+A check goes on after a function that it does not prove, and tells of each function by a line `fn NAME: ..`. The goals that are not
+proved stand in notes right above that line; the errors of proof files stand together at the top, and belong to the function of
+their folder. `it calls F, which is not proved` alone is no refusal of the function's own: what calls a function sees its contract
+and never its body, so a caller is checked to its end all the same.
+"""
+
+import os
+import re
+from typing import NamedTuple
+
+GOAL = re.compile(r"note: (src/\S+:\d+:\d+: it is not proved that .*)")
+ERROR = re.compile(r"(?:\./)?((?:src|specs|proofs)/\S+?):(\d+):\d+: error(?:\[[\w-]+\])?: (.*)")
+VERDICT = re.compile(r"(?:fn|struct|enum|impl) (\S+): (.*)")
+CLOSURE = re.compile(r"::fn::(\S+?)::[^\s:+]+(?:\+Fn(?:Mut|Once)?::\w+)?$")
+# A proof file speaks so of a name that an edit took away, and a check speaks so of a text that it cannot read.
+GONE = re.compile(r"has no field|is not in scope|has no `|was not admitted")
+UNREAD = re.compile(r"is not in scope|has no field|is no name|operand is missing|expected the end|cannot continue")
+WIDTH = 160
+
+
+class Error(NamedTuple):
+    """An error of a check: the file and the line that it names, and what it says."""
+
+    path: str
+    line: int
+    text: str
+
+    def __str__(self):
+        return f"{self.path}:{self.line}: {self.text}"[:WIDTH]
+
+
+class Report:
+    """What a check printed, read."""
+
+    def __init__(self, printed):
+        self.lines = printed.rstrip("\n").split("\n")
+        self.is_proved = any(it.startswith("logic=proved ") for it in self.lines)
+        self.is_refused = any(it.startswith("logic=not-proved") for it in self.lines)
+        matches = [ERROR.match(it) for it in self.lines]
+        self.errors = [Error(it[1], int(it[2]), it[3]) for it in matches if it]
+
+    def refusals(self):
+        """Returns the functions that are refused for themselves, each with the first of its goals that is not proved."""
+        found, goals, errors = {}, [], self.errors_of_proofs()
+        for line in self.lines:
+            goal, verdict = GOAL.match(line), VERDICT.match(line)
+            if goal:
+                goals.append(goal[1][:WIDTH])
+            elif verdict:
+                name, words = verdict.groups()
+                _, _, path = name.partition("::")
+                if words.startswith("not proved") and path in errors:
+                    goals.append(errors[path])
+                if goals and not words.startswith("proved"):
+                    found.setdefault(function_of(name), goals[0])
+                goals = []
+        return found
+
+    def errors_of_proofs(self):
+        """Returns, by the name of the function in its crate, the first error of its proof files that is of more than a name that went."""
+        found = {}
+        for it in self.errors:
+            if it.path.startswith("proofs/") and not GONE.search(it.text):
+                # A function that calls itself has the folder +NAME.
+                folder = os.path.dirname(it.path)[len("proofs/") :].replace("/+", "/")
+                found.setdefault(folder.replace("/", "::"), str(it))
+        return found
+
+    def unread(self):
+        """Returns an error by which the check could not read a text of src/ or specs/, or None."""
+        return next((it for it in self.errors if it.path.startswith(("src/", "specs/")) and UNREAD.search(it.text)), None)
+
+
+def function_of(name):
+    """Returns the function that a name of the list belongs to. A closure belongs to the function that it stands in."""
+    return CLOSURE.sub(r"::\1", name)

@@ -1,0 +1,99 @@
+"""How an edit is read and applied, and which bodies it changes."""
+
+import os
+import tempfile
+import unittest
+
+from edits import Unfit, batches_of, edits_of, texts_made, write
+
+LIB = """\
+const MOST: u64 = 5;
+
+fn low() -> u64 {
+    MOST - 4
+}
+
+fn high() -> u64 {
+    MOST - 1
+}
+"""
+
+
+def edit(old, new, path="src/lib.rt"):
+    return f"file: {path}\nold: {old}\nnew: {new}\n"
+
+
+class Edits(unittest.TestCase):
+    def setUp(self):
+        room = tempfile.TemporaryDirectory(prefix="edits-")
+        self.addCleanup(room.cleanup)
+        self.crate = room.name
+        for folder in ("src", "must-fail", "wrong-bodies"):
+            os.mkdir(f"{self.crate}/{folder}")
+        write(f"{self.crate}/src/lib.rt", LIB)
+
+    def made(self, text):
+        return texts_made(text, self.crate)["src/lib.rt"]
+
+    def assert_unfit(self, text, why):
+        with self.assertRaises(Unfit) as fault:
+            self.made(text)
+        self.assertIn(why, str(fault.exception))
+
+    def test_the_text_has_the_new_in_place_of_the_old(self):
+        self.assertEqual(self.made(edit("    MOST - 4", "    MOST - 3")), LIB.replace("- 4", "- 3"))
+        self.assertEqual(self.made("file: src/lib.rt\nold:  - 4\nnew:\n"), LIB.replace(" - 4", ""))
+
+    def test_a_later_pair_applies_to_what_the_earlier_ones_made(self):
+        self.assertEqual(self.made(edit("MOST - 4", "LEAST") + edit("LEAST", "1")), LIB.replace("MOST - 4", "1"))
+
+    def test_an_edit_that_cannot_be_applied(self):
+        self.assert_unfit(edit("MOST - 5", "0"), "stands 0 times in src/lib.rt")
+        self.assert_unfit(edit("MOST", "0"), "stands 3 times in src/lib.rt")
+        self.assert_unfit(edit("MOST - 4", "MOST - 4"), "leaves src/lib.rt as it was")
+        self.assert_unfit(edit("x", "y", "src/none.rt"), "there is no file src/none.rt")
+        self.assert_unfit(edit("x", "y", "src/../../secret"), "names no file")
+        self.assert_unfit(edit("x", "y", "Cargo.toml"), "names no file")
+        self.assert_unfit("old: MOST - 4\nnew: 1\n", "before any 'file:'")
+        self.assert_unfit("file: src/lib.rt\nnew: 1\n", "before any 'file:' or 'old:'")
+        self.assert_unfit("file: src/lib.rt\nold: MOST - 4\n", "no 'new:' line")
+        self.assert_unfit("file: src/lib.rt\nold: MOST - 4\n1\n", "begins with none")
+        self.assert_unfit("", "it has no 'file:'")
+
+    def test_the_edits_of_both_folders_in_the_order_of_their_names(self):
+        write(f"{self.crate}/must-fail/low.edit", edit("MOST - 4", "2"))
+        write(f"{self.crate}/wrong-bodies/high.edit", edit("MOST - 1", "MOST"))
+        write(f"{self.crate}/wrong-bodies/READ.md", "of no edit")
+        found = edits_of(self.crate, ("must-fail", "wrong-bodies"))
+        self.assertEqual([it.name for it in found], ["high", "low"])
+        self.assertEqual([it.name for it in edits_of(self.crate, ("wrong-bodies",))], ["high"])
+
+    def test_files_that_would_not_be_tried_are_faults(self):
+        write(f"{self.crate}/must-fail/low.edit", edit("MOST - 4", "2"))
+        write(f"{self.crate}/wrong-bodies/low.edit", edit("MOST - 4", "3"))
+        write(f"{self.crate}/wrong-bodies/other.edti", edit("MOST - 4", "4"))
+        first, second, third = edits_of(self.crate, ("must-fail", "wrong-bodies"))
+        self.assertIsNone(first.fault)
+        self.assertEqual(second.fault, "the crate has another edit of this name, must-fail/low.edit")
+        self.assertEqual(third.fault, "its name does not end in .edit")
+
+    def test_what_an_edit_changes(self):
+        write(f"{self.crate}/wrong-bodies/a_body.edit", edit("MOST - 4", "2"))
+        write(f"{self.crate}/wrong-bodies/b_constant.edit", edit("= 5", "= 6"))
+        write(f"{self.crate}/wrong-bodies/c_both.edit", edit("= 5", "= 6") + edit("MOST - 4", "2"))
+        write(f"{self.crate}/wrong-bodies/d_two.edit", edit("MOST - 4", "2") + edit("MOST - 1", "6"))
+        body, constant, both, two = edits_of(self.crate, ("wrong-bodies",))
+        self.assertEqual(body.bodies, {("src/lib.rt", 0): "{\n    2\n}"})
+        self.assertEqual((constant.bodies, both.bodies), ({}, {}))
+        self.assertEqual(two.bodies, {("src/lib.rt", 0): "{\n    2\n}", ("src/lib.rt", 1): "{\n    6\n}"})
+        self.assertEqual(batches_of([body, two]), [[body], [two]])
+
+    def test_a_batch_has_each_function_once(self):
+        for name, old, new in [("a", "MOST - 4", "2"), ("b", "MOST - 4", "3"), ("c", "MOST - 1", "4")]:
+            write(f"{self.crate}/wrong-bodies/{name}.edit", edit(old, new))
+        first, second, third = edits_of(self.crate, ("wrong-bodies",))
+        self.assertEqual(batches_of([first, second, third]), [[first, third], [second]])
+
+
+if __name__ == "__main__":
+    unittest.main()

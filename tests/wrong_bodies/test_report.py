@@ -1,0 +1,82 @@
+"""What is read of a check's output, by lines that checks printed."""
+
+import unittest
+
+from report import Report, function_of
+
+REFUSED = """\
+checked dam_stack::stack::Stack::low, 11 of 28
+./proofs/stack/Stack/low/Answers.antt:8:15: error: `returns`: computed as far as they go, the two types differ only where one has `c.args.units` (expected) and the other has `1` (found)
+  expected type `goal.the-asks-returns g.row.A g.A.laws`
+./proofs/stack/+split/Answers.antt:7:140: error: `returns-clause-rises`: `search`: no proof of `height_of a.0.now.price`
+./proofs/stack/Stack/units/Answers.antt:16:10: note: this `elim` is on a term, not a variable
+./proofs/stack/Stack/all/Answers.antt:9:33: error: `returns`: `c.holding` is not in scope
+struct dam_stack::row::Row: proved
+fn dam_stack::row::height: proved
+note: src/stack.rt:48:13: it is not proved that what the function ensures holds when it returns (`returns-then-eq`); the facts known there allow values at which this goal is false
+note: src/stack.rt:44:5: it is not proved that what the function ensures holds when it returns (`returns`); `search` gave up at one of its limits
+note: to see how far a `search` got, write `search rules` in place of that hole in the function's `Answers.antt`, and check again
+fn dam_stack::stack::Demand::of_step: no proof: expected answers in ./proofs/stack/Demand/of_step/Answers.antt; `search` did not prove `returns-then-eq`, `returns`
+fn dam_stack::stack::Demand::of: no proof: it calls `dam_stack::stack::Demand::of_step`, which is not proved
+fn dam_stack::stack::fn::rising::sort_unstable_by_key+FnMut::call_mut: proved where its callers give what it asks
+note: src/stack.rt:77:20: it is not proved that what the function ensures holds when it returns (`returns`); `search` gave up at one of its limits
+fn dam_stack::stack::fn::Stack::has_unit::any: no proof: `search` did not prove `returns`
+fn dam_stack::stack::Stack::low: not proved; it calls `dam_stack::stack::Demand::of`, which is not proved
+fn dam_stack::stack::Stack::all: not proved
+fn dam_stack::stack::split: not proved
+crate dam_stack: modules loaded=249 checked=0
+logic=not-proved
+"""
+
+PROVED = """\
+fn dam_plan::plan::Plan::cut: proved
+crate dam_plan: modules loaded=249 checked=0
+logic=proved functions=6 sum=dac8208d650f15bf native=nat,char,string logic-built=trusted
+"""
+
+ILL = "src/plan.rt:73:9: error[unknown-field]: no field `cuts` on type `Plan`: help: available fields are: `workers`, `cut`, `nodes`\n"
+
+
+class Reports(unittest.TestCase):
+    def test_how_a_check_ends(self):
+        ends = [(it.is_proved, it.is_refused) for it in map(Report, (PROVED, REFUSED, ILL, ""))]
+        self.assertEqual(ends, [(True, False), (False, True), (False, False), (False, False)])
+
+    def test_functions_with_goals_of_their_own(self):
+        refused = Report(REFUSED).refusals()
+        self.assertEqual(
+            {name: why.split(": ")[0] for name, why in refused.items()},
+            {
+                "dam_stack::stack::Demand::of_step": "src/stack.rt:48:13",
+                "dam_stack::stack::Stack::has_unit": "src/stack.rt:77:20",
+                "dam_stack::stack::Stack::low": "proofs/stack/Stack/low/Answers.antt:8",
+                "dam_stack::stack::split": "proofs/stack/+split/Answers.antt:7",
+            },
+        )
+
+    def test_a_caller_is_not_refused_for_itself(self):
+        self.assertNotIn("dam_stack::stack::Demand::of", Report(REFUSED).refusals())
+
+    def test_a_name_that_went_is_no_refusal(self):
+        self.assertNotIn("dam_stack::stack::Stack::all", Report(REFUSED).refusals())
+
+    def test_nothing_is_refused_of_a_proved_crate(self):
+        self.assertEqual(Report(PROVED).refusals(), {})
+
+    def test_errors_have_their_file_and_line(self):
+        (error,) = Report(ILL).errors
+        self.assertEqual((error.path, error.line), ("src/plan.rt", 73))
+        self.assertEqual(len(Report(REFUSED).errors), 3)
+
+    def test_a_text_that_the_check_cannot_read(self):
+        self.assertIsNone(Report(REFUSED).unread())
+        error = Report("specs/Hour.antt:3:9: error: `steps` is not in scope\nlogic=not-proved\n").unread()
+        self.assertEqual(str(error), "specs/Hour.antt:3: `steps` is not in scope")
+
+    def test_a_closure_belongs_to_its_function(self):
+        for name in ("a::b::T::f", "a::b::fn::T::f::any", "a::b::fn::T::f::any+FnMut::call_mut", "a::b::fn::T::f::map+FnOnce::call_once"):
+            self.assertEqual(function_of(name), "a::b::T::f")
+
+
+if __name__ == "__main__":
+    unittest.main()

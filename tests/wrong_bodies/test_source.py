@@ -1,0 +1,87 @@
+"""Where the bodies of functions lie, and the names under which a check lists them."""
+
+import unittest
+
+from source import functions_of, listed_name, outside
+
+STEP = """\
+use crate::hour::Hour;
+
+/// A brace in a comment { counts for nothing.
+#[derive(Clone, Copy)]
+pub struct Step<A: Allocator> {
+    pub volume: u64,
+}
+
+impl<A: Allocator> Model for Step<A> {
+    invariant { volume ≤ most }
+}
+
+impl<A: Allocator> Step<A> {
+    pub fn of(hour: &Hour<A>, take: impl Fn(u64) -> u64) -> Option<Step<A>>
+        requires { hour.is_open }
+        ensures some { result.is_some ≡ hour.now }
+        measure { hour.len }
+    {
+        fn inner() {}
+        let mark = '{';
+        hour.find(|it| { it.text != "}" && it.mark != '}' }).map(Step::new)
+    }
+
+    fn len(&self) -> u64 { self.volume }
+}
+
+impl<const N: usize> Hash for Text<N> {
+    fn hash<H: Hasher>(&self, state: &mut H) { /* } */ }
+}
+
+impl<T: Drop> From<AllocFailed<T>> for fault::DayFault
+where
+    T: Send,
+{
+    fn from(it: AllocFailed<T>) -> Self { Self::Memory(it) }
+}
+
+pub trait Turnstile {
+    fn enter(&self) -> bool ensures { result ≡ free };
+    fn leave(&self) {}
+}
+
+pub const fn most() -> [u8; 2] { [1, 2] }
+"""
+
+
+class Bodies(unittest.TestCase):
+    def test_each_function_with_a_body_is_found_under_its_name(self):
+        names = [it.name for it in functions_of(STEP)]
+        self.assertEqual(names, ["Step::of", "Step::len", "TextHash::hash", "DayFaultFrom::from", "Turnstile::leave", "most"])
+
+    def test_a_body_lies_between_its_braces_and_after_the_clauses(self):
+        bodies = {it.name: STEP[it.begins : it.ends] for it in functions_of(STEP)}
+        self.assertEqual(bodies["Step::len"], "{ self.volume }")
+        self.assertEqual(bodies["most"], "{ [1, 2] }")
+        self.assertTrue(bodies["Step::of"].startswith("{\n        fn inner() {}"))
+        self.assertTrue(bodies["Step::of"].endswith(".map(Step::new)\n    }"))
+
+    def test_what_is_outside_the_bodies_has_the_clauses(self):
+        parts = outside(STEP, functions_of(STEP))
+        self.assertEqual(len(parts), 7)
+        self.assertTrue(parts[0].endswith("measure { hour.len }\n    "))
+        self.assertEqual(parts[6], "\n")
+
+    def test_a_file_without_functions(self):
+        self.assertEqual(functions_of("mod step;\npub use step::Step;\n"), [])
+        self.assertEqual(functions_of(""), [])
+
+
+class Names(unittest.TestCase):
+    def test_the_name_has_the_modules_of_the_file(self):
+        (function,) = functions_of("impl Hour {\n    fn len(&self) -> u64 { 0 }\n}\n")
+        self.assertEqual(listed_name("dam_hour", "src/hour.rt", function), "dam_hour::hour::Hour::len")
+        self.assertEqual(listed_name("dam_hour", "src/lib.rt", function), "dam_hour::Hour::len")
+        self.assertEqual(listed_name("dam_hour", "src/plain/mod.rt", function), "dam_hour::plain::Hour::len")
+        self.assertEqual(listed_name("dam_hour", "src/plain/steps.rt", function), "dam_hour::plain::steps::Hour::len")
+
+
+if __name__ == "__main__":
+    unittest.main()

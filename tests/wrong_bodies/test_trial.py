@@ -1,0 +1,120 @@
+"""The trial of wrong bodies, with a stand-in for the check."""
+
+import contextlib
+import io
+import os
+import re
+import tempfile
+import unittest
+
+from edits import edits_of, read, write
+from report import Report
+from source import functions_of
+from trial import NotProved, Trial
+
+NUMBERS = ("one", "two", "three", "four")
+LIB = "".join(f"fn {it}() -> u64 {{\n    right()\n}}\n\n" for it in NUMBERS)
+REFUSED = "note: src/lib.rt:{line}:5: it is not proved that what the function ensures holds when it returns (`returns`)"
+ILL = "src/lib.rt:{line}:5: error[no-such-function]: there is no function `ill`"
+GONE = "proofs/{name}/Answers.antt:1:1: error: `right` is not in scope"
+
+
+class Stand(Trial):
+    """A trial whose check refuses a function with `wrong` in its body, and one whose callee is called `spoiled`."""
+
+    def checked(self, what):
+        self.checks += 1
+        self.tried = [*getattr(self, "tried", []), what]
+        os.makedirs(self.out, exist_ok=True)
+        text = read(f"{self.folder}/src/lib.rt")
+        lines, ills, gone = [], [], []
+        for it in functions_of(text):
+            body, line = text[it.begins : it.ends], text[: it.begins].count("\n") + 2
+            said = "proved"
+            if "ill()" in body:
+                ills.append(ILL.format(line=line))
+            if "gone()" in body:
+                gone.append(GONE.format(name=it.name))
+                said = "not proved"
+            if "wrong()" in body:
+                lines.append(REFUSED.format(line=line))
+                said = "no proof: `search` did not prove `returns`"
+            lines.append(f"fn toy::{it.name}: {said}")
+        is_proved = all(re.search(r": (proved)$", it) for it in lines)
+        end = "logic=proved functions=4" if is_proved else "logic=not-proved"
+        return Report("\n".join(ills or [*gone, *lines, end]))
+
+
+class Trials(unittest.TestCase):
+    def setUp(self):
+        room = tempfile.TemporaryDirectory(prefix="trial-")
+        self.addCleanup(room.cleanup)
+        self.copy, self.crate = room.name, f"{room.name}/crates/toy"
+        os.makedirs(f"{self.crate}/src")
+        os.mkdir(f"{self.crate}/wrong-bodies")
+        write(f"{self.crate}/src/lib.rt", LIB)
+
+    def edit(self, name, **bodies):
+        pairs = [f"old: fn {it}() -> u64 {{\nnew: fn {it}() -> u64 {{ {body}();\n" for it, body in bodies.items()]
+        write(f"{self.crate}/wrong-bodies/{name}.edit", "file: src/lib.rt\n" + "".join(pairs))
+
+    def tried(self, **how):
+        with contextlib.redirect_stdout(io.StringIO()), Stand(self.copy, "toy") as self.trial:
+            results = self.trial.try_all(edits_of(self.crate, ("wrong-bodies",)), **how)
+        self.assertEqual(read(f"{self.crate}/src/lib.rt"), LIB)
+        self.assertFalse(os.path.exists(self.trial.aside))
+        return {name: (is_refused, why.split(":")[0]) for name, (is_refused, why) in results.items()}
+
+    def test_one_check_refuses_many(self):
+        for it in NUMBERS:
+            self.edit(it, **{it: "wrong"})
+        self.assertEqual(set(self.tried().values()), {(True, "refused")})
+        self.assertEqual(self.trial.tried, ["as it stands", "4 wrong bodies at once"])
+
+    def test_each_alone(self):
+        for it in NUMBERS:
+            self.edit(it, **{it: "wrong"})
+        self.assertEqual(set(self.tried(alone=True).values()), {(True, "refused")})
+        self.assertEqual(self.trial.tried, ["as it stands", "four", "one", "three", "two"])
+
+    def test_what_the_check_takes_is_tried_alone_and_told(self):
+        self.edit("taken", one="right")
+        self.edit("refused", two="wrong")
+        self.assertEqual(self.tried(), {"refused": (True, "refused"), "taken": (False, "NOT REFUSED")})
+        self.assertEqual(self.trial.tried, ["as it stands", "2 wrong bodies at once", "taken"])
+
+    def test_a_name_that_went_is_a_bad_edit(self):
+        self.edit("gone", one="gone")
+        self.edit("refused", two="wrong")
+        self.assertEqual(self.tried(), {"refused": (True, "refused"), "gone": (False, "BAD EDIT")})
+
+    def test_an_edit_that_does_not_compile_is_taken_out_of_the_batch(self):
+        self.edit("a", one="wrong")
+        self.edit("ill", two="ill")
+        self.edit("z", three="wrong")
+        self.assertEqual(self.tried(), {"a": (True, "refused"), "z": (True, "refused"), "ill": (False, "BAD EDIT")})
+        self.assertEqual(self.trial.tried[1:], ["3 wrong bodies at once", "2 wrong bodies at once", "ill"])
+
+    def test_two_edits_of_a_function_go_into_two_batches(self):
+        self.edit("a", one="wrong")
+        self.edit("b", one="right")
+        self.assertEqual(self.tried(), {"a": (True, "refused"), "b": (False, "NOT REFUSED")})
+        self.assertEqual(self.trial.batches, 2)
+
+    def test_an_edit_of_two_functions_is_refused_by_either(self):
+        self.edit("both", one="right", two="wrong")
+        self.assertEqual(self.tried(), {"both": (True, "refused")})
+
+    def test_an_edit_that_cannot_be_applied(self):
+        self.edit("none", five="wrong")
+        self.assertEqual(self.tried(), {"none": (False, "BAD EDIT")})
+        self.assertEqual(self.trial.tried, ["as it stands"])
+
+    def test_a_crate_that_is_not_proved_as_it_stands(self):
+        write(f"{self.crate}/src/lib.rt", LIB.replace("right", "wrong", 1))
+        with self.assertRaises(NotProved), contextlib.redirect_stdout(io.StringIO()), Stand(self.copy, "toy"):
+            self.fail("it was tried")
+
+
+if __name__ == "__main__":
+    unittest.main()

@@ -1,0 +1,154 @@
+"""The trial of a crate's wrong bodies on a copy of the crate."""
+
+import os
+import resource
+import shutil
+import subprocess
+import time
+from collections import Counter
+
+from edits import batches_of, read, write
+from report import Report
+from source import functions_of, listed_name, outside
+
+
+class Trial:
+    """A copy of a crate on which wrong bodies are tried, each check over what is proved of the crate as it stands.
+
+    What a check keeps has one state of each function, so the proved state is set aside, and each check begins with a copy of it.
+    """
+
+    def __init__(self, copy, crate, jobs=None, logs=None):
+        self.crate, self.folder, self.logs = crate, f"{copy}/crates/{crate}", logs
+        self.out, self.aside = f"{self.folder}/out", f"{copy}/proved-{crate}"
+        self.command = ["rt", "check", *(["--jobs", str(jobs)] if jobs else [])]
+        self.checks = self.batches = self.single = 0
+
+    def __enter__(self):
+        """Proves the crate as it stands, or sees that it is proved, and sets that work aside."""
+        report = self.checked("as it stands")
+        shutil.rmtree(self.aside, ignore_errors=True)
+        if not report.is_proved:
+            raise NotProved("\n".join(report.lines[-20:]))
+        shutil.copytree(self.out, self.aside)
+        return self
+
+    def __exit__(self, *_):
+        """Puts the proved state back, with which the crates above begin."""
+        if os.path.isdir(self.aside):
+            shutil.rmtree(self.out, ignore_errors=True)
+            os.rename(self.aside, self.out)
+
+    def try_all(self, edits, alone=False):
+        """Returns for each edit, by its name, whether the check refuses it, and why."""
+        found = {it.name: (False, f"BAD EDIT: {it.fault}") for it in edits if it.fault}
+        if not alone:
+            for batch in batches_of([it for it in edits if it.bodies]):
+                found.update(self.batch(batch))
+        for it in edits:
+            if it.name not in found:
+                found[it.name] = self.alone(it)
+        return found
+
+    def batch(self, edits):
+        """Tries edits of different functions at once. Returns those whose function is refused for itself, by their names, and why."""
+        self.batches += 1
+        texts, names, lines = self.laid_together(edits)
+        report = self.check(texts, f"{len(edits)} wrong bodies at once")
+        if report.is_proved:
+            return {}
+        if not report.is_refused:
+            return self.batch_without_the_ill(edits, lines, report)
+        refused, counts = report.refusals(), Counter(names.values())
+        changed = {names[key] for it in edits for key in it.bodies}
+        others = sorted(set(refused) - changed)
+        if others:
+            print(f"{self.crate}: refused too, though no edit changed them, so each edit is tried alone: {' '.join(others)}")
+            return {}
+        found = {}
+        for it in edits:
+            own = [refused[names[key]] for key in it.bodies if names[key] in refused and counts[names[key]] == 1]
+            if own:
+                found[it.name] = True, f"refused: {own[0]}"
+        return found
+
+    def batch_without_the_ill(self, edits, lines, report):
+        """Tries a batch of which the prover saw nothing again, without the edits that do not compile, or else by halves."""
+        errors = [(it.path, it.line) for it in report.errors]
+        ill = [it for it in edits if any(path == key[0] and line in lines[key] for path, line in errors for key in it.bodies)]
+        left = [it for it in edits if it not in ill]
+        if ill:
+            return self.batch(left) if left else {}
+        half = len(edits) // 2
+        return {**self.batch(edits[:half]), **self.batch(edits[half:])} if half else {}
+
+    def laid_together(self, edits):
+        """Returns the texts of the crate's files with all bodies of these edits; and of each function in them, by path and number,
+        the name under which a check lists it, and its lines."""
+        bodies = {key: body for it in edits for key, body in it.bodies.items()}
+        texts, names, lines = {}, {}, {}
+        for path in sorted({path for path, _ in bodies}):
+            right = read(f"{self.folder}/{path}")
+            functions = functions_of(right)
+            first, *parts = outside(right, functions)
+            text = first
+            for number, (function, part) in enumerate(zip(functions, parts)):
+                begins = text.count("\n") + 1
+                text += bodies.get((path, number), right[function.begins : function.ends])
+                names[path, number] = listed_name(self.crate, path, function)
+                lines[path, number] = range(begins, text.count("\n") + 2)
+                text += part
+            texts[path] = text
+        return texts, names, lines
+
+    def alone(self, edit):
+        """Tries an edit by itself. Returns whether the crate is refused with it for more than a name that went, and why."""
+        self.single += 1
+        report = self.check(edit.texts, edit.name)
+        if report.is_proved:
+            return False, "NOT REFUSED: the crate is still proved with it"
+        if not report.is_refused:
+            why = report.errors[0] if report.errors else "\n".join(report.lines[-6:])
+            return False, f"BAD EDIT: it does not compile: {why}"
+        if report.unread():
+            return False, f"BAD EDIT: the check cannot read the edited text: {report.unread()}"
+        for why in report.refusals().values():
+            return True, f"refused: {why}"
+        return False, "BAD EDIT: it is refused only because a proof names what it took away: change the meaning and keep the names"
+
+    def check(self, texts, what):
+        """Checks the crate with these texts in place of its own."""
+        right = {path: read(f"{self.folder}/{path}") for path in texts}
+        shutil.rmtree(self.out, ignore_errors=True)
+        shutil.copytree(self.aside, self.out)
+        try:
+            for path, text in texts.items():
+                write(f"{self.folder}/{path}", text)
+            return self.checked(what)
+        finally:
+            for path, text in right.items():
+                write(f"{self.folder}/{path}", text)
+
+    def checked(self, what):
+        """Checks the crate as its files are now, and says how long that took."""
+        began, before = time.time(), processor_time()
+        printed = subprocess.run(
+            self.command, cwd=self.folder, stdin=subprocess.DEVNULL, stdout=subprocess.PIPE, stderr=subprocess.STDOUT, errors="replace"
+        ).stdout
+        self.checks += 1
+        took, used = time.time() - began, processor_time() - before
+        print(f"{self.crate}: {what}: checked in {took:.0f} s ({used:.0f} s of a processor)", flush=True)
+        if self.logs:
+            os.makedirs(self.logs, exist_ok=True)
+            write(f"{self.logs}/{self.crate}-{self.checks}.log", printed)
+        return Report(printed)
+
+
+class NotProved(Exception):
+    """What a check printed last of a crate that is not proved as it stands."""
+
+
+def processor_time():
+    """Returns the seconds of a processor that the checks took so far."""
+    used = resource.getrusage(resource.RUSAGE_CHILDREN)
+    return used.ru_utime + used.ru_stime
