@@ -14,8 +14,10 @@ GOAL = re.compile(r"note: (src/\S+:\d+:\d+: it is not proved that .*)")
 ERROR = re.compile(r"(?:\./)?((?:src|specs|proofs)/\S+?):(\d+):\d+: error(?:\[[\w-]+\])?: (.*)")
 VERDICT = re.compile(r"(?:fn|struct|enum|impl) (\S+): (.*)")
 CLOSURE = re.compile(r"::fn::(\S+?)::[^\s:+]+(?:\+Fn(?:Mut|Once)?::\w+)?$")
-# A proof file speaks so of a name that an edit took away, and a check speaks so of a text that it cannot read.
-GONE = re.compile(r"has no field|is not in scope|has no `|was not admitted")
+# A check speaks so of a proof that cites a name which an edit took away, of what rests on a proof that was refused, and of a text
+# that it cannot read.
+GONE = re.compile(r"has no field|is not in scope|has no `")
+RESTS = re.compile(r"was not admitted|rejected, (?:was|were) not checked")
 UNREAD = re.compile(r"is not in scope|has no field|is no name|operand is missing|expected the end|cannot continue")
 WIDTH = 160
 
@@ -59,10 +61,10 @@ class Report:
         return found
 
     def errors_of_proofs(self):
-        """Returns, by the name of the function in its crate, the first error of its proof files that is of more than a name that went."""
+        """Returns, by the name of the function in its crate, the first error of its proof files that says more than that a name went."""
         found = {}
         for it in self.errors:
-            if it.path.startswith("proofs/") and not GONE.search(it.text):
+            if it.path.startswith("proofs/") and not GONE.search(it.text) and not RESTS.search(it.text):
                 # A function that calls itself has the folder +NAME.
                 folder = os.path.dirname(it.path)[len("proofs/") :].replace("/+", "/")
                 found.setdefault(folder.replace("/", "::"), str(it))

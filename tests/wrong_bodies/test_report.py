@@ -10,7 +10,8 @@ checked dam_stack::stack::Stack::low, 11 of 28
   expected type `goal.the-asks-returns g.row.A g.A.laws`
 ./proofs/stack/+split/Answers.antt:7:140: error: `returns-clause-rises`: `search`: no proof of `height_of a.0.now.price`
 ./proofs/stack/Stack/units/Answers.antt:16:10: note: this `elim` is on a term, not a variable
-./proofs/stack/Stack/all/Answers.antt:9:33: error: `returns`: `c.holding` is not in scope
+./proofs/stack/Stack/all/Answers.antt:9:33: error: `returns-then`: `c.holding` is not in scope
+./proofs/stack/Stack/all/Answers.antt:30:5: error: 2 declarations that depend on `returns-then`, which was rejected, were not checked: overflow_add-result, returns
 struct dam_stack::row::Row: proved
 fn dam_stack::row::height: proved
 note: src/stack.rt:48:13: it is not proved that what the function ensures holds when it returns (`returns-then-eq`); the facts known there allow values at which this goal is false
@@ -66,7 +67,7 @@ class Reports(unittest.TestCase):
     def test_errors_have_their_file_and_line(self):
         (error,) = Report(ILL).errors
         self.assertEqual((error.path, error.line), ("src/plan.rt", 73))
-        self.assertEqual(len(Report(REFUSED).errors), 3)
+        self.assertEqual(len(Report(REFUSED).errors), 4)
 
     def test_a_text_that_the_check_cannot_read(self):
         self.assertIsNone(Report(REFUSED).unread())

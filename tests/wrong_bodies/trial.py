@@ -43,12 +43,12 @@ class Trial:
         """Returns for each edit, by its name, whether the check refuses it, and why."""
         found = {it.name: (False, f"BAD EDIT: {it.fault}") for it in edits if it.fault}
         if not alone:
-            for batch in batches_of([it for it in edits if it.bodies]):
+            for batch in batches_of([it for it in edits if it.bodies and not it.fault]):
                 found.update(self.batch(batch))
         for it in edits:
             if it.name not in found:
                 found[it.name] = self.alone(it)
-        return found
+        return {it.name: found[it.name] for it in edits}
 
     def batch(self, edits):
         """Tries edits of different functions at once. Returns those whose function is refused for itself, by their names, and why."""
@@ -109,7 +109,7 @@ class Trial:
             return False, "NOT REFUSED: the crate is still proved with it"
         if not report.is_refused:
             why = report.errors[0] if report.errors else "\n".join(report.lines[-6:])
-            return False, f"BAD EDIT: it does not compile: {why}"
+            return False, f"BAD EDIT: the check ended before any proof: {why}"
         if report.unread():
             return False, f"BAD EDIT: the check cannot read the edited text: {report.unread()}"
         for why in report.refusals().values():
