@@ -6,7 +6,7 @@ import threading
 from pathlib import Path
 from typing import NamedTuple
 
-SECONDS = 30
+SECONDS = 120
 EVERY = 2**63  # above the number of any call
 NONE = -1
 
@@ -55,8 +55,8 @@ class Program:
             part.rename(file)
         return file
 
-    def run(self, words, data, refusal, stdout=subprocess.PIPE, seconds=SECONDS):
-        """What it prints, and how many calls of the refusal's kind it made."""
+    def run(self, words, data, refusal, stdout=subprocess.PIPE, seconds=SECONDS, under=()):
+        """What it prints, and how many calls of the refusal's kind it made. The words of `under` go before the program."""
         calls = self.counts()
         calls.write_bytes(bytes(8))
         surroundings = {
@@ -67,7 +67,7 @@ class Program:
         with open(self.given(data), "rb") as stdin:
             how = {"stdin": stdin, "stdout": stdout, "stderr": subprocess.PIPE, "env": surroundings, "timeout": seconds}
             try:
-                ran = subprocess.run([self.path, *words], close_fds=False, **how)
+                ran = subprocess.run([*under, self.path, *words], close_fds=False, **how)
                 printed = Printed(ran.returncode, ran.stdout or b"", ran.stderr)
             except subprocess.TimeoutExpired:
                 printed = Printed(NONE, b"", f"no answer in {seconds} seconds\n".encode())
