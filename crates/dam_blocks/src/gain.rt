@@ -11,7 +11,7 @@ use crate::accepted::{signed, times, volume_in};
 use crate::family::descends;
 use crate::problem::Block;
 use crate::selection::Selection;
-use dam_book::{BlockOrder, Period, Price};
+use dam_book::{BlockOrder, LAST_PERIOD, MOST_BLOCKS, Period, Price};
 
 /// How far the limit is above the price, in cents per MWh.
 fn difference(limit: Price, price: Price) -> i32
@@ -105,5 +105,6 @@ pub fn gain_at(blocks: &[Block], selection: Selection, prices: &[Price], place: 
     requires blocks { length blocks.now ≤ most_blocks }
     ensures { result ≡ gain_at blocks.now selection prices.now place }
 {
+    prove!(prices.len() <= usize::from(LAST_PERIOD) && blocks.len() <= MOST_BLOCKS);
     surplus_at(blocks, prices, place) + surplus_of_descendants(blocks, selection, prices, place)
 }

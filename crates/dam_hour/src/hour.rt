@@ -290,6 +290,7 @@ impl<A: Allocator> Hour<A> {
             → result ≡ slice_get xs place }
         ensures none { IsUnbalanced self.now net → result ≡ None }
     {
+        prove!(-GREATEST_NET <= net && net <= GREATEST_NET);
         let steps = self.steps();
         let step = *steps.get(place)?;
         if !is_within_offers(self, net) {
