@@ -323,4 +323,3 @@ impl<A: Allocator + Copy> Book<A> {
         self.closed = true;
     }
 }
-

@@ -267,4 +267,3 @@ pub fn read_journal(alloc: Global, text: &[u8]) -> Result<JournalRead, JournalFa
     // No book is made, and the seed is for nothing.
     read_into(alloc, Seed::fixed(), text)
 }
-

@@ -31,4 +31,3 @@ pub fn results<A: Allocator + Copy, B: Allocator>(
         rows,
     })
 }
-

@@ -145,4 +145,3 @@ pub fn book_of_text(alloc: Global, seed: Seed, text: &[u8]) -> Result<Book, Jour
 {
     read_into(alloc, seed, text)
 }
-

@@ -65,4 +65,3 @@ pub fn replies_text<A: Allocator>(
     }
     Ok(text)
 }
-

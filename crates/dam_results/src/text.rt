@@ -135,4 +135,3 @@ pub fn results_text<A: Allocator, B: Allocator>(
     }
     Ok(text)
 }
-

@@ -206,4 +206,3 @@ pub fn journal_text(alloc: Global, periods: u8, entries: &[Entry]) -> Result<Vec
         Err(_) => Err(AllocError),
     }
 }
-

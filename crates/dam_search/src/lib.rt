@@ -33,11 +33,11 @@ mod worker;
 mod workers;
 
 pub use answer::PieceAnswer;
+pub use dam_plan::{MOST_CUT, MOST_NODES, MOST_WORKERS, Plan};
 pub use fault::SearchFault;
 pub use first::first_selection;
 pub use incumbent::{Incumbent, Private};
 pub use piece::search_piece;
-pub use dam_plan::{MOST_CUT, MOST_NODES, MOST_WORKERS, Plan};
 pub use shared::Shared;
 pub use turnstile::{FreeTurn, Turnstile};
 pub use view::View;
