@@ -10,10 +10,11 @@ import time
 from typing import NamedTuple
 
 DAM = "../crates/dam_cli/out/dam_cli"
-MEASURES = "../crates/dam_bench/out/dam_bench"
+MEASURES = "out/measures"
 BASELINE = "out/baseline"
 TWIN = "out/twin"
-FIGURES = "out/figures.txt"
+PART = os.path.basename(sys.argv[0]).partition(".")[0]
+FIGURES = f"out/{PART}.tsv"
 TIME = "/usr/bin/time"
 
 # A run that takes longer, in seconds, is ended and said to have given up; and so long HiGHS is given for a book.
@@ -97,12 +98,11 @@ def seconds(value):
 
 
 def line(what, shown, target="", holds=None, detail=""):
-    """Prints a figure. `holds` is None where there is no target."""
+    """Prints a figure, and keeps it for `page.py`. `holds` is None if there is no target."""
     verdict = {None: "", True: "holds", False: "MISSED"}[holds]
-    text = f"{what:<76} {shown:>10}  {target:<18} {verdict:<7} {detail}".rstrip()
-    print(text, flush=True)
+    print(f"{what:<76} {shown:>10}  {target:<18} {verdict:<7} {detail}".rstrip(), flush=True)
     with open(FIGURES, "a") as kept:
-        print(text, file=kept)
+        print(what, shown, target, verdict, detail, sep="\t", file=kept)
 
 
 def at_most(what, value, target, shown=seconds, detail=""):
@@ -113,13 +113,15 @@ def times(value):
     return f"{value:.2f} x"
 
 
-def ratio(what, ones, others, most=None, least=None, shown=seconds):
-    """A line of how many times the others' median the ones' is; beside it stands how it is for the least of both."""
+def ratio(what, ones, others, most=None, least=None, shown=seconds, note=""):
+    """A line of how many times the others' median the ones' is; its details say how it is for the least of both."""
     one, other = statistics.median(ones), statistics.median(others)
     value = one / other
     target = f"at most {times(most)}" if most else f"at least {times(least)}" if least else ""
     holds = None if not target else value <= most if most else value >= least
-    detail = f"{shown(one)} beside {shown(other)}"
+    detail = f"{shown(one)} and {shown(other)}"
     if len(ones) > 1:
         detail += f"; of the least {times(min(ones) / min(others))}"
+    if note:
+        detail += f"; {note}"
     line(what, times(value), target, holds, detail)

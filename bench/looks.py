@@ -1,6 +1,9 @@
 #!/usr/bin/env python3
-"""looks.py: looks at versions of a book of 4,000 orders beside a plain program's, alone and with threads that call and look beside
-them; what a call costs with 100, 1,000 and 4,000 orders; and a day of 9,999 commands."""
+"""Looks at versions of a book of 4,000 orders, alone and while other threads call and look, compared with a plain program's; what a
+call costs with 100, 1,000 and 4,000 orders held; and the time and memory of a day of 9,999 commands.
+
+The plain program looks at a version through a lock-free pointer, and copies its book at every call. A day's memory may be 4 times what
+a gate took whose looks took its lock."""
 
 import statistics
 
@@ -23,12 +26,13 @@ def looks():
         words = ["looks", str(beside), str(LOOKS)]
         runs = by_turns({"one": [MEASURES, *words], "other": [PLAIN, *words]}, "out/hourly.csv", most=9)
         ones, others = laps(runs["one"], "looks", LOOKS), laps(runs["other"], "looks", LOOKS)
-        ratio(f"a look beside a plain one, {beside} threads call and look", ones, others, 3)
+        ratio(f"a look compared with a plain one, while {beside} threads call and look", ones, others, 3)
         if none is None:
             none = ones
         else:
-            ratio(f"looks a second, {beside} threads call and look, beside none", [1 / one for one in ones], [1 / one for one in none],
-                  least=0.5 if beside == 3 else None, shown="{:,.0f}".format)
+            what = f"looks a second while {beside} threads call and look, compared with none"
+            least = 0.5 if beside == 3 else None
+            ratio(what, [1 / one for one in ones], [1 / one for one in none], least=least, shown="{:,.0f}".format)
 
 
 def calls():
@@ -38,7 +42,7 @@ def calls():
             made.write(run(["./make_clearing.py", str(orders), "0"]).text)
         runs = by_turns({"one": [MEASURES, "calls", str(CALLS)], "other": [PLAIN, "calls", str(CALLS)]}, book, most=5)
         one, other = (statistics.median(laps(runs[name], "calls", CALLS)) for name in ("one", "other"))
-        what, detail = f"a call, {orders:,} orders held", f"{seconds(one)} beside {seconds(other)} of a plain one"
+        what, detail = f"a call, {orders:,} orders held", f"a plain one {seconds(other)}"
         if orders == 4_000:
             at_most(what, one, 150e-6, detail=detail)
         else:

@@ -1,6 +1,6 @@
 #!/usr/bin/env python3
-"""quarters.py: days of quarter-hours: the families with 96 periods beside those with 24, and a journal of 10,000 blocks that each have
-a volume in all of 100 periods."""
+"""Days of quarter-hours: the families with 96 periods compared with those with 24, and a journal of 10,000 blocks that each have
+a volume in all of 100 periods, compared with the baseline."""
 
 import make_family
 from figures import BASELINE, DAM, by_turns, line, ratio, run
@@ -24,7 +24,7 @@ def families():
         if family == LONG:
             continue
         runs = by_turns({parts: clearing(family, parts) for parts in ("1", "4")}, most=15)
-        what = f"{family} {ORDERS}: dam clear of 96 periods beside 24"
+        what = f"{family} {ORDERS}: dam clear of 96 periods compared with 24"
         if all(runs.values()):
             ratio(what, *([each.wall for each in runs[parts]] for parts in ("4", "1")), most=4.5)
         else:
@@ -37,7 +37,7 @@ def longest_journal():
     runs = by_turns({"dam": [DAM, "replay"], "plain": [BASELINE]}, JOURNAL, most=15)
     if {each.text for each in runs["dam"]} != {each.text for each in runs["plain"]}:
         line("dam replay of 10,000 blocks in 100 periods", "differs", "as the baseline", False)
-    what = "dam replay of 10,000 blocks in 100 periods beside the baseline, processor time"
+    what = "dam replay of 10,000 blocks in 100 periods compared with the baseline, processor time"
     ratio(what, *([each.processor for each in runs[name]] for name in ("dam", "plain")), most=3)
 
 

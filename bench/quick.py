@@ -1,12 +1,17 @@
 #!/usr/bin/env python3
-"""quick.py: `dam replay`, `dam clear` and `dam day` beside the baseline and one another, a settlement, clears of one period, the
-levels that bounds are read off, and scores."""
+"""`dam replay`, `dam clear` and `dam day` compared with a baseline and one another, a settlement, clears of one period, and the levels
+that the bounds of a search are read off.
+
+The baseline is a plain Rust program over std: a hash map, and an order list with gaps; for a day, a thread for each participant round
+one `Mutex`, settled and printed, and nothing cleared. A day holds each command three times: as it was read, in the journal and as a
+receipt. The input is freed before the commands are entered, and the room for journal and receipts is made once. A settlement is compared
+with a plain pass that compares each receipt with its entry. An hour finds where the best execution ends by one bisection over the buys'
+own limits, with one over the sells inside, and both ends of the price from there by two look-ups among the sells."""
 
 import statistics
 import sys
 
-import figures
-from figures import BASELINE, DAM, MEASURES, at_most, by_turns, line, peak, ratio, run
+from figures import BASELINE, DAM, MEASURES, at_most, by_turns, peak, ratio, run
 
 JOURNAL, HOURLY, DAY = "out/journal.csv", "out/hourly.csv", "out/day.csv"
 MIB = "{:.1f} MiB".format
@@ -16,7 +21,7 @@ SPREADS = [("evenly, blocks of 6 periods", 6, 24), ("evenly, blocks of 24", 24, 
 
 
 def compare(what, words, beside, journal, most, same=False):
-    """Wall and processor time of a program beside another one."""
+    """Wall and processor time of a program compared with another one's."""
     runs = by_turns({"one": words, "other": beside}, journal, seconds=30)
     if same and len({each.text for pair in runs.values() for each in pair}) > 1:
         sys.exit(f"{what}: they print different texts")
@@ -26,18 +31,19 @@ def compare(what, words, beside, journal, most, same=False):
 
 
 def journals():
-    compare("dam replay beside the baseline, 10,000 records", [DAM, "replay"], [BASELINE], JOURNAL, 1.2, same=True)
-    compare("dam clear beside dam replay, 4,000 hourly orders", [DAM, "clear"], [DAM, "replay"], HOURLY, 1.5)
+    compare("dam replay compared with the baseline, 10,000 records", [DAM, "replay"], [BASELINE], JOURNAL, 1.2, same=True)
+    compare("dam clear compared with dam replay, 4,000 hourly orders", [DAM, "clear"], [DAM, "replay"], HOURLY, 1.5)
     beside = [BASELINE, "day"]
-    compare("dam day beside the baseline with threads, 9,999 commands", [DAM, "day"], beside, DAY, 2)
-    what = "dam day beside the baseline with threads, peak memory"
-    ratio(what, [peak([DAM, "day"], DAY)], [peak(beside, DAY)], 1.5, shown=MIB)
-    compare("dam day beside dam replay, 9,999 commands", [DAM, "day"], [DAM, "replay"], DAY, None)
+    compare("dam day compared with the baseline with threads, 9,999 commands", [DAM, "day"], beside, DAY, 2)
+    what = "dam day compared with the baseline with threads, peak memory"
+    note = "the baseline keeps one book, and a gate that shows versions three; each command and order has room for 100 volumes"
+    ratio(what, [peak([DAM, "day"], DAY)], [peak(beside, DAY)], 1.5, shown=MIB, note=note)
+    compare("dam day compared with dam replay, 9,999 commands", [DAM, "day"], [DAM, "replay"], DAY, None)
 
 
 def settlement():
     runs = run([MEASURES, "settlements", "31"], DAY)
-    what = "settle of 10,000 entries and 9 passes beside a plain pass"
+    what = "settle of 10,000 entries and 9 passes compared with a plain pass"
     ratio(what, runs.laps("settle"), runs.laps("receipts"), 3)
 
 
@@ -45,7 +51,7 @@ def clears():
     for steps, repeats, target in ((170, 100_000, 0.4e-6), (4_000, 100_000, 2e-6)):
         runs = by_turns({"": [MEASURES, "clears", str(steps), str(repeats)]}, most=9)[""]
         each = statistics.median(one.lap("clears") for one in runs) / repeats
-        at_most(f"Hour::clear, {steps:,} steps", each, target)
+        at_most(f"Hour::clear, {steps:,} steps, net volumes that balance", each, target)
 
 
 def levels():
@@ -59,15 +65,7 @@ def levels():
         at_most(f"{what}, memory", more, 16, shown=MIB)
 
 
-def scores():
-    repeats = 2_000
-    runs = run([MEASURES, "scores", str(repeats)], "out/levels-6-24.csv")
-    for name, what in (("scores", "a score of a selection"), ("passes", "a plain pass over the hourly orders")):
-        line(f"{what}, 4,000 hourly orders and 24 blocks", figures.seconds(runs.lap(name) / repeats))
-
-
 journals()
 settlement()
 clears()
 levels()
-scores()

@@ -1,6 +1,11 @@
 #!/usr/bin/env python3
-"""workers.py: how much faster several workers are than one, one worker on shared words beside one on words of its own, and the
-default plan beside one worker. Seconds are those of the search alone, medians of runs by turns."""
+"""How much faster several workers are than one; one worker on shared words compared with one on a word of its own; and the default
+plan compared with one worker. Seconds are those of the search alone.
+
+A second worker costs the start of a thread, some tenth of a millisecond, which a search that ends within some milliseconds doesn't win
+back. What shared words cost shows in instructions better than in time: 1.04 times those without for `spread` with 500 orders, and 1.03
+for `ties` with 18 blocks, as `valgrind` counts them. The size of a program's environment moves its stack, and the time of one and the
+same walk varies with that by half; so each turn has the stack at another place."""
 
 import statistics
 
@@ -52,17 +57,17 @@ def speed(name, book):
 
 
 def private(name, book):
-    """One worker's whole search, and the same steps with an incumbent of its own."""
-    programs = {"shared": [MEASURES, "search", "1", CUT], "private": [MEASURES, "nodes", "1", CUT, "1"]}
+    """One worker's whole search, compared with the same steps with an incumbent of its own."""
+    programs = {"shared": [MEASURES, "search", "1", CUT], "private": [MEASURES, "nodes", CUT, "1"]}
     runs = by_turns(programs, book, most=32, seconds=20)
     shared = [each.lap("search") for each in runs["shared"]]
     own = [sum(each.lap(name) for name in ("levels", "first", "walk")) for each in runs["private"]]
-    ratio(f"{name}, cut {CUT}: 1 worker on shared words beside its own", shared, own, 1.05)
+    ratio(f"{name}, cut {CUT}: 1 worker on shared words compared with its own", shared, own, 1.05)
 
 
 def default(family, orders):
     found = searched([DEFAULT, ONE], make(family, orders), most=32)
-    ratio(f"{family} {orders}: the search by the default plan beside 1 worker", found[DEFAULT], found[ONE], 1)
+    ratio(f"{family} {orders}: the search by the default plan compared with 1 worker", found[DEFAULT], found[ONE], 1)
 
 
 def main():

@@ -1,4 +1,4 @@
-"""Memory refused to the calls at a gate: `dam_bench refusals` makes each call again that memory was refused to, and looks whether the
+"""Memory refused to the calls at a gate: `dam_refusals` makes each call again that memory was refused to, and looks whether the
 refused one has changed nothing."""
 
 from pathlib import Path
@@ -6,8 +6,8 @@ from pathlib import Path
 import judge
 from preload import EVERY, Printed, Program, Refusal
 
-MEASURES = Path(__file__).resolve().parents[2] / "crates/dam_bench/out/dam_bench"
-# What is printed where memory is refused before the first call at the gate: to the words and the input, or to the keeper.
+REFUSALS = Path(__file__).resolve().parents[2] / "crates/dam_refusals/out/dam_refusals"
+# What is printed if memory is refused before the first call at the gate: to the input, or to the keeper.
 BEFORE = {Printed(1, b"", b"Error: Kind(OutOfMemory)\n"), Printed(0, b"memory\n", b"")}
 
 
@@ -18,11 +18,11 @@ def told(entries, refused):
 def run(runs, room, data):
     """Refuses each call for memory in turn: up to some call they are of what comes before the gate, and then of calls at the gate,
     each of which is refused once and then answered."""
-    if not MEASURES.exists():
-        print("dam_bench wasn't built, so no call at a gate was refused memory")
+    if not REFUSALS.exists():
+        print("dam_refusals wasn't built, so no call at a gate was refused memory")
         return
-    program = Program(MEASURES, room)
-    words, entries = ["refusals"], data.count(b"\n")
+    program = Program(REFUSALS, room)
+    words, entries = [], data.count(b"\n")
     runs.check("a day at a gate, nothing refused", program.run(words, data, judge.NOTHING_REFUSED)[0] == told(entries, 0))
     _, total = program.run(words, data, Refusal("memory", EVERY, EVERY))
     refusals = [Refusal("memory", number, number) for number in range(1, total + 2)]

@@ -1,7 +1,6 @@
-//! A day at a gate, each of whose calls is made again where memory was refused to it.
+//! The day, from the first pass to the settlement.
 ghost use Rattle.std.specs.Prelude.{◌≡◌};
 
-use crate::settlements::giver;
 use dam_book::{Command, Participant};
 use dam_gate::{
     Account, Gate, GateFault, Journal, Keeper, MOST_PASSES, Mismatch, Naming, Opening, Pass,
@@ -31,13 +30,13 @@ impl From<AllocError> for Stop {
 
 /// What came of a day.
 #[derive(Drop)]
-pub struct Refusals {
+pub struct Day {
     pub entries: usize,
     /// How many calls were refused memory.
     pub refused: u32,
 }
 
-/// The gate's day as it goes on: all room that it needs is made before the first call.
+/// The day as it goes on: all room that it needs is made before the first call.
 #[derive(Drop)]
 struct Round<J: Naming> {
     passes: Vec<Pass<J>>,
@@ -45,7 +44,7 @@ struct Round<J: Naming> {
 }
 
 impl<J: Naming> Round<J> {
-    /// The place of the pass of this holder, which is a new one where there is none.
+    /// The place of the pass of this holder, which is a new one if there is none.
     fn place_of<H: Wait + Drop>(
         &mut self,
         rt: &impl Wait,
@@ -104,8 +103,22 @@ impl<J: Naming> Round<J> {
     }
 }
 
-/// Settles the journal, and how many calls were refused memory.
-fn settled(alloc: Global, journal: Journal, accounts: &[Account]) -> Result<(Settled, u32), Stop> {
+/// Who gives the command; a close is nobody's.
+fn giver(command: &Command) -> Option<Participant> {
+    match command {
+        Command::Submit { who, .. } | Command::Amend { who, .. } | Command::Cancel { who, .. } => {
+            Some(who.copy())
+        }
+        Command::Close => None,
+    }
+}
+
+/// Settles the journal, and says how many calls were refused memory.
+fn settle_again(
+    alloc: Global,
+    journal: Journal,
+    accounts: &[Account],
+) -> Result<(Settled, u32), Stop> {
     let mut journal = journal;
     for refused in 0..TRIES {
         match settle(alloc, journal, accounts) {
@@ -122,12 +135,12 @@ fn settled(alloc: Global, journal: Journal, accounts: &[Account]) -> Result<(Set
 }
 
 /// The day at a gate of this opening, whose journal has to be the keeper's.
-fn day_named<J: Naming, R: Wait>(
+fn hold_named<J: Naming, R: Wait>(
     rt: &R,
     alloc: Global,
     opening: Opening,
     keeper: &Keeper,
-) -> Result<Refusals, Stop>
+) -> Result<Day, Stop>
     requires { opening ≡ J.book }
 {
     let mut accounts = Vec::with_capacity(alloc, MOST_PASSES as usize)?;
@@ -147,27 +160,27 @@ fn day_named<J: Naming, R: Wait>(
             .push(pass.into_account())
             .map_err(|_| Stop::Memory)?;
     }
-    let (settled, again) = settled(alloc, journal, &accounts)?;
+    let (settled, again) = settle_again(alloc, journal, &accounts)?;
     if settled.journal().entries() != keeper.entries() {
         return Err(Stop::Wrong);
     }
-    Ok(Refusals {
+    Ok(Day {
         entries: keeper.entries().len(),
         refused: refused.wrapping_add(again),
     })
 }
 
-/// The commands and then a close, entered at a gate by one thread; beside a keeper, which has them first.
-pub fn refusals_of<R: Wait>(
+/// Enters the commands and then a close at a gate, by one thread; compared with a keeper, which has them first.
+pub fn hold_day<R: Wait>(
     rt: &R,
     alloc: Global,
     periods: u8,
     commands: &[Command],
-) -> Result<Refusals, Stop> {
+) -> Result<Day, Stop> {
     let mut keeper = Keeper::begin(alloc, periods).map_err(|_| Stop::Memory)?;
     for command in commands {
         keeper.apply(command.copy()).map_err(|_| Stop::Memory)?;
     }
     keeper.apply(Command::Close).map_err(|_| Stop::Memory)?;
-    day_named::<Brand, R>(rt, alloc, Opening::new(), &keeper)
+    hold_named::<Brand, R>(rt, alloc, Opening::new(), &keeper)
 }

@@ -1,0 +1,81 @@
+#!/usr/bin/env python3
+"""page.py PART..: writes the figures that these parts of the bench printed to docs/MEASURED.md, a section each. The sections of the
+other parts stay as they are, with their own date and commit."""
+
+import ast
+import datetime
+import os
+import re
+import subprocess
+import sys
+
+PAGE = "../docs/MEASURED.md"
+PARTS = ["quick", "families", "workers", "looks", "quarters"]
+COLUMNS = ["What", "Figure", "Target", "Holds", "Details"]
+HEAD = """# Measured figures
+
+`bench/run` writes this page: a section for each of its parts, with the figures of the last run of that part, on the day and of the
+commit that it names. A figure is the median of runs that take turns. If it compares one thing with another, the details have the
+figure of each. The load says how busy the machine was before: on a busy one a figure says little.
+"""
+
+
+def printed(words):
+    """What a program prints, or nothing if it is missing or fails."""
+    try:
+        return subprocess.run(words, stdout=subprocess.PIPE, stderr=subprocess.DEVNULL, text=True, check=True).stdout.strip()
+    except (OSError, subprocess.CalledProcessError):
+        return ""
+
+
+def processor():
+    with open("/proc/cpuinfo", encoding="utf-8") as text:
+        names = re.findall(r"(?m)^model name\s*: (.*)", text.read())
+    return names[0] if names else os.uname().machine
+
+
+def state():
+    """The day, the commit, the machine and the kit of these figures."""
+    commit = printed(["git", "rev-parse", "--short", "HEAD"]) or "unknown"
+    if printed(["git", "status", "--porcelain", "--", "..", f":!{PAGE}"]):
+        commit += " with changes"
+    machine = f"{os.cpu_count()} processors ({processor()}), load {os.environ.get('LOAD', 'unknown')} before"
+    return f"{datetime.date.today()}, commit {commit}, {machine}, kit `{printed(['rt', 'version'])}`"
+
+
+def about(part):
+    """The text of the part's script."""
+    script = f"{part}.py" if os.path.exists(f"{part}.py") else part
+    with open(script, encoding="utf-8") as text:
+        return ast.get_docstring(ast.parse(text.read()))
+
+
+def row(fields):
+    return f"| {' | '.join(field.replace('|', '/') for field in fields)} |"
+
+
+def section(part):
+    with open(f"out/{part}.tsv", encoding="utf-8") as text:
+        rows = [line.rstrip("\n").split("\t") for line in text]
+    table = [row(COLUMNS), "|---" * len(COLUMNS) + "|", *map(row, rows)]
+    return f"## `bench/run {part}`\n\n{about(part)}\n\nMeasured: {state()}.\n\n" + "\n".join(table) + "\n"
+
+
+def sections():
+    """The sections that the page has now, by part."""
+    if not os.path.exists(PAGE):
+        return {}
+    with open(PAGE, encoding="utf-8") as text:
+        found = re.split(r"(?m)^(?=## `bench/run (\w+)`$)", text.read())
+    return {part: text.rstrip("\n") + "\n" for part, text in zip(found[1::2], found[2::2])}
+
+
+def main():
+    if not sys.argv[1:] or not set(sys.argv[1:]) <= set(PARTS):
+        sys.exit(f"usage: page.py PART.., of {' '.join(PARTS)}")
+    kept = {**sections(), **{part: section(part) for part in sys.argv[1:]}}
+    with open(PAGE, "w", encoding="utf-8") as text:
+        text.write("\n".join([HEAD, *(kept[part] for part in PARTS if part in kept)]))
+
+
+main()

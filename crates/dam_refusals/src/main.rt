@@ -1,0 +1,32 @@
+//! A day at a gate, each of whose calls is made again if memory was refused to it: `tests/hostile` refuses each of them in turn.
+//!
+//! It enters the commands of a journal, which has no close and stands on standard input, closes, and settles. It prints how many entries
+//! the day has and how many calls were refused; or `memory` if memory was refused to what comes before the gate; or `wrong` if a call was
+//! answered what it shouldn't be, or one that was refused changed something.
+#![tactic(auto)]
+
+mod day;
+
+use dam_results::read_journal;
+use day::{Stop, hold_day};
+use std::alloc::Global;
+use std::io;
+use std::io::Read;
+use std::sync::Wait;
+
+fn main(rt: HostRuntime) -> io::Result<()> {
+    let mut text = Vec::new(rt.alloc());
+    rt.stdin().read_to_end(&mut text)?;
+    print_day(&rt, rt.alloc(), &text)
+}
+
+fn print_day<R: Print + Wait>(rt: &R, alloc: Global, text: &[u8]) -> io::Result<()> {
+    let Ok(read) = read_journal(alloc, text) else {
+        return println!(rt; "memory");
+    };
+    match hold_day(rt, alloc, read.periods, &read.commands) {
+        Ok(day) => println!(rt; "{} entries, {} calls refused", day.entries, day.refused),
+        Err(Stop::Memory) => println!(rt; "memory"),
+        Err(Stop::Wrong) => println!(rt; "wrong"),
+    }
+}
