@@ -1,4 +1,4 @@
-"""The page on the libraries: that what it quotes of its program stands there."""
+"""The page on the libraries: that what it quotes of its programs stands there."""
 
 import re
 import unittest
@@ -7,6 +7,7 @@ from support import TOP
 
 PAGE = TOP / "docs" / "LIBRARY.md"
 CRATE = TOP / "crates" / "dam_example"
+GATE = TOP / "crates" / "dam_refusals"  # whose program holds a gate by hand
 BLOCK = re.compile(r"^```(\w+)\n(.*?)^```$", re.MULTILINE | re.DOTALL)
 
 
@@ -15,8 +16,8 @@ def quotes(language):
 
 
 class Library(unittest.TestCase):
-    def test_code_stands_in_the_crate(self):
-        sources = ["\n" + path.read_text() for path in sorted(CRATE.glob("src/*.rt"))]
+    def test_code_stands_in_the_crates(self):
+        sources = ["\n" + path.read_text() for crate in [CRATE, GATE] for path in sorted(crate.glob("src/*.rt"))]
         self.assertGreater(len(quotes("rust")), 5)
         for quote in quotes("rust"):
             with self.subTest(quote):

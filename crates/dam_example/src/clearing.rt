@@ -1,20 +1,29 @@
-//! The clearing of a closed book.
+//! From the text of a journal, or from a book, to what is published of it.
 ghost use Rattle.std.specs.Prelude.{IfOk};
-ghost use Rattle.dam_example.specs.Clearing.{IsClearing};
+ghost use Rattle.dam_example.specs.Clearing.{IsClearing, IsClearingOf};
 
-use anyhow::Result;
+use anyhow::{Context, Result};
 use dam_blocks::Problem;
-use dam_book::Book;
-use dam_results::{Results, results};
+use dam_book::{Book, Seed};
+use dam_results::{Results, book_of_text, results};
 use dam_search::{FreeTurn, Plan, search};
 use std::alloc::Global;
 use std::thread::Threads;
 
+/// Reads a journal, runs its commands, and clears the book that they close.
+pub fn clear_text<R: Threads + Sync>(rt: &R, alloc: Global, text: &[u8]) -> Result<Results>
+    ensures { IfOk result (λ r. IsClearingOf text.now r.welfare r.periods.items r.rows.items) }
+{
+    let book = book_of_text(alloc, Seed::fixed(), text)?;
+    clear(rt, alloc, &book)
+}
+
 /// Finds the best selection of the blocks of a closed book, and what is published of it.
-pub fn clear<R: Threads + Sync>(rt: &R, alloc: Global, book: &Book, plan: Plan) -> Result<Results>
+pub fn clear<R: Threads + Sync>(rt: &R, alloc: Global, book: &Book) -> Result<Results>
     ensures { IfOk result (λ r. IsClearing book.now r.welfare r.periods.items r.rows.items) }
 {
     let problem = Problem::of_book(alloc, book)?;
+    let plan = Plan::new(2, 3, 1_000_000).context("a plan")?;
     let best = search(rt, alloc, &problem, plan, &FreeTurn)?;
     Ok(results(alloc, &problem, best)?)
 }

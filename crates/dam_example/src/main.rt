@@ -1,5 +1,5 @@
-//! A day of the auction from its parts, for programs that use the libraries: two participants enter orders at a gate, each
-//! on a thread of its own, the operator closes, and the book is cleared by a search with two workers.
+//! Two uses of the libraries. The first clears the text of a journal: text in, results out. In the second two participants enter
+//! orders at a gate, side by side; once they are done it closes and is settled, and its book is cleared.
 //!
 //! `docs/LIBRARY.md` walks through it.
 #![tactic(auto)]
@@ -9,111 +9,47 @@ mod day;
 mod orders;
 
 use anyhow::{Context, Result};
-use clearing::clear;
-use dam_book::{Participant, Reply};
-use dam_results::{Results, RowResult};
-use dam_search::Plan;
-use day::{Day, Trader, hold_day};
-use orders::{city_orders, wind_orders};
-use std::str::from_utf8;
+use clearing::{clear, clear_text};
+use dam_book::Side;
+use dam_results::Results;
+use day::hold_day;
+use orders::hourly;
+
+/// A wind farm and a gas plant, whose block runs in both periods or not at all, and a city.
+const JOURNAL: &[u8] = b"day,24,,,,,,,
+submit,NORD,WIND-8,hour,sell,1200,8:450,,
+submit,NORD,WIND-9,hour,sell,1500,9:200,,
+submit,NORD,GAS,block,sell,6000,8:100;9:100,,
+submit,STAD,BASE-8,hour,buy,9500,8:400,,
+submit,STAD,MORE-8,hour,buy,7000,8:300,,
+submit,STAD,BASE-9,hour,buy,9500,9:300,,
+submit,STAD,MORE-9,hour,buy,8000,9:200,,
+close,,,,,,,,
+";
 
 fn main(rt: HostRuntime) -> Result<()> {
     let alloc = rt.alloc();
-    let wind = Participant::new(b"NORD").context("a participant")?;
-    let city = Participant::new(b"STAD").context("a participant")?;
-    let offers = wind_orders(alloc, &wind)?;
-    let bids = city_orders(alloc, &city)?;
+    print_results(&rt, &clear_text(&rt, alloc, JOURNAL)?)?;
 
-    let first = Trader {
-        who: &wind,
-        commands: &offers,
-    };
-    let second = Trader {
-        who: &city,
-        commands: &bids,
-    };
-    let day = hold_day(&rt, alloc, first, second)?;
-    print_day(&rt, &day)?;
-
-    let plan = Plan::new(2, 3, 1_000_000).context("a plan")?;
-    let results = clear(&rt, alloc, day.settled.journal().book(), plan)?;
-    print_periods(&rt, &results)?;
-    print_orders(&rt, &results, &wind)?;
-    print_orders(&rt, &results, &city)
-}
-
-/// Prints what the day at the gate came to. In which order the commands of the two came is another thing from run to run, so
-/// it isn't printed.
-fn print_day(rt: &impl Print, day: &Day) -> Result<()> {
-    let entries = day.settled.journal().entries();
-    println!(rt;
-        "{} entries, settled with {} passes",
-        entries.len(),
-        day.passes.len()
-    )?;
-    for entry in entries {
-        if entry.reply != Reply::Done {
-            println!(rt; "entry {} was refused", entry.number)?;
-        }
-    }
-    let found = if day.look.order.is_some() {
-        "saw"
-    } else {
-        "didn't see"
-    };
-    println!(rt;
-        "the first participant {found} the order, after {} entries",
-        day.look.seen
-    )?;
-    Ok(())
+    let offer = hourly(b"NORD", b"WIND-8", Side::Sell, 1_200, 450).context("an order")?;
+    let bid = hourly(b"STAD", b"BASE-8", Side::Buy, 9_500, 400).context("an order")?;
+    let day = hold_day(&rt, alloc, &[offer, bid])?;
+    let journal = day.settled.journal();
+    println!(rt; "{} entries", journal.entries().len())?;
+    print_results(&rt, &clear(&rt, alloc, journal.book())?)
 }
 
 /// Prints the welfare, and the price and volume of each period in which energy is traded.
-fn print_periods(rt: &impl Print, results: &Results) -> Result<()> {
-    println!(rt;
-        "welfare {} cents per MWh times tenths of a MW",
-        results.welfare
-    )?;
+fn print_results(rt: &impl Print, results: &Results) -> Result<()> {
+    println!(rt; "welfare {}", results.welfare)?;
     for (place, period) in results.periods.iter().enumerate() {
         if period.volume > 0 {
             let cents = period.price.get();
             println!(rt;
-                "period {}: {cents} cents per MWh, {} tenths of a MW",
+                "period {}: price {cents}, volume {}",
                 place + 1,
                 period.volume
             )?;
-        }
-    }
-    Ok(())
-}
-
-/// Prints what became of a participant's orders.
-fn print_orders(rt: &impl Print, results: &Results, of: &Participant) -> Result<()> {
-    for row in &results.rows {
-        match row {
-            RowResult::Hour {
-                who,
-                name,
-                executed,
-            } if *who == *of => {
-                println!(rt;
-                    "{}: {executed} tenths of a MW executed",
-                    from_utf8(name.as_bytes())?
-                )?;
-            }
-            RowResult::Block {
-                who,
-                name,
-                accepted,
-                surplus,
-            } if *who == *of => {
-                let outcome = if *accepted { "accepted" } else { "rejected" };
-                println!(rt;
-                    "{}: {outcome}, surplus {surplus}",
-                    from_utf8(name.as_bytes())?
-                )?;
-            }
-            _ => {}
         }
     }
     Ok(())
