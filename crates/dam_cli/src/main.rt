@@ -4,24 +4,13 @@
 //! results.
 #![tactic(auto)]
 
-mod clear;
-mod day;
-mod fault;
-mod input;
-mod laws;
-mod output;
 mod progress;
-mod replay;
 
-use clear::run_clear;
 use dam_book::Seed;
+use dam_engines::{RunFault, fault_line, run_clear, run_day, run_replay, status, write_text};
 use dam_line::{Job, LineFault, read_line};
 use dam_search::FreeTurn;
-use day::run_day;
-use fault::{RunFault, fault_line, status};
-use output::write_text;
 use progress::Progress;
-use replay::run_replay;
 use std::alloc::Global;
 use std::env;
 use std::io::{ErrorKind, IsTerminal, Write};

@@ -1,19 +1,11 @@
 //! What a person at a terminal is shown of a run, on standard error. Where that is no terminal nothing is printed.
 
+use dam_engines::Watch;
 use dam_search::Turnstile;
 use std::sync::{Mutex, Wait};
 
 /// Takes a terminal to the beginning of the line, and clears it.
 const CLEAR: &str = "\r\u{1b}[K";
-
-/// A turnstile that is also told where a search begins and ends.
-pub trait Watch: Turnstile {
-    /// Called before a search of so many pieces.
-    fn begin(&self, pieces: u32);
-
-    /// Called after the search, whatever it answers.
-    fn end(&self);
-}
 
 /// The pieces of a search that have ended, and all of them.
 #[derive(Drop)]

@@ -1,0 +1,147 @@
+-- The faults of a day: of a front and its text, of a book and its commands, and where the refused command stands.
+use Rattle.std.proofs.Common.{◌≡◌, ◌<◌, ◌≤◌, ◌+◌, ◌-◌, ℕ, Bool, true, false, nat_lt, if◌then◌else◌, List, [], ◌∷◌, ◌++◌, length, take, Option, Some, None, Result, IfErr, subst, sym, ap, ◌∙◌, refl, arith}
+use Rattle.std.proofs.lemmas.Bool.{ltb-false}
+use Rattle.std.proofs.lemmas.Result.{IfErr-weaker}
+use Rattle.dam_book.specs.Limits.{most_entries}
+use Rattle.dam_book.specs.Book.{BookState, book_after, commands_of, run, run_from}
+use Rattle.dam_book.specs.declared.command.Command.{Command}
+use Rattle.dam_book.specs.declared.command.Command.TheVariants.{Close}
+use Rattle.dam_book.specs.declared.command.Entry.{Entry}
+use Rattle.dam_gate.specs.Limits.{most_participants}
+use Rattle.dam_gate.specs.Journal.{IsJournal, JournalState}
+use Rattle.dam_gate.specs.Day.{IsDayRun, giver, refused, refused_at, refused_from, with_giver}
+use Rattle.dam_gate.specs.declared.day.DayFault.{DayFault}
+use Rattle.dam_gate.specs.declared.day.DayFault.TheVariants.{TooManyCommands as ManyCommands, CloseGiven as CloseAt, TooManyParticipants as ManyAt}
+use Rattle.dam_search.specs.Plan.{PlanTerms}
+use Rattle.dam_results.specs.Journal.{IsMadeFrom}
+use Rattle.dam_engines.specs.declared.fault.RunFault.{RunFault}
+use Rattle.dam_engines.specs.declared.fault.RunFault.TheVariants.{Read, Input, TooManyCommands, CloseGiven, TooManyParticipants, StillOpen, Mismatch, Unfinished, Collected, Memory, Write}
+use Rattle.dam_engines.specs.Engine.{most_read}
+use Rattle.dam_engines.specs.Clear.{IsBookFault}
+use Rattle.dam_engines.specs.Day.{IsCommandsFault, IsDayTextFault, IsDayTextTo, IsEarlyFault, IsFaultOnDay, IsRunDayFault}
+use Rattle.dam_engines.proofs.Fronts.{fault-on_given, reads-given}
+
+-- the place of the command that the fault tells, if any, is below this one
+abbrev pub IsBelow : ℕ → Option DayFault → Type 0
+IsBelow n (Some (CloseAt place)) = place < n
+IsBelow n (Some (ManyAt place)) = place < n
+IsBelow n fault = Unit {0}
+
+below-if : (b : Bool) (n : ℕ) (x y : Option DayFault) → IsBelow n x → IsBelow n y → IsBelow n (if b then x else y)
+below-if true n x y is other = is
+below-if false n x y is other = other
+
+below-at : (n place : ℕ) (whos : List (List ℕ)) (g : Option (List ℕ)) (behind : List (List ℕ) → Option DayFault)
+    → place < n → ((more : List (List ℕ)) → IsBelow n (behind more)) → IsBelow n (refused_at place whos g behind)
+below-at n place whos None behind below rest = below
+below-at n place whos (Some who) behind below rest =
+    below-if (nat_lt most_participants (length (with_giver whos who))) n (Some (ManyAt place)) (behind (with_giver whos who)) below (rest (with_giver whos who))
+
+below-from : (cs : List Command) (n place : ℕ) (whos : List (List ℕ)) → place + length cs ≤ n → IsBelow n (refused_from place whos cs)
+below-from [] n place whos fits = tt
+below-from (c ∷ cs) n place whos fits =
+    below-at n place whos (giver c) (λ more. refused_from (place + 1) more cs) (omega (arith, fits)) (λ more. below-from cs n (place + 1) more (omega (arith, fits)))
+
+below-refused : (cs : List Command) (many : Bool) → nat_lt (most_entries - 1) (length cs) ≡ many
+    → IsBelow most_entries (if many then Some ManyCommands else refused_from 0 [] cs)
+below-refused cs true is = tt
+below-refused cs false is = below-from cs most_entries 0 [] (omega (arith, ltb-false (most_entries - 1) (length cs) is))
+
+pub refused-place : (cs : List Command) (fault : DayFault) → refused cs ≡ Some fault → IsBelow most_entries (Some fault)
+refused-place cs fault is = subst (IsBelow most_entries) is (below-refused cs (nat_lt (most_entries - 1) (length cs)) refl)
+
+-- a close closes any book
+closed-behind : (periods : ℕ) (rows : _) (closed : Bool) → (book_after (record { periods = periods; rows = rows; closed = closed }) Close).closed ≡ true
+closed-behind periods rows true = refl
+closed-behind periods rows false = refl
+
+closed-last : (before : List Command) (b : BookState) → (run_from b (before ++ Close ∷ [])).closed ≡ true
+closed-last [] b = closed-behind b.periods b.rows b.closed
+closed-last (c ∷ cs) b = closed-last cs (book_after b c)
+
+day_run-closed : (periods : ℕ) (commands : List Command) (entries : List Entry) → IsDayRun periods commands entries → (run periods (commands_of entries)).closed ≡ true
+day_run-closed periods commands entries day =
+    subst (λ cs. (run periods cs).closed ≡ true) (sym day.close_last) (closed-last day.before _)
+
+-- what the book of a day run is answered, its commands are answered
+book_fault-day : (plan : PlanTerms) (periods : ℕ) (commands : List Command) (entries : List Entry) (fault : RunFault)
+    → refused commands ≡ None → IsDayRun periods commands entries → IsBookFault plan (run periods (commands_of entries)) fault → IsCommandsFault plan periods commands fault
+book_fault-day plan periods commands entries Read taken day is = absurd is
+book_fault-day plan periods commands entries (Input fault) taken day is = absurd is
+book_fault-day plan periods commands entries TooManyCommands taken day is = absurd is
+book_fault-day plan periods commands entries (CloseGiven at) taken day is = absurd is
+book_fault-day plan periods commands entries (TooManyParticipants at) taken day is = absurd is
+book_fault-day plan periods commands entries StillOpen taken day is = let both : false ≡ true = sym is ∙ day_run-closed periods commands entries day in absurd (cc)
+book_fault-day plan periods commands entries (Mismatch why) taken day is = absurd is
+book_fault-day plan periods commands entries (Unfinished piece visited) taken day is = record { taken = taken; entries = entries; day_run = day; cut = is }
+book_fault-day plan periods commands entries (Collected piece) taken day is = absurd is
+book_fault-day plan periods commands entries Memory taken day is = tt
+book_fault-day plan periods commands entries (Write written) taken day is = absurd is
+
+pub journal_fault-day : {X : Type 0} (plan : PlanTerms) (periods : ℕ) (commands : List Command) (j : JournalState) (result : Result X RunFault)
+    → refused commands ≡ None → IsDayRun periods commands j.entries → IsJournal j → j.book.periods ≡ periods
+    → IfErr result (IsBookFault plan j.book) → IfErr result (IsCommandsFault plan periods commands)
+journal_fault-day plan periods commands j result taken day journal same told =
+    let book : j.book ≡ run periods (commands_of j.entries) = journal.book_is ∙ ap (λ n. run n (commands_of j.entries)) same in
+    IfErr-weaker result _ _ (λ fault is. book_fault-day plan periods commands j.entries fault taken day (subst (λ b. IsBookFault plan b fault) book is)) told
+
+pub early_fault-commands : (plan : PlanTerms) (periods : ℕ) (commands : List Command) (fault : RunFault) → IsEarlyFault commands fault → IsCommandsFault plan periods commands fault
+early_fault-commands plan periods commands Read is = absurd is
+early_fault-commands plan periods commands (Input fault) is = absurd is
+early_fault-commands plan periods commands TooManyCommands is = is
+early_fault-commands plan periods commands (CloseGiven at) is = is
+early_fault-commands plan periods commands (TooManyParticipants at) is = is
+early_fault-commands plan periods commands StillOpen is = absurd is
+early_fault-commands plan periods commands (Mismatch why) is = is
+early_fault-commands plan periods commands (Unfinished piece visited) is = absurd is
+early_fault-commands plan periods commands (Collected piece) is = absurd is
+early_fault-commands plan periods commands Memory is = tt
+early_fault-commands plan periods commands (Write written) is = absurd is
+
+-- what commands are answered, a run over their journal answers
+pub commands_fault-run : (plan : PlanTerms) (periods : ℕ) (commands : List Command) (fault : RunFault) → IsCommandsFault plan periods commands fault → IsFaultOnDay plan periods commands fault
+commands_fault-run plan periods commands Read is = tt
+commands_fault-run plan periods commands (Input fault) is = absurd is
+commands_fault-run plan periods commands TooManyCommands is = is
+commands_fault-run plan periods commands (CloseGiven at) is = is
+commands_fault-run plan periods commands (TooManyParticipants at) is = is
+commands_fault-run plan periods commands StillOpen is = absurd is
+commands_fault-run plan periods commands (Mismatch why) is = is
+commands_fault-run plan periods commands (Unfinished piece visited) is = is
+commands_fault-run plan periods commands (Collected piece) is = absurd is
+commands_fault-run plan periods commands Memory is = tt
+commands_fault-run plan periods commands (Write written) is = absurd is
+
+-- what the commands of a text's journal are answered, the text is answered
+pub commands_fault-text : (plan : PlanTerms) (text : List ℕ) (fault : RunFault) → IsMadeFrom (IsCommandsFault plan) text fault → IsDayTextFault plan text fault
+commands_fault-text plan text Read is = is
+commands_fault-text plan text (Input fault) is = absurd is.3
+commands_fault-text plan text TooManyCommands is = is
+commands_fault-text plan text (CloseGiven at) is = is
+commands_fault-text plan text (TooManyParticipants at) is = is
+commands_fault-text plan text StillOpen is = is
+commands_fault-text plan text (Mismatch why) is = is
+commands_fault-text plan text (Unfinished piece visited) is = is
+commands_fault-text plan text (Collected piece) is = is
+commands_fault-text plan text Memory is = tt
+commands_fault-text plan text (Write written) is = is
+
+made-given : (plan : PlanTerms) (given : List ℕ) (fault : RunFault) → IsMadeFrom (IsCommandsFault plan) (take most_read given) fault → IsMadeFrom (IsCommandsFault plan) given fault
+made-given plan given fault is = (is.0, is.1, reads-given given is.0 is.1 is.2, is.3)
+
+pub day_fault-given : (plan : PlanTerms) (given : List ℕ) (fault : RunFault) → IsDayTextFault plan (take most_read given) fault → IsRunDayFault plan given fault
+day_fault-given plan given Read is = tt
+day_fault-given plan given (Input fault) is = fault-on_given given (Input fault) is
+day_fault-given plan given TooManyCommands is = made-given plan given TooManyCommands is
+day_fault-given plan given (CloseGiven at) is = made-given plan given (CloseGiven at) is
+day_fault-given plan given (TooManyParticipants at) is = made-given plan given (TooManyParticipants at) is
+day_fault-given plan given StillOpen is = made-given plan given StillOpen is
+day_fault-given plan given (Mismatch why) is = made-given plan given (Mismatch why) is
+day_fault-given plan given (Unfinished piece visited) is = made-given plan given (Unfinished piece visited) is
+day_fault-given plan given (Collected piece) is = made-given plan given (Collected piece) is
+day_fault-given plan given Memory is = tt
+day_fault-given plan given (Write written) is = absurd is.3
+
+-- where it is the text of a day, the journal's commands aren't refused
+pub day_text-taken : (plan : PlanTerms) (printed given : List ℕ) → IsDayTextTo (take most_read given) printed → (written : ℕ) → IsRunDayFault plan given (Write written)
+day_text-taken plan printed given are written = (are.0, are.1, reads-given given are.0 are.1 are.2, are.3.taken)

@@ -1,0 +1,13 @@
+-- What the book of the settled journal is answered, its commands are answered.
+use Rattle.std.proofs.Common.{subst, IfErr}
+use Rattle.dam_gate.specs.Journal.{JournalState}
+use Rattle.dam_engines.specs.Clear.{IsBookFault}
+use Rattle.dam_engines.proofs.DayFaults.{journal_fault-day}
+use Rattle.dam_engines.proofs.day.day_of_commands.Goals as goal
+
+pub returns-clause-fault : goal.returns-clause-fault
+returns-clause-fault g c =
+    let day = c.in_ok-settled in
+    journal_fault-day c.args.plan c.args.periods c.args.commands.now day.settled c.print_day.result
+    day.ensures.taken day.ensures.day day.ensures.journal day.ensures.periods
+    (subst (λ (j : JournalState). IfErr c.print_day.result (IsBookFault c.args.plan j.book)) c.journal.ensures.value c.print_day.ensures.fault)

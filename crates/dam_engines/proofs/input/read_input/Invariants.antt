@@ -1,0 +1,16 @@
+-- The text so far is within the bound, and is what the reader's bytes have lost.
+use Rattle.std.proofs.Common.{◌≡◌, ◌≤◌, ◌-◌, length}
+use Rattle.std.specs.Io.KnownBytes.{Consumes}
+use Rattle.dam_engines.specs.declared.input.TheConstants.{CHUNK}
+use Rattle.dam_engines.specs.Engine.{most_read}
+use Rattle.dam_engines.proofs.input.read_input.Given as goal
+
+abbrev pub invariant-loop-chunk : goal.invariant-loop-chunk
+invariant-loop-chunk g l = record {
+  within : length l.text.items ≤ most_read;
+  taken : Consumes (g.R.Read.remaining l.initial.reader) (g.R.Read.remaining l.reader) l.text.items;
+  chunk : length l.chunk ≡ CHUNK;
+}
+
+abbrev pub decreases-loop-chunk : goal.decreases-loop-chunk
+decreases-loop-chunk g l = most_read - length l.text.items

@@ -1,0 +1,86 @@
+-- What the engine of a day answers to a text.
+use Rattle.std.specs.Prelude.{◌≡◌, ◌+◌, ◌++◌, ℕ, List, None, codes}
+use Rattle.dam_book.specs.Book.{run, commands_of}
+use Rattle.dam_book.specs.declared.command.Command.{Command}
+use Rattle.dam_book.specs.declared.command.Entry.{Entry}
+use Rattle.dam_gate.specs.Day.{IsDayFault, IsDayRun, refused}
+use Rattle.dam_gate.specs.declared.day.DayFault.TheVariants.{TooManyCommands as ManyCommands, CloseGiven as CloseAt, TooManyParticipants as ManyAt, NotSettled}
+use Rattle.dam_search.specs.Plan.{PlanTerms}
+use Rattle.dam_results.specs.Journal.{IsMadeFrom}
+use Rattle.dam_results.specs.Written.{journal_text}
+use Rattle.dam_engines.specs.declared.fault.RunFault.{RunFault}
+use Rattle.dam_engines.specs.declared.fault.RunFault.TheVariants.{Read, Input, TooManyCommands, CloseGiven, TooManyParticipants, Mismatch, Unfinished, Memory, Write}
+use Rattle.dam_engines.specs.Engine.{IsTextFault}
+use Rattle.dam_engines.specs.Clear.{IsClearedAs, IsCutShort}
+
+-- the written journal, the line `results`, and this text of results
+abbrev pub with_results : ℕ → List Entry → List ℕ → List ℕ
+with_results periods entries results =
+    journal_text periods entries ++ (codes "results\n" ++ results)
+
+-- none of the commands is refused, and this is printed of some day run of them: its written journal, the line `results`,
+-- and the results text of its book
+pub record IsDayText (periods : ℕ) (commands : List Command) (text : List ℕ) : Type 0 where
+  pub taken : refused commands ≡ None
+  pub entries : List Entry
+  pub day_run : IsDayRun periods commands entries
+  pub results : List ℕ
+  pub cleared : IsClearedAs (run periods (commands_of entries)) results
+  pub text_is : text ≡ with_results periods entries results
+
+-- the text is a journal, and this is printed for it
+abbrev pub IsDayTextTo : List ℕ → List ℕ → Type 0
+IsDayTextTo text printed = IsMadeFrom IsDayText text printed
+
+-- none of the commands is refused, and of the book that some day run of them makes the search by this plan could not
+-- finish this piece within its limit on nodes
+pub record IsDayCutShort (plan : PlanTerms) (periods : ℕ) (commands : List Command)
+    (piece visited : ℕ) : Type 0 where
+  pub taken : refused commands ≡ None
+  pub entries : List Entry
+  pub day_run : IsDayRun periods commands entries
+  pub cut : IsCutShort plan (run periods (commands_of entries)) piece visited
+
+-- the number of the record of the command at this place: places are counted from 0, records from 1, and the first is the day
+abbrev pub record_number : ℕ → ℕ
+record_number place = place + 2
+
+-- what commands can be answered before a book is cleared: why they are refused, if they are; if they aren't, that the day
+-- came out unsettled; or that memory ran out
+abbrev pub IsEarlyFault : List Command → RunFault → Type 0
+IsEarlyFault commands TooManyCommands = IsDayFault commands ManyCommands
+IsEarlyFault commands (CloseGiven at) =
+    (place : ℕ) × (at ≡ record_number place) × IsDayFault commands (CloseAt place)
+IsEarlyFault commands (TooManyParticipants at) =
+    (place : ℕ) × (at ≡ record_number place) × IsDayFault commands (ManyAt place)
+IsEarlyFault commands (Mismatch why) = IsDayFault commands (NotSettled why)
+IsEarlyFault commands Memory = Unit {0}
+IsEarlyFault commands fault = ⊥
+
+-- what commands can be answered: the above, or, where they aren't refused, that the search of a day's book didn't finish,
+-- if that can be
+abbrev pub IsCommandsFault : PlanTerms → ℕ → List Command → RunFault → Type 0
+IsCommandsFault plan periods commands (Unfinished piece visited) =
+    IsDayCutShort plan periods commands piece visited
+IsCommandsFault plan periods commands fault = IsEarlyFault commands fault
+
+-- what a run over a journal of these commands can answer: what they can be answered, that the reader failed, or, where they
+-- aren't refused, that the writer did
+abbrev pub IsFaultOnDay : PlanTerms → ℕ → List Command → RunFault → Type 0
+IsFaultOnDay plan periods commands Read = Unit {0}
+IsFaultOnDay plan periods commands (Write written) = refused commands ≡ None
+IsFaultOnDay plan periods commands fault = IsCommandsFault plan periods commands fault
+
+-- what a text can be answered that was read: its first fault, what the commands of its journal can be answered, or that
+-- memory ran out
+abbrev pub IsDayTextFault : PlanTerms → List ℕ → RunFault → Type 0
+IsDayTextFault plan text (Input fault) = IsTextFault text (Input fault)
+IsDayTextFault plan text Memory = Unit {0}
+IsDayTextFault plan text fault = IsMadeFrom (IsCommandsFault plan) text fault
+
+-- what a run over a text can answer: what its text can be answered, that the reader failed, or, where the text is a journal
+-- whose commands aren't refused, that the writer did
+abbrev pub IsRunDayFault : PlanTerms → List ℕ → RunFault → Type 0
+IsRunDayFault plan text Read = Unit {0}
+IsRunDayFault plan text (Write written) = IsMadeFrom (IsFaultOnDay plan) text (Write written)
+IsRunDayFault plan text fault = IsDayTextFault plan text fault

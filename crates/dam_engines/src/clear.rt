@@ -1,0 +1,110 @@
+ghost use Rattle.std.specs.Prelude.{◌≡◌, ◌≢◌, ◌↔◌, ℕ, List, false, IfOk, IfErr, IfSome, IsErrOf, OnOk, MatchResult};
+ghost use Rattle.dam_book.specs.Book.{run};
+ghost use Rattle.dam_book.specs.declared.command.Command.{Command};
+ghost use Rattle.dam_results.specs.Journal.{ReadsAs};
+ghost use Rattle.dam_engines.specs.Engine.{CutsOff, IsTextFault, Writes};
+ghost use Rattle.dam_engines.specs.Clear.{AreResultsTo, IsBookFault, IsClearedAs, IsClearFault, IsClearTextFault, IsFaultOnBook};
+
+use crate::fault::RunFault;
+use crate::input::read_input;
+use crate::output::write_text;
+use crate::watch::Watch;
+use dam_blocks::Problem;
+use dam_book::{Book, Seed};
+use dam_results::{book_of_text, results, results_text};
+use dam_search::{Plan, search};
+use std::alloc::Global;
+use std::io::{Read, Write};
+use std::thread::Threads;
+
+/// Reads a journal, runs its commands on the empty book of its day, clears the book that they close,
+/// and writes the results: the price and volume of each period, and what becomes of each order.
+///
+/// The whole text is made before its first byte is written. Where the input is longer than a journal
+/// may be, not all of it is read. `StillOpen` comes where the book is open behind the last command. The
+/// plan changes no results, but by its limit on nodes the search may end `Unfinished`. The book hashes names by the seed.
+///
+/// Of a reader that doesn't tell its bytes nothing is said, and of a writer that doesn't tell its bytes
+/// nothing is said of what it took. Standard input and output tell no bytes. No clause says that the
+/// reader or the writer failed where `Read` or `Write` is answered: tests show it.
+pub fn run_clear<H: Threads + Sync, R: Read, W: Write, T: Watch + Sync>(
+    rt: &H,
+    alloc: Global,
+    seed: Seed,
+    reader: &mut R,
+    writer: &mut W,
+    plan: Plan,
+    turnstile: &T,
+) -> Result<(), RunFault>
+    ensures done { OnOk result (IfSome (R.remaining reader.old) (λ given.
+        Writes (W.contents writer.old) (W.contents writer.new) (AreResultsTo given))) }
+    ensures fault { IfErr result (λ fault.
+        IfSome (R.remaining reader.old) (λ given. IsClearFault plan given fault)) }
+    ensures unwritten { IfErr result (λ fault.
+        ((written : ℕ) → fault ≢ RunFault.Write written) → writer.new ≡ writer.old) }
+    ensures cut { IfErr result (λ fault. IfSome (R.remaining reader.old) (λ given.
+        CutsOff (W.contents writer.old) (W.contents writer.new) (AreResultsTo given) fault)) }
+    ensures exact { (periods : ℕ) (commands : List Command) → IfSome (R.remaining reader.old)
+        (λ given. ReadsAs given periods commands → MatchResult result
+        (λ _. Writes (W.contents writer.old) (W.contents writer.new) (IsClearedAs (run periods commands)))
+        (IsFaultOnBook plan (run periods commands))) }
+{
+    let text = read_input(alloc, reader)?;
+    let results = clear_text(rt, alloc, seed, text.as_slice(), plan, turnstile)?;
+    write_text(writer, results.as_slice())
+}
+
+/// The results text of the book of a journal's text.
+fn clear_text<H: Threads + Sync, T: Watch + Sync>(
+    rt: &H,
+    alloc: Global,
+    seed: Seed,
+    text: &[u8],
+    plan: Plan,
+    turnstile: &T,
+) -> Result<Vec<u8>, RunFault>
+    ensures done { IfOk result (λ results. AreResultsTo text.now results.items) }
+    ensures fault { IfErr result (IsClearTextFault plan text.now) }
+    ensures exact { (periods : ℕ) (commands : List Command) → ReadsAs text.now periods commands
+        → MatchResult result
+        (λ results. IsClearedAs (run periods commands) results.items)
+        (IsBookFault plan (run periods commands)) }
+{
+    let book = run_journal(alloc, seed, text)?;
+    clear_book(rt, alloc, &book, plan, turnstile)
+}
+
+/// The book that a journal's text makes. The text may have been cut behind the first byte too many.
+fn run_journal(alloc: Global, seed: Seed, text: &[u8]) -> Result<Book, RunFault>
+    ensures done { IfOk result (λ book. (periods : ℕ) × (commands : List Command)
+        × ReadsAs text.now periods commands × (book ≡ run periods commands)) }
+    ensures fault { IfErr result (IsTextFault text.now) }
+    ensures exact { (periods : ℕ) (commands : List Command) → ReadsAs text.now periods commands
+        → MatchResult result
+        (λ book. book ≡ run periods commands)
+        (λ fault. fault ≡ RunFault.Memory) }
+{
+    Ok(book_of_text(alloc, seed, text)?)
+}
+
+/// The results text of a closed book. An open one is answered `StillOpen`, before any memory is asked
+/// for.
+pub fn clear_book<H: Threads + Sync, T: Watch + Sync>(
+    rt: &H,
+    alloc: Global,
+    book: &Book,
+    plan: Plan,
+    turnstile: &T,
+) -> Result<Vec<u8>, RunFault>
+    ensures done { IfOk result (λ results. IsClearedAs book.now results.items) }
+    ensures fault { IfErr result (IsBookFault plan book.now) }
+    ensures still_open { IsErrOf result RunFault.StillOpen ↔ (book.now.closed ≡ false) }
+{
+    let problem = Problem::of_book(alloc, book)?;
+    let depth = usize::from(plan.cut()).min(problem.block_count());
+    turnstile.begin(1 << depth);
+    let best = search(rt, alloc, &problem, plan, turnstile);
+    turnstile.end();
+    let published = results(alloc, &problem, best?)?;
+    Ok(results_text(alloc, &published)?)
+}

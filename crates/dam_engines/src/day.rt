@@ -1,0 +1,183 @@
+ghost use Rattle.std.specs.Prelude.{◌≡◌, ◌≢◌, ℕ, List, None, true, IfOk, IfErr, IfSome, OnOk, MatchResult};
+ghost use Rattle.dam_book.specs.Book.{is_day};
+ghost use Rattle.dam_book.specs.declared.command.Command.{Command};
+ghost use Rattle.dam_gate.specs.Day.{IsDayRun, refused};
+ghost use Rattle.dam_gate.specs.Journal.{IsJournal};
+ghost use Rattle.dam_results.specs.Journal.{ReadsAs};
+ghost use Rattle.dam_engines.specs.Engine.{CutsOff, Writes};
+ghost use Rattle.dam_engines.specs.Clear.{IsBookFault, IsClearedAs};
+ghost use Rattle.dam_engines.specs.Day.{IsCommandsFault, IsDayText, IsDayTextFault, IsDayTextTo, IsEarlyFault, IsFaultOnDay, IsRunDayFault, with_results};
+
+use crate::clear::clear_book;
+use crate::fault::RunFault;
+use crate::input::read_input;
+use crate::output::write_text;
+use crate::watch::Watch;
+use dam_book::{Command, Seed};
+use dam_gate::{DayFault, Doorkeeper, Journal, Settled, run_commands};
+use dam_results::{journal_text, read_journal};
+use dam_search::{Plan, Turnstile};
+use std::alloc::Global;
+use std::io::{Read, Write};
+use std::sync::Wait;
+use std::thread::Threads;
+
+/// Reads a journal without a close, has each of its participants enter its commands at one gate, in
+/// their order and on a thread of its own where one can be started, closes and clears the book, and
+/// writes the journal of that day, the line `results`, and the results.
+///
+/// Commands of two participants may come to the gate in either order, and so two runs may write two
+/// texts; the results are always those of the journal that is written. The plan changes no results, but
+/// by its limit on nodes the search may end `Unfinished`. The gate's book hashes names by the seed.
+///
+/// `turnstile` is that of the search, and `entrance` that of the participants' threads, whose jobs are
+/// the participants, numbered from 0 by first occurrence.
+///
+/// The whole text is made before its first byte is written. What `run_clear` says of readers, writers
+/// and inputs that are too long holds here too.
+pub fn run_day<H: Threads + Wait + Sync, R: Read, W: Write, T: Watch + Sync, U: Turnstile + Sync>(
+    rt: &H,
+    alloc: Global,
+    seed: Seed,
+    reader: &mut R,
+    writer: &mut W,
+    plan: Plan,
+    turnstile: &T,
+    entrance: &U,
+) -> Result<(), RunFault>
+    ensures done { OnOk result (IfSome (R.remaining reader.old) (λ given.
+        Writes (W.contents writer.old) (W.contents writer.new) (IsDayTextTo given))) }
+    ensures fault { IfErr result (λ fault.
+        IfSome (R.remaining reader.old) (λ given. IsRunDayFault plan given fault)) }
+    ensures unwritten { IfErr result (λ fault.
+        ((written : ℕ) → fault ≢ RunFault.Write written) → writer.new ≡ writer.old) }
+    ensures cut { IfErr result (λ fault. IfSome (R.remaining reader.old) (λ given.
+        CutsOff (W.contents writer.old) (W.contents writer.new) (IsDayTextTo given) fault)) }
+    ensures exact { (periods : ℕ) (commands : List Command) → IfSome (R.remaining reader.old)
+        (λ given. ReadsAs given periods commands → MatchResult result
+        (λ _. Writes (W.contents writer.old) (W.contents writer.new) (IsDayText periods commands))
+        (IsFaultOnDay plan periods commands)) }
+{
+    let text = read_input(alloc, reader)?;
+    let day = day_text(rt, alloc, seed, text, plan, turnstile, entrance)?;
+    write_text(writer, day.as_slice())
+}
+
+/// What is printed of a day of the commands of a journal's text. The text is freed before they are
+/// entered.
+fn day_text<H: Threads + Wait + Sync, T: Watch + Sync, U: Turnstile + Sync>(
+    rt: &H,
+    alloc: Global,
+    seed: Seed,
+    text: Vec<u8>,
+    plan: Plan,
+    turnstile: &T,
+    entrance: &U,
+) -> Result<Vec<u8>, RunFault>
+    ensures done { IfOk result (λ day. IsDayTextTo text.items day.items) }
+    ensures fault { IfErr result (IsDayTextFault plan text.items) }
+    ensures exact { (periods : ℕ) (commands : List Command)
+        → ReadsAs text.items periods commands
+        → MatchResult result
+        (λ day. IsDayText periods commands day.items)
+        (IsCommandsFault plan periods commands) }
+{
+    let journal = read_journal(alloc, text.as_slice())?;
+    drop(text);
+    let commands = journal.commands.as_slice();
+    day_of_commands(
+        rt,
+        alloc,
+        seed,
+        journal.periods,
+        commands,
+        plan,
+        turnstile,
+        entrance,
+    )
+}
+
+/// What is printed of a day of the commands.
+fn day_of_commands<H: Threads + Wait + Sync, T: Watch + Sync, U: Turnstile + Sync>(
+    rt: &H,
+    alloc: Global,
+    seed: Seed,
+    periods: u8,
+    commands: &[Command],
+    plan: Plan,
+    turnstile: &T,
+    entrance: &U,
+) -> Result<Vec<u8>, RunFault>
+    requires { is_day periods ≡ true }
+    ensures done { IfOk result (λ day. IsDayText periods commands.now day.items) }
+    ensures fault { IfErr result (IsCommandsFault plan periods commands.now) }
+{
+    let settled = settled_day(rt, alloc, seed, periods, commands, entrance)?;
+    print_day(rt, alloc, settled.journal(), plan, turnstile)
+}
+
+/// A turnstile at the door of a gate.
+#[derive(Clone, Copy)]
+struct Door<'a, U> {
+    turnstile: &'a U,
+}
+
+impl<U: Turnstile> Doorkeeper for Door<'_, U> {
+    fn before(&self, participant: u32) {
+        self.turnstile.before(participant);
+    }
+
+    fn after(&self, participant: u32) {
+        self.turnstile.after(participant);
+    }
+}
+
+/// The settled journal of a day of the commands. A command's place is counted from 0, a record's number
+/// from 1, and the first record is the day.
+fn settled_day<H: Threads + Wait + Sync, U: Turnstile + Sync>(
+    rt: &H,
+    alloc: Global,
+    seed: Seed,
+    periods: u8,
+    commands: &[Command],
+    entrance: &U,
+) -> Result<Settled, RunFault>
+    requires { is_day periods ≡ true }
+    ensures periods { IfOk result (λ settled. settled.book.periods ≡ periods) }
+    ensures journal { IfOk result IsJournal }
+    ensures day { IfOk result (λ settled. IsDayRun periods commands.now settled.entries) }
+    ensures taken { OnOk result (refused commands.now ≡ None) }
+    ensures fault { IfErr result (IsEarlyFault commands.now) }
+{
+    let door = Door {
+        turnstile: entrance,
+    };
+    match run_commands(rt, alloc, periods, seed, commands, &door) {
+        Ok(day) => Ok(day.settled),
+        Err(DayFault::TooManyCommands) => Err(RunFault::TooManyCommands),
+        Err(DayFault::CloseGiven(place)) => Err(RunFault::CloseGiven(place + 2)),
+        Err(DayFault::TooManyParticipants(place)) => Err(RunFault::TooManyParticipants(place + 2)),
+        Err(DayFault::Memory) => Err(RunFault::Memory),
+        Err(DayFault::NotSettled(why)) => Err(RunFault::Mismatch(why)),
+    }
+}
+
+/// The written journal, the line `results`, and the results text of the journal's book.
+fn print_day<H: Threads + Sync, T: Watch + Sync>(
+    rt: &H,
+    alloc: Global,
+    journal: &Journal,
+    plan: Plan,
+    turnstile: &T,
+) -> Result<Vec<u8>, RunFault>
+    ensures done { IfOk result (λ text. (results : List ℕ)
+        × IsClearedAs journal.now.book results
+        × (text.items ≡ with_results journal.now.book.periods journal.now.entries results)) }
+    ensures fault { IfErr result (IsBookFault plan journal.now.book) }
+{
+    let results = clear_book(rt, alloc, journal.book(), plan, turnstile)?;
+    let mut text = journal_text(alloc, journal.periods(), journal.entries())?;
+    text.extend_from_slice(b"results\n")?;
+    text.extend_from_slice(results.as_slice())?;
+    Ok(text)
+}

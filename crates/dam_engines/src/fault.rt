@@ -1,0 +1,173 @@
+ghost use Rattle.std.specs.Prelude.{◌≡◌, ◌++◌, codes, IfOk};
+ghost use Rattle.dam_engines.specs.Fault.{fault_status, fault_text, run_fault_of};
+
+use dam_blocks::ProblemFault;
+use dam_gate::Mismatch;
+use dam_results::JournalFault;
+use dam_search::SearchFault;
+use std::alloc::{AllocError, Global};
+use std::error::Error;
+use std::fmt;
+
+/// Why a run didn't print its text.
+#[derive(Clone, Copy, PartialEq, Eq, Debug)]
+pub enum RunFault {
+    /// The reader failed.
+    Read,
+    /// What was read is no journal. Where memory ran out, the answer is `Memory` of this type.
+    Input(JournalFault),
+    /// The journal has more commands than a day's participants may give.
+    TooManyCommands,
+    /// The record of this number, the first such, is a close, which no participant may give.
+    CloseGiven(usize),
+    /// The record of this number brings one participant too many.
+    TooManyParticipants(usize),
+    /// The journal's commands leave the book open, so there is nothing to clear.
+    StillOpen,
+    /// The journal of a day's gate and the receipts of its participants don't fit together. No run is
+    /// known to meet it. Where memory ran out, the answer is `Memory` of this type.
+    Mismatch(Mismatch),
+    /// The search visited as many nodes of this piece, the least such, as the plan allows, and needed
+    /// another.
+    Unfinished { piece: u32, visited: u32 },
+    /// The answers of the search's workers lack this piece or repeat it. The search never answers so, and
+    /// so no run does.
+    Collected { piece: u32 },
+    /// Memory ran out.
+    Memory,
+    /// The writer failed when it had taken so many bytes of the text: all, where it failed to flush them.
+    Write { written: usize },
+}
+
+impl fmt::Display for RunFault {
+    ghost use Rattle.std.specs.Prelude.{Some};
+    ghost use Rattle.dam_engines.specs.Fault.{fault_text};
+
+    ghost output = { λ fault. Some (fault_text fault) };
+
+    fn fmt<W: fmt::Write>(&self, f: &mut fmt::Formatter<W>) -> fmt::Result {
+        match self {
+            RunFault::Read => f.write_str("device: read"),
+            RunFault::Input(JournalFault::TooLong) => f.write_str("input: TooLong"),
+            RunFault::Input(JournalFault::NotAscii(offset)) => write!(
+                f,
+                "input: NotAscii at {offset}"
+            ),
+            RunFault::Input(JournalFault::TooManyRecords) => f.write_str("input: TooManyRecords"),
+            RunFault::Input(JournalFault::NotDay) => f.write_str("input: NotDay"),
+            RunFault::Input(JournalFault::FieldCount(record)) => {
+                write!(f, "input: FieldCount in record {record}")
+            }
+            RunFault::Input(JournalFault::BadField(record, field)) => {
+                write!(f, "input: BadField in record {record} field {field}")
+            }
+            RunFault::TooManyCommands => f.write_str("input: TooManyCommands"),
+            RunFault::CloseGiven(record) => write!(f, "input: CloseGiven in record {record}"),
+            RunFault::TooManyParticipants(record) => {
+                write!(f, "input: TooManyParticipants in record {record}")
+            }
+            RunFault::StillOpen => f.write_str("input: StillOpen"),
+            RunFault::Mismatch(Mismatch::StillOpen) => f.write_str("mismatch: StillOpen"),
+            RunFault::Mismatch(Mismatch::Missing(number)) => {
+                write!(f, "mismatch: Missing {number}")
+            }
+            RunFault::Mismatch(Mismatch::Doubled(number)) => {
+                write!(f, "mismatch: Doubled {number}")
+            }
+            RunFault::Mismatch(Mismatch::Differs(number)) => {
+                write!(f, "mismatch: Differs {number}")
+            }
+            RunFault::Mismatch(Mismatch::Extra(number)) => write!(f, "mismatch: Extra {number}"),
+            RunFault::Unfinished { piece, visited } => {
+                write!(f, "unfinished: piece {piece} after {visited} nodes")
+            }
+            RunFault::Collected { piece } => write!(f, "mismatch: Collected {piece}"),
+            RunFault::Input(JournalFault::Memory)
+            | RunFault::Mismatch(Mismatch::Memory)
+            | RunFault::Memory => f.write_str("memory"),
+            RunFault::Write { written } => write!(f, "device: write after {written} bytes"),
+        }
+    }
+}
+
+impl Error for RunFault {}
+
+impl From<JournalFault> for RunFault {
+    ghost use Rattle.std.specs.Prelude.{◌≡◌};
+    ghost use Rattle.dam_engines.specs.Fault.{run_fault_of};
+
+    ghost from_gives = { λ fault e. e ≡ run_fault_of fault };
+
+    fn from(fault: JournalFault) -> RunFault {
+        match fault {
+            JournalFault::Memory => RunFault::Memory,
+            _ => RunFault::Input(fault),
+        }
+    }
+}
+
+impl From<ProblemFault> for RunFault {
+    ghost use Rattle.std.specs.Prelude.{◌≡◌};
+    ghost use Rattle.dam_engines.specs.Fault.{problem_fault_of};
+
+    ghost from_gives = { λ fault e. e ≡ problem_fault_of fault };
+
+    fn from(fault: ProblemFault) -> RunFault {
+        match fault {
+            ProblemFault::StillOpen => RunFault::StillOpen,
+            ProblemFault::Memory => RunFault::Memory,
+        }
+    }
+}
+
+impl From<SearchFault> for RunFault {
+    ghost use Rattle.std.specs.Prelude.{◌≡◌};
+    ghost use Rattle.dam_engines.specs.Fault.{search_fault_of};
+
+    ghost from_gives = { λ fault e. e ≡ search_fault_of fault };
+
+    fn from(fault: SearchFault) -> RunFault {
+        match fault {
+            SearchFault::Memory => RunFault::Memory,
+            SearchFault::Collected { piece } => RunFault::Collected { piece },
+            SearchFault::Unfinished { piece, visited } => RunFault::Unfinished { piece, visited },
+        }
+    }
+}
+
+impl From<AllocError> for RunFault {
+    ghost use Rattle.std.specs.Prelude.{◌≡◌};
+    ghost use Rattle.dam_engines.specs.declared.fault.RunFault.TheVariants.{Memory};
+
+    ghost from_gives = { λ _ e. e ≡ Memory };
+
+    fn from(_error: AllocError) -> RunFault {
+        RunFault::Memory
+    }
+}
+
+/// The status that the program ends with: 1 for a fault of the input, 3 for a search that didn't finish, 4
+/// for a fault of the machine, 5 for parts of a run that don't fit together.
+pub fn status(fault: &RunFault) -> u8
+    ensures { result ≡ fault_status fault.now }
+{
+    match fault {
+        RunFault::Input(JournalFault::Memory) | RunFault::Mismatch(Mismatch::Memory) => 4,
+        RunFault::Input(_)
+        | RunFault::TooManyCommands
+        | RunFault::CloseGiven(_)
+        | RunFault::TooManyParticipants(_)
+        | RunFault::StillOpen => 1,
+        RunFault::Unfinished { .. } => 3,
+        RunFault::Read | RunFault::Memory | RunFault::Write { .. } => 4,
+        RunFault::Mismatch(_) | RunFault::Collected { .. } => 5,
+    }
+}
+
+/// The line that the program prints on standard error, with its line feed.
+pub fn fault_line(alloc: Global, fault: &RunFault) -> Result<Vec<u8>, AllocError>
+    ensures { IfOk result (λ line. line.items ≡ fault_text fault.now ++ codes "\n") }
+{
+    let line = format!(in alloc; "{fault}\n")?;
+    Ok(line.into_bytes())
+}

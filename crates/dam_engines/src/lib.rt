@@ -1,0 +1,40 @@
+//! The engines of the auction, bytes to bytes: each reads a journal from a reader, makes a whole text of it, and writes that
+//! text to a writer.
+//!
+//! [`run_replay`] prints the reply of the order book to each command, [`run_clear`] the results of the closed book, and
+//! [`run_day`] the journal of a day whose participants enter their commands side by side, and its results. If a run prints
+//! nothing or only the front of its text, its [`RunFault`] says why; [`fault_line`] is the line that a person is told, and
+//! [`status`] the number that a program ends with.
+//!
+//! ```
+//! let plan = Plan::new(2, 3, MOST_NODES)?; // workers, depth of the cutting, nodes of a piece
+//! match run_clear(rt, alloc, Seed::fixed(), &mut reader, &mut writer, plan, &FreeTurn) {
+//!     Ok(()) => 0,
+//!     Err(fault) => status(&fault),
+//! }
+//! ```
+//!
+//! A contract sees a reader as the bytes that it has left, and a writer as those that it took, if they tell them: standard
+//! input and output don't. What is printed for which bytes, and the text of each fault, stand in `specs/`. A closed book has
+//! one results text at most ([`laws::cleared_text_is_one`]). Only tested is that a failure of the reader or of the writer is
+//! told only after there was one, that the writer is flushed, how often the reader is asked, that a [`Watch`] is called, and
+//! that memory isn't said to have run out if it hasn't.
+//!
+//! The crate knows nothing of the command line, nor of terminals.
+#![tactic(auto)]
+
+mod clear;
+mod day;
+mod fault;
+mod input;
+pub mod laws;
+mod output;
+mod replay;
+mod watch;
+
+pub use clear::run_clear;
+pub use day::run_day;
+pub use fault::{RunFault, fault_line, status};
+pub use output::write_text;
+pub use replay::run_replay;
+pub use watch::Watch;

@@ -1,0 +1,60 @@
+ghost use Rattle.std.specs.Prelude.{◌≡◌, ◌≢◌, ℕ, List, IfOk, IfErr, IfSome, OnOk, MatchResult};
+ghost use Rattle.std.specs.Io.KnownBytes.{Appends};
+ghost use Rattle.dam_book.specs.declared.command.Command.{Command};
+ghost use Rattle.dam_results.specs.Journal.{ReadsAs};
+ghost use Rattle.dam_engines.specs.Engine.{CutsOff, IsFaultOn, IsMachineFault, IsTextFault, Writes};
+ghost use Rattle.dam_results.specs.Replies.{replies_to};
+ghost use Rattle.dam_engines.specs.Replay.{AreRepliesTo};
+
+use crate::fault::RunFault;
+use crate::input::read_input;
+use crate::output::write_text;
+use dam_book::Seed;
+use dam_results::replay_text;
+use std::alloc::Global;
+use std::io::{Read, Write};
+
+/// Reads a journal, runs its commands on the empty book of its day, and writes the day and the reply
+/// to each.
+///
+/// The whole text is made before its first byte is written. Where the input is longer than a journal
+/// may be, not all of it is read. The book hashes names by the seed.
+///
+/// Of a reader that doesn't tell its bytes nothing is said, and of a writer that doesn't tell its bytes
+/// nothing is said of what it took. Standard input and output tell no bytes. No clause says that the
+/// reader or the writer failed where `Read` or `Write` is answered: tests show it.
+pub fn run_replay<R: Read, W: Write>(
+    alloc: Global,
+    seed: Seed,
+    reader: &mut R,
+    writer: &mut W,
+) -> Result<(), RunFault>
+    ensures done { OnOk result (IfSome (R.remaining reader.old) (λ given.
+        Writes (W.contents writer.old) (W.contents writer.new) (AreRepliesTo given))) }
+    ensures fault { IfErr result (λ fault.
+        IfSome (R.remaining reader.old) (λ given. IsFaultOn given fault)) }
+    ensures unwritten { IfErr result (λ fault.
+        ((written : ℕ) → fault ≢ RunFault.Write written) → writer.new ≡ writer.old) }
+    ensures cut { IfErr result (λ fault. IfSome (R.remaining reader.old) (λ given.
+        CutsOff (W.contents writer.old) (W.contents writer.new) (AreRepliesTo given) fault)) }
+    ensures exact { (periods : ℕ) (commands : List Command) → IfSome (R.remaining reader.old)
+        (λ given. ReadsAs given periods commands → MatchResult result
+        (λ _. Appends (W.contents writer.old) (W.contents writer.new) (replies_to periods commands))
+        IsMachineFault) }
+{
+    let text = read_input(alloc, reader)?;
+    let replies = replies_of(alloc, seed, text.as_slice())?;
+    write_text(writer, replies.as_slice())
+}
+
+/// The replies to a text, which may have been cut behind the first byte too many.
+fn replies_of(alloc: Global, seed: Seed, text: &[u8]) -> Result<Vec<u8>, RunFault>
+    ensures done { IfOk result (λ replies. AreRepliesTo text.now replies.items) }
+    ensures fault { IfErr result (IsTextFault text.now) }
+    ensures exact { (periods : ℕ) (commands : List Command) → ReadsAs text.now periods commands
+        → MatchResult result
+        (λ replies. replies.items ≡ replies_to periods commands)
+        (λ fault. fault ≡ RunFault.Memory) }
+{
+    Ok(replay_text(alloc, seed, text)?)
+}
