@@ -1,0 +1,118 @@
+"""The reading list: that the page has the list of this repository, and which names are followed."""
+
+import tempfile
+import unittest
+from pathlib import Path
+
+from support import tool
+
+CRATES = "upper: lower\nlower:\ndam_engines: upper lower\ndam_gate:\n"
+LIB = {"lower": ["Limits", "Sizes", "Unused"], "upper": ["Rule"], "dam_engines": ["Engine"]}
+SPECS = {
+    "lower/Limits": "abbrev pub most : ℕ\nmost = 4\n",
+    "lower/Sizes": """use Rattle.std.specs.Prelude.{ℕ}
+use Rattle.lower.specs.Limits.{most as greatest}
+use Rattle.lower.specs.declared.size.Size.TheVariants.{Small}
+
+-- a size
+abbrev pub IsSize : ℕ → Type 0
+IsSize n = n ≤ greatest
+
+abbrev pub other : ℕ
+other = unused_number
+""",
+    "lower/Unused": "abbrev pub unused_number : ℕ\nunused_number = 1\n",
+    "upper/Rule": "use Rattle.lower.specs.Sizes.{IsSize}\n\npub record Rule (n : ℕ) : Type 0 where\n  pub size : IsSize n\n",
+    "dam_engines/Engine": "use Rattle.upper.specs.Rule.{Rule}\n\nabbrev pub Printed : ℕ → Type 0\nPrinted n = Rule n\n",
+}
+ENGINE = """ghost use Rattle.dam_engines.specs.Engine.{Printed};
+ghost use Rattle.lower.specs.Unused.{unused_number};
+
+use lower::Size;
+
+/// Runs unused_number.
+pub fn NAME(size: Size) -> u8
+    ensures done { Printed result × (size ≡ Size.Small) }
+{
+    unused(unused_number)
+}
+"""
+SIZE = "use crate::unit::Unit;\n\npub enum Size {\n    Unit,\n    Small,\n    Large { unit: Unit },\n}\n"
+UNIT = """pub struct Unit {
+    bytes: Hidden,
+}
+
+impl Model for Unit {
+    ghost use Rattle.lower.specs.Limits.{most};
+
+    ghost Value = { Below most };
+}
+
+pub struct Hidden(u8);
+"""
+
+
+class ReadingList(unittest.TestCase):
+    def repository(self, folder):
+        def write(path, text):
+            file = Path(folder, path)
+            file.parent.mkdir(parents=True, exist_ok=True)
+            file.write_text(text)
+
+        write("crates.txt", CRATES)
+        for crate, modules in LIB.items():
+            write(f"crates/{crate}/specs/Lib.antt", "".join(f"pub mod {module}\n" for module in modules))
+        for name, text in SPECS.items():
+            crate, module = name.split("/")
+            write(f"crates/{crate}/specs/{module}.antt", text)
+        for function in ("replay", "clear", "day"):
+            write(f"crates/dam_engines/src/{function}.rt", ENGINE.replace("NAME", f"run_{function}"))
+        write("crates/dam_engines/src/lib.rt", "mod clear;\nmod day;\nmod replay;\n")
+        write("crates/lower/src/lib.rt", "mod size;\nmod unit;\n")
+        write("crates/lower/src/size.rt", SIZE)
+        write("crates/lower/src/unit.rt", UNIT)
+        write("crates/dam_gate/src/laws.rt", ENGINE.replace("NAME", "whole_account"))
+
+    def test_the_page_has_the_list_of_this_repository(self):
+        self.assertEqual(tool("reading-list", "--check"), (0, b"", ""))
+
+    def test_names_are_followed_to_what_they_stand_on(self):
+        with tempfile.TemporaryDirectory() as folder:
+            self.repository(folder)
+            status, printed, errors = tool("reading-list", "--top", folder, "--names", "run_day")
+            self.assertEqual((status, errors), (0, ""))
+            self.assertEqual(
+                set(printed.decode().splitlines()),
+                {
+                    "crates/dam_engines/specs/Engine.antt: Printed",
+                    "crates/upper/specs/Rule.antt: Rule",
+                    "crates/lower/specs/Sizes.antt: IsSize",
+                    "crates/lower/specs/Limits.antt: most",
+                    "crates/lower/src/size.rt: Size",
+                    "crates/lower/src/unit.rt: Unit",
+                },
+            )
+
+    def test_each_function_adds_to_those_before_it(self):
+        with tempfile.TemporaryDirectory() as folder:
+            self.repository(folder)
+            _, printed, _ = tool("reading-list", "--top", folder)
+            lines = printed.decode().splitlines()
+            self.assertEqual(lines[0], "1. For `run_replay` (`dam_engines`):")
+            self.assertIn("   - `lower/specs/`: `Limits`, `Sizes`", lines)
+            self.assertEqual(
+                lines[-3:],
+                ["2. For `run_clear` (`dam_engines`):", "3. For `run_day` (`dam_engines`):", "4. For `whole_account` (`dam_gate`):"],
+            )
+
+    def test_a_name_without_a_definition_is_refused(self):
+        with tempfile.TemporaryDirectory() as folder:
+            self.repository(folder)
+            Path(folder, "crates/lower/specs/Limits.antt").write_text("abbrev pub least : ℕ\nleast = 1\n")
+            status, printed, errors = tool("reading-list", "--top", folder)
+            self.assertEqual((status, printed), (3, b""))
+            self.assertIn("lower/specs/Limits.antt has no definition most", errors)
+
+
+if __name__ == "__main__":
+    unittest.main()
