@@ -1,0 +1,33 @@
+"""The examples: what is written by a script, and what the audit says of the results that the worked case has."""
+
+import subprocess
+import sys
+import unittest
+
+from support import TOP, cases, printed, tool
+
+SCRIPT = TOP / "examples" / "make_auction_day.py"
+SUNNY = TOP / "examples" / "sunny-day.csv"
+
+
+class Examples(unittest.TestCase):
+    def test_the_sunny_day_is_what_its_script_writes(self):
+        ran = subprocess.run([sys.executable, SCRIPT], capture_output=True, check=True)
+        self.assertEqual(ran.stdout, SUNNY.read_bytes())
+
+    def test_no_selection_of_the_sunny_day_is_better(self):
+        (case,) = cases("clear-merit-order")
+        self.assertEqual(case.read_bytes(), SUNNY.read_bytes())
+        status, said, _ = tool("audit", "--best", "--by", "enumeration", case, case.with_suffix(".stdout"))
+        self.assertEqual(status, 0)
+        self.assertIn(b"8 of 12 blocks accepted", said)
+
+    def test_its_prices_differ_from_hour_to_hour(self):
+        (case,) = cases("clear-merit-order")
+        prices = [int(line.split(b",")[2]) for line in printed(case).splitlines() if line.startswith(b"period")]
+        self.assertGreater(len(set(prices)), 20)
+        self.assertLess(min(prices), 0)
+
+
+if __name__ == "__main__":
+    unittest.main()
