@@ -138,6 +138,7 @@ impl<A: Allocator> Relaxed<A> {
         ensures { (prefix : List Bool) → length prefix ≡ depth → taken ≡ padded prefix
             → result ≡ relaxed_welfare self.now prefix }
     {
+        prove!(depth <= self.blocks.len());
         laws::sums();
         let mut total = 0;
         for (place, levels) in self.periods.iter().enumerate() {
