@@ -105,6 +105,7 @@ pub fn run_text<A: Allocator + Copy, B: Allocator>(
     ensures { IfOk result (λ text.
         text.items ≡ Replies.replies_text book.periods (entries_from 1 book commands.now)) }
 {
+    prove!(commands.len() <= u32::MAX as usize);
     let mut replay = Replay::on(alloc, book)?;
     let mut number = 0;
     for command in commands {
