@@ -1,5 +1,5 @@
 -- The first fault of records.
-use Rattle.std.proofs.Common.{◌≡◌, ℕ, ◌+◌, ◌≤◌, ◌<◌, ◌==◌, inl, inr, true, false, if◌then◌else◌, sym, List, [], ◌∷◌, ◌++◌, length, map, Result, Ok, Err, refl, ap, subst, ◌∙◌, arith, append_assoc, append-nil, MatchResult}
+use Rattle.std.proofs.Common.{◌≡◌, ◌⊎◌, ℕ, ◌+◌, ◌≤◌, ◌<◌, ◌==◌, inl, inr, true, false, if◌then◌else◌, sym, List, [], ◌∷◌, ◌++◌, length, map, Result, Ok, Err, refl, ap, subst, ◌∙◌, arith, append_assoc, append-nil, MatchResult}
 use Rattle.std.specs.List.{AllByRecursion}
 use Rattle.std.proofs.lemmas.List.{map-append, length-map, length-append}
 use Rattle.std.proofs.lemmas.Bool.Decides.{nat_tests}
@@ -113,11 +113,12 @@ ReadsInto-more MadeOf periods rows rest more row count next command before after
       made_of = takes commands (omega (arith, following, counted)) h.made_of;
     }
 
--- where the next record has a fault, the records have it
+-- where memory ran out or the next record has a fault, the records have it
 pub ReadsInto-fault : {T : Type 0} (MadeOf : ℕ → List Command → T → Type 0) (periods : ℕ) (rows rest more : List Fields) (row : Fields) (count number : ℕ) (made : T) (fault : JournalFault)
-    → is_day periods ≡ true → ReadsInto MadeOf periods rows rest count made → rest ≡ row ∷ more → number ≡ count + 2 → IsRecordFault number row fault
+    → is_day periods ≡ true → ReadsInto MadeOf periods rows rest count made → rest ≡ row ∷ more → number ≡ count + 2 → (fault ≡ Memory) ⊎ IsRecordFault number row fault
     → IsFaultOfRecords (day_row periods ∷ rows) fault
-ReadsInto-fault MadeOf periods rows rest more row count number made fault day h first at faulty =
+ReadsInto-fault MadeOf periods rows rest more row count number made fault day h first at (inl memory) = rw memory tt
+ReadsInto-fault MadeOf periods rows rest more row count number made fault day h first at (inr faulty) =
     let counted = h.counted in
     let place : number ≡ length h.commands + 2 = omega (arith, at, counted) in
     in_later rows periods h.commands rest more row fault day h.reads first (subst (λ (n : ℕ). IsRecordFault n row fault) place faulty)

@@ -1,4 +1,4 @@
-ghost use Rattle.std.specs.Prelude.{◌≡◌, ◌<◌, ◌≤◌, ◌+◌, ℕ, List, ◌∷◌, true, length, None, IfOk, IfErr, MatchResult};
+ghost use Rattle.std.specs.Prelude.{◌≡◌, ◌<◌, ◌≤◌, ◌+◌, ◌⊎◌, ℕ, List, ◌∷◌, true, length, None, IfOk, IfErr, MatchResult};
 ghost use Rattle.csv.specs.Reading.{is_flexible, owned_rows_reader};
 ghost use Rattle.csv.specs.Records.{fields_of};
 ghost use Rattle.dam_book.specs.Book.{is_day};
@@ -9,7 +9,7 @@ ghost use Rattle.dam_results.specs.Journal.{AreRecords, IsMadeFrom, ReadsAs};
 ghost use Rattle.dam_results.specs.Journal;
 ghost use Rattle.dam_results.specs.Faults.{IsFaultOf, IsFaultOfRecords, IsRecordFault};
 ghost use Rattle.dam_results.specs.inside.Reader.{IsOpen, rows_left};
-ghost use Rattle.dam_results.specs.inside.Row.{fields_in};
+ghost use Rattle.dam_results.specs.inside.Row.{fields_in, TakesRow};
 
 use crate::from_journal::FromJournal;
 use crate::laws;
@@ -189,6 +189,28 @@ fn next_day(records: &mut Records) -> Result<u8, JournalFault>
     read_first(&record)
 }
 
+/// Takes the command of a record, which is that of the entry of this number.
+fn take_record<T: FromJournal>(
+    made: &mut T,
+    number: u32,
+    fields: &ByteRecord,
+) -> Result<(), JournalFault>
+    requires { 0 < number }
+    ensures { MatchResult result
+        (λ _. TakesRow T.made_of number (fields_of fields.now) made.old made.new)
+        (λ fault. (fault ≡ JournalFault.Memory)
+        ⊎ IsRecordFault (number + 1) (fields_of fields.now) fault) }
+{
+    let place = number as usize + 1;
+    let row = later_row(place, fields)?;
+    // Lent, not moved: a command has room for the volumes of a block.
+    match &read_command(&row) {
+        Ok(command) => made.take(number, command)?,
+        Err(field) => return Err(JournalFault::BadField(place, *field)),
+    }
+    Ok(())
+}
+
 fn read_commands<T: FromJournal>(
     alloc: Global,
     seed: Seed,
@@ -210,13 +232,7 @@ fn read_commands<T: FromJournal>(
             return Err(JournalFault::Memory);
         };
         number += 1;
-        let place = number as usize + 1;
-        let row = later_row(place, &record)?;
-        // Lent, not moved: a command has room for the volumes of a block.
-        match &read_command(&row) {
-            Ok(command) => made.take(number, command)?,
-            Err(field) => return Err(JournalFault::BadField(place, *field)),
-        }
+        take_record(&mut made, number, &record)?;
     }
     Ok(made)
 }
