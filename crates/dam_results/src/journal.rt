@@ -1,4 +1,4 @@
-ghost use Rattle.std.specs.Prelude.{◌≡◌, ◌<◌, ◌≤◌, ◌+◌, ◌⊎◌, ℕ, List, ◌∷◌, true, length, None, IfOk, IfErr, MatchResult};
+ghost use Rattle.std.specs.Prelude.{◌≡◌, ◌<◌, ◌≤◌, ◌+◌, ◌⊎◌, ℕ, List, [], ◌∷◌, true, length, None, IfOk, IfErr, MatchOption, MatchResult};
 ghost use Rattle.csv.specs.Reading.{is_flexible, owned_rows_reader};
 ghost use Rattle.csv.specs.Records.{fields_of};
 ghost use Rattle.dam_book.specs.Book.{is_day};
@@ -15,7 +15,7 @@ use crate::from_journal::FromJournal;
 use crate::laws;
 use crate::limits::{MOST_BYTES, MOST_RECORDS};
 use crate::record::{read_command, read_day};
-use crate::row::Row;
+use crate::row::{Row, field_of};
 use csv::{ByteRecord, ByteRecordsIntoIter, ReaderBuilder};
 use dam_book::{Command, Seed};
 use std::alloc::{AllocError, AllocFailed, Global};
@@ -120,10 +120,7 @@ fn check_bytes(text: &[u8]) -> Result<(), JournalFault>
 fn kind(fields: &ByteRecord) -> &[u8]
     ensures { result.now ≡ kind_field (fields_of fields.entry.now) }
 {
-    match fields.get(0) {
-        Some(kind) => kind,
-        None => &[],
-    }
+    field_of(fields, 0)
 }
 
 fn read_first(fields: &ByteRecord) -> Result<u8, JournalFault>
@@ -173,6 +170,21 @@ fn records<'a>(alloc: Global, text: &'a [u8]) -> Records<'a>
         .into_byte_records()
 }
 
+/// The next record, if there is one.
+fn next_record(records: &mut Records) -> Result<Option<ByteRecord>, AllocError>
+    requires { IsOpen records.old }
+    ensures { IfOk result (λ next. MatchOption next
+        (rows_left records.old ≡ [])
+        (λ fields. IsOpen records.new
+        × (rows_left records.old ≡ fields_of fields ∷ rows_left records.new))) }
+{
+    match records.next() {
+        None => Ok(None),
+        Some(Ok(record)) => Ok(Some(record)),
+        Some(Err(_)) => Err(AllocError),
+    }
+}
+
 fn next_day(records: &mut Records) -> Result<u8, JournalFault>
     requires { IsOpen records.old }
     ensures { MatchResult result
@@ -180,13 +192,10 @@ fn next_day(records: &mut Records) -> Result<u8, JournalFault>
         × (rows_left records.old ≡ day_row periods ∷ rows_left records.new))
         (IsFaultOfRecords (rows_left records.old)) }
 {
-    let Some(record) = records.next() else {
-        return Err(JournalFault::NotDay);
-    };
-    let Ok(record) = record else {
-        return Err(JournalFault::Memory);
-    };
-    read_first(&record)
+    match next_record(records)? {
+        Some(record) => read_first(&record),
+        None => Err(JournalFault::NotDay),
+    }
 }
 
 /// Takes the command of a record, which is that of the entry of this number.
@@ -211,29 +220,40 @@ fn take_record<T: FromJournal>(
     Ok(())
 }
 
+/// Takes the commands of the records that are left, those after the day's.
+fn take_records<T: FromJournal>(made: &mut T, records: &mut Records) -> Result<(), JournalFault>
+    requires { IsOpen records.old }
+    ensures { (periods : ℕ) → is_day periods ≡ true → T.made_of periods [] made.old
+        → MatchResult result
+        (λ _. (commands : List Command)
+        × AreRecords (day_row periods ∷ rows_left records.old) periods commands
+        × T.made_of periods commands made.new)
+        (IsFaultOfRecords (day_row periods ∷ rows_left records.old)) }
+{
+    let mut number = 0;
+    while let Some(record) = next_record(records)? {
+        number += 1;
+        take_record(made, number, &record)?;
+    }
+    Ok(())
+}
+
 fn read_commands<T: FromJournal>(
     alloc: Global,
     seed: Seed,
     periods: u8,
-    records: Records,
+    records: &mut Records,
 ) -> Result<T, JournalFault>
-    requires usable { IsOpen records }
+    requires usable { IsOpen records.old }
     requires day { is_day periods ≡ true }
     ensures { MatchResult result
         (λ made. (commands : List Command)
-        × AreRecords (day_row periods ∷ rows_left records.entry) periods commands
+        × AreRecords (day_row periods ∷ rows_left records.old) periods commands
         × T.made_of periods commands made)
-        (IsFaultOfRecords (day_row periods ∷ rows_left records.entry)) }
+        (IsFaultOfRecords (day_row periods ∷ rows_left records.old)) }
 {
     let mut made = T::begin(alloc, seed, periods)?;
-    let mut number = 0;
-    for record in records {
-        let Ok(record) = record else {
-            return Err(JournalFault::Memory);
-        };
-        number += 1;
-        take_record(&mut made, number, &record)?;
-    }
+    take_records(&mut made, records)?;
     Ok(made)
 }
 
@@ -244,7 +264,7 @@ fn read_text<T: FromJournal>(alloc: Global, seed: Seed, text: &[u8]) -> Result<T
     check_bytes(text)?;
     let mut records = records(alloc, text);
     let periods = next_day(&mut records)?;
-    read_commands(alloc, seed, periods, records)
+    read_commands(alloc, seed, periods, &mut records)
 }
 
 /// What the journal that a text says makes, or the first fault of the text. Nothing is kept of the

@@ -1,4 +1,4 @@
-ghost use Rattle.std.specs.Prelude.{◌≡◌, ◌≢◌, ◌<◌, ◌^◌, ℕ, [], ◌∷◌, true, false, codes, decimal, IfSome, MatchOption, MatchResult};
+ghost use Rattle.std.specs.Prelude.{◌≡◌, ◌≢◌, ◌<◌, ◌^◌, ℕ, [], ◌∷◌, true, false, codes, decimal, drop, IfSome, MatchOption, MatchResult};
 ghost use Rattle.dam_book.specs.Period.{IsPeriod};
 ghost use Rattle.dam_book.specs.Quantity.{IsQuantity};
 ghost use Rattle.std.specs.Str.{bytes_eq};
@@ -6,7 +6,7 @@ ghost use Rattle.dam_book.specs.Name.{IsName};
 ghost use Rattle.dam_book.specs.Fields.{volumes_text};
 ghost use Rattle.dam_book.specs.Book.{is_day};
 ghost use Rattle.dam_results.specs.Records.{day_row, optional_text, side_word};
-ghost use Rattle.dam_results.specs.inside.Row.{fields_in, ReadsCommand};
+ghost use Rattle.dam_results.specs.inside.Row.{fields_in, ChecksEmpty, ReadsCommand};
 ghost use Rattle.dam_results.specs.Rules.{OneOf, Periods, OneVolume, NameOrEmpty, Keeps, IsLeastBroken, day_rules, hour_rules, block_rules, submit_of, submit_rules, amend_rules, cancel_rules, close_rules, command_rules};
 
 use crate::row::Row;
@@ -19,11 +19,34 @@ use itoa::Buffer;
 // Each reader of a record answers what it says, or the number of the least field that breaks its
 // rule.
 
-fn check(kept: bool, field: usize) -> Result<(), usize>
-    ensures { MatchResult result (λ _. kept ≡ true)
-        (λ broken. (broken ≡ field) × (kept ≡ false)) }
+fn check_empty(field: &[u8], number: usize) -> Result<(), usize>
+    ensures { MatchResult result (λ _. field.now ≡ [])
+        (λ broken. (broken ≡ number) × (field.now ≢ [])) }
 {
-    if kept { Ok(()) } else { Err(field) }
+    if field.is_empty() {
+        Ok(())
+    } else {
+        Err(number)
+    }
+}
+
+/// The fields 8 and 9: no parent and no group.
+fn check_no_family(row: &Row) -> Result<(), usize>
+    ensures { ChecksEmpty 8 (drop 7 (fields_in row.now)) result }
+{
+    check_empty(row.parent, 8)?;
+    check_empty(row.group, 9)
+}
+
+/// The fields 4 to 9, which say what is ordered.
+fn check_no_order(row: &Row) -> Result<(), usize>
+    ensures { ChecksEmpty 4 (drop 3 (fields_in row.now)) result }
+{
+    check_empty(row.form, 4)?;
+    check_empty(row.side, 5)?;
+    check_empty(row.price, 6)?;
+    check_empty(row.volumes, 7)?;
+    check_no_family(row)
 }
 
 /// The number whose text in decimal, without leading zeros, the field is.
@@ -104,13 +127,8 @@ pub(crate) fn read_day(row: &Row) -> Result<u8, usize>
         (IsLeastBroken day_rules (fields_in row.now)) }
 {
     let periods = read_periods(row.who).ok_or(2usize)?;
-    check(row.name.is_empty(), 3)?;
-    check(row.form.is_empty(), 4)?;
-    check(row.side.is_empty(), 5)?;
-    check(row.price.is_empty(), 6)?;
-    check(row.volumes.is_empty(), 7)?;
-    check(row.parent.is_empty(), 8)?;
-    check(row.group.is_empty(), 9)?;
+    check_empty(row.name, 3)?;
+    check_no_order(row)?;
     Ok(periods)
 }
 
@@ -124,8 +142,7 @@ fn read_hour(row: &Row) -> Result<Command, usize>
     let side = read_side(row.side).ok_or(5usize)?;
     let price = read_price(row.price).ok_or(6usize)?;
     let (period, qty) = read_one_volume(row.volumes).ok_or(7usize)?;
-    check(row.parent.is_empty(), 8)?;
-    check(row.group.is_empty(), 9)?;
+    check_no_family(row)?;
     let order = Order::Hour(HourOrder::new(side, price, period, qty));
     Ok(Command::Submit { who, name, order })
 }
@@ -179,12 +196,11 @@ fn read_amend(row: &Row) -> Result<Command, usize>
 {
     let who = Participant::new(row.who).ok_or(2usize)?;
     let name = Name::new(row.name).ok_or(3usize)?;
-    check(row.form.is_empty(), 4)?;
-    check(row.side.is_empty(), 5)?;
+    check_empty(row.form, 4)?;
+    check_empty(row.side, 5)?;
     let price = read_price(row.price).ok_or(6usize)?;
     let volumes = read_volumes(row.volumes).ok_or(7usize)?;
-    check(row.parent.is_empty(), 8)?;
-    check(row.group.is_empty(), 9)?;
+    check_no_family(row)?;
     Ok(Command::Amend {
         who,
         name,
@@ -199,12 +215,7 @@ fn read_cancel(row: &Row) -> Result<Command, usize>
 {
     let who = Participant::new(row.who).ok_or(2usize)?;
     let name = Name::new(row.name).ok_or(3usize)?;
-    check(row.form.is_empty(), 4)?;
-    check(row.side.is_empty(), 5)?;
-    check(row.price.is_empty(), 6)?;
-    check(row.volumes.is_empty(), 7)?;
-    check(row.parent.is_empty(), 8)?;
-    check(row.group.is_empty(), 9)?;
+    check_no_order(row)?;
     Ok(Command::Cancel { who, name })
 }
 
@@ -212,14 +223,9 @@ fn read_close(row: &Row) -> Result<Command, usize>
     requires { row.now.kind.now ≡ codes "close" }
     ensures { ReadsCommand close_rules row.now result }
 {
-    check(row.who.is_empty(), 2)?;
-    check(row.name.is_empty(), 3)?;
-    check(row.form.is_empty(), 4)?;
-    check(row.side.is_empty(), 5)?;
-    check(row.price.is_empty(), 6)?;
-    check(row.volumes.is_empty(), 7)?;
-    check(row.parent.is_empty(), 8)?;
-    check(row.group.is_empty(), 9)?;
+    check_empty(row.who, 2)?;
+    check_empty(row.name, 3)?;
+    check_no_order(row)?;
     Ok(Command::Close)
 }
 

@@ -1,6 +1,6 @@
 ghost use Rattle.std.specs.Prelude.{◌≡◌, ◌≢◌, length, MatchOption};
 ghost use Rattle.csv.specs.Records.{fields_of};
-ghost use Rattle.dam_results.specs.inside.Row.{fields_in};
+ghost use Rattle.dam_results.specs.inside.Row.{field_or_empty, fields_in};
 
 use csv::ByteRecord;
 
@@ -19,9 +19,18 @@ pub(crate) struct Row<'a> {
     pub(crate) group: &'a [u8],
 }
 
+/// The field at that place, counted from 0, or no byte if the record is shorter.
+pub(crate) fn field_of(fields: &ByteRecord, place: usize) -> &[u8]
+    ensures { result.now ≡ field_or_empty (fields_of fields.entry.now) place }
+{
+    match fields.get(place) {
+        Some(field) => field,
+        None => &[],
+    }
+}
+
 impl<'a> Row<'a> {
     /// `None` where the record doesn't have nine fields.
-    #[tactic(auto, using(crate::proofs::FieldByField::missing))]
     pub(crate) fn of(fields: &'a ByteRecord) -> Option<Row<'a>>
         ensures { MatchOption result
             (length (fields_of fields.entry.now) ≢ 9)
@@ -31,15 +40,15 @@ impl<'a> Row<'a> {
             return None;
         }
         Some(Row {
-            kind: fields.get(0)?,
-            who: fields.get(1)?,
-            name: fields.get(2)?,
-            form: fields.get(3)?,
-            side: fields.get(4)?,
-            price: fields.get(5)?,
-            volumes: fields.get(6)?,
-            parent: fields.get(7)?,
-            group: fields.get(8)?,
+            kind: field_of(fields, 0),
+            who: field_of(fields, 1),
+            name: field_of(fields, 2),
+            form: field_of(fields, 3),
+            side: field_of(fields, 4),
+            price: field_of(fields, 5),
+            volumes: field_of(fields, 6),
+            parent: field_of(fields, 7),
+            group: field_of(fields, 8),
         })
     }
 }

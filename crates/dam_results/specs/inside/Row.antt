@@ -1,11 +1,17 @@
--- The fields of a record of nine, in their order, and what its readers answer and its taker does.
-use Rattle.std.specs.Prelude.{◌≡◌, ◌≤◌, ℕ, ◌+◌, [], ◌∷◌, ◌++◌, List, length, Result, MatchResult}
+-- The fields of a record, those of one that has nine, in their order, what its readers answer and what is taken of it.
+use Rattle.std.specs.Prelude.{◌≡◌, ◌≤◌, ℕ, zero, suc, ◌+◌, [], ◌∷◌, ◌++◌, List, length, map, Result, MatchResult}
 use Rattle.dam_book.specs.declared.command.Command.{Command}
 use Rattle.dam_results.specs.Limits.{most_records}
 use Rattle.dam_results.specs.Records.{Fields, row_of}
-use Rattle.dam_results.specs.Rules.{FieldRule, IsLeastBroken}
+use Rattle.dam_results.specs.Rules.{FieldRule, Empty, IsLeastBroken}
 use Rattle.dam_results.specs.Journal.{IsCommand}
 use Rattle.dam_results.specs.declared.row.Row.{Row}
+
+-- the field at that place, counted from 0, or no byte if there is none
+abbrev pub field_or_empty : Fields → ℕ → List ℕ
+field_or_empty [] place = []
+field_or_empty (f ∷ fs) zero = f
+field_or_empty (f ∷ fs) (suc place) = field_or_empty fs place
 
 abbrev pub fields_in : Row → Fields
 fields_in r =
@@ -17,6 +23,16 @@ abbrev pub ReadsCommand : List FieldRule → Row → Result Command ℕ → Type
 ReadsCommand rules row read = MatchResult read
     (λ command. IsCommand command × (fields_in row ≡ row_of command))
     (IsLeastBroken rules (fields_in row))
+
+-- these fields, of which the first has that number, are empty, or the number of the first that isn't
+abbrev pub AreEmpty : Fields → Type 0
+AreEmpty [] = Unit {0}
+AreEmpty (f ∷ fs) = (f ≡ []) × AreEmpty fs
+
+abbrev pub ChecksEmpty : {A : Type 0} → ℕ → Fields → Result A ℕ → Type 0
+ChecksEmpty first fields checked = MatchResult checked (λ _. AreEmpty fields)
+    (λ broken. (place : ℕ) × (broken ≡ first + place)
+    × IsLeastBroken (map (λ _. Empty) fields) fields (suc place))
 
 -- the record of the entry of that number is within the limit and a command's, and that command was
 -- taken

@@ -1,57 +1,19 @@
--- Each test that passed says that its field is empty.
-use Rattle.std.proofs.Common.{sym, codes}
+-- Each field that was checked is empty.
+use Rattle.std.proofs.Common.{suc, arith, sym, codes}
 use Rattle.dam_results.specs.Rules.{cancel_rules}
-use Rattle.dam_results.proofs.Rules.{empty, nine_alike, stops, filled, is_word}
+use Rattle.dam_results.proofs.Rules.{nine_alike, stops, is_word}
 use Rattle.dam_results.proofs.record.read_cancel.Goals as goal
 
 pub returns : goal.returns
 returns c =
     let who = rw c.in_ok-who.ensures.ok_part at c.new.ensures in
-    let name = rw c.in_ok-name.ensures.ok_part at c.new-2.ensures in (
-      (rw who.1 who.0, rw name.1 name.0),
-      nine_alike _ _ _ _ _ _ _ _ _ _ _ _ _ _ _ _ _ _ c.requires (sym who.1) (sym name.1) (empty _ _ c.is_empty.ensures c.in_ok-check.ensures) (empty _ _ c.is_empty-2.ensures c.in_ok-check-2.ensures)
-          (empty _ _ c.is_empty-3.ensures c.in_ok-check-3.ensures) (empty _ _ c.is_empty-4.ensures c.in_ok-check-4.ensures) (empty _ _ c.is_empty-5.ensures c.in_ok-check-5.ensures)
-          (empty _ _ c.is_empty-6.ensures c.in_ok-check-6.ensures),
-    )
+    let name = rw c.in_ok-name.ensures.ok_part at c.new-2.ensures in
+    let rest = c.in_ok-check_no_order.ensures in
+    ((rw who.1 who.0, rw name.1 name.0), nine_alike _ _ _ _ _ _ _ _ _ _ _ _ _ _ _ _ _ _ c.requires (sym who.1) (sym name.1) rest.0 rest.1.0 rest.1.1.0 rest.1.1.1.0 rest.1.1.1.1.0 rest.1.1.1.1.1.0)
 
-pub returns-in_err-check : goal.returns-in_err-check
-returns-in_err-check c =
+pub returns-in_err-check_no_order : goal.returns-in_err-check_no_order
+returns-in_err-check_no_order c =
     let who = rw c.in_ok-who.ensures.ok_part at c.new.ensures in
     let name = rw c.in_ok-name.ensures.ok_part at c.new-2.ensures in
-    stops cancel_rules c.args.row.now _ 4 _ c.from_residual-in_err-check.ensures.1 c.in_err-check.ensures.0
-    (is_word (codes "cancel") _ c.requires, (who.0, (name.0, filled _ _ c.is_empty.ensures c.in_err-check.ensures.1)))
-
-pub returns-in_err-check-2 : goal.returns-in_err-check-2
-returns-in_err-check-2 c =
-    let who = rw c.in_ok-who.ensures.ok_part at c.new.ensures in
-    let name = rw c.in_ok-name.ensures.ok_part at c.new-2.ensures in
-    stops cancel_rules c.args.row.now _ 5 _ c.from_residual-in_err-check-2.ensures.1 c.in_err-check-2.ensures.0
-    (is_word (codes "cancel") _ c.requires, (who.0, (name.0, (empty _ _ c.is_empty.ensures c.in_ok-check.ensures, filled _ _ c.is_empty-2.ensures c.in_err-check-2.ensures.1))))
-
-pub returns-in_err-check-3 : goal.returns-in_err-check-3
-returns-in_err-check-3 c =
-    let who = rw c.in_ok-who.ensures.ok_part at c.new.ensures in
-    let name = rw c.in_ok-name.ensures.ok_part at c.new-2.ensures in
-    stops cancel_rules c.args.row.now _ 6 _ c.from_residual-in_err-check-3.ensures.1 c.in_err-check-3.ensures.0
-    (is_word (codes "cancel") _ c.requires, (who.0, (name.0, (empty _ _ c.is_empty.ensures c.in_ok-check.ensures, (empty _ _ c.is_empty-2.ensures c.in_ok-check-2.ensures, filled _ _ c.is_empty-3.ensures c.in_err-check-3.ensures.1)))))
-
-pub returns-in_err-check-4 : goal.returns-in_err-check-4
-returns-in_err-check-4 c =
-    let who = rw c.in_ok-who.ensures.ok_part at c.new.ensures in
-    let name = rw c.in_ok-name.ensures.ok_part at c.new-2.ensures in
-    stops cancel_rules c.args.row.now _ 7 _ c.from_residual-in_err-check-4.ensures.1 c.in_err-check-4.ensures.0
-    (is_word (codes "cancel") _ c.requires, (who.0, (name.0, (empty _ _ c.is_empty.ensures c.in_ok-check.ensures, (empty _ _ c.is_empty-2.ensures c.in_ok-check-2.ensures, (empty _ _ c.is_empty-3.ensures c.in_ok-check-3.ensures, filled _ _ c.is_empty-4.ensures c.in_err-check-4.ensures.1))))))
-
-pub returns-in_err-check-5 : goal.returns-in_err-check-5
-returns-in_err-check-5 c =
-    let who = rw c.in_ok-who.ensures.ok_part at c.new.ensures in
-    let name = rw c.in_ok-name.ensures.ok_part at c.new-2.ensures in
-    stops cancel_rules c.args.row.now _ 8 _ c.from_residual-in_err-check-5.ensures.1 c.in_err-check-5.ensures.0
-    (is_word (codes "cancel") _ c.requires, (who.0, (name.0, (empty _ _ c.is_empty.ensures c.in_ok-check.ensures, (empty _ _ c.is_empty-2.ensures c.in_ok-check-2.ensures, (empty _ _ c.is_empty-3.ensures c.in_ok-check-3.ensures, (empty _ _ c.is_empty-4.ensures c.in_ok-check-4.ensures, filled _ _ c.is_empty-5.ensures c.in_err-check-5.ensures.1)))))))
-
-pub returns-in_err-check-6 : goal.returns-in_err-check-6
-returns-in_err-check-6 c =
-    let who = rw c.in_ok-who.ensures.ok_part at c.new.ensures in
-    let name = rw c.in_ok-name.ensures.ok_part at c.new-2.ensures in
-    stops cancel_rules c.args.row.now _ 9 _ c.from_residual-in_err-check-6.ensures.1 c.in_err-check-6.ensures.0
-    (is_word (codes "cancel") _ c.requires, (who.0, (name.0, (empty _ _ c.is_empty.ensures c.in_ok-check.ensures, (empty _ _ c.is_empty-2.ensures c.in_ok-check-2.ensures, (empty _ _ c.is_empty-3.ensures c.in_ok-check-3.ensures, (empty _ _ c.is_empty-4.ensures c.in_ok-check-4.ensures, (empty _ _ c.is_empty-5.ensures c.in_ok-check-5.ensures, filled _ _ c.is_empty-6.ensures c.in_err-check-6.ensures.1))))))))
+    let broken = c.in_err-check_no_order.ensures in
+    stops cancel_rules c.args.row.now _ (suc (suc (suc (suc broken.0)))) _ c.from_residual-in_err-check_no_order.ensures.1 (omega (arith, broken.1)) (is_word (codes "cancel") _ c.requires, (who.0, (name.0, broken.2)))

@@ -1,8 +1,11 @@
+use Rattle.std.proofs.Common.{◌≡◌, length, ◌∙◌, sym}
 use Rattle.csv.specs.Records.{fields_of}
 use Rattle.dam_results.proofs.FieldByField.{nine}
+use Rattle.dam_results.proofs.Rules.{nine_alike}
 use Rattle.dam_results.proofs.row.Row.of.Goals as goal
 
 pub returns : goal.returns
-returns c = nine (fields_of c.args.fields.now) _ _ _ _ _ _ _ _ _ (rw (← c.len.ensures) c.if-len-ne9.false)
-    c.in_ok-get.ensures.value c.in_ok-get-2.ensures.value c.in_ok-get-3.ensures.value c.in_ok-get-4.ensures.value c.in_ok-get-5.ensures.value
-    c.in_ok-get-6.ensures.value c.in_ok-get-7.ensures.value c.in_ok-get-8.ensures.value c.in_ok-get-9.ensures.value
+returns c =
+    nine (fields_of c.args.fields.now) (rw (← c.len.ensures) c.if-len-ne9.false)
+    ∙ sym (nine_alike _ _ _ _ _ _ _ _ _ _ _ _ _ _ _ _ _ _ c.field_of.ensures c.field_of-2.ensures c.field_of-3.ensures c.field_of-4.ensures c.field_of-5.ensures c.field_of-6.ensures c.field_of-7.ensures
+    c.field_of-8.ensures c.field_of-9.ensures)
