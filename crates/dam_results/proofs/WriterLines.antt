@@ -2,7 +2,7 @@
 use Rattle.std.proofs.Common.{◌≡◌, ◌<◌, ◌≤◌, ◌+◌, ℕ, List, [], ◌∷◌, ◌++◌, length, take, get_or, true, false, refl, sym, ap, subst, ◌∙◌, append-nil}
 use Rattle.std.specs.Prelude.{Result, Ok, Err, OnOk, Option, Some}
 use Rattle.std.specs.Io.KnownBytes.{Keeps}
-use Rattle.std.specs.List.{AllByRecursion, join_with_byte}
+use Rattle.std.specs.List.{AllByRecursion, flat_map, join_with_byte}
 use Rattle.std.specs.declared.vec.Vec.{Vec}
 use Rattle.std.proofs.lemmas.List.{take_more, take_all, map-append, flat_map_more}
 use Rattle.csv.specs.Writing.{default_writer, field_text, fields_text, is_blank, row_text, fields_written, has_written, writer_setup, writer_under, writer_pending, text_written}
@@ -13,8 +13,8 @@ use Rattle.dam_book.specs.Book.{is_day, commands_of}
 use Rattle.dam_book.specs.Limits.{most_entries}
 use Rattle.dam_results.specs.Records.{Fields, day_row, row_of}
 use Rattle.dam_results.specs.Journal.{IsCommand, ReadsAs}
-use Rattle.dam_results.specs.Written.{row_line, command_line, written, journal_text}
-use Rattle.dam_results.specs.inside.Writer.{Wrote, PutsCommand}
+use Rattle.dam_results.specs.Written.{row_line, command_line, journal_text}
+use Rattle.dam_results.specs.inside.Writer.{Wrote, PutsCommand, PutsCommands}
 use Rattle.dam_results.proofs.FieldBytes.{AreFields, limits, command_fields}
 use Rattle.dam_results.proofs.SpelledRecords.{IsPlain, ArePlain}
 use Rattle.dam_results.proofs.ReadBack.{plain_fields, reads_journal_text}
@@ -58,34 +58,31 @@ valid_more : (cs : List Command) (c : Command) → AllByRecursion IsCommand cs �
 valid_more [] c h k = (k, tt)
 valid_more (d ∷ cs) c h k = (h.0, valid_more cs c h.1 k)
 
-written_more : (periods : ℕ) (cs : List Command) (c : Command) → written periods (cs ++ c ∷ []) ≡ written periods cs ++ command_line c
-written_more periods cs c = sym (flat_map_more command_line (row_line (day_row periods)) cs c)
-
 commands_more : (entries : List Entry) (i : ℕ) (e : Entry) → i < length entries → get_or entries i e ≡ e → commands_of (take (i + 1) entries) ≡ commands_of (take i entries) ++ e.command ∷ []
 commands_more entries i e within here = rw (take_more entries i e, here, map-append) refl
 
--- what the loop over the entries keeps
-pub record WroteEntries {A : Type 0} (out : Writer (Vec ℕ A)) (periods : ℕ) (entries : List Entry) : Type 0 where
-  pub wrote : Wrote out (journal_text periods entries)
-  pub valid : AllByRecursion IsCommand (commands_of entries)
+pub puts_none : {A : Type 0} (out : Writer (Vec ℕ A)) → PutsCommands out out []
+puts_none out = record { valid = tt; lines = λ text at. rw append-nil at }
 
-pub wrote_day : {A : Type 0} (out : Writer (Vec ℕ A)) (periods : ℕ) → Wrote out (row_line (day_row periods)) → WroteEntries out periods []
-wrote_day out periods h = record { wrote = rw append-nil h; valid = tt }
-
-pub wrote_more : {A : Type 0} (before after : Writer (Vec ℕ A)) (periods : ℕ) (entries : List Entry) (i : ℕ) (e : Entry) → i < length entries → get_or entries i e ≡ e
-    → WroteEntries before periods (take i entries) → PutsCommand before after e.command → WroteEntries after periods (take (i + 1) entries)
-wrote_more before after periods entries i e within here h p =
+pub puts_more : {A : Type 0} (first before after : Writer (Vec ℕ A)) (entries : List Entry) (i : ℕ) (e : Entry) → i < length entries → get_or entries i e ≡ e
+    → PutsCommands first before (commands_of (take i entries)) → PutsCommand before after e.command → PutsCommands first after (commands_of (take (i + 1) entries))
+puts_more first before after entries i e within here h p =
     let cs = commands_of (take i entries) in
     let more : commands_of (take (i + 1) entries) ≡ cs ++ e.command ∷ [] = commands_more entries i e within here in
-    record {
-      wrote = subst (λ (text : List ℕ). Wrote after text) (sym (ap (written periods) more ∙ written_more periods cs e.command)) (p.line (journal_text periods (take i entries)) h.wrote);
-      valid = subst (λ (ds : List Command). AllByRecursion IsCommand ds) (sym more) (valid_more cs e.command h.valid p.valid);
-    }
+    let both : PutsCommands first after (cs ++ e.command ∷ []) = record {
+      valid = valid_more cs e.command h.valid p.valid;
+      lines = λ text at. subst (λ (all : List ℕ). Wrote after all) (flat_map_more command_line text cs e.command) (p.line (text ++ flat_map command_line cs) (h.lines text at));
+    } in
+    subst (λ (ds : List Command). PutsCommands first after ds) (sym more) both
 
--- what the writer gives at the end reads as the day and the commands
-pub wrote_all : {A : Type 0} (out : Writer (Vec ℕ A)) (text : Vec ℕ A) (periods : ℕ) (entries : List Entry) (i : ℕ) → length entries ≤ i → is_day periods ≡ true → length entries ≤ most_entries
-    → WroteEntries out periods (take i entries) → Keeps (text_written (λ (v : Vec ℕ A). Some v.items) out) (Some text.items) → ReadsAs text.items periods (commands_of entries)
-wrote_all out text periods entries i over day few h keeps =
-    let all : WroteEntries out periods entries = rw (take_all i entries over) at h in
-    let same : text.items ≡ journal_text periods entries = subst (λ (known : Option (List ℕ)). Keeps known (Some text.items)) all.wrote.bytes keeps in
-    rw same (reads_journal_text periods entries day all.valid few)
+pub puts_all : {A : Type 0} (first out : Writer (Vec ℕ A)) (entries : List Entry) (i : ℕ) → length entries ≤ i → PutsCommands first out (commands_of (take i entries)) → PutsCommands first out (commands_of entries)
+puts_all first out entries i over h = rw (take_all i entries over) at h
+
+-- what the writer gives at the end is what it has written
+pub wrote_text : {A : Type 0} (out : Writer (Vec ℕ A)) (text : Vec ℕ A) (written : List ℕ) → Wrote out written → Keeps (text_written (λ (v : Vec ℕ A). Some v.items) out) (Some text.items) → text.items ≡ written
+wrote_text out text written h keeps = subst (λ (known : Option (List ℕ)). Keeps known (Some text.items)) h.bytes keeps
+
+-- and it reads as the day and the commands
+pub wrote_reads : (text : List ℕ) (periods : ℕ) (entries : List Entry) → text ≡ journal_text periods entries → is_day periods ≡ true → length entries ≤ most_entries → AllByRecursion IsCommand (commands_of entries)
+    → ReadsAs text periods (commands_of entries)
+wrote_reads text periods entries same day few valid = rw same (reads_journal_text periods entries day valid few)

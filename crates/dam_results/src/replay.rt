@@ -1,11 +1,12 @@
 //! The runs of a journal's commands: their books, and their replies as text.
 
 ghost use Rattle.std.specs.Prelude.{◌≡◌, ◌++◌, ◌<◌, ◌^◌, ℕ, List, true, length, IfOk, IfErr, OnOk, MatchResult};
+ghost use Rattle.std.specs.List.{flat_map};
 ghost use Rattle.dam_book.specs.Book.{book_after, empty_book, entries_from, is_day, reply_to, run};
 ghost use Rattle.dam_book.specs.declared.command.Command.{Command};
 ghost use Rattle.dam_results.specs.Journal.{IsMadeFrom, ReadsAs};
 ghost use Rattle.dam_results.specs.Faults.{IsFaultOf};
-ghost use Rattle.dam_results.specs.Replies.{AreReplies, day_line, reply_line};
+ghost use Rattle.dam_results.specs.Replies.{AreReplies, day_line, entry_line, reply_line};
 ghost use Rattle.dam_results.specs.Replies;
 ghost use Rattle.dam_results.specs.Run.{IsRun};
 
@@ -72,6 +73,20 @@ impl<A: Allocator + Copy, B: Allocator> Replay<A, B> {
         let reply = self.book.apply(command)?;
         write_line(&mut self.text, number, reply)
     }
+
+    /// Applies the commands of the first entries, one after another.
+    fn apply_all(&mut self, commands: &[Command]) -> Result<(), AllocError>
+        requires { length commands.now < 2 ^ 32 }
+        ensures { OnOk result (self.new.text.items ≡ self.old.text.items
+            ++ flat_map entry_line (entries_from 1 self.old.book commands.now)) }
+    {
+        let mut number = 0;
+        for command in commands {
+            number += 1;
+            self.apply(number, command)?;
+        }
+        Ok(())
+    }
 }
 
 impl FromJournal for Replay {
@@ -107,11 +122,7 @@ pub fn run_text<A: Allocator + Copy, B: Allocator>(
 {
     prove!(commands.len() <= u32::MAX as usize);
     let mut replay = Replay::on(alloc, book)?;
-    let mut number = 0;
-    for command in commands {
-        number += 1;
-        replay.apply(number, command)?;
-    }
+    replay.apply_all(commands)?;
     Ok(replay.text)
 }
 

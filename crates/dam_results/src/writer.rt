@@ -11,7 +11,7 @@ ghost use Rattle.dam_results.specs.Records.{optional_text, side_word, day_row};
 ghost use Rattle.dam_results.specs.Journal.{ReadsAs};
 ghost use Rattle.dam_results.specs.Written.{row_line};
 ghost use Rattle.dam_results.specs.Written;
-ghost use Rattle.dam_results.specs.inside.Writer.{Wrote, PutsCommand};
+ghost use Rattle.dam_results.specs.inside.Writer.{Wrote, PutsCommand, PutsCommands};
 
 use csv::{Writer, WriterBuilder};
 use dam_book::{
@@ -186,6 +186,19 @@ fn put_command(
     }
 }
 
+fn put_entries(
+    alloc: Global,
+    out: &mut Writer<Vec<u8>>,
+    entries: &[Entry],
+) -> Result<(), AllocError>
+    ensures { OnOk result (PutsCommands out.old out.new (commands_of entries.now)) }
+{
+    for entry in entries {
+        put_command(alloc, out, &entry.command)?;
+    }
+    Ok(())
+}
+
 /// The written journal: the record of the day, and then that of each entry's command, refused ones
 /// too. The fields of a record are joined by commas, with no quotes, and each record ends in one LF.
 ///
@@ -198,9 +211,7 @@ pub fn journal_text(alloc: Global, periods: u8, entries: &[Entry]) -> Result<Vec
 {
     let mut out = WriterBuilder::new().from_writer(Vec::new(alloc));
     put_day(&mut out, periods)?;
-    for entry in entries {
-        put_command(alloc, &mut out, &entry.command)?;
-    }
+    put_entries(alloc, &mut out, entries)?;
     match out.into_inner() {
         Ok(text) => Ok(text),
         Err(_) => Err(AllocError),
