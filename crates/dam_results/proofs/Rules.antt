@@ -1,5 +1,5 @@
 -- Which fields keep their rules.
-use Rattle.std.proofs.Common.{◌≡◌, ◌≢◌, ℕ, suc, ◌+◌, ◌≤◌, Bool, true, false, length, nat_lt, List, [], ◌∷◌, refl, codes, arith, sym, subst, ◌∙◌, Result, Ok, Err, MatchResult, ap, ◌||◌}
+use Rattle.std.proofs.Common.{◌≡◌, ◌≢◌, ℕ, suc, ◌+◌, ◌≤◌, Bool, true, false, nat_lt, List, [], ◌∷◌, refl, codes, arith, sym, subst, ◌∙◌, Result, Ok, Err, MatchResult, ap, ◌||◌}
 use Rattle.std.specs.Result.{IsErrAnd}
 use Rattle.std.proofs.lemmas.Slice.Eq.{bytes_eq-Decides}
 use Rattle.dam_book.specs.declared.command.Command.{Command}
@@ -7,7 +7,6 @@ use Rattle.dam_results.specs.declared.row.Row.{Row}
 use Rattle.dam_book.specs.declared.order.Side.{Side}
 use Rattle.dam_book.specs.declared.order.Side.TheVariants.{Buy, Sell}
 use Rattle.dam_results.specs.inside.Row.{fields_in, ChecksEmpty, ReadsCommand}
-use Rattle.std.specs.Prelude.{◌==◌}
 use Rattle.std.specs.Str.{bytes_eq}
 use Rattle.std.proofs.lemmas.Bool.{lt-ltb}
 use Rattle.std.proofs.lemmas.Bool.Decides.{nat_tests}

@@ -11,7 +11,7 @@ use Rattle.dam_book.specs.declared.command.Command.{Command}
 use Rattle.dam_book.specs.declared.command.Entry.{Entry}
 use Rattle.dam_book.specs.Book.{is_day, commands_of}
 use Rattle.dam_book.specs.Limits.{most_entries}
-use Rattle.dam_results.specs.Records.{Fields, day_row, row_of}
+use Rattle.dam_results.specs.Records.{Fields, row_of}
 use Rattle.dam_results.specs.Journal.{IsCommand, ReadsAs}
 use Rattle.dam_results.specs.Written.{row_line, command_line, journal_text}
 use Rattle.dam_results.specs.inside.Writer.{Wrote, PutsCommand, PutsCommands}

@@ -238,20 +238,19 @@ fn take_records<T: FromJournal>(made: &mut T, records: &mut Records) -> Result<(
     Ok(())
 }
 
-fn read_commands<T: FromJournal>(
+/// What the records make, from that of the day on.
+fn read_records<T: FromJournal>(
     alloc: Global,
     seed: Seed,
-    periods: u8,
     records: &mut Records,
 ) -> Result<T, JournalFault>
-    requires usable { IsOpen records.old }
-    requires day { is_day periods ≡ true }
+    requires { IsOpen records.old }
     ensures { MatchResult result
-        (λ made. (commands : List Command)
-        × AreRecords (day_row periods ∷ rows_left records.old) periods commands
-        × T.made_of periods commands made)
-        (IsFaultOfRecords (day_row periods ∷ rows_left records.old)) }
+        (λ made. (periods : ℕ) × (commands : List Command)
+        × AreRecords (rows_left records.old) periods commands × T.made_of periods commands made)
+        (IsFaultOfRecords (rows_left records.old)) }
 {
+    let periods = next_day(records)?;
     let mut made = T::begin(alloc, seed, periods)?;
     take_records(&mut made, records)?;
     Ok(made)
@@ -263,8 +262,7 @@ fn read_text<T: FromJournal>(alloc: Global, seed: Seed, text: &[u8]) -> Result<T
 {
     check_bytes(text)?;
     let mut records = records(alloc, text);
-    let periods = next_day(&mut records)?;
-    read_commands(alloc, seed, periods, &mut records)
+    read_records(alloc, seed, &mut records)
 }
 
 /// What the journal that a text says makes, or the first fault of the text. Nothing is kept of the

@@ -1,4 +1,4 @@
-use Rattle.std.proofs.Common.{◌≡◌, [], ◌∙◌, ap}
+use Rattle.std.proofs.Common.{[], ◌∙◌, ap}
 use Rattle.dam_results.specs.Records.{day_row}
 use Rattle.dam_results.specs.Written.{row_line, journal_text}
 use Rattle.dam_results.proofs.WriterLines.{wrote_none, wrote_text, wrote_reads}
