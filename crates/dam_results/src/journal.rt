@@ -198,7 +198,7 @@ fn next_day(records: &mut Records) -> Result<u8, JournalFault>
     }
 }
 
-/// Takes the command of a record, which is that of the entry of this number.
+/// Takes the command of the record of the entry of this number.
 fn take_record<T: FromJournal>(
     made: &mut T,
     number: u32,
@@ -220,7 +220,7 @@ fn take_record<T: FromJournal>(
     Ok(())
 }
 
-/// Takes the commands of the records that are left, those after the day's.
+/// Takes the commands of all records after the day's.
 fn take_records<T: FromJournal>(made: &mut T, records: &mut Records) -> Result<(), JournalFault>
     requires { IsOpen records.old }
     ensures { (periods : ℕ) → is_day periods ≡ true → T.made_of periods [] made.old
@@ -238,7 +238,7 @@ fn take_records<T: FromJournal>(made: &mut T, records: &mut Records) -> Result<(
     Ok(())
 }
 
-/// What the records make, from that of the day on.
+/// What all the records make, that of the day first.
 fn read_records<T: FromJournal>(
     alloc: Global,
     seed: Seed,

@@ -1,4 +1,4 @@
--- The fields of a record, those of one that has nine, in their order, what its readers answer and what is taken of it.
+-- The fields of a record, what its readers answer, and what is taken of it.
 use Rattle.std.specs.Prelude.{◌≡◌, ◌≤◌, ℕ, zero, suc, ◌+◌, [], ◌∷◌, ◌++◌, List, length, map, Result, MatchResult}
 use Rattle.dam_book.specs.declared.command.Command.{Command}
 use Rattle.dam_results.specs.Limits.{most_records}
@@ -13,6 +13,7 @@ field_or_empty [] place = []
 field_or_empty (f ∷ fs) zero = f
 field_or_empty (f ∷ fs) (suc place) = field_or_empty fs place
 
+-- the fields of a record of nine, in their order
 abbrev pub fields_in : Row → Fields
 fields_in r =
     r.kind.now ∷ r.who.now ∷ r.name.now ∷ r.form.now ∷ r.side.now ∷ r.price.now ∷ r.volumes.now
@@ -24,18 +25,18 @@ ReadsCommand rules row read = MatchResult read
     (λ command. IsCommand command × (fields_in row ≡ row_of command))
     (IsLeastBroken rules (fields_in row))
 
--- these fields, of which the first has that number, are empty, or the number of the first that isn't
 abbrev pub AreEmpty : Fields → Type 0
 AreEmpty [] = Unit {0}
 AreEmpty (f ∷ fs) = (f ≡ []) × AreEmpty fs
 
+-- these fields, of which the first has that number, are empty, or the number of the first that
+-- isn't
 abbrev pub ChecksEmpty : {A : Type 0} → ℕ → Fields → Result A ℕ → Type 0
 ChecksEmpty first fields checked = MatchResult checked (λ _. AreEmpty fields)
     (λ broken. (place : ℕ) × (broken ≡ first + place)
     × IsLeastBroken (map (λ _. Empty) fields) fields (suc place))
 
--- the record of the entry of that number is within the limit and a command's, and that command was
--- taken
+-- the record of that entry is within the limit and says a command, which was taken
 pub record TakesRow {T : Type 0} (MadeOf : ℕ → List Command → T → Type 0) (number : ℕ)
     (row : Fields) (before after : T) : Type 0 where
   pub few : number + 1 ≤ most_records
