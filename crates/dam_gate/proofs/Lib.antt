@@ -1,4 +1,5 @@
 pub mod Histories
+pub mod Steps
 pub mod Receipts
 pub mod Beginnings
 pub mod Adding

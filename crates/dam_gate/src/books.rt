@@ -11,7 +11,7 @@ use std::mem::replace;
 use std::sync::Arc;
 
 /// A book, and the place in the journal of the entry whose command changed it.
-#[derive(Debug, Drop)]
+#[derive(Drop)]
 struct Step<A: Allocator> {
     book: Arc<Book<A>, A>,
     place: usize,
@@ -30,7 +30,7 @@ impl<A: Allocator> Model for Step<A> {
 /// nobody shares any more is brought up by the commands that it lacks, which is far quicker than a copy.
 ///
 /// A contract sees the three.
-#[derive(Debug, Drop)]
+#[derive(Drop)]
 pub(crate) struct Books<A: Allocator = Global> {
     first: Option<Step<A>>,
     second: Option<Step<A>>,
@@ -111,7 +111,7 @@ impl<A: Allocator + Copy> Books<A> {
             book: replace(&mut self.book, book),
             place,
         };
-        self.first = replace(&mut self.second, Some(before));
+        let _oldest = replace(&mut self.first, replace(&mut self.second, Some(before)));
     }
 
     pub(crate) fn into_book(self) -> Arc<Book<A>, A>

@@ -9,7 +9,7 @@ ghost use Rattle.dam_gate.specs.inside.Desk.{IsPassFault};
 
 use crate::gate::{GateFault, PassFault};
 use crate::history::{Front, Head, Naming, Opening};
-use crate::keeper::{BeginFault, Journal, Keeper};
+use crate::keeper::{BeginFault, Journal, Keeper, Ready};
 use crate::limits::MOST_PASSES;
 use crate::pass::Pass;
 use crate::version::{Change, Place, Shown, Version};
@@ -54,9 +54,68 @@ where
     ghost invariant = { λ d. d.front ≡ d.keeper.journal.entries };
 }
 
-/// A place for a version, with none in it yet.
-fn place<J: Naming>(alloc: Global) -> Result<Place<J>, AllocError> {
-    Arc::new(alloc, OnceLock::new()).map_err(|_| AllocError)
+/// A place where the version stands.
+fn shown<J: Naming>(alloc: Global, version: Version<J>) -> Result<Shown<J>, AllocError> {
+    Ok(Shown {
+        place: Arc::new(alloc, OnceLock::from(version))?,
+    })
+}
+
+/// The writer of the versions, of which the first has the keeper's book.
+fn writer_from<J: Naming, R: Wait + Drop>(
+    rt: R,
+    alloc: Global,
+    keeper: &Keeper,
+    front: &Front<J>,
+) -> Result<WriteHandle<Shown<J>, Change<J>, R>, AllocError>
+    requires { front.now ≡ keeper.now.journal.entries }
+{
+    let first = shown(alloc, Version::new(keeper.share()?, front.again()))?;
+    let second = Shown {
+        place: Arc::try_clone(&first.place)?,
+    };
+    WriteHandle::new(alloc, rt, first, second, MOST_PASSES as usize)
+}
+
+/// A place for the next version, with none in it yet. The writer is to show it.
+fn next_place<J: Naming, R: Wait + Drop>(
+    alloc: Global,
+    writer: &mut WriteHandle<Shown<J>, Change<J>, R>,
+) -> Result<Place<J>, AllocError> {
+    let place = Arc::new(alloc, OnceLock::new())?;
+    let change = Change {
+        place: Arc::try_clone(&place)?,
+    };
+    match writer.append(change) {
+        Ok(()) => Ok(place),
+        Err(_) => Err(AllocError),
+    }
+}
+
+/// The history after the step, whose version then stands at the place.
+fn go_on<J: Naming>(
+    head: &Head<J>,
+    front: &Front<J>,
+    seen: &Front<J>,
+    told: &Front<J>,
+    ready: &Ready,
+    place: &Place<J>,
+) -> Result<Front<J>, GateFault>
+    requires { IsJournal (record { entries = front.now ++ ready.now.entry ∷ []; book = ready.now.book }) }
+    ensures history { IfOk result (λ after. after ≡ front.now ++ ready.now.entry ∷ []) }
+    ensures seen { OnOk result (IsPrefix seen.now front.now) }
+    ensures told { OnOk result (IsPrefix told.now front.now) }
+    ensures fault { IfErr result (λ fault.
+        (fault ≡ GateFault.Memory) ⊎ (fault ≡ GateFault.NoVersion)) }
+{
+    let book = ready.book()?;
+    let Some(after) = head.add(front, seen, told, ready.entry()) else {
+        return Err(GateFault::NoVersion);
+    };
+    if place.try_set(Version::new(book, after.again())).is_err() {
+        return Err(GateFault::NoVersion);
+    }
+    Ok(after)
 }
 
 impl<J: Naming, R: Wait + Drop> Desk<J, R> {
@@ -75,16 +134,7 @@ impl<J: Naming, R: Wait + Drop> Desk<J, R> {
     {
         let keeper = Keeper::begin_seeded(alloc, periods, seed)?;
         let (head, front) = opening.named::<J>();
-        let version = Version::new(keeper.share()?, front.again());
-        let first = Arc::new(alloc, OnceLock::from(version)).map_err(|_| AllocError)?;
-        let second = Arc::try_clone(&first)?;
-        let writer = WriteHandle::new(
-            alloc,
-            rt,
-            Shown { place: first },
-            Shown { place: second },
-            MOST_PASSES as usize,
-        )?;
+        let writer = writer_from(rt, alloc, &keeper, &front)?;
         Ok(Desk {
             alloc,
             keeper,
@@ -164,20 +214,8 @@ impl<J: Naming, R: Wait + Drop> Desk<J, R> {
         // Its contract tells that these are the entries of a journal.
         let _journal = self.keeper.len();
         let ready = self.keeper.ready(command)?;
-        let place = place(self.alloc)?;
-        let book = ready.book()?;
-        let change = Change {
-            place: Arc::try_clone(&place)?,
-        };
-        if self.writer.append(change).is_err() {
-            return Err(GateFault::Memory);
-        }
-        let Some(front) = self.head.add(&self.front, seen, told, ready.entry()) else {
-            return Err(GateFault::NoVersion);
-        };
-        if place.try_set(Version::new(book, front.again())).is_err() {
-            return Err(GateFault::NoVersion);
-        }
+        let place = next_place(self.alloc, &mut self.writer)?;
+        let front = go_on(&self.head, &self.front, seen, told, &ready, &place)?;
         let entry = self.keeper.put(ready);
         self.front = front.again();
         // It can't be refused: the places are shares, of which there can't be too many.

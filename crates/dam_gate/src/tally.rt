@@ -13,7 +13,7 @@ use dam_book::laws::equality;
 use std::alloc::{AllocError, Allocator};
 
 /// What the receipts of an entry's number are so far.
-#[derive(Clone, Copy, PartialEq, Eq, Debug)]
+#[derive(Clone, Copy)]
 pub(crate) enum Found {
     Nothing,
     /// One receipt, equal to the entry.

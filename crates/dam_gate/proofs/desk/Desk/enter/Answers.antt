@@ -1,5 +1,4 @@
 use Rattle.std.proofs.Common.{◌≡◌, false, length, sym, ap, ap₂, ◌∙◌}
-use Rattle.std.specs.Arc.{arc_value}
 use Rattle.dam_book.specs.Book.{book_after}
 use Rattle.dam_book.specs.declared.command.Entry.{Entry}
 use Rattle.dam_gate.specs.Journal.{JournalState, is_full, journal_after, next_entry}
@@ -7,17 +6,16 @@ use Rattle.dam_gate.specs.inside.Desk.{DeskState}
 use Rattle.dam_gate.proofs.Histories.{journal_after_is}
 use Rattle.dam_gate.proofs.desk.Desk.enter.Goals as goal
 
-pub new-requires : goal.new-requires
-new-requires g c =
+pub go_on-requires : goal.go_on-requires
+go_on-requires g c =
     let j : JournalState = c.self.inside.keeper.journal in
     let command = c.args.command.now in
     let ready = c.in_ok-ready.ensures.ready in
     let same : c.ready.new.self.journal ≡ j = c.ready.ensures.journal in
     let entry : c.in_ok-ready.ready.entry ≡ next_entry j command = ready.entry ∙ ap (λ (x : JournalState). next_entry x command) same in
-    let book : arc_value c.in_ok-book.book ≡ book_after j.book command =
-    c.in_ok-book.ensures ∙ (ready.book ∙ ap (λ (x : JournalState). book_after x.book command) same) in
+    let book : c.in_ok-ready.ready.book ≡ book_after j.book command = ready.book ∙ ap (λ (x : JournalState). book_after x.book command) same in
     let left : is_full (length j.entries) command ≡ false = ap (λ (x : JournalState). is_full (length x.entries) command) (sym same) ∙ ready.left in
-    rw (c.again.ensures, c.in-Some.ensures.added, c.entry.ensures, c.self.invariant, entry, book) (journal_after_is j command c.len-journal.ensures.valid left)
+    rw (c.self.invariant, entry, book) (journal_after_is j command c.len-journal.ensures.valid left)
 
 pub returns-clause-entry : goal.returns-clause-entry
 returns-clause-entry g c =
@@ -25,7 +23,7 @@ returns-clause-entry g c =
     ∙ (c.in_ok-ready.ensures.ready.entry ∙ ap (λ (x : JournalState). next_entry x c.args.command.now) (c.ready.ensures.journal ∙ ap (λ (d : DeskState). d.journal) c.self.view_is))
 
 pub returns-clause-history : goal.returns-clause-history
-returns-clause-history g c = rw (← c.self.view_is, c.put-entry.ensures.entry, c.in-Some.ensures.added, c.entry.ensures, c.self.invariant)
+returns-clause-history g c = rw (← c.self.view_is, c.put-entry.ensures.entry, c.in_ok-front.ensures.history, c.self.invariant)
 
 pub returns-clause-journal : goal.returns-clause-journal
 returns-clause-journal g c =

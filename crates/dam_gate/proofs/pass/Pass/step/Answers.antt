@@ -58,3 +58,11 @@ returns-clause-later g c =
     let number = ap (λ (x : Entry). x.number) c.in_ok-entry.ensures.entry in
     let earlier = prefix_length c.self.inside.history c.args.desk.now.journal.entries c.in_ok-entry.ensures.seen in
     omega (arith, number, earlier, ap (λ (k : Knowledge). k.account.seen) c.self.view_is)
+
+pub returns-clause-pass : goal.returns-clause-pass
+returns-clause-pass g c =
+    let e = c.in_ok-entry.entry in
+    let held = c.args.desk.now.journal.entries in
+    let number = ap (λ (x : Entry). x.number) c.in_ok-entry.ensures.entry in
+    let whole : length c.in_ok-entry.front ≡ e.number = omega (arith, number, ap length c.in_ok-entry.ensures.history, length-append held (e ∷ [])) in
+    rw (← c.self.view_is, c.push_reserved.ensures.items, c.reserve.ensures.items, c.copy.ensures, c.again.ensures, whole)

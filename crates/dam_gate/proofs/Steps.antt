@@ -1,0 +1,39 @@
+-- How the books of a keeper go on by an entry.
+use Rattle.std.proofs.Common.{◌≡◌, ◌++◌, ◌∷◌, [], ℕ, zero, suc, List, length, Option, Some, IfSome, slice_get, refl, sym, subst}
+use Rattle.std.proofs.lemmas.Option.{IfSome_then}
+use Rattle.dam_book.specs.Book.{BookState, book_after}
+use Rattle.dam_book.specs.declared.command.Entry.{Entry}
+use Rattle.dam_gate.specs.inside.Books.{AreSteps, BooksState, LeadsTo, StepState}
+
+slice_get-more : (es : List Entry) (i : ℕ) (e x : Entry) → slice_get es i ≡ Some x → slice_get (es ++ e ∷ []) i ≡ Some x
+slice_get-more [] i e x is = absurd (cc)
+slice_get-more (y ∷ es) zero e x is = is
+slice_get-more (y ∷ es) (suc i) e x is = slice_get-more es i e x is
+
+slice_get-last : (es : List Entry) (e : Entry) → slice_get (es ++ e ∷ []) (length es) ≡ Some e
+slice_get-last [] e = refl
+slice_get-last (x ∷ es) e = slice_get-last es e
+
+LeadsTo-more : (es : List Entry) (e : Entry) (s : StepState) (after : BookState) → LeadsTo es s after → LeadsTo (es ++ e ∷ []) s after
+LeadsTo-more es e s after leads =
+    record { entry = leads.entry; stands = slice_get-more es s.place e leads.entry leads.stands; made = leads.made }
+
+-- the books stay where an entry is added
+pub AreSteps-more : (es : List Entry) (e : Entry) (b : BooksState) → AreSteps es b → AreSteps (es ++ e ∷ []) b
+AreSteps-more es e b are = (
+  IfSome_then b.second are.0 (λ s leads. LeadsTo-more es e s b.book leads),
+  IfSome_then b.first are.1 (λ f all. IfSome_then b.second all (λ s leads. LeadsTo-more es e f s.book leads)),
+)
+
+-- they go on to the book after its command
+pub AreSteps-next : (es : List Entry) (e : Entry) (b now : BooksState) (place : ℕ) → length es ≡ place → AreSteps es b
+    → now.book ≡ book_after b.book e.command → now.first ≡ b.second → now.second ≡ Some (record { book = b.book; place = place }) → AreSteps (es ++ e ∷ []) now
+AreSteps-next es e b now place at are made first second =
+    let all = es ++ e ∷ [] in
+    let last : slice_get all place ≡ Some e = subst (λ (n : ℕ). slice_get all n ≡ Some e) at (slice_get-last es e) in
+    let to_now : LeadsTo all (record { book = b.book; place = place }) now.book = record { entry = e; stands = last; made = sym made } in (
+      subst (λ (o : Option StepState). IfSome o (λ s. LeadsTo all s now.book)) (sym second) to_now,
+      subst (λ (o : Option StepState). IfSome o (λ f. IfSome now.second (λ s. LeadsTo all f s.book))) (sym first)
+          (subst (λ (o : Option StepState). IfSome b.second (λ f. IfSome o (λ s. LeadsTo all f s.book))) (sym second)
+          (IfSome_then b.second are.0 (λ s leads. LeadsTo-more es e s b.book leads))),
+    )

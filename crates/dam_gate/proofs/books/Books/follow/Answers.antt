@@ -1,0 +1,13 @@
+use Rattle.std.proofs.Common.{rules}
+use Rattle.std.specs.Arc.{arc_value}
+use Rattle.dam_gate.proofs.Steps.{AreSteps-more, AreSteps-next}
+use Rattle.dam_gate.proofs.books.Books.follow.Goals as goal
+
+pub returns-in-Refused-clause-steps : goal.returns-in-Refused-clause-steps
+returns-in-Refused-clause-steps g c = λ entries at steps. AreSteps-more entries c.args.entry.now c.args.self.now steps
+
+pub returns-clause-steps : goal.returns-clause-steps
+returns-clause-steps g c = λ entries at steps.
+    AreSteps-next entries c.args.entry.now c.args.self.now
+    (record { book = arc_value c.replace.new.dest; first = c.replace-oldest.new.dest; second = c.replace-2.new.dest }) c.args.place at steps
+    (search rules) (search rules) (search rules)
