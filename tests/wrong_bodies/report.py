@@ -20,6 +20,7 @@ GONE = re.compile(r"has no field|is not in scope|has no `")
 RESTS = re.compile(r"was not admitted|rejected, (?:was|were) not checked")
 UNREAD = re.compile(r"is not in scope|has no field|is no name|operand is missing|expected the end|cannot continue")
 WIDTH = 160
+TOO = " (and a proof of the function cites a name that went)"
 
 
 class Error(NamedTuple):
@@ -45,7 +46,9 @@ class Report:
 
     def refusals(self):
         """Returns the functions that are refused for themselves, each with the first of its goals that is not proved."""
-        found, goals, errors = {}, [], self.errors_of_proofs()
+        found, goals = {}, []
+        gone = self.proof_errors(GONE.search)
+        wrong = self.proof_errors(lambda text: not GONE.search(text) and not RESTS.search(text))
         for line in self.lines:
             goal, verdict = GOAL.match(line), VERDICT.match(line)
             if goal:
@@ -53,18 +56,18 @@ class Report:
             elif verdict:
                 name, words = verdict.groups()
                 _, _, path = name.partition("::")
-                if words.startswith("not proved") and path in errors:
-                    goals.append(errors[path])
+                if words.startswith("not proved") and path in wrong:
+                    goals.append(wrong[path])
                 if goals and not words.startswith("proved"):
-                    found.setdefault(function_of(name), goals[0])
+                    found.setdefault(function_of(name), goals[0] + (TOO if path in gone else ""))
                 goals = []
         return found
 
-    def errors_of_proofs(self):
-        """Returns, by the name of the function in its crate, the first error of its proof files that says more than that a name went."""
+    def proof_errors(self, is_meant):
+        """Returns, by the name of the function in its crate, the first error of its proof files whose text is meant."""
         found = {}
         for it in self.errors:
-            if it.path.startswith("proofs/") and not GONE.search(it.text) and not RESTS.search(it.text):
+            if it.path.startswith("proofs/") and is_meant(it.text):
                 # A function that calls itself has the folder +NAME.
                 folder = os.path.dirname(it.path)[len("proofs/") :].replace("/+", "/")
                 found.setdefault(folder.replace("/", "::"), str(it))

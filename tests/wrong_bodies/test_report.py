@@ -35,6 +35,8 @@ crate dam_plan: modules loaded=249 checked=0
 logic=proved functions=6 sum=dac8208d650f15bf native=nat,char,string logic-built=trusted
 """
 
+GOAL = "note: src/stack.rt:90:1: it is not proved that what the function ensures holds when it returns (`returns`)"
+
 ILL = "src/plan.rt:73:9: error[unknown-field]: no field `cuts` on type `Plan`: help: available fields are: `workers`, `cut`, `nodes`\n"
 
 
@@ -60,6 +62,11 @@ class Reports(unittest.TestCase):
 
     def test_a_name_that_went_is_no_refusal(self):
         self.assertNotIn("dam_stack::stack::Stack::all", Report(REFUSED).refusals())
+
+    def test_a_name_that_went_is_told_with_the_goal(self):
+        refused = Report(REFUSED.replace("fn dam_stack::stack::Stack::all", f"{GOAL}\nfn dam_stack::stack::Stack::all")).refusals()
+        self.assertTrue(refused["dam_stack::stack::Stack::all"].endswith("(`returns`) (and a proof of the function cites a name that went)"))
+        self.assertNotIn("went", refused["dam_stack::stack::Stack::low"])
 
     def test_nothing_is_refused_of_a_proved_crate(self):
         self.assertEqual(Report(PROVED).refusals(), {})
