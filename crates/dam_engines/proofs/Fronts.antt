@@ -1,7 +1,7 @@
 -- A text and its front that is one byte longer than a journal may be: where one of them is short enough, they are equal.
 use Rattle.std.proofs.Common.{◌≡◌, ◌≤◌, ℕ, true, min, List, length, take, refl, subst, sym, arith}
 use Rattle.std.proofs.lemmas.List.{take_all, length-take}
-use Rattle.dam_book.specs.Book.{BookState}
+use Rattle.dam_book.specs.Book.{BookState, run}
 use Rattle.dam_blocks.specs.Problem.{problem_of}
 use Rattle.dam_search.specs.Plan.{PlanTerms}
 use Rattle.dam_search.specs.Search.{IsUnfinished}
@@ -81,6 +81,35 @@ book_fault-run plan book (Unfinished piece visited) is = is
 book_fault-run plan book (Collected piece) is = absurd is
 book_fault-run plan book Memory is = tt
 book_fault-run plan book (Write written) is = absurd is
+
+-- the first fault of a text is one that its clearing answers
+pub text_fault-clear : (plan : PlanTerms) (text : List ℕ) (fault : RunFault) → IsTextFault text fault → IsClearTextFault plan text fault
+text_fault-clear plan text Read is = absurd is
+text_fault-clear plan text (Input fault) is = is
+text_fault-clear plan text TooManyCommands is = absurd is
+text_fault-clear plan text (CloseGiven at) is = absurd is
+text_fault-clear plan text (TooManyParticipants at) is = absurd is
+text_fault-clear plan text StillOpen is = absurd is
+text_fault-clear plan text (Mismatch why) is = absurd is
+text_fault-clear plan text (Unfinished piece visited) is = absurd is
+text_fault-clear plan text (Collected piece) is = absurd is
+text_fault-clear plan text Memory is = tt
+text_fault-clear plan text (Write written) is = absurd is
+
+-- what the book of a text's journal is answered, the text is answered
+pub book_fault-text : (plan : PlanTerms) (text : List ℕ) (periods : ℕ) (commands : List Command) (fault : RunFault)
+    → ReadsAs text periods commands → IsBookFault plan (run periods commands) fault → IsClearTextFault plan text fault
+book_fault-text plan text periods commands Read reads is = absurd is
+book_fault-text plan text periods commands (Input fault) reads is = absurd is
+book_fault-text plan text periods commands TooManyCommands reads is = absurd is
+book_fault-text plan text periods commands (CloseGiven at) reads is = absurd is
+book_fault-text plan text periods commands (TooManyParticipants at) reads is = absurd is
+book_fault-text plan text periods commands StillOpen reads is = (periods, commands, reads, is)
+book_fault-text plan text periods commands (Mismatch why) reads is = absurd is
+book_fault-text plan text periods commands (Unfinished piece visited) reads is = (periods, commands, reads, is)
+book_fault-text plan text periods commands (Collected piece) reads is = absurd is
+book_fault-text plan text periods commands Memory reads is = tt
+book_fault-text plan text periods commands (Write written) reads is = absurd is
 
 -- what the search of a closed book's problem answers, the book is answered
 pub search_fault-book : (plan : PlanTerms) (book : BookState) (fault : SearchFault) → book.closed ≡ true
