@@ -16,7 +16,7 @@ use Rattle.dam_book.specs.Quantity.{IsQuantity}
 use Rattle.dam_book.specs.Volumes.{IsVolumes}
 use Rattle.dam_book.specs.Book.{is_day}
 use Rattle.dam_results.specs.Records.{Fields, form_field, day_row, side_word}
-use Rattle.dam_results.specs.Rules.{FieldRule, OneOf, Keeps, word, day_rules, IsLeastBroken, command_rules, form_rules, hour_rules, block_rules, submit_of, submit_rules}
+use Rattle.dam_results.specs.Rules.{FieldRule, OneOf, Keeps, word, day_rules, IsLeastBroken, form_rules, hour_rules, block_rules, submit_of, submit_rules}
 
 -- no day has more periods than the last number of a period
 pub short_day : (periods : ℕ) → is_day periods ≡ true → periods ≤ last_period
@@ -27,11 +27,6 @@ pub one_volume : (period qty : ℕ) → IsPeriod period → IsQuantity qty → I
 one_volume period qty p q =
     let some : nat_lt 0 period ≡ true = lt-ltb 0 period (let h = p.at_least in omega arith) in
     record { nonempty = omega arith; fits = omega arith; ranges = (p, q, tt); increasing = rw some refl }
-
--- a first field that is no kind breaks its rule
-pub unknown_kind : (kind : List ℕ) (others : Fields) → bytes_eq kind (codes "submit") ≡ false → bytes_eq kind (codes "amend") ≡ false → bytes_eq kind (codes "cancel") ≡ false → bytes_eq kind (codes "close") ≡ false
-    → IsLeastBroken (command_rules (kind ∷ others)) (kind ∷ others) 1
-unknown_kind kind others a b c d = rw (a, b, c, d) (λ e. absurd (let g = rw (a, b, c, d) at e in cc))
 
 -- the rules of a submit of each form
 pub hour_broken : (row : Fields) (n : ℕ) → form_field row ≡ codes "hour" → IsLeastBroken (submit_of hour_rules) row n → IsLeastBroken (submit_rules row) row n

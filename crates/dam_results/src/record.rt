@@ -183,10 +183,12 @@ fn read_submit(row: &Row) -> Result<Command, usize>
     requires { row.now.kind.now ≡ codes "submit" }
     ensures { ReadsCommand (submit_rules (fields_in row.now)) row.now result }
 {
-    match row.form {
-        b"hour" => read_hour(row),
-        b"block" => read_block(row),
-        _ => read_no_form(row),
+    if row.form == b"hour".as_slice() {
+        read_hour(row)
+    } else if row.form == b"block".as_slice() {
+        read_block(row)
+    } else {
+        read_no_form(row)
     }
 }
 
@@ -233,11 +235,15 @@ fn read_close(row: &Row) -> Result<Command, usize>
 pub(crate) fn read_command(row: &Row) -> Result<Command, usize>
     ensures { ReadsCommand (command_rules (fields_in row.now)) row.now result }
 {
-    match row.kind {
-        b"submit" => read_submit(row),
-        b"amend" => read_amend(row),
-        b"cancel" => read_cancel(row),
-        b"close" => read_close(row),
-        _ => Err(1),
+    if row.kind == b"submit".as_slice() {
+        read_submit(row)
+    } else if row.kind == b"amend".as_slice() {
+        read_amend(row)
+    } else if row.kind == b"cancel".as_slice() {
+        read_cancel(row)
+    } else if row.kind == b"close".as_slice() {
+        read_close(row)
+    } else {
+        Err(1)
     }
 }
