@@ -87,10 +87,12 @@ fn read_side(field: &[u8]) -> Option<Side>
         (¬ (Keeps (OneOf (codes "buy" ∷ codes "sell" ∷ [])) field.now))
         (λ side. field.now ≡ side_word side) }
 {
-    match field {
-        b"buy" => Some(Side::Buy),
-        b"sell" => Some(Side::Sell),
-        _ => None,
+    if field == b"buy".as_slice() {
+        Some(Side::Buy)
+    } else if field == b"sell".as_slice() {
+        Some(Side::Sell)
+    } else {
+        None
     }
 }
 
