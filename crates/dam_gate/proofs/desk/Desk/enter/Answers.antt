@@ -1,4 +1,4 @@
-use Rattle.std.proofs.Common.{◌≡◌, false, length, sym, ap, ap₂, ◌∙◌}
+use Rattle.std.proofs.Common.{◌≡◌, ℕ, false, length, Result, Ok, Err, OnErr, sym, ap, ap₂, ◌∙◌}
 use Rattle.dam_book.specs.Book.{book_after}
 use Rattle.dam_book.specs.declared.command.Entry.{Entry}
 use Rattle.dam_gate.specs.Journal.{JournalState, is_full, journal_after, next_entry}
@@ -34,5 +34,20 @@ pub returns-clause-passes : goal.returns-clause-passes
 returns-clause-passes g c = ap (λ (d : DeskState). d.passes) c.self.view_is
 
 -- where it is refused, the journal stays
+when_refused : {T E P : Type 0} (r : Result T E) → P → OnErr r P
+when_refused (Ok x) p = tt
+when_refused (Err e) p = p
+
+abbrev with_journal : ℕ → JournalState → DeskState
+with_journal passes journal = record { journal = journal; passes = passes }
+
+pub returns-in_err-place-clause-err : goal.returns-in_err-place-clause-err
+returns-in_err-place-clause-err g c =
+    when_refused c.from_residual-in_err-place.result (ap (with_journal c.self.inside.passes) c.ready.ensures.journal ∙ c.self.view_is)
+
+pub returns-in_err-front-clause-err : goal.returns-in_err-front-clause-err
+returns-in_err-front-clause-err g c =
+    when_refused c.from_residual-in_err-front.result (ap (with_journal c.self.inside.passes) c.ready.ensures.journal ∙ c.self.view_is)
+
 pub invariant_of-self : goal.invariant_of-self
 invariant_of-self g c = c.self.invariant ∙ sym (ap (λ (x : JournalState). x.entries) c.ready.ensures.journal)
