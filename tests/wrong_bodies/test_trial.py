@@ -60,10 +60,10 @@ class Trials(unittest.TestCase):
 
     def tried(self, **how):
         with contextlib.redirect_stdout(io.StringIO()), Stand(self.copy, "toy") as self.trial:
-            results = self.trial.try_all(edits_of(self.crate, ("wrong-bodies",)), **how)
+            results = list(self.trial.try_all(edits_of(self.crate, ("wrong-bodies",)), **how))
         self.assertEqual(read(f"{self.crate}/src/lib.rt"), LIB)
         self.assertFalse(os.path.exists(self.trial.aside))
-        return {name: (is_refused, why.split(":")[0]) for name, (is_refused, why) in results.items()}
+        return {name: (is_refused, why.split(":")[0]) for name, is_refused, why in results}
 
     def test_one_check_refuses_many(self):
         for it in NUMBERS:

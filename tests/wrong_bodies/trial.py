@@ -40,18 +40,22 @@ class Trial:
             os.rename(self.aside, self.out)
 
     def try_all(self, edits, alone=False):
-        """Returns for each edit, by its name, whether the check refuses it, and why."""
-        found = {it.name: (False, f"BAD EDIT: {it.fault}") for it in edits if it.fault}
-        if not alone:
-            for batch in batches_of([it for it in edits if it.bodies and not it.fault]):
-                found.update(self.batch(batch))
+        """Tries the edits. Yields of each, as soon as it is known, its name, whether the check refuses it, and why."""
+        sound = [it for it in edits if not it.fault]
         for it in edits:
-            if it.name not in found:
-                found[it.name] = self.alone(it)
-        return {it.name: found[it.name] for it in edits}
+            if it.fault:
+                yield it.name, False, f"BAD EDIT: {it.fault}"
+        refused = set()
+        for batch in [] if alone else batches_of([it for it in sound if it.bodies]):
+            for name, goal in self.batch(batch).items():
+                refused.add(name)
+                yield name, True, f"refused: {goal}"
+        for it in sound:
+            if it.name not in refused:
+                yield (it.name, *self.alone(it))
 
     def batch(self, edits):
-        """Tries edits of different functions at once. Returns those whose function is refused for itself, by their names, and why."""
+        """Tries edits of different functions at once. Returns, by their names, those whose function is refused for itself, and a goal."""
         self.batches += 1
         texts, names, lines = self.laid_together(edits)
         report = self.check(texts, f"{len(edits)} wrong bodies at once")
@@ -69,7 +73,7 @@ class Trial:
         for it in edits:
             own = [refused[names[key]] for key in it.bodies if names[key] in refused and counts[names[key]] == 1]
             if own:
-                found[it.name] = True, f"refused: {own[0]}"
+                found[it.name] = own[0]
         return found
 
     def batch_without_the_ill(self, edits, lines, report):
