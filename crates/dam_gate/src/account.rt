@@ -9,7 +9,7 @@ use std::marker::Model;
 ///
 /// A contract sees the holder, the number seen and the receipts. The receipts are of the holder's own commands; their
 /// numbers increase, and none is above the number seen.
-#[derive(Drop)]
+#[derive(Debug, Drop)]
 pub struct Account {
     holder: Option<Participant>,
     seen: u32,

@@ -11,7 +11,7 @@ use std::mem::replace;
 use std::sync::Arc;
 
 /// A book, and the place in the journal of the entry whose command changed it.
-#[derive(Drop)]
+#[derive(Debug, Drop)]
 struct Step<A: Allocator> {
     book: Arc<Book<A>, A>,
     place: usize,
@@ -30,7 +30,7 @@ impl<A: Allocator> Model for Step<A> {
 /// nobody shares any more is brought up by the commands that it lacks, which is far quicker than a copy.
 ///
 /// A contract sees the three.
-#[derive(Drop)]
+#[derive(Debug, Drop)]
 pub(crate) struct Books<A: Allocator = Global> {
     first: Option<Step<A>>,
     second: Option<Step<A>>,

@@ -49,7 +49,7 @@ pub enum DayFault {
 }
 
 /// A day that came out settled.
-#[derive(Drop)]
+#[derive(Debug, Drop)]
 pub struct SettledDay {
     pub settled: Settled,
     /// The accounts of the passes through which its commands were entered: the participants', by first occurrence among the

@@ -97,7 +97,7 @@ impl From<dam_book::BeginFault> for BeginFault {
 /// A contract sees the journal, as its entries and the book, and for how many entries more there is room. The entries
 /// are a legal history at every moment, and the book is what their commands make of the empty book. Others may share
 /// the book: a step replaces it.
-#[derive(Drop)]
+#[derive(Debug, Drop)]
 pub struct Keeper<A: Allocator = Global> {
     books: Books<A>,
     entries: Vec<Entry, A>,
@@ -122,7 +122,7 @@ impl<A: Allocator> Model for Keeper<A> {
 }
 
 /// A step of a keeper that can't be refused any more: its entry, and the book after it.
-#[derive(Drop)]
+#[derive(Debug, Drop)]
 pub struct Ready<A: Allocator = Global> {
     entry: Entry,
     book: Arc<Book<A>, A>,
@@ -318,7 +318,7 @@ pub(crate) fn is_full(held: u32, command: &Command) -> bool
 /// What a gate leaves: its entries, and the book that they made.
 ///
 /// A contract sees the entries and the book, as those of a `Keeper`.
-#[derive(Drop)]
+#[derive(Debug, Drop)]
 pub struct Journal<A: Allocator = Global> {
     book: Arc<Book<A>, A>,
     entries: Vec<Entry, A>,

@@ -36,7 +36,7 @@ pub enum Mismatch {
 /// A journal whose entries are the receipts of the passes, each once.
 ///
 /// A contract sees the entries and the book, which is closed.
-#[derive(Drop)]
+#[derive(Debug, Drop)]
 pub struct Settled<A: Allocator = Global> {
     journal: Journal<A>,
 }
@@ -63,7 +63,7 @@ impl<A: Allocator> Settled<A> {
 }
 
 /// A journal that isn't settled with the passes, given back with the reason.
-#[derive(Drop)]
+#[derive(Debug, Drop)]
 pub struct Unsettled<A: Allocator = Global> {
     pub why: Mismatch,
     pub journal: Journal<A>,
