@@ -17,6 +17,7 @@ HEAD = """# Measured figures
 `bench/run` writes this page: a section for each of its parts, with the figures of the last run of that part, on the day and of the
 commit that it names. A figure is the median of runs that take turns. If it compares one thing with another, the details have the
 figure of each. The load says how busy the machine was before: on a busy one a figure says little.
+Sections marked 'before 2026-11-25' were carried over from earlier runs, and name no commit.
 """
 
 

@@ -6,7 +6,7 @@ import unittest
 
 from support import TOP, cases, printed, tool
 
-SCRIPT = TOP / "examples" / "make_auction_day.py"
+SCRIPT = TOP / "examples" / "make_sunny_day.py"
 SUNNY = TOP / "examples" / "sunny-day.csv"
 
 

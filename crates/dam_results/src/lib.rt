@@ -5,7 +5,7 @@
 //! what is published of an eligible selection; `results_text`, `replies_text` and `journal_text` write.
 //!
 //! ```
-//! let book = book_of_text(alloc, text)?;
+//! let book = book_of_text(alloc, Seed::fixed(), text)?;
 //! let problem = Problem::of_book(alloc, &book)?;
 //! let published = results(alloc, &problem, best_of_all(&problem))?;
 //! let text = results_text(alloc, &published)?;
