@@ -18,8 +18,8 @@ def told(entries, refused):
 def run(runs, room, data):
     """Refuses each call for memory in turn: up to some call they are of what comes before the gate, and then of calls at the gate,
     each of which is refused once and then answered."""
+    runs.check("dam_refusals is built", REFUSALS.exists())
     if not REFUSALS.exists():
-        print("dam_refusals wasn't built, so no call at a gate was refused memory")
         return
     program = Program(REFUSALS, room)
     words, entries = [], data.count(b"\n")

@@ -162,6 +162,8 @@ class Runs:
         begun = time.monotonic()
         answer = self.answer(row.words, row.data)
         _, total = self.program.run(row.words, row.data, row.refusal(EVERY))
+        if row.kind == "memory":
+            self.check(f"{row.about}: {total} calls are counted", total > 0)
         numbers = self.numbers(row, total)
         found = list(self.pool.map(lambda number: self.difference(row, answer, number), numbers))
         wrong = [line for line in found if line]
@@ -226,6 +228,13 @@ def is_failed_write(got):
     return line is not None and line[1] == b"0" and got == Printed(judge.MACHINE, b"", got.stderr)
 
 
+def seeds(runs):
+    """Each engine draws one seed. This also shows that calls are counted at all."""
+    for words, data in [(["replay"], AUCTION), (["clear"], AUCTION), (["day"], OPEN_AUCTION)]:
+        _, asked = runs.program.run(words, data, Refusal("random"))
+        runs.check(f"{words[0]} asks for random bytes {asked} times, and not once", asked == 1)
+
+
 def main():
     room, program, *rest = sys.argv[1:]
     if rest not in ([], ["--all"]):
@@ -237,6 +246,7 @@ def main():
     runs.run_rows("reads and writes that fail", device_rows())
     devices(runs)
     gates.run(runs, room, OPEN_AUCTION)
+    seeds(runs)
     skipped = 0
     if shutil.which("valgrind"):
         colliding.run(runs)
