@@ -101,7 +101,8 @@ fn go_on<J: Naming>(
     ready: &Ready,
     place: &Place<J>,
 ) -> Result<Front<J>, GateFault>
-    requires { IsJournal (record { entries = front.now ++ ready.now.entry ∷ []; book = ready.now.book }) }
+    requires { IsJournal
+        (record { entries = front.now ++ ready.now.entry ∷ []; book = ready.now.book }) }
     ensures history { IfOk result (λ after. after ≡ front.now ++ ready.now.entry ∷ []) }
     ensures seen { OnOk result (IsPrefix seen.now front.now) }
     ensures told { OnOk result (IsPrefix told.now front.now) }
