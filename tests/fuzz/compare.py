@@ -82,8 +82,9 @@ def reading(data):
         return fault
 
 
+@functools.lru_cache(maxsize=1)
 def wanted(command, data):
-    """What a command must print of an input; None where that takes too long."""
+    """What a command must print of an input; None if that takes too long. The last answer is kept, for several plans."""
     read = reading(data)
     if isinstance(read, journal.Fault):
         return refused(read)
