@@ -1,4 +1,4 @@
-"""The pages: that their links lead somewhere, that a table can be read, and that README's first example is printed."""
+"""The pages: that links lead somewhere, that lines and cells can be read, and that README's first example is printed."""
 
 import re
 import unittest
@@ -8,9 +8,10 @@ from support import TOP, cases, printed
 PAGES = [TOP / "README.md", TOP / "CHANGELOG.md", *sorted((TOP / "docs").glob("*.md"))]
 LINK = re.compile(r"\]\(([^)#\s]*)(?:#([^)\s]*))?\)")
 FENCE = re.compile(r"^```.*?^```$", re.MULTILINE | re.DOTALL)
-# Pages that are reference tables, and the one that bench/run writes.
-WIDE = {"DEFINITIONS.md", "FORMATS.md", "MEASURED.md"}
 MOST = 200  # characters of a cell
+WIDEST = 140  # columns of a line that isn't of a table
+# What the house rule of English has other words for, apart from the table of that rule.
+OTHER_WORDS = re.compile(r"\b(anew|beside|dear|so many|want of|whoever)\b", re.IGNORECASE)
 EXAMPLE = re.compile(r"^```text\n(day,24\nwelfare.*?)^```$", re.MULTILINE | re.DOTALL)
 
 
@@ -37,10 +38,24 @@ class Pages(unittest.TestCase):
     def test_cells_of_tables_are_short(self):
         for page in PAGES:
             for line in prose(page).splitlines():
-                if page.name not in WIDE and line.startswith("|"):
+                if line.startswith("|"):
                     for cell in line.strip("|").split("|"):
                         with self.subTest(page=page.name, cell=cell[:40]):
                             self.assertLessEqual(len(cell.strip()), MOST)
+
+    def test_lines_are_not_too_wide(self):
+        for page in PAGES:
+            for line in page.read_text().splitlines():
+                if not line.startswith("|"):
+                    with self.subTest(page=page.name, line=line[:40]):
+                        self.assertLessEqual(len(line), WIDEST)
+
+    def test_words_of_the_house_rule(self):
+        for page in PAGES:
+            for line in page.read_text().splitlines():
+                if not (page.name == "CONTRIBUTING.md" and line.startswith("|")):
+                    with self.subTest(page=page.name, line=line[:40]):
+                        self.assertIsNone(OTHER_WORDS.search(line))
 
     def test_the_first_example_is_printed(self):
         case = next(case for case in cases("clear") if case.stem == "auction-day")
