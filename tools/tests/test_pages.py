@@ -58,12 +58,12 @@ class Pages(unittest.TestCase):
                         self.assertIsNone(OTHER_WORDS.search(line))
 
     def test_the_first_example_is_printed(self):
-        case = next(case for case in cases("clear") if case.stem == "auction-day")
+        (case,) = cases("clear-merit-order")
         lines = printed(case).decode().splitlines()
         quoted = [line.split("  ")[0] for line in EXAMPLE.search((TOP / "README.md").read_text())[1].splitlines() if line != ".."]
         self.assertGreater(len(quoted), 4)
         self.assertEqual(quoted, [line for line in lines if line in quoted])
-        self.assertEqual(case.read_bytes(), (TOP / "examples" / "auction-day.csv").read_bytes())
+        self.assertEqual(case.read_bytes(), (TOP / "examples" / "sunny-day.csv").read_bytes())
 
 
 if __name__ == "__main__":
