@@ -3,7 +3,7 @@
 import re
 import unittest
 
-from support import TOP, cases, printed
+from support import TOP, book, cases, journal, printed
 
 PAGES = [TOP / "README.md", TOP / "CHANGELOG.md", *sorted((TOP / "docs").glob("*.md"))]
 LINK = re.compile(r"\]\(([^)#\s]*)(?:#([^)\s]*))?\)")
@@ -64,6 +64,12 @@ class Pages(unittest.TestCase):
         self.assertGreater(len(quoted), 4)
         self.assertEqual(quoted, [line for line in lines if line in quoted])
         self.assertEqual(case.read_bytes(), (TOP / "examples" / "sunny-day.csv").read_bytes())
+
+    def test_the_refused_commands_are_refused(self):
+        text = (TOP / "docs" / "USING.md").read_text()
+        quoted = re.search(r"replay < examples/(\S+) \| grep refused\n```\n\n```text\n(.*?)```", text, re.DOTALL)
+        read = journal.read_journal((TOP / "examples" / quoted[1]).read_bytes())
+        self.assertEqual(quoted[2].splitlines(), [line for line in book.replies_text(read).splitlines() if "refused" in line])
 
 
 if __name__ == "__main__":
