@@ -3,7 +3,7 @@
 import re
 import unittest
 
-from support import TOP, book, cases, journal, printed
+from support import TOP, book, cases, journal, printed, tool
 
 PAGES = [TOP / "README.md", TOP / "CHANGELOG.md", *sorted((TOP / "docs").glob("*.md"))]
 LINK = re.compile(r"\]\(([^)#\s]*)(?:#([^)\s]*))?\)")
@@ -43,6 +43,12 @@ class Pages(unittest.TestCase):
                         with self.subTest(page=page.name, cell=cell[:40]):
                             self.assertLessEqual(len(cell.strip()), MOST)
 
+    def test_tables_have_a_head(self):
+        for page in PAGES:
+            for table in re.findall(r"(?:^\|.*\n)+", prose(page), re.MULTILINE):
+                with self.subTest(page=page.name, table=table[:40]):
+                    self.assertRegex(table, r"\A\|.*\n\|[-|]+\n\|")
+
     def test_lines_are_not_too_wide(self):
         for page in PAGES:
             for line in page.read_text().splitlines():
@@ -64,6 +70,13 @@ class Pages(unittest.TestCase):
         self.assertGreater(len(quoted), 4)
         self.assertEqual(quoted, [line for line in lines if line in quoted])
         self.assertEqual(case.read_bytes(), (TOP / "examples" / "sunny-day.csv").read_bytes())
+
+    def test_the_table_of_orders_makes_a_journal(self):
+        table = re.search(r"```text\n(participant,order,.*?)```", (TOP / "docs" / "USING.md").read_text(), re.DOTALL)[1]
+        status, made, said = tool("table", "--journal", "-", data=table.encode())
+        self.assertEqual((status, said), (0, ""))
+        _, reasons = book.run(journal.read_journal(made))
+        self.assertEqual(reasons, [None] * len(table.splitlines()))
 
     def test_the_refused_commands_are_refused(self):
         text = (TOP / "docs" / "USING.md").read_text()
