@@ -13,6 +13,8 @@ DAM = "../crates/dam_cli/out/dam_cli"
 MEASURES = "out/measures"
 BASELINE = "out/baseline"
 TWIN = "out/twin"
+# A program that was built before, which takes turns with `dam`; none if it isn't named.
+BEFORE = os.environ.get("BEFORE")
 PART = os.path.basename(sys.argv[0]).partition(".")[0]
 FIGURES = f"out/{PART}.tsv"
 TIME = "/usr/bin/time"

@@ -317,7 +317,9 @@ impl Walk<'_> {
             self.leaf(day, accepted);
             return;
         }
-        for accept in [false, true] {
+        // if no completion has more than the greatest, only the order of ties counts, in which 'accepted' comes first
+        let first = day.total == self.greatest();
+        for accept in [first, !first] {
             if accept && !self.relaxed.admits(accepted, depth) {
                 continue;
             }

@@ -11,15 +11,20 @@ from pathlib import Path
 import support
 
 
+def fake_program(folder, name, setting=""):
+    """A program in a folder that runs the stand-in, with a setting of its environment."""
+    program = Path(folder, name)
+    fake = support.TOOLS / "tests" / "fake_dam.py"
+    program.write_text(f'#!/bin/sh\n{setting} PYTHONPATH="{fake.parent}" exec "{sys.executable}" "{fake}" "$@"\n')
+    program.chmod(0o755)
+    return program
+
+
 class Fuzz(unittest.TestCase):
     def fuzz(self, *words, defect=""):
         """A run of the fuzzer: its status and output, and the cases that it kept, as their inputs."""
         with tempfile.TemporaryDirectory() as folder:
-            program = Path(folder, "dam")
-            fake = support.TOOLS / "tests" / "fake_dam.py"
-            program.write_text(f'#!/bin/sh\nPYTHONPATH="{fake.parent}" exec "{sys.executable}" "{fake}" "$@"\n')
-            program.chmod(0o755)
-            found = Path(folder, "found")
+            program, found = fake_program(folder, "dam"), Path(folder, "found")
             run = [sys.executable, support.TOP / "tests" / "fuzz" / "run", program, "--keep", found, "--tries", "60", *words]
             ran = subprocess.run(run, capture_output=True, text=True, env={**os.environ, "DAM_DEFECT": defect})
             kept = [path.read_bytes() for path in sorted(found.glob("*.csv"))] if found.is_dir() else []
@@ -48,6 +53,14 @@ class Fuzz(unittest.TestCase):
     def test_a_day_in_another_order_is_found(self):
         status, out, _ = self.fuzz("--count", "3", "--seed", "c", "--commands", "day", defect="order")
         self.assertEqual((status, "in their order" in out), (1, True))
+
+    def test_a_program_is_compared_with_another(self):
+        words = ["--count", "6", "--seed", "a", "--commands", "clear"]
+        with tempfile.TemporaryDirectory() as folder:
+            same, wrong = fake_program(folder, "same"), fake_program(folder, "wrong", "DAM_DEFECT=price")
+            self.assertEqual(self.fuzz(*words, "--like", str(same)), (0, "6 passed, 0 failed\n", []))
+            status, out, kept = self.fuzz(*words, "--like", str(wrong))
+        self.assertEqual((status, "stdout differs" in out, b"" in kept), (1, True, False), out)
 
     def test_a_program_that_takes_too_long_is_ended_and_its_input_kept(self):
         words = ["--count", "1", "--wait", "1", "--seed", "check", "--commands", "replay"]

@@ -112,7 +112,7 @@ block_more : (k : Key) (o : Order) (bs : List Block) → length (cons_option (bl
 block_more k (Hour o) bs = omega arith
 block_more k (BlockVariant o) bs = omega arith
 
-few_blocks : (rows : List Row) → length (blocks_in rows) ≤ block_count rows
+pub few_blocks : (rows : List Row) → length (blocks_in rows) ≤ block_count rows
 few_blocks [] = omega arith
 few_blocks (r ∷ rs) = let here = block_more r.0 r.1 (blocks_in rs) in let rest = few_blocks rs in let sum = block_count-cons r rs in omega (arith, here, rest, sum)
 

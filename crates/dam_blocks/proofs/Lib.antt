@@ -7,7 +7,6 @@ pub mod Choices
 pub mod PricesUnique
 pub mod EmptySelection
 pub mod RunningSums
-pub mod OtherBlocks
 pub mod PeriodByPeriod
 pub mod Readers
 pub mod Verdicts
@@ -17,3 +16,4 @@ pub mod Deciding
 pub mod AdmissionDecided
 pub mod Fronts
 pub mod ResultExists
+pub mod Hindering

@@ -1,3 +1,4 @@
 -- What only contracts inside this crate cite.
 pub mod Making
 pub mod Better
+pub mod Hindrances

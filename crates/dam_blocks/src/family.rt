@@ -5,9 +5,6 @@ ghost use Rattle.dam_blocks.specs.Family.{names, parent_place, descends};
 use crate::problem::Block;
 
 /// Whether `parent` is the block that `child` names as its parent, a name of the same participant.
-///
-/// A search asks it of each pair of blocks at most of its nodes.
-#[inline(always)]
 pub(crate) fn is_parent(parent: &Block, child: &Block) -> bool
     ensures test { result ≡ names parent.now child.now }
     ensures relation { IsTrue result ↔ IsParent parent.now child.now }

@@ -25,6 +25,7 @@
 mod accepted;
 mod family;
 mod gain;
+mod hindrances;
 pub mod laws;
 mod links;
 mod problem;

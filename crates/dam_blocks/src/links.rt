@@ -2,6 +2,7 @@ ghost use Rattle.std.specs.Prelude.{◌≡◌, ◌↔◌, true, IsTrue};
 ghost use Rattle.dam_blocks.specs.Selection.{accepts, AreOfOneGroup, Permits, IsAllowed, IsAdmissible};
 
 use crate::family::is_parent;
+use crate::hindrances::decides_any;
 use crate::problem::{Block, Problem};
 use crate::selection::Selection;
 use dam_book::MOST_BLOCKS;
@@ -17,9 +18,9 @@ fn are_of_one_group(first: &Block, second: &Block) -> bool
     }
 }
 
-/// Whether a block lets another be accepted: where it is accepted itself it isn't of its group, and
-/// else it isn't its parent.
-fn permits(other: &Block, is_accepted: bool, block: &Block) -> bool
+/// Whether a block lets another be accepted: if it is accepted itself, it isn't of its group, and else it
+/// isn't its parent.
+pub(crate) fn permits(other: &Block, is_accepted: bool, block: &Block) -> bool
     ensures { IsTrue result ↔ Permits other.now is_accepted block.now }
 {
     if is_accepted {
@@ -30,21 +31,19 @@ fn permits(other: &Block, is_accepted: bool, block: &Block) -> bool
 }
 
 /// Whether the place, which the selection accepts, is a block's that it accepts the parent of, and no
-/// other block of its group. A selection is admissible where each of its places is allowed.
+/// other block of its group. A selection is admissible if each of its places is allowed.
+///
+/// It looks only at the parent and the others of the group, by their places: a search asks it at most of its
+/// nodes.
 pub fn is_allowed<A: Allocator>(problem: &Problem<A>, selection: Selection, place: usize) -> bool
     requires { accepts selection place ≡ true }
     ensures { IsTrue result ↔ IsAllowed problem.now.blocks selection place }
 {
-    let blocks = problem.blocks();
-    let Some(block) = blocks.get(place) else {
+    let Some(hindrances) = problem.hindrances(place) else {
         return false;
     };
-    for (at, other) in blocks.iter().enumerate() {
-        if at != place && !permits(other, selection.has(at), block) {
-            return false;
-        }
-    }
-    true
+    !decides_any(selection, hindrances.parents.as_slice(), false)
+        && !decides_any(selection, hindrances.rivals.as_slice(), true)
 }
 
 /// Whether the links and the exclusive groups admit the selection: it accepts blocks of the problem

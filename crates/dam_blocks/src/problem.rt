@@ -1,10 +1,12 @@
-ghost use Rattle.std.specs.Prelude.{◌≡◌, ◌-◌, ◌↔◌, true, false, length, slice_get, option_map, IfOk, IfSome, IsErrOf};
+ghost use Rattle.std.specs.Prelude.{◌≡◌, ◌<◌, ◌≤◌, ◌-◌, ◌↔◌, true, false, length, slice_get, option_map, IfOk, IfSome, IfNone, IsErrOf};
 ghost use Rattle.std.specs.Option.{option_copied};
 ghost use Rattle.dam_book.specs.Terms.{IsBlockOrder};
 ghost use Rattle.dam_book.specs.Volumes.{have_beyond};
 ghost use Rattle.dam_hour.specs.Execution.{IsHour};
 ghost use Rattle.dam_blocks.specs.Problem.{IsProblem, problem_of};
+ghost use Rattle.dam_blocks.specs.inside.Hindrances.{AreHindrances};
 
+use crate::hindrances::{Hindrances, all_hindrances};
 use crate::rows::{hours_of, lists_of};
 use dam_book::{BlockOrder, Book, LAST_PERIOD, Name, Participant, Period};
 use dam_hour::{Hour, Step};
@@ -98,10 +100,13 @@ pub struct Problem<A: Allocator = Global> {
     hours: Vec<Hour<A>, A>,
     blocks: Vec<Block, A>,
     rows: Vec<ProblemRow, A>,
+    /// Those of each block, so that no search looks for them by names.
+    hindrances: Vec<Hindrances, A>,
 }
 
 impl<A: Allocator> Model for Problem<A> {
     ghost use Rattle.dam_blocks.specs.Problem.{ProblemState, IsProblem};
+    ghost use Rattle.dam_blocks.specs.inside.Hindrances.{AreAllHindrances};
 
     ghost Value = { ProblemState };
 
@@ -115,7 +120,7 @@ impl<A: Allocator> Model for Problem<A> {
       hours = p.hours.items;
       blocks = p.blocks.items;
       rows = p.rows.items;
-    }) };
+    }) × AreAllHindrances p.blocks.items p.hindrances.items };
 }
 
 impl<A: Allocator + Copy> Problem<A> {
@@ -135,6 +140,7 @@ impl<A: Allocator + Copy> Problem<A> {
         let lists = lists_of(alloc, book)?;
         Ok(Problem {
             hours: hours_of(alloc, &lists.hourly, periods)?,
+            hindrances: all_hindrances(alloc, &lists.blocks)?,
             blocks: lists.blocks,
             rows: lists.rows,
         })
@@ -203,6 +209,16 @@ impl<A: Allocator> Problem<A> {
         ensures valid { IsProblem self.now }
     {
         self.blocks.as_slice()
+    }
+
+    /// What may keep the block at a place from being accepted; `None` past the last.
+    pub(crate) fn hindrances(&self, place: usize) -> Option<&Hindrances>
+        ensures valid { IsProblem self.now }
+        ensures none { IfNone result (length self.now.blocks ≤ place) }
+        ensures some { IfSome result (λ hindrances. (place < length self.now.blocks)
+            × AreHindrances self.now.blocks place hindrances.now) }
+    {
+        self.hindrances.get(place)
     }
 
     /// Every order of the book in book order, and where it stands in the problem.

@@ -1,5 +1,5 @@
 -- One block more that a selection accepts: what admits the selection looks at that block alone.
-use Rattle.std.proofs.Common.{◌≡◌, ◌≢◌, ℕ, zero, suc, ◌-◌, ◌<◌, inl, inr, Bool, true, false, List, [], ◌∷◌, ◌++◌, length, length-append, replicate, set, take, slice_get, Some, ◌∙◌, ap, ap₂, sym, subst, refl, arith}
+use Rattle.std.proofs.Common.{◌≡◌, ◌≢◌, ℕ, zero, suc, ◌-◌, ◌<◌, inl, inr, Bool, true, false, List, [], ◌∷◌, ◌++◌, length, length-append, replicate, set, take, slice_get, Some, ◌∙◌, ap, sym, subst, refl, arith}
 use Rattle.std.proofs.lemmas.Bool.{cases_eq}
 use Rattle.std.proofs.lemmas.List.{get_or-set_same, get_or-set_other, length-replicate, length-take-le}
 use Rattle.dam_book.specs.Limits.{most_blocks}
@@ -67,19 +67,6 @@ accepts_none (suc n) (suc i) = accepts_none n i
 pub none_admissible : (blocks : List Block) → IsAdmissible blocks (padded [])
 none_admissible blocks = record { each = λ i acc. absurd (let e = accepts_none most_blocks i in cc) }
 
-tails : (x y : Bool) (xs ys : List Bool) → x ∷ xs ≡ y ∷ ys → xs ≡ ys
-tails x y xs ys e = cc
-
--- a list with a last decision, and what stands before that
-pub front_is : (xs ys : List Bool) (a b : Bool) → xs ++ a ∷ [] ≡ ys ++ b ∷ [] → xs ≡ ys
-front_is [] [] a b e = refl
-front_is [] (y ∷ ys) a b e = absurd (omega (arith, ap (λ (zs : List Bool). length zs) e, length-append ys (b ∷ [])))
-front_is (x ∷ xs) [] a b e = absurd (omega (arith, ap (λ (zs : List Bool). length zs) e, length-append xs (a ∷ [])))
-front_is (x ∷ xs) (y ∷ ys) a b e = ap₂ (λ (z : Bool) (zs : List Bool). z ∷ zs) (heads x y _ _ e) (front_is xs ys a b (tails x y _ _ e))
-  where
-    heads : (x y : Bool) (xs ys : List Bool) → x ∷ xs ≡ y ∷ ys → x ≡ y
-    heads x y xs ys e = cc
-
 split_last : (p rest : List Bool) (n : ℕ) → length p ≡ suc n → p ≡ take n p ++ accepts (p ++ rest) n ∷ []
 split_last [] rest n h = absurd (omega (arith, h))
 split_last (x ∷ []) rest zero h = refl
@@ -111,8 +98,3 @@ accepted_last blocks p taken n long few is e front allowed =
     let here : IsAllowed blocks (padded (take n p ++ true ∷ [])) n = subst (λ (xs : List Bool). IsAllowed blocks xs n) (is ∙ ap padded whole) allowed in
     subst (λ (xs : List Bool). IsAdmissible blocks (padded xs)) (sym whole)
     (still_admissible blocks (take n p) (omega (arith, far, few)) (front (take n p) true whole) (subst (λ (k : ℕ). IsAllowed blocks (padded (take n p ++ true ∷ [])) k) (sym far) here))
-
--- the front of an extension is the prefix that it extends
-pub extension_front : (blocks : List Block) (prefix kept next : List Bool) (accept : Bool) → next ≡ kept ++ accept ∷ [] → kept ≡ prefix → IsAdmissible blocks (padded prefix) → IsFrontAdmitted blocks next
-extension_front blocks prefix kept next accept e f admissible front last g =
-    subst (λ (xs : List Bool). IsAdmissible blocks (padded xs)) (sym f ∙ front_is kept front accept last (sym e ∙ g)) admissible

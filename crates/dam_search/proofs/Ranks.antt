@@ -1,5 +1,5 @@
 -- The order of selections, and what is found as it rises.
-use Rattle.std.proofs.Common.{◌≡◌, ℕ, ◌≤◌, ◌<◌, ◌⊎◌, inl, inr, ℤ, pos, Bool, true, false, Option, Some, None, List, [], ◌∷◌, ◌++◌, length, append_assoc, ◌∙◌, sym, subst, refl, arith}
+use Rattle.std.proofs.Common.{◌≡◌, ℕ, ◌≤◌, ◌<◌, ◌⊎◌, inl, inr, ℤ, pos, Bool, true, false, not, Option, Some, None, List, [], ◌∷◌, ◌++◌, length, append_assoc, ◌∙◌, sym, subst, refl, arith}
 use Rattle.std.proofs.lemmas.Int.{ints}
 use Rattle.dam_book.specs.Limits.{most_blocks}
 use Rattle.dam_blocks.specs.declared.selection.Best.{Best}
@@ -112,13 +112,18 @@ covers_rises problem prefix a b read next through find find' covers h more sel w
       | inr m ↦ inr (matched_rises w sel a b through e.as_long (long_find problem [] a find) (long_find problem [] b find') m h)
     ]
 
-pub covers_both : (problem : ProblemState) (prefix : List Bool) (a b c : Option Best) (read next : ℕ) → IsTransitive → AreExtended → length prefix < most_blocks → IsFind problem [] a
-    → Finds problem (prefix ++ false ∷ []) a b → Covers problem (prefix ++ false ∷ []) b read
-    → Finds problem (prefix ++ true ∷ []) b c → Covers problem (prefix ++ true ∷ []) c next → read ≤ next → Covers problem prefix c next
-covers_both problem prefix a b c read next through extended few find f first g second more sel w whole e =
-    let find_b = found_after problem (prefix ++ false ∷ []) a b find f in
-    let find_c = found_after problem (prefix ++ true ∷ []) b c find_b g in
-    elim (extended prefix sel few whole) [
-      | inl accepted ↦ second sel w accepted e
-      | inr rejected ↦ covers_rises problem (prefix ++ false ∷ []) b c read next through find_b find_c first g.rises more sel w rejected e
+-- of the two extensions, in either order
+extended_by : (first : Bool) (prefix sel : List Bool) → AreExtended → length prefix < most_blocks → IsCompletion prefix sel → IsCompletion (prefix ++ first ∷ []) sel ⊎ IsCompletion (prefix ++ not first ∷ []) sel
+extended_by true prefix sel extended few whole = extended prefix sel few whole
+extended_by false prefix sel extended few whole = elim (extended prefix sel few whole) [ inl accepted ↦ inr accepted | inr rejected ↦ inl rejected ]
+
+pub covers_both : (problem : ProblemState) (prefix : List Bool) (first : Bool) (a b c : Option Best) (read next : ℕ) → IsTransitive → AreExtended → length prefix < most_blocks → IsFind problem [] a
+    → Finds problem (prefix ++ first ∷ []) a b → Covers problem (prefix ++ first ∷ []) b read
+    → Finds problem (prefix ++ not first ∷ []) b c → Covers problem (prefix ++ not first ∷ []) c next → read ≤ next → Covers problem prefix c next
+covers_both problem prefix first a b c read next through extended few find f covers g covers' more sel w whole e =
+    let find_b = found_after problem (prefix ++ first ∷ []) a b find f in
+    let find_c = found_after problem (prefix ++ not first ∷ []) b c find_b g in
+    elim (extended_by first prefix sel extended few whole) [
+      | inl one ↦ covers_rises problem (prefix ++ first ∷ []) b c read next through find_b find_c covers g.rises more sel w one e
+      | inr other ↦ covers' sel w other e
     ]

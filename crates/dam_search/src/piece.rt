@@ -1,5 +1,5 @@
 ghost use Rattle.std.specs.Prelude.{◌≡◌, ◌⊎◌, ◌+◌, ◌-◌, ◌^◌, ◌<◌, ◌≤◌, max, ℤ, pos, ◌<ℤ◌, ◌≤ℤ◌, true, false, Some, None};
-ghost use Rattle.std.specs.Prelude.{Option, List, Bool, [], ◌∷◌, ◌++◌, length, MatchBool, IfSome, IfNone};
+ghost use Rattle.std.specs.Prelude.{Option, List, Bool, [], ◌∷◌, ◌++◌, length, IsTrue, ◌↔◌, MatchBool, IfSome, IfNone};
 ghost use Rattle.dam_blocks.specs.Selection.{choice, padded, IsAdmissible};
 ghost use Rattle.dam_blocks.specs.Eligible.{IsEligible};
 ghost use Rattle.dam_bound.specs.Prefix.{IsCompletion};
@@ -109,14 +109,24 @@ fn try_selection<A: Allocator, B: Allocator, I: Incumbent>(
     incumbent.offer(welfare);
 }
 
+/// Whether the bound is the value.
+fn equals(bound: i64, value: u64) -> bool
+    ensures { IsTrue result ↔ (bound ≡ pos value) }
+{
+    bound >= 0 && bound as u64 == value
+}
+
 /// Visits the prefix, which the links and the groups admit, and what extends it, as far as the limit on
 /// nodes allows; whether no node is left.
 ///
 /// A prefix whose bound is less than what was read is passed over after its own visit. 'Rejected' is
-/// explored before 'accepted', which finds good selections sooner; where the links and the groups don't
-/// admit the next block, that is passed over without a visit, and no day is made of it. An extension's
-/// day is made no further than until its bound is under what was read: it isn't `bounded` then. Days are made
-/// in `below`, one for each undecided block.
+/// explored before 'accepted', which finds good selections sooner. If the bound equals what was read, no
+/// completion has more welfare than that, and only the order of ties counts: 'accepted' comes first in
+/// it, and is explored first. Days are made in `below`, one for each undecided block.
+///
+/// It is inlined into `decide`, so that the walk is one function that calls itself.
+#[cycle(explore)]
+#[inline(always)]
 fn explore<A: Allocator, B: Allocator, I: Incumbent>(
     problem: &Problem<A>,
     relaxed: &Relaxed<B>,
@@ -163,42 +173,67 @@ fn explore<A: Allocator, B: Allocator, I: Incumbent>(
     let Some(open) = prefix.opened(day, bounded, found.read) else {
         return true;
     };
-    let Some((next, below)) = below.split_first_mut() else {
-        unreachable!();
-    };
-    let place = open.depth();
-    let rejected = open.extended(false);
-    relaxed.copy_day(day, next);
-    let bounded_without = relaxed.extend(next, place, false, found.read);
-    if !explore(
-        problem,
-        relaxed,
-        nodes,
-        rejected,
-        next,
-        bounded_without,
-        below,
-        incumbent,
-        found,
+    let first = equals(day.total, found.read);
+    if !decide(
+        problem, relaxed, nodes, &open, first, day, below, incumbent, found,
     ) {
         return false;
     }
-    let accepted = open.extended(true);
-    if !accepted.is_still_admissible(problem) {
+    decide(
+        problem, relaxed, nodes, &open, !first, day, below, incumbent, found,
+    )
+}
+
+/// Explores the extension of a prefix by this decision on the next block, as `explore` does.
+///
+/// If the links and the groups don't admit it, it is passed over without a visit, and no day is made of
+/// it. Its day is made no further than until its bound is under what was read: it isn't `bounded` then.
+#[cycle(explore)]
+fn decide<A: Allocator, B: Allocator, I: Incumbent>(
+    problem: &Problem<A>,
+    relaxed: &Relaxed<B>,
+    nodes: u32,
+    prefix: &Prefix,
+    accept: bool,
+    day: &Day,
+    below: &mut [Day],
+    incumbent: &mut I,
+    found: &mut Found,
+) -> bool
+    requires same { relaxed.now ≡ without_rows problem.now }
+    requires depth { length prefix.now < length problem.now.blocks }
+    requires day { IsDay relaxed.now prefix.now day.now }
+    requires admissible { IsAdmissible problem.now.blocks (padded prefix.now) }
+    requires days { length problem.now.blocks ≤ length prefix.now + length below.old }
+    requires room { found.old.visited ≤ nodes }
+    requires read { found.old.read ≤ I.told incumbent.old }
+    requires best { IsFind problem.now [] found.old.best }
+    requires offered { welfare_found found.old.best ≤ I.top incumbent.old }
+    ensures finds { Finds problem.now (prefix.now ++ accept ∷ []) found.old.best found.new.best }
+    ensures covers { result ≡ true
+        → Covers problem.now (prefix.now ++ accept ∷ []) found.new.best found.new.read }
+    ensures spends { Spends problem.now (prefix.now ++ accept ∷ [])
+        (length problem.now.blocks - length (prefix.now ++ accept ∷ []))
+        (I.told incumbent.old) nodes found.old.visited found.new.visited result }
+    ensures reads { Reads (length problem.now.blocks - length (prefix.now ++ accept ∷ []))
+        found.old.visited found.new.visited found.old.read found.new.read
+        (I.told incumbent.old) (I.told incumbent.new) }
+    ensures offered { I.top incumbent.new
+        ≡ max (I.top incumbent.old) (welfare_found found.new.best) }
+    ensures kept { I.kept incumbent.new ≡ I.kept incumbent.old }
+{
+    let _kept = problem.periods(); // for the proof: what every problem keeps
+    let Some((next, below)) = below.split_first_mut() else {
+        unreachable!();
+    };
+    let extended = prefix.extended(accept);
+    if accept && !extended.is_still_admissible(problem) {
         return true;
     }
     relaxed.copy_day(day, next);
-    let bounded_with = relaxed.extend(next, place, true, found.read);
+    let bounded = relaxed.extend(next, prefix.depth(), accept, found.read);
     explore(
-        problem,
-        relaxed,
-        nodes,
-        accepted,
-        next,
-        bounded_with,
-        below,
-        incumbent,
-        found,
+        problem, relaxed, nodes, extended, next, bounded, below, incumbent, found,
     )
 }
 

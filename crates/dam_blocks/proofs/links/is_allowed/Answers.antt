@@ -1,25 +1,16 @@
--- A block more, and all of them.
-use Rattle.std.proofs.Common.{Bool, subst, arith, rules}
-use Rattle.std.proofs.lemmas.Grind.{common_steps}
-use Rattle.std.proofs.lemmas.Option.{slice_get_read, gets}
-use Rattle.dam_blocks.specs.Selection.{Permits}
-use Rattle.dam_blocks.proofs.OtherBlocks.{permitting_more, permitting_all}
+-- Neither its parent is rejected nor another of its group accepted.
+use Rattle.dam_blocks.proofs.Hindering.{refused_by, allowed_unless}
 use Rattle.dam_blocks.proofs.links.is_allowed.Goals as goal
-use Rattle.dam_blocks.proofs.links.is_allowed.Goals.{else-at-place-via-then-at-place+else-not-permits, else-at-place-via-else-at-place}
 
-pub loop-at-preserved : goal.loop-at-preserved
-loop-at-preserved g c =
-    permitting_more _ _ _ _ _ c.index-blocks-at.result c.loop-at.invariant
-    (slice_get_read _ _ _ _ (search rules) c.loop-at-test.true c.index-blocks-at.is)
-    (elim c.else-at-place.branch [
-      | else-at-place-via-then-at-place+else-not-permits w ↦
-          λ apart. subst (λ (b : Bool). Permits c.index-blocks-at.result b c.in-Some.block.now) w.has.ensures.value (w.if-not-permits.ensures.0 (search rules))
-      | else-at-place-via-else-at-place w ↦ λ apart. absurd (apart w.if-at-place.false)
-    ])
+pub returns-then-not-decides_any : goal.returns-then-not-decides_any
+returns-then-not-decides_any g c =
+    let parents = c.as_slice.result.now in let rivals = c.as_slice-then-not-decides_any.result.now in
+    let found = c.decides_any-then-not-decides_any in
+    allowed_unless c.args.problem.now.blocks c.args.selection c.args.place c.in-Some.hindrances.now parents rivals found.result
+    c.in-Some.ensures.some.0 c.in-Some.ensures.some.1 c.as_slice.ensures.value c.as_slice-then-not-decides_any.ensures.value
+    (c.decides_any.ensures.none c.if-not-decides_any.true) found.ensures.any found.ensures.none
 
-pub returns : goal.returns
-returns g c = (
-  λ t. permitting_all _ _ _ _ c.in-Some.block.now _ c.blocks-blocks.ensures.value c.loop-at-test.false
-      (grind (arith, common_steps, gets, c.in-Some.ensures.lookup)) c.loop-at.invariant,
-  λ allowed. search rules,
-)
+pub returns-else-not-decides_any : goal.returns-else-not-decides_any
+returns-else-not-decides_any g c =
+    refused_by c.args.problem.now.blocks c.args.selection c.args.place c.in-Some.hindrances.now c.as_slice.result.now c.decides_any.result
+    c.in-Some.ensures.some.1 c.as_slice.ensures.value c.if-not-decides_any.false c.decides_any.ensures.any

@@ -1,6 +1,9 @@
--- Each step decides one block more.
-use Rattle.std.proofs.Common.{◌-◌, length}
+-- A decision is on one block more.
+use Rattle.std.proofs.Common.{◌*◌, ◌-◌, length}
 use Rattle.dam_search.proofs.piece.+explore.Given as goal
 
 abbrev pub decreases-explore : goal.decreases-explore
-decreases-explore g l = length l.problem.now.blocks - length l.prefix
+decreases-explore g l = 2 * (length l.problem.now.blocks - length l.prefix)
+
+abbrev pub decreases-decide : goal.decreases-decide
+decreases-decide g l = 2 * (length l.problem.now.blocks - length l.prefix.now) - 1

@@ -1,0 +1,23 @@
+-- A block more.
+use Rattle.std.proofs.Common.{◌≡◌, ℕ, List, Some, [], ◌∷◌, ◌++◌, length, length-append, ap, subst, sym, arith}
+use Rattle.std.specs.List.{slice_get}
+use Rattle.dam_blocks.specs.inside.Hindrances.{AreHindrances}
+use Rattle.dam_blocks.specs.declared.hindrances.Hindrances.{Hindrances}
+use Rattle.dam_blocks.proofs.Hindering.{all_more}
+use Rattle.dam_blocks.proofs.hindrances.all_hindrances.Goals as goal
+
+pub loop-place-preserved : goal.loop-place-preserved
+loop-place-preserved g c =
+    let blocks = c.args.blocks.now in let before = c.loop-place.all.items in
+    let own : Hindrances = record { parents = c.places_of-parents.result; rivals = c.places_of-rivals.result } in
+    let is : c.push.new.self.items ≡ before ++ own ∷ [] = c.in_ok-push.ensures.items in
+    let many = c.loop-place.invariant.as_many in
+    let here : AreHindrances blocks c.loop-place.place own =
+    record { parents = c.places_of-parents.ensures; rivals = c.places_of-rivals.ensures } in
+    let last = subst (λ (n : ℕ). AreHindrances blocks n own) (sym many) here in
+    record {
+      as_many = omega (arith, ap (λ (xs : List Hindrances). length xs) is, length-append before (own ∷ []), many);
+      each = λ i a e.
+          all_more blocks before own last c.loop-place.invariant.each i a
+          (subst (λ (xs : List Hindrances). slice_get xs i ≡ Some a) is e);
+    }
