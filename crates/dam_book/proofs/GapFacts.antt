@@ -1,5 +1,5 @@
 -- The rows that stand among places, as orders come, change and go.
-use Rattle.std.proofs.Common.{◌≡◌, ◌<◌, ℕ, ◌+◌, zero, suc, Bool, true, false, cond, ◌&&◌, ◌||◌, List, [], ◌∷◌, ◌++◌, Option, Some, None, is_some, if◌then◌else◌, filter, slice_get, length, refl, sym, ap, ap₂, ◌∙◌, subst, true≢false, arith, nat_eq}
+use Rattle.std.proofs.Common.{◌≡◌, ℕ, ◌+◌, zero, suc, Bool, true, false, cond, ◌&&◌, ◌||◌, List, [], ◌∷◌, ◌++◌, Option, Some, None, is_some, if◌then◌else◌, filter, slice_get, length, refl, sym, ap, ap₂, ◌∙◌, subst, arith, nat_eq}
 use Rattle.std.specs.Prelude.{⊤}
 use Rattle.std.specs.Cmp.{IsEquivalence, nat_eq_equiv}
 use Rattle.std.specs.Cmp.Lexicographic.{pointwise, nat_list_eq_equiv}
@@ -14,7 +14,7 @@ use Rattle.dam_book.specs.Order.{is_parent, parent_of}
 use Rattle.dam_book.specs.Book.{Key, Row, same_key, changed, names_parent}
 use Rattle.dam_book.specs.inside.Gaps.{Label, same_label, Place, with_place, held, one_if_gap, gap_count, IsNumbered, AreNumbered, child_at, is_child_place}
 use Rattle.dam_book.proofs.ChangeFacts.{set_value-changed}
-use Rattle.dam_book.proofs.Keys.{both_true, same_key-equal, equal_or_not}
+use Rattle.dam_book.proofs.Keys.{both_true, same_key-equal}
 
 same_key_equiv : IsEquivalence same_key
 same_key_equiv = record {

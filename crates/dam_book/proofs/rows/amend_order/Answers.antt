@@ -2,7 +2,7 @@
 use Rattle.std.proofs.Common.{List, Some, sym, ap, ◌∙◌, subst}
 use Rattle.dam_book.specs.Order.{amended}
 use Rattle.dam_book.specs.inside.Gaps.{Place, held, gap_count, AreNumbered}
-use Rattle.dam_book.proofs.GapFacts.{Changed, gap_kept, no_row, held-changed, changed-absent}
+use Rattle.dam_book.proofs.GapFacts.{gap_kept, no_row, held-changed, changed-absent}
 use Rattle.dam_book.proofs.rows.amend_order.Goals as goal
 
 pub returns-in_default-clause-rows : goal.returns-in_default-clause-rows

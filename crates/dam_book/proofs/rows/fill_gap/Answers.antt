@@ -1,10 +1,9 @@
 -- The last place, a filler's, takes the place of the gap.
-use Rattle.std.proofs.Common.{◌≡◌, ℕ, ◌+◌, List, [], ◌∷◌, ◌++◌, Option, Some, None, IfSome, ap, ◌∙◌, arith}
-use Rattle.std.specs.Map.{lookup}
+use Rattle.std.proofs.Common.{◌+◌, None, ◌∙◌, arith}
 use Rattle.indexmap.specs.IndexMap.{Updates}
 use Rattle.indexmap.proofs.CallerLemmas.{insert_entry-new}
 use Rattle.dam_book.specs.inside.Gaps.{Label, Place, same_label}
-use Rattle.dam_book.proofs.FillFacts.{Filled, refilled, at_gap, filler_absent, if_some}
+use Rattle.dam_book.proofs.FillFacts.{refilled, at_gap, filler_absent, if_some}
 use Rattle.dam_book.proofs.rows.fill_gap.Goals as goal
 
 pub returns-clause-rows : goal.returns-clause-rows

@@ -1,10 +1,10 @@
 -- The place keeps its label and loses its order.
-use Rattle.std.proofs.Common.{ℕ, ◌+◌, if◌then◌else◌, List, Option, is_some, sym, ap, ◌∙◌, subst}
+use Rattle.std.proofs.Common.{◌+◌, if◌then◌else◌, List, Option, is_some, sym, ap, ◌∙◌, subst}
 use Rattle.std.specs.Map.{set_value}
 use Rattle.dam_book.specs.declared.order.Order.{Order}
 use Rattle.dam_book.specs.Book.{same_key}
 use Rattle.dam_book.specs.inside.Gaps.{Place, held, gap_count, same_label, AreNumbered}
-use Rattle.dam_book.proofs.GapFacts.{Took, took, no_row, remove_entry-absent}
+use Rattle.dam_book.proofs.GapFacts.{took, no_row, remove_entry-absent}
 use Rattle.dam_book.proofs.rows.take_order.Goals as goal
 
 pub returns-in_default-clause-value : goal.returns-in_default-clause-value

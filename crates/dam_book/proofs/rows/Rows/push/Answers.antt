@@ -1,5 +1,5 @@
 -- The row that is put last.
-use Rattle.std.proofs.Common.{ℕ, List, [], ◌∷◌, ◌++◌, Some, ap, ap₂, sym, ◌∙◌, subst}
+use Rattle.std.proofs.Common.{List, [], ◌∷◌, ◌++◌, Some, ap, ap₂, sym, ◌∙◌, subst}
 use Rattle.indexmap.proofs.CallerLemmas.{insert_entry-new}
 use Rattle.dam_book.specs.declared.order.Order.{Order}
 use Rattle.dam_book.specs.Book.{Key, Row}

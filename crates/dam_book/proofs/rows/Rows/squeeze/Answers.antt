@@ -1,5 +1,5 @@
 -- What stays are the places with an order.
-use Rattle.std.proofs.Common.{ℕ, Bool, List, is_some, filter, sym, ap, ◌∙◌, subst, rules}
+use Rattle.std.proofs.Common.{List, is_some, sym, ap, ◌∙◌, subst, rules}
 use Rattle.std.proofs.lemmas.Map.Made.{filter_same_pairs}
 use Rattle.dam_book.specs.inside.Gaps.{Place, held, gap_count, AreNumbered}
 use Rattle.dam_book.proofs.GapFacts.{held-filtered, numbered-filtered}

@@ -1,9 +1,9 @@
 -- A copy has the same places.
-use Rattle.std.proofs.Common.{ℕ, List, sym, ap, ◌∙◌, subst, rules}
+use Rattle.std.proofs.Common.{List, sym, ap, ◌∙◌, subst, rules}
 use Rattle.std.specs.List.{IsDistinct}
 use Rattle.std.specs.Map.{keys_of}
 use Rattle.std.proofs.lemmas.Map.Entries.{entries_from_clone}
-use Rattle.dam_book.specs.inside.Gaps.{Place, Label, held, gap_count, same_label, AreNumbered}
+use Rattle.dam_book.specs.inside.Gaps.{Place, held, gap_count, same_label, AreNumbered}
 use Rattle.dam_book.proofs.GapFacts.{same_copy}
 use Rattle.dam_book.proofs.rows.Rows.try_copy.Goals as goal
 
