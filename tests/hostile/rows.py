@@ -12,6 +12,7 @@ from typing import NamedTuple
 
 sys.dont_write_bytecode = True
 
+import cancels
 import colliding
 import gates
 import judge
@@ -250,9 +251,10 @@ def main():
     skipped = 0
     if shutil.which("valgrind"):
         colliding.run(runs)
+        cancels.run(runs)
     else:
-        print("left out: names that collide: valgrind, which counts instructions, is missing")
-        skipped = 1
+        print("left out: names that collide, and cancels: valgrind, which counts instructions, is missing")
+        skipped = 2
     print(f"{runs.passed} passed, {runs.failed} failed" + f", {skipped} skipped" * skipped)
     return 1 if runs.failed else 0
 

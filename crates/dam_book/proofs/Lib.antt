@@ -3,6 +3,8 @@ pub mod Histories
 pub mod Equality
 pub mod RowFacts
 pub mod ChangeFacts
+pub mod GapFacts
+pub mod FillFacts
 pub mod LinkFacts
 pub mod StepFacts
 pub mod FieldTexts

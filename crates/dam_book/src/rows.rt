@@ -1,0 +1,331 @@
+ghost use Rattle.std.specs.Prelude.{◌≡◌, ◌+◌, ◌==◌, if◌then◌else◌, ◌∷◌, ◌++◌, [], None, Some, length, is_some, option_map, slice_get, IfOk, OnOk, OnErr};
+ghost use Rattle.std.specs.List.{list_any, IsDistinct};
+ghost use Rattle.std.specs.Option.{option_copied};
+ghost use Rattle.std.specs.Map.{lookup, remove_entry, keys_of};
+ghost use Rattle.std.specs.Cmp.Rules.{hashing};
+ghost use Rattle.std.specs.Hash as fed;
+ghost use Rattle.std.proofs.Common.{rules};
+ghost use Rattle.dam_book.specs.Book.{same_key, changed, names_parent};
+ghost use Rattle.dam_book.specs.Order.{amended};
+ghost use Rattle.dam_book.specs.inside.Gaps.{Label, held, gap_count, same_label, AreNumbered, child_at, is_child_place};
+
+use crate::boxed::BoxedOrder;
+use crate::name::{Name, Participant};
+use crate::order::Order;
+use crate::price::Price;
+use crate::seed::Seed;
+use crate::volumes::Volumes;
+use indexmap::IndexMap;
+use std::alloc::{AllocError, Allocator};
+use std::hash::{Hash, Hasher};
+use std::marker::Model;
+
+// What tells the label of a filler from the label of a row: 0 for a row, and for a filler the number of its place, counted
+// from 1. So no two fillers are alike.
+#[derive(Clone, Copy, PartialEq, Eq, Debug)]
+struct Filler {
+    place: usize,
+}
+
+impl Model for Filler {
+    ghost use Rattle.std.specs.Prelude.{ℕ};
+
+    ghost Value = { ℕ };
+
+    ghost view = { λ f. f.place };
+
+    ghost inverse = { λ n. record { place = n } };
+}
+
+impl Hash for Filler {
+    ghost hash_input = { λ f. if f == 0 then [] else fed.usize f };
+
+    ghost respects_eq = { Prim.search (hashing, rules) };
+
+    // A row's label hashes as its key: a book is looked up far more often than it is filled.
+    fn hash<H: Hasher>(&self, state: &mut H) {
+        if self.place != 0 {
+            self.place.hash(state);
+        }
+    }
+}
+
+type Label = ((Participant, Name), Filler);
+
+// `None` at a gap.
+type Places<A> = IndexMap<Label, Option<BoxedOrder<A>>, Seed, A>;
+
+// Rows in an order that stays, each under a key of its own. A row that is taken out leaves a gap in its place, so that no other
+// moves; once there are more gaps than rows they are squeezed out.
+//
+// A contract sees the rows.
+#[derive(Debug, Drop)]
+pub(crate) struct Rows<A: Allocator> {
+    places: Places<A>,
+    gaps: usize,
+}
+
+impl<A: Allocator> Model for Rows<A> {
+    ghost use Rattle.std.specs.Prelude.{◌≡◌, List};
+    ghost use Rattle.std.specs.List.{IsDistinct};
+    ghost use Rattle.std.specs.Map.{keys_of};
+    ghost use Rattle.dam_book.specs.Book.{Row};
+    ghost use Rattle.dam_book.specs.inside.Gaps.{held, gap_count, same_label, AreNumbered};
+
+    ghost Value = { List Row };
+
+    ghost view = { λ r. held r.places.entries };
+
+    ghost invariant = { λ r. (r.gaps ≡ gap_count r.places.entries)
+        × AreNumbered 1 r.places.entries
+        × IsDistinct same_label (keys_of r.places.entries) };
+}
+
+// The label of the key's row.
+fn label(who: &Participant, name: &Name) -> Label
+    ensures { result ≡ ((who.now, name.now), 0) }
+{
+    ((who.copy(), name.copy()), Filler { place: 0 })
+}
+
+// Gives the gap of this key, at this place, to a filler: a new row of the key must go last, so the key has to be free, and
+// no other place may move. An `Err` leaves the places.
+fn fill_gap<A: Allocator>(
+    places: &mut Places<A>,
+    place: usize,
+    row: &Label,
+) -> Result<(), AllocError>
+    requires unfilled { row.now.1 ≡ 0 }
+    requires gap { slice_get places.old.entries place ≡ Some (row.now, None) }
+    requires numbered { AreNumbered 1 places.old.entries }
+    ensures rows { held places.new.entries ≡ held places.old.entries }
+    ensures count { gap_count places.new.entries ≡ gap_count places.old.entries }
+    ensures numbered { AreNumbered 1 places.new.entries }
+    ensures absent { OnOk result (lookup (same_label row.now) places.new.entries ≡ None) }
+    ensures apart { IsDistinct same_label (keys_of places.new.entries) }
+{
+    let _room = places.len();
+    let key = (row.0.0.copy(), row.0.1.copy());
+    places.insert((key, Filler { place: place + 1 }), None)?;
+    let _found = places.swap_remove_index(place).is_some();
+    Ok(())
+}
+
+// Sees to it that no gap has the label of this key.
+fn free_label<A: Allocator>(
+    places: &mut Places<A>,
+    gaps: usize,
+    row: &Label,
+) -> Result<(), AllocError>
+    requires unfilled { row.now.1 ≡ 0 }
+    requires counted { gaps ≡ gap_count places.old.entries }
+    requires numbered { AreNumbered 1 places.old.entries }
+    requires apart { IsDistinct same_label (keys_of places.old.entries) }
+    requires free { lookup (same_key row.now.0) (held places.old.entries) ≡ None }
+    ensures rows { held places.new.entries ≡ held places.old.entries }
+    ensures count { gap_count places.new.entries ≡ gap_count places.old.entries }
+    ensures numbered { AreNumbered 1 places.new.entries }
+    ensures absent { OnOk result (lookup (same_label row.now) places.new.entries ≡ None) }
+    ensures apart { IsDistinct same_label (keys_of places.new.entries) }
+{
+    if gaps == 0 {
+        return Ok(());
+    }
+    let Some((place, _, _)) = places.get_full(row) else {
+        return Ok(());
+    };
+    fill_gap(places, place, row)
+}
+
+// Takes the order under the key out, which leaves a gap.
+fn take_order<A: Allocator>(places: &mut Places<A>, row: &Label) -> Option<BoxedOrder<A>>
+    requires unfilled { row.now.1 ≡ 0 }
+    requires numbered { AreNumbered 1 places.old.entries }
+    ensures value { result ≡ lookup (same_key row.now.0) (held places.old.entries) }
+    ensures rows { held places.new.entries
+        ≡ remove_entry (same_key row.now.0) (held places.old.entries) }
+    ensures count { gap_count places.new.entries
+        ≡ gap_count places.old.entries + (if is_some result then 1 else 0) }
+    ensures numbered { AreNumbered 1 places.new.entries }
+    ensures apart { IsDistinct same_label (keys_of places.new.entries) }
+{
+    let Some(place) = places.get_mut(row) else {
+        return None;
+    };
+    place.take()
+}
+
+// Changes the order under the key at its place.
+fn amend_order<A: Allocator>(places: &mut Places<A>, row: &Label, price: Price, volumes: &Volumes)
+    requires unfilled { row.now.1 ≡ 0 }
+    requires numbered { AreNumbered 1 places.old.entries }
+    ensures rows { held places.new.entries
+        ≡ changed row.now.0 (amended price volumes.now) (held places.old.entries) }
+    ensures count { gap_count places.new.entries ≡ gap_count places.old.entries }
+    ensures numbered { AreNumbered 1 places.new.entries }
+    ensures apart { IsDistinct same_label (keys_of places.new.entries) }
+{
+    let Some(place) = places.get_mut(row) else {
+        return;
+    };
+    let Some(boxed) = place else {
+        return;
+    };
+    boxed.amend(price, volumes);
+}
+
+// Whether a place of this owner has a block with this parent.
+fn is_child<A: Allocator>(
+    who: &Participant,
+    name: &Name,
+    owner: &Participant,
+    place: &Option<BoxedOrder<A>>,
+) -> bool
+    ensures { result ≡ child_at (who.now, name.now) owner.now place.now }
+{
+    match place {
+        Some(order) => order.get().has_parent(name) && *who == *owner,
+        None => false,
+    }
+}
+
+// Whether a row names this order as its parent.
+fn any_child<A: Allocator>(places: &Places<A>, who: &Participant, name: &Name) -> bool
+    ensures { result ≡ list_any (is_child_place (who.now, name.now)) places.now.entries }
+{
+    places.iter().any(|(((owner, _), _), place)| is_child(who, name, owner, place))
+}
+
+// The row at a place, counted from 0 without the gaps.
+fn row_among<A: Allocator>(places: &Places<A>, place: usize) -> Option<(Participant, Name, &Order)>
+    ensures { option_map (λ r. ((r.0, r.1), r.2.now)) result
+        ≡ slice_get (held places.now.entries) place }
+{
+    let mut left = place;
+    for (((who, name), _), place) in places.iter() {
+        if let Some(order) = place {
+            if left == 0 {
+                return Some((who.copy(), name.copy(), order.get()));
+            }
+            left -= 1;
+        }
+    }
+    None
+}
+
+impl<A: Allocator + Copy> Rows<A> {
+    pub(crate) fn new(alloc: A, seed: Seed) -> Rows<A>
+        ensures { result ≡ [] }
+    {
+        Rows {
+            places: IndexMap::with_hasher(alloc, seed),
+            gaps: 0,
+        }
+    }
+
+    // How many rows there are.
+    pub(crate) fn len(&self) -> usize
+        ensures { result ≡ length self.now }
+    {
+        self.places.len() - self.gaps
+    }
+
+    // The order under the key.
+    pub(crate) fn find(&self, who: &Participant, name: &Name) -> Option<&Order>
+        ensures { option_copied result ≡ lookup (same_key (who.now, name.now)) self.now }
+    {
+        let Some(place) = self.places.get(&label(who, name)) else {
+            return None;
+        };
+        let Some(order) = place else {
+            return None;
+        };
+        Some(order.get())
+    }
+
+    // Whether a row names this order as its parent.
+    pub(crate) fn has_children(&self, who: &Participant, name: &Name) -> bool
+        ensures { result ≡ list_any (names_parent (who.now, name.now)) self.now }
+    {
+        any_child(&self.places, who, name)
+    }
+
+    // The row at a place, counted from 0 without the gaps: one step where there is no gap.
+    pub(crate) fn row(&self, place: usize) -> Option<(Participant, Name, &Order)>
+        ensures { option_map (λ r. ((r.0, r.1), r.2.now)) result ≡ slice_get self.now place }
+    {
+        if self.gaps == 0 {
+            let Some((((who, name), _), place)) = self.places.get_index(place) else {
+                return None;
+            };
+            let Some(order) = place else {
+                return None;
+            };
+            return Some((who.copy(), name.copy(), order.get()));
+        }
+        row_among(&self.places, place)
+    }
+
+    // Puts a row last. An `Err` leaves the rows.
+    pub(crate) fn push(
+        &mut self,
+        who: &Participant,
+        name: &Name,
+        order: &Order,
+    ) -> Result<(), AllocError>
+        requires { lookup (same_key (who.now, name.now)) self.old ≡ None }
+        ensures entries { OnOk result
+            (self.new ≡ self.old ++ ((who.now, name.now), order.now) ∷ []) }
+        ensures err { OnErr result (self.new ≡ self.old) }
+    {
+        let boxed = BoxedOrder::of(*self.places.allocator(), order)?;
+        let row = label(who, name);
+        free_label(&mut self.places, self.gaps, &row)?;
+        self.places.insert(row, Some(boxed))?;
+        Ok(())
+    }
+
+    // Changes the order under the key at its place.
+    pub(crate) fn amend(&mut self, who: &Participant, name: &Name, price: Price, volumes: &Volumes)
+        ensures { self.new
+            ≡ changed (who.now, name.now) (amended price volumes.now) self.old }
+    {
+        amend_order(&mut self.places, &label(who, name), price, volumes);
+    }
+
+    // Takes the order under the key out. The rest keep their order.
+    pub(crate) fn remove(&mut self, who: &Participant, name: &Name) -> Option<BoxedOrder<A>>
+        ensures value { result ≡ lookup (same_key (who.now, name.now)) self.old }
+        ensures entries { self.new ≡ remove_entry (same_key (who.now, name.now)) self.old }
+    {
+        let Some(order) = take_order(&mut self.places, &label(who, name)) else {
+            return None;
+        };
+        let places = self.places.len();
+        self.gaps += 1;
+        if self.gaps > places - self.gaps {
+            self.squeeze();
+        }
+        Some(order)
+    }
+
+    // Lets the gaps go, which takes no memory.
+    pub(crate) fn squeeze(&mut self)
+        ensures { self.new ≡ self.old }
+    {
+        if self.gaps > 0 {
+            self.places.retain(|_, place| place.is_some());
+            self.gaps = 0;
+        }
+    }
+
+    // Equal rows, on the same allocator.
+    pub(crate) fn try_copy(&self) -> Result<Rows<A>, AllocError>
+        ensures { IfOk result (λ rows. rows ≡ self.now) }
+    {
+        Ok(Rows {
+            places: self.places.clone()?,
+            gaps: self.gaps,
+        })
+    }
+}
