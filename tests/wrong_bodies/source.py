@@ -8,6 +8,7 @@ TOKEN = re.compile(
     r"""//[^\n]*|/\*.*?\*/|b?r(#*)".*?"\1|b?"(?:[^"\\]|\\.)*"|b?'(?:[^'\\\n]|\\[^\n][^'\n]*)'|\w+|[{}()\[\];]""", re.S
 )
 READ = re.compile(r"\w+\Z|[{}()\[\];]\Z")
+CYCLE = re.compile(r"#\[cycle\((\w+)\)\]")
 OWNERS = ("impl", "trait", "mod")
 CLAUSES = ("requires", "ensures", "ghost", "measure")
 
@@ -88,6 +89,17 @@ def outside(text, functions):
     ends = [0, *(it.ends for it in functions)]
     begins = [*(it.begins for it in functions), len(text)]
     return [text[first:last] for first, last in zip(ends, begins)]
+
+
+def leaders_of(text, functions):
+    """Returns for each function the one with whose proofs its own stand: of functions that call each other, the one that
+    `#[cycle(NAME)]` names."""
+    found = []
+    for it, head in zip(functions, outside(text, functions)):
+        owner, colons, _ = it.name.rpartition("::")
+        led = CYCLE.search(head)
+        found.append(it._replace(name=owner + colons + led[1]) if led else it)
+    return found
 
 
 def listed_name(crate, path, function):

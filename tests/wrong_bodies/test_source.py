@@ -2,7 +2,7 @@
 
 import unittest
 
-from source import functions_of, listed_name, outside
+from source import functions_of, leaders_of, listed_name, outside
 
 STEP = """\
 use crate::hour::Hour;
@@ -68,6 +68,11 @@ class Bodies(unittest.TestCase):
         self.assertEqual(len(parts), 7)
         self.assertTrue(parts[0].endswith("measure { hour.len }\n    "))
         self.assertEqual(parts[6], "\n")
+
+    def test_functions_of_a_cycle_are_led_by_the_one_that_it_names(self):
+        text = "fn walk() {}\nimpl Tree {\n#[cycle(visit)]\nfn visit() {}\n#[cycle(visit)]\n#[inline]\npub fn go() {}\n}\nfn end() {}\n"
+        leaders = [it.name for it in leaders_of(text, functions_of(text))]
+        self.assertEqual(leaders, ["walk", "Tree::visit", "Tree::visit", "end"])
 
     def test_a_file_without_functions(self):
         self.assertEqual(functions_of("mod step;\npub use step::Step;\n"), [])

@@ -13,6 +13,7 @@ from source import functions_of
 from trial import NotProved, Trial
 
 NUMBERS = ("one", "two", "three", "four")
+CYCLE = NUMBERS[:2]
 LIB = "".join(f"fn {it}() -> u64 {{\n    right()\n}}\n\n" for it in NUMBERS)
 REFUSED = "note: src/lib.rt:{line}:5: it is not proved that what the function ensures holds when it returns (`returns`)"
 ILL = "src/lib.rt:{line}:5: error[no-such-function]: there is no function `ill`"
@@ -36,7 +37,7 @@ class Stand(Trial):
             if "gone()" in body:
                 gone.append(GONE.format(name=it.name))
                 said = "not proved"
-            if "wrong()" in body:
+            if "wrong()" in (body if it.name not in CYCLE or not text.startswith("#[cycle") else text):
                 lines.append(REFUSED.format(line=line))
                 said = "no proof: `search` did not prove `returns`"
             lines.append(f"fn toy::{it.name}: {said}")
@@ -58,10 +59,10 @@ class Trials(unittest.TestCase):
         pairs = [f"old: fn {it}() -> u64 {{\nnew: fn {it}() -> u64 {{ {body}();\n" for it, body in bodies.items()]
         write(f"{self.crate}/wrong-bodies/{name}.edit", "file: src/lib.rt\n" + "".join(pairs))
 
-    def tried(self, **how):
+    def tried(self, text=LIB, **how):
         with contextlib.redirect_stdout(io.StringIO()), Stand(self.copy, "toy") as self.trial:
             results = list(self.trial.try_all(edits_of(self.crate, ("wrong-bodies",)), **how))
-        self.assertEqual(read(f"{self.crate}/src/lib.rt"), LIB)
+        self.assertEqual(read(f"{self.crate}/src/lib.rt"), text)
         self.assertFalse(os.path.exists(self.trial.aside))
         return {name: (is_refused, why.split(":")[0]) for name, is_refused, why in results}
 
@@ -104,6 +105,16 @@ class Trials(unittest.TestCase):
     def test_an_edit_of_two_functions_is_refused_by_either(self):
         self.edit("both", one="right", two="wrong")
         self.assertEqual(self.tried(), {"both": (True, "refused")})
+
+    def test_functions_that_call_each_other_are_refused_together(self):
+        cycle = LIB.replace("fn one", "#[cycle(one)]\nfn one").replace("fn two", "#[cycle(one)]\nfn two")
+        write(f"{self.crate}/src/lib.rt", cycle)
+        self.edit("a", one="wrong")
+        self.assertEqual(self.tried(cycle), {"a": (True, "refused")})
+        self.assertEqual(self.trial.tried, ["as it stands", "1 wrong bodies at once"])
+        self.edit("b", two="wrong")
+        self.assertEqual(self.tried(cycle), {"a": (True, "refused"), "b": (True, "refused")})
+        self.assertEqual(self.trial.tried[1:], ["2 wrong bodies at once", "a", "b"])
 
     def test_an_edit_that_cannot_be_applied(self):
         self.edit("none", five="wrong")

@@ -9,7 +9,7 @@ from collections import Counter
 
 from edits import batches_of, read, write
 from report import Report
-from source import functions_of, listed_name, outside
+from source import functions_of, leaders_of, listed_name, outside
 
 
 class Trial:
@@ -57,23 +57,26 @@ class Trial:
     def batch(self, edits):
         """Tries edits of different functions at once. Returns, by their names, those whose function is refused for itself, and a goal."""
         self.batches += 1
-        texts, names, lines = self.laid_together(edits)
+        texts, names, leaders, lines = self.laid_together(edits)
         report = self.check(texts, f"{len(edits)} wrong bodies at once")
         if report.is_proved:
             return {}
         if not report.is_refused:
             return self.batch_without_the_ill(edits, lines, report)
-        refused, counts = report.refusals(), Counter(names.values())
-        changed = {names[key] for it in edits for key in it.bodies}
-        others = sorted(set(refused) - changed)
+        # Functions that call each other are refused together.
+        refused = {leaders.get(name, name): goal for name, goal in reversed(report.refusals().items())}
+        counts = Counter(names.values())
+        changed = Counter(leader for it in edits for leader in {leaders[names[key]] for key in it.bodies})
+        others = sorted(set(refused) - set(changed))
         if others:
             print(f"{self.crate}: refused too, though no edit changed them, so each edit is tried alone: {' '.join(others)}")
             return {}
         found = {}
         for it in edits:
-            own = [refused[names[key]] for key in it.bodies if names[key] in refused and counts[names[key]] == 1]
-            if own:
-                found[it.name] = own[0]
+            own = [leaders[names[key]] for key in it.bodies if counts[names[key]] == 1]
+            goals = [refused[leader] for leader in own if leader in refused and changed[leader] == 1]
+            if goals:
+                found[it.name] = goals[0]
         return found
 
     def batch_without_the_ill(self, edits, lines, report):
@@ -88,22 +91,23 @@ class Trial:
 
     def laid_together(self, edits):
         """Returns the texts of the crate's files with all bodies of these edits; and of each function in them, by path and number,
-        the name under which a check lists it, and its lines."""
+        the name under which a check lists it, by that name the name of the function with whose proofs its own stand, and its lines."""
         bodies = {key: body for it in edits for key, body in it.bodies.items()}
-        texts, names, lines = {}, {}, {}
+        texts, names, leaders, lines = {}, {}, {}, {}
         for path in sorted({path for path, _ in bodies}):
             right = read(f"{self.folder}/{path}")
             functions = functions_of(right)
             first, *parts = outside(right, functions)
             text = first
-            for number, (function, part) in enumerate(zip(functions, parts)):
+            for number, (function, leader, part) in enumerate(zip(functions, leaders_of(right, functions), parts)):
                 begins = text.count("\n") + 1
                 text += bodies.get((path, number), right[function.begins : function.ends])
                 names[path, number] = listed_name(self.crate, path, function)
+                leaders[names[path, number]] = listed_name(self.crate, path, leader)
                 lines[path, number] = range(begins, text.count("\n") + 2)
                 text += part
             texts[path] = text
-        return texts, names, lines
+        return texts, names, leaders, lines
 
     def alone(self, edit):
         """Tries an edit by itself. Returns whether the crate is refused with it for more than a name that went, and why."""
