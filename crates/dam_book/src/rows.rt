@@ -20,8 +20,8 @@ use std::alloc::{AllocError, Allocator};
 use std::hash::{Hash, Hasher};
 use std::marker::Model;
 
-// What tells the label of a filler from the label of a row: 0 for a row, and for a filler the number of its place, counted
-// from 1. So no two fillers are alike.
+// What tells the label of a filler from that of a row: 0 for a row, and for a filler the number of its place, counted from 1.
+// So no two fillers are alike.
 #[derive(Clone, Copy, PartialEq, Eq, Debug)]
 struct Filler {
     place: usize,
@@ -42,7 +42,7 @@ impl Hash for Filler {
 
     ghost respects_eq = { Prim.search (hashing, rules) };
 
-    // A row's label hashes as its key: a book is looked up far more often than it is filled.
+    // A row's label hashes as its key alone: to hash more would make every command slower.
     fn hash<H: Hasher>(&self, state: &mut H) {
         if self.place != 0 {
             self.place.hash(state);
@@ -50,6 +50,7 @@ impl Hash for Filler {
     }
 }
 
+// What the map finds a place by: the key of its row, or a filler's.
 type Label = ((Participant, Name), Filler);
 
 // `None` at a gap.
@@ -88,8 +89,8 @@ fn label(who: &Participant, name: &Name) -> Label
     ((who.copy(), name.copy()), Filler { place: 0 })
 }
 
-// Gives the gap of this key, at this place, to a filler: a new row of the key must go last, so the key has to be free, and
-// no other place may move. An `Err` leaves the places.
+// Takes the label of a row from the gap at this place, which gets a filler's: the last place in the map takes the place of the
+// one that is removed, and so no other moves. An `Err` leaves the places.
 fn fill_gap<A: Allocator>(
     places: &mut Places<A>,
     place: usize,
@@ -104,14 +105,15 @@ fn fill_gap<A: Allocator>(
     ensures absent { OnOk result (lookup (same_label row.now) places.new.entries ≡ None) }
     ensures apart { IsDistinct same_label (keys_of places.new.entries) }
 {
-    let _room = places.len();
+    // for the proof: there is a number after the place's
+    let _len = places.len();
     let key = (row.0.0.copy(), row.0.1.copy());
     places.insert((key, Filler { place: place + 1 }), None)?;
     let _found = places.swap_remove_index(place).is_some();
     Ok(())
 }
 
-// Sees to it that no gap has the label of this key.
+// Frees the label of a row that is about to go last, if a gap still has it.
 fn free_label<A: Allocator>(
     places: &mut Places<A>,
     gaps: usize,
