@@ -86,6 +86,16 @@ def euros(amount, hours, thousands=","):
     return fixed(Fraction(amount) * hours / 1_000, 3 if hours == 1 else 5, thousands)
 
 
+def amount(value, hours, thousands="\u202f"):
+    """The same for readers: with two digits behind the point, rounded, and narrow spaces between thousands. What rounds to nothing
+    and isn't has all its digits."""
+    whole = Fraction(value) * hours / 10
+    cents = int(abs(whole) + Fraction(1, 2)) * (-1 if whole < 0 else 1)
+    if value and not cents:
+        return euros(value, hours, thousands)
+    return fixed(Fraction(cents, 100), 2, thousands)
+
+
 def energy(tenths, hours, thousands=","):
     """A sum of tenths of a MW, over periods of so many hours, in MWh: with as many digits as it may have."""
     return fixed(Fraction(tenths) * hours / 10, 1 if hours == 1 else 3, thousands)

@@ -8,38 +8,9 @@ from pathlib import Path
 import support
 from support import AUCTION, QUARTERS, day_of, journal_of, results_of, tool
 
-from lib import command, decisions
+from lib import command
 
 PICTURES = ["day", "prices", "blocks"]
-
-
-class Decisions(unittest.TestCase):
-    def decided(self, data, accepted):
-        day = day_of(data, results_of(data, accepted))
-        self.assertEqual(day.wrong, [])
-        return decisions.decisions(day.problem, day.said.accepted, day.outcome)
-
-    def test_the_auction_day(self):
-        day = day_of(AUCTION.read_bytes(), support.printed(AUCTION))
-        found = decisions.decisions(day.problem, day.said.accepted, day.outcome)
-        kinds = [decision.kind for decision in found]
-        self.assertEqual(kinds[:5], [decisions.ACCEPTED] * 5)
-        self.assertEqual(kinds[5:], [decisions.REJECTED, decisions.ACCEPTED, decisions.REJECTED, decisions.PARADOX])
-        self.assertIn("would lose 8,050.000 EUR at the prices", found[5].why)
-        self.assertIn("in its place the welfare would be 5,120.000 EUR less", found[7].why)
-        self.assertIn("with it OLD,UNIT-7 would lose 270.000 EUR", found[8].why)
-
-    def test_parents_and_periods_that_would_not_balance(self):
-        data = journal_of(
-            "submit,A,B1,hour,buy,6000,1:10,,",
-            "submit,A,K1,block,sell,7000,1:5,,",
-            "submit,A,K2,block,sell,100,1:5,K1,",
-            "submit,A,K3,block,sell,100,1:30,,",
-        )
-        found = self.decided(data, frozenset())
-        self.assertEqual([decision.kind for decision in found], [decisions.REJECTED, decisions.REJECTED, decisions.PARADOX])
-        self.assertEqual(found[1].why, "its parent K1 is rejected")
-        self.assertIn("with it period 1 wouldn't balance", found[2].why)
 
 
 class Missing(unittest.TestCase):
