@@ -3,7 +3,7 @@
 import html
 import re
 
-from . import clock, decisions, pictures, text, trades
+from . import clock, decisions, pictures, spans, text, trades
 
 # The pictures' colours and the page's own, by light and dark.
 COLOURS = {
@@ -130,9 +130,11 @@ def figure_list(day, found):
     figures = [
         ("welfare", f"{day.problem.euros(day.said.welfare)} <small>EUR</small>"),
         ("energy traded", f"{energy(day, total)} <small>MWh</small>"),
-        ("mean price of the periods", f"{price(sum(day.said.prices) / len(day.said.prices))} <small>EUR/MWh</small>"),
     ]
     if total:
+        traded = [day.said.prices[number - 1] for number in trades.traded(day)]
+        words = "mean price of the periods" if len(traded) == len(day.said.prices) else "mean price of the traded periods"
+        figures.append((words, f"{price(sum(traded) / len(traded))} <small>EUR/MWh</small>"))
         figures.append(("mean price by volume", f"{price(weighted / total)} <small>EUR/MWh</small>"))
     if kinds:
         figures += [(f"blocks {kind}", f"{kinds.count(kind)} <small>of {len(kinds)}</small>") for kind in MARKS]
@@ -156,20 +158,13 @@ def period_table(day):
         ends = supporting(found)
         parts = [f"{share[number - 1]:,.1f}" for share in shares]
         begins = clock.begins(day.problem.periods, number)
-        traded = price(day.said.prices[number - 1]), ends, volume(day.said.volumes[number - 1])
-        rows.append([number, begins, *traded, *parts])
+        cents = price(day.said.prices[number - 1]) if trades.is_traded(day, number) else "no trade"
+        rows.append([number, begins, cents, ends, volume(day.said.volumes[number - 1]), *parts])
     return table(heads, rows)
 
 
-def spans(volumes):
-    """The periods of a block in few words, as `8 to 20` or `1, 3 to 5`."""
-    runs = []
-    for number, _ in volumes:
-        if runs and runs[-1][1] == number - 1:
-            runs[-1][1] = number
-        else:
-            runs.append([number, number])
-    return ", ".join(str(first) if first == last else f"{first} to {last}" for first, last in runs)
+def periods_of(order):
+    return spans.in_words(number for number, _ in order.volumes)
 
 
 def block_table(day, found):
@@ -180,7 +175,7 @@ def block_table(day, found):
         order = block.order
         mark = f'<td><span class="mark {MARKS[decision.kind]}"></span>{decision.kind}</td>'
         total = energy(day, sum(tenths for _, tenths in order.volumes))
-        row = [f"{block.who} {block.name}", order.side, price(order.price), spans(order.volumes), total]
+        row = [f"{block.who} {block.name}", order.side, price(order.price), periods_of(order), total]
         links = [f"{word} {name}" for word, name in (("parent", order.parent), ("group", order.group)) if name]
         rows.append([*row, ", ".join(links), mark, day.problem.euros(surplus), decision.why])
     return table(heads, rows)
@@ -201,7 +196,7 @@ def order_row(day, row, made, found):
         offered, outcome = sum(tenths for _, tenths in order.volumes), found[row.who, row.name].kind
     amount = day.problem.euros(sum(trade.amount() for trade in made))
     energies = energy(day, offered), energy(day, done)
-    return [row.name, order.kind, order.side, price(order.price), spans(order.volumes), *energies, outcome, amount]
+    return [row.name, order.kind, order.side, price(order.price), periods_of(order), *energies, outcome, amount]
 
 
 def participants(day, found):
@@ -274,7 +269,7 @@ def page(day, title, curves):
 
 def notable(day):
     """The periods whose curves are worth a look where none are asked for: the cheapest and the dearest with a volume."""
-    traded = [number for number, tenths in enumerate(day.said.volumes, 1) if tenths]
+    traded = trades.traded(day)
     if not traded:
         return []
     ends = [of(traded, key=lambda number: day.said.prices[number - 1]) for of in (min, max)]

@@ -4,6 +4,7 @@ They are made for black and white: what matters differs in lightness, hatching o
 they are for, so that a page can put its own in their place."""
 
 import io
+import math
 
 import matplotlib
 
@@ -12,7 +13,7 @@ matplotlib.use("Agg")
 from matplotlib import pyplot
 from matplotlib.patches import Patch, Rectangle
 
-from . import clock, decisions, selection
+from . import clock, decisions, selection, spans, trades
 
 # No two are equal, so that each can be told from the text of a picture.
 COLOURS = {
@@ -143,18 +144,34 @@ def edges(values):
 
 
 def draw_prices(axes, day):
-    prices = [eur(price) for price in day.said.prices]
-    cleared = zip(prices, day.outcome.cleared.values())
-    ends = [(eur(found.low), eur(found.high)) if found else (price, price) for price, found in cleared]
-    xs, lows = edges([low for low, _ in ends])
-    _, highs = edges([high for _, high in ends])
+    """The price of each period in which something is traded, and the prices that support it; others are left out."""
+    traded = trades.traded(day)
+    prices = {number: eur(day.said.prices[number - 1]) for number in traded}
+    cleared = {number: day.outcome.cleared[number] for number in traded}
+    ends = {number: (eur(found.low), eur(found.high)) if found else [prices[number]] * 2 for number, found in cleared.items()}
+    levels = [prices.get(number, math.nan) for number in day.problem.orders]
+    xs, lows = edges([ends.get(number, [math.nan])[0] for number in day.problem.orders])
+    _, highs = edges([ends.get(number, [math.nan])[-1] for number in day.problem.orders])
     axes.fill_between(xs, lows, highs, color=COLOURS["band"], linewidth=0, label="supporting prices")
-    axes.plot(*edges(prices), color=COLOURS["ink"], linewidth=1.8, solid_joinstyle="miter", label="price")
-    axes.set_ylim(*price_bounds(prices, ends))
+    axes.plot(*edges(levels), color=COLOURS["ink"], linewidth=1.8, solid_joinstyle="miter", label="price")
+    if traded:
+        axes.set_ylim(*price_bounds(list(prices.values()), list(ends.values())))
+        axes.legend(loc="lower right", bbox_to_anchor=(1, 0.98), ncols=2, borderaxespad=0)
+    else:
+        axes.set_yticks([])
+    without_trade(axes, [number for number in day.problem.orders if number not in prices], day.problem.periods)
     axes.set_ylabel("price, EUR/MWh")
     axes.grid(axis="x", visible=False)
-    axes.legend(loc="lower right", bbox_to_anchor=(1, 0.98), ncols=2, borderaxespad=0)
     heading(axes, "Prices")
+
+
+def without_trade(axes, numbers, periods):
+    """Says of each run of periods that nothing is traded in them."""
+    for first, last in spans.runs(numbers):
+        upright = (last - first + 1) / periods < 0.07
+        place = {"transform": axes.get_xaxis_transform(), "ha": "center", "va": "center"}
+        look = {"color": COLOURS["soft"], "fontsize": 7, "rotation": 90 if upright else 0}
+        axes.text((first + last) / 2, 0.5, "no trade", **place, **look)
 
 
 def price_bounds(prices, ends):
@@ -282,7 +299,8 @@ def draw_curves(axes, day, number):
     price = day.said.prices[number - 1]
     sold, bought = net_volume(day, number)
     net = sold - bought
-    limits = [limit for _, limit, _ in orders] + [price]
+    traded = trades.is_traded(day, number)
+    limits = [limit for _, limit, _ in orders] + [price] * (traded or not orders)
     room = max(0.1 * (max(limits) - min(limits)), 500)
     bottom, top = eur(min(limits) - room), eur(max(limits) + room)
     demand = steps(orders, "buy", max(-net, 0))
@@ -294,18 +312,25 @@ def draw_curves(axes, day, number):
         axes, demand, mw(max(-net, 0)), top, bottom, color=COLOURS["ink"], linestyle="--", label="demand of hourly orders"
     )
     draw_curve(axes, supply, mw(max(net, 0)), bottom, top, color=COLOURS["sell"], label="supply of hourly orders")
-    axes.axhline(eur(price), color=COLOURS["soft"], linewidth=1, linestyle=":")
-    axes.text(1.006, eur(price), f"{prices_text(price)}\nEUR/MWh", transform=axes.get_yaxis_transform(), va="center")
-    buys = executed_buys(day, number)
-    words = f"{mw(buys):,.1f} MW of hourly buys are executed"
-    ring = {"marker": "o", "markersize": 7, "markerfacecolor": COLOURS["paper"], "linestyle": "none"}
-    axes.plot([mw(buys + max(-net, 0))], [eur(price)], color=COLOURS["ink"], label=words, **ring)
+    if traded:
+        draw_clearing(axes, day, number, net)
     axes.set_xlim(0, most * 1.03)
     axes.set_ylim(bottom, top)
     axes.set_xlabel("volume, MW")
     axes.set_ylabel("limit price, EUR/MWh")
-    axes.legend(loc="lower right", bbox_to_anchor=(1, 1), ncols=2, borderaxespad=0.2)
-    heading(axes, f"Period {number}, {clock.span(day.problem.periods, number)}")
+    if axes.get_legend_handles_labels()[0]:
+        axes.legend(loc="lower right", bbox_to_anchor=(1, 1), ncols=2, borderaxespad=0.2)
+    heading(axes, f"Period {number}, {clock.span(day.problem.periods, number)}" + ("" if traded else ": no trade"))
+
+
+def draw_clearing(axes, day, number, net):
+    """The price, and the point on the curves at which the hourly buys end that are executed."""
+    price, buys = day.said.prices[number - 1], executed_buys(day, number)
+    axes.axhline(eur(price), color=COLOURS["soft"], linewidth=1, linestyle=":")
+    axes.text(1.006, eur(price), f"{prices_text(price)}\nEUR/MWh", transform=axes.get_yaxis_transform(), va="center")
+    words = f"{mw(buys):,.1f} MW of hourly buys are executed"
+    ring = {"marker": "o", "markersize": 7, "markerfacecolor": COLOURS["paper"], "linestyle": "none"}
+    axes.plot([mw(buys + max(-net, 0))], [eur(price)], color=COLOURS["ink"], label=words, **ring)
 
 
 def draw_net(axes, net, bottom, top):

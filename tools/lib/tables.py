@@ -4,7 +4,7 @@ import csv
 import io
 from fractions import Fraction
 
-from . import decisions, text, trades
+from . import decisions, spans, text, trades
 
 # The columns of a table of orders that make a journal: `order_table` reads them.
 ORDER = ["participant", "order", "kind", "side", "price_eur_mwh", "periods", "volume_mw", "parent", "group"]
@@ -48,24 +48,14 @@ SHARES = [(kind, side) for side in ("buy", "sell") for kind in ("hour", "block")
 
 
 def periods(day):
-    heads = ["period", "hours", "price_eur_mwh", "volume_mw", "low_eur_mwh", "high_eur_mwh"]
+    heads = ["period", "hours", "price_eur_mwh", "volume_mw", "traded", "low_eur_mwh", "high_eur_mwh"]
     yield heads + [f"{'hourly' if kind == 'hour' else kind}_{side}s_mw" for kind, side in SHARES]
     for number, parts in shares(day).items():
         found = day.outcome.cleared[number]
         ends = ["", ""] if found is None else [price(found.low), price(found.high)]
-        traded = [price(day.said.prices[number - 1]), volume(day.said.volumes[number - 1])]
-        yield [number, float(day.problem.hours), *traded, *ends, *map(volume, parts.values())]
-
-
-def spans(numbers):
-    """Periods in few words, as `1;3-5`."""
-    runs = []
-    for number in numbers:
-        if runs and runs[-1][1] == number - 1:
-            runs[-1][1] = number
-        else:
-            runs.append([number, number])
-    return ";".join(str(first) if first == last else f"{first}-{last}" for first, last in runs)
+        price_and_volume = [price(day.said.prices[number - 1]), volume(day.said.volumes[number - 1])]
+        traded = "yes" if trades.is_traded(day, number) else "no"
+        yield [number, float(day.problem.hours), *price_and_volume, traded, *ends, *map(volume, parts.values())]
 
 
 def order_cells(row):
@@ -73,7 +63,7 @@ def order_cells(row):
     order = row.order
     volumes = [volume(tenths) for _, tenths in order.volumes]
     each = volumes[0] if len(set(volumes)) == 1 else ";".join(volumes)
-    numbers = spans(number for number, _ in order.volumes)
+    numbers = spans.written(number for number, _ in order.volumes)
     return [row.who, row.name, order.kind, order.side, price(order.price), numbers, each, order.parent, order.group]
 
 

@@ -6,7 +6,7 @@ import unittest
 from pathlib import Path
 
 import support
-from support import AUCTION, QUARTERS, day_of, journal_of, results_of, tool
+from support import AUCTION, FIRST, QUARTERS, day_of, journal_of, results_of, tool
 
 from lib import command
 
@@ -67,6 +67,16 @@ class Pictures(unittest.TestCase):
         drawn = pictures.picture(pictures.period_picture(day, 75), "svg", words_as_text=True).decode()
         for words in ("Period 75, 18:30 to 18:45", "165.00", "726.0 MW of hourly buys are executed"):
             self.assertIn(words, drawn)
+
+    def test_periods_without_trade_do_not_set_the_scale(self):
+        from lib import pictures
+
+        day = day_of(FIRST, results_of(FIRST, frozenset()))
+        figure = pictures.prices_picture(day)
+        least, most = figure.axes[0].get_ylim()
+        self.assertTrue(50 < least < 68 < most < 90, (least, most))
+        drawn = pictures.picture(figure, "svg", words_as_text=True).decode()
+        self.assertEqual(drawn.count(">no trade<"), 2)
 
     def test_the_same_day_gives_the_same_bytes(self):
         from lib import pictures

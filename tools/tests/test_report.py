@@ -7,7 +7,7 @@ import unittest
 from pathlib import Path
 
 import support
-from support import AUCTION, QUARTERS, day_of, journal_of, printed, results_of, tool
+from support import AUCTION, FIRST, QUARTERS, day_of, journal_of, printed, results_of, tool
 
 from lib import command, trades
 
@@ -119,6 +119,19 @@ class Page(unittest.TestCase):
             "PeriodOutOfDay",
         ):
             self.assertTrue(any(words in text for text in read.texts), words)
+
+    def test_periods_without_trade_have_no_price(self):
+        text = self.page(FIRST, results_of(FIRST, frozenset()), [1, 8])
+        texts = Reader(text).texts
+        self.assertEqual(texts.count("no trade"), 22 + 2)  # in the table, and in the picture of prices
+        self.assertIn("Period 1, 00:00 to 01:00: no trade", texts)
+        self.assertFalse(any("1,750" in words for words in texts))
+        # The price of periods 8 and 9 is 68 EUR.
+        at = texts.index("mean price of the traded periods")
+        self.assertIn("68.00", texts[at : at + 3])
+        nothing = journal_of("submit,A,B1,hour,buy,6000,1:10,,")
+        text = self.page(nothing, results_of(nothing, frozenset()), [1])
+        self.assertEqual((text.count("mean price"), text.count("1750"), text.count(">no trade<")), (0, 0, 25))
 
     def test_wrong_results_are_said_to_be_wrong(self):
         wrong = printed(AUCTION).replace(b"period,1,9200", b"period,1,9300")

@@ -8,7 +8,7 @@ from fractions import Fraction
 from pathlib import Path
 
 import support
-from support import AUCTION, QUARTERS, day_of, printed, tool
+from support import AUCTION, FIRST, QUARTERS, day_of, printed, results_of, tool
 
 from lib import book, command, journal, order_table, tables
 
@@ -55,6 +55,14 @@ class Results(unittest.TestCase):
             (row["outcome"], row["surplus_eur"], row["amount_eur"]), ("paradoxically rejected", "7920.000", "0.000")
         )
         self.assertEqual(participants[-1]["paid_eur"], "19860.000")
+
+    def test_periods_without_trade_are_marked(self):
+        for day in self.days():
+            for row in read(tables.periods(day)):
+                self.assertEqual(row["traded"], "no" if row["volume_mw"] == "0.0" else "yes")
+        periods = read(tables.periods(day_of(FIRST, results_of(FIRST, frozenset()))))
+        self.assertEqual([row["period"] for row in periods if row["traded"] == "yes"], ["8", "9"])
+        self.assertEqual((periods[0]["price_eur_mwh"], periods[0]["volume_mw"]), ("1750.00", "0.0"))
 
     def test_the_table_of_orders_makes_the_same_book(self):
         for day in self.days():
@@ -183,7 +191,7 @@ class CommandLine(unittest.TestCase):
         self.assertEqual(tool("table", "--journal", "-", "--periods=91", data=rows.encode())[0], command.COMMAND_LINE)
         texts = [QUARTERS, QUARTERS.with_suffix(".stdout")]
         periods = tool("table", *texts)[1].decode().splitlines()
-        self.assertEqual((len(periods), periods[96].split(",")[:4]), (97, ["96", "0.25", "74.00", "385.0"]))
+        self.assertEqual((len(periods), periods[96].split(",")[:5]), (97, ["96", "0.25", "74.00", "385.0", "yes"]))
         orders = tool("table", *texts, "--rows", "orders")[1].decode().splitlines()
         # A quarter of an hour of 375 MW, at 50 EUR; and 15 MW at 98 EUR.
         self.assertIn("STAD,LOAD-1,hour,buy,300.00,1,375.0,,,93.750,93.750,in full,,-4687.50000", orders)
