@@ -4,7 +4,7 @@ import csv
 import io
 from fractions import Fraction
 
-from . import decisions, spans, text, trades
+from . import decisions, journal, selection, spans, text, trades
 
 # The columns of a table of orders that make a journal: `order_table` reads them.
 ORDER = ["participant", "order", "kind", "side", "price_eur_mwh", "periods", "volume_mw", "parent", "group"]
@@ -99,4 +99,31 @@ def participants(day):
         yield [who, count, *energies, *amounts]
 
 
+def command_cells(command):
+    """What a command says: its kind, and the cells of `ORDER`, empty where it says nothing."""
+    match command:
+        case journal.Submit(who, name, order):
+            return ["submit", *order_cells(selection.Row(who, name, order))]
+        case journal.Amend(who, name, cents, volumes):
+            order = journal.Order("", "", cents, volumes)
+            return ["amend", *order_cells(selection.Row(who, name, order))]
+        case journal.Cancel(who, name):
+            return ["cancel", who, name, *[""] * 7]
+    return ["close", *[""] * 9]
+
+
+def commands(read, reasons):
+    """Each command of a journal with the book's reply."""
+    yield ["command", "what", *ORDER, "reply", "reason"]
+    for number, (command, reason) in enumerate(zip(read.commands, reasons), 1):
+        yield [number, *command_cells(command), "refused" if reason else "done", reason or ""]
+
+
+def refused(reasons):
+    """How many commands were refused, in words; None if none was."""
+    count = sum(reason is not None for reason in reasons)
+    return f"{count} of {len(reasons)} commands {'was' if count == 1 else 'were'} refused" if count else None
+
+
 TABLES = {"periods": periods, "orders": orders, "participants": participants}
+TABLES["commands"] = lambda day: commands(day.journal, day.reasons)
