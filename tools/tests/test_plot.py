@@ -113,6 +113,10 @@ class Pictures(unittest.TestCase):
                 self.assertTrue(Path(folder, "a.svg").read_bytes().startswith(begins["svg"]))
             self.assertEqual(tool("plot", *texts, "--period", 19, "-o", f"{folder}/a.png"), (0, b"", ""))
             self.assertTrue(Path(folder, "a.png").read_bytes().startswith(begins["png"]))
+            self.assertEqual(tool("plot", *texts, "--period", 19, "-o", "-")[1][:5], begins["svg"])
+            status, _, err = tool("plot", *texts, "--period", 7, "--picture", "blocks", "-o", f"{folder}/b.svg")
+            self.assertEqual((status, "not allowed with" in err), (command.COMMAND_LINE, True))
+            self.assertEqual(tool("plot", *texts, "--pict", "day")[0], command.COMMAND_LINE)
             for words in (["-o", f"{folder}/a.gif"], ["--period", 25, "-o", f"{folder}/a.svg"], ["--picture=x"]):
                 self.assertEqual(tool("plot", *texts, *words)[0], command.COMMAND_LINE)
             self.assertEqual(tool("plot", *texts, "-o", f"{folder}/none/a.svg")[0], command.NO_INPUT)

@@ -157,7 +157,10 @@ class Page(unittest.TestCase):
         self.assertEqual((status, err, b"<title>Today</title>" in out), (0, "", True))
         self.assertNotIn(b"Supply and demand in period", out)
         self.assertIn(b"Supply and demand in period 3", tool("report", *texts, "-o", "-", "--curves", "3,4")[1])
-        for words in ("25", "x", "1,,2", "0"):
+        drawn = tool("report", *texts, "-o", "-", "--curves", "4, 3-4,3")[1]
+        self.assertEqual([drawn.count(b"Supply and demand in period %d" % number) for number in (3, 4, 5)], [1, 1, 0])
+        self.assertEqual(tool("report", *texts, "-o", "-", "--curve", "3")[0], command.COMMAND_LINE)
+        for words in ("25", "x", "1-25", "9-8", "0", ""):
             self.assertEqual(tool("report", *texts, "-o", "-", "--curves", words)[0], command.COMMAND_LINE)
         with tempfile.TemporaryDirectory() as folder:
             self.assertEqual(tool("report", *texts, "-o", Path(folder, "none", "a.html"))[0], command.NO_INPUT)

@@ -219,11 +219,30 @@ class CommandLine(unittest.TestCase):
         self.assertIn("STAD,LOAD-1,hour,buy,300.00,1,375.0,,,93.750,93.750,in full,,-4687.50000", orders)
         self.assertIn("GAS,FLEX-60,hour,sell,98.00,60,205.0,,,51.250,3.750,in part,,367.50000", orders)
 
+    def test_a_table_without_orders(self):
+        status, out, err = tool("table", "--journal", "-", data=f"{HEADER}\n".encode())
+        self.assertEqual((status, out), (0, b"day,24,,,,,,,\nclose,,,,,,,,\n"))
+        self.assertEqual(err, "table: standard input has no orders: the day of the journal is empty\n")
+
     def test_faults(self):
+        texts = [AUCTION, AUCTION.with_suffix(".stdout")]
         status, out, err = tool("table", "--journal", "-", data=f"{HEADER}\n{HOUR},x\n".encode())
         self.assertEqual((status, out), (command.NO_INPUT, b""))
         self.assertEqual(err, "table: standard input: line 2, it has 10 cells, and the header 9\n")
-        self.assertEqual(tool("table", "--journal", AUCTION, AUCTION)[0], command.COMMAND_LINE)
+        for words in (
+            ["--journal", AUCTION, AUCTION],
+            ["--journal", AUCTION, "--rows", "orders"],
+            ["--journal", AUCTION, "--all", "."],
+            [*texts, "--periods", "24"],
+            [*texts, "--open"],
+            [*texts, "--all", ".", "--rows", "orders"],
+            [*texts, "--all", ".", "-o", "a.csv"],
+        ):
+            status, out, err = tool("table", *words)
+            self.assertEqual((status, out, "has no use with" in err), (command.COMMAND_LINE, b"", True), words)
+        for words in ([*texts, "--row", "orders"], ["--journ", AUCTION], ["--journal", "-", "--period", "24"]):
+            status, out, err = tool("table", *words)
+            self.assertEqual((status, "unrecognized arguments" in err), (command.COMMAND_LINE, True), words)
         self.assertEqual(tool("table", "--rows", "blocks", AUCTION)[0], command.COMMAND_LINE)
         self.assertEqual(tool("table", AUCTION)[0], command.NO_INPUT)
         status, _, err = tool("table", "-", data=b"day,24,,,,,,,\nresults\nday,24\n")
