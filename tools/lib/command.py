@@ -7,7 +7,7 @@ import subprocess
 import sys
 from pathlib import Path
 
-from . import book, journal, results, selection
+from . import book, journal, lint, results, selection
 
 DEBIAN_PYTHON = "/usr/bin/python3"
 PACKAGES = {"matplotlib": "python3-matplotlib", "scipy": "python3-scipy"}  # of Debian
@@ -78,7 +78,7 @@ def parse_journal(path, data):
     try:
         return journal.read_journal(data)
     except journal.Fault as fault:
-        raise Stop(f"{shown(path)} is no journal: {fault}") from None
+        raise Stop(f"{shown(path)} is no journal: {fault}{lint.in_few_words(data)}") from None
 
 
 class Day:

@@ -1,14 +1,22 @@
 """Records of comma-separated values, and the texts of numbers and names."""
 
+import functools
 import re
 from fractions import Fraction
 
 from . import rules
 
-# A field begins with a quote, and then goes to the closing quote (two quotes in a row stand for one) with whatever follows
-# it, or to the end of the text where no quote closes it. Else it goes to the next comma or line end.
-FIELD = re.compile(rb'"([^"]*(?:""[^"]*)*)(?:"([^,\r\n]*))?|([^,\r\n]*)')
+LINE_END = re.compile(rb"\r\n|\r|\n")
 LINE_ENDS = re.compile(rb"[\r\n]*")
+
+
+@functools.cache
+def field_of(comma):
+    """A field begins with a quote, and then goes to the closing quote (two quotes in a row stand for one) with whatever follows
+    it, or to the end of the text where no quote closes it. Else it goes to the next comma or line end."""
+    comma = re.escape(comma)
+    return re.compile(rb'"([^"]*(?:""[^"]*)*)(?:"([^' + comma + rb"\r\n]*))?|([^" + comma + rb"\r\n]*)")
+
 
 # No number of a journal or of results has more digits than 18.
 NUMBER = re.compile(rb"-?[1-9][0-9]{0,17}|0")
@@ -18,18 +26,24 @@ NAME = re.compile(rb"[A-Z0-9-]{1,12}")
 
 def records(text):
     """The records of a text, each a list of fields. Empty lines are no records."""
+    return (fields for _, fields in placed_records(text))
+
+
+def placed_records(text, comma=b","):
+    """The same, each with its offset in the text; and of a text whose fields are parted by something else than commas."""
+    field_from = field_of(comma)
     at = LINE_ENDS.match(text).end()
     while at < len(text):
-        fields = []
+        begin, fields = at, []
         while True:
-            field = FIELD.match(text, at)
+            field = field_from.match(text, at)
             quoted, behind, plain = field.groups()
             fields.append(plain if quoted is None else quoted.replace(b'""', b'"') + (behind or b""))
             at = field.end()
-            if text[at : at + 1] != b",":
+            if text[at : at + 1] != comma:
                 break
             at += 1
-        yield fields
+        yield begin, fields
         at = LINE_ENDS.match(text, at).end()
 
 
