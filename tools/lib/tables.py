@@ -1,10 +1,11 @@
-"""Results as tables of comma-separated values: a header with units, then a row for each period, order or participant."""
+"""Results as tables of comma-separated values: a header with units, then a row for each period, order or participant.
+
+A table is a list of rows of which the first names the columns. docs/TABLES.md describes each column, and the form as JSON."""
 
 import csv
 import io
-from fractions import Fraction
 
-from . import decisions, journal, selection, spans, text, trades
+from . import decisions, journal, published, selection, spans, text, trades
 
 # The columns of a table of orders that make a journal: `order_table` reads them.
 ORDER = ["participant", "order", "kind", "side", "price_eur_mwh", "periods", "volume_mw", "parent", "group"]
@@ -17,14 +18,6 @@ def written(rows):
     out = io.StringIO()
     csv.writer(out, lineterminator="\n").writerows(rows)
     return out.getvalue()
-
-
-def price(cents):
-    return text.fixed(cents / Fraction(100), 2)
-
-
-def volume(tenths):
-    return text.fixed(tenths / Fraction(10), 1)
 
 
 def euros(day, amount):
@@ -52,19 +45,19 @@ def periods(day):
     yield heads + [f"{'hourly' if kind == 'hour' else kind}_{side}s_mw" for kind, side in SHARES]
     for number, parts in shares(day).items():
         found = day.outcome.cleared[number]
-        ends = ["", ""] if found is None else [price(found.low), price(found.high)]
-        price_and_volume = [price(day.said.prices[number - 1]), volume(day.said.volumes[number - 1])]
+        ends = ["", ""] if found is None else [text.cents(found.low), text.cents(found.high)]
+        price_and_volume = [text.cents(day.said.prices[number - 1]), text.tenths(day.said.volumes[number - 1])]
         traded = "yes" if trades.is_traded(day, number) else "no"
-        yield [number, float(day.problem.hours), *price_and_volume, traded, *ends, *map(volume, parts.values())]
+        yield [number, float(day.problem.hours), *price_and_volume, traded, *ends, *map(text.tenths, parts.values())]
 
 
 def order_cells(row):
     """The cells of `ORDER`."""
     order = row.order
-    volumes = [volume(tenths) for _, tenths in order.volumes]
+    volumes = [text.tenths(tenths) for _, tenths in order.volumes]
     each = volumes[0] if len(set(volumes)) == 1 else ";".join(volumes)
     numbers = spans.written(number for number, _ in order.volumes)
-    return [row.who, row.name, order.kind, order.side, price(order.price), numbers, each, order.parent, order.group]
+    return [row.who, row.name, order.kind, order.side, text.cents(order.price), numbers, each, order.parent, order.group]
 
 
 def outcomes(day):
@@ -125,5 +118,28 @@ def refused(reasons):
     return f"{count} of {len(reasons)} commands {'was' if count == 1 else 'were'} refused" if count else None
 
 
-TABLES = {"periods": periods, "orders": orders, "participants": participants}
-TABLES["commands"] = lambda day: commands(day.journal, day.reasons)
+def figure_values(day):
+    """The figures of a day as numbers by name, with their unit in it."""
+    _, *rows = published.figures(day)
+    ends = {"": "", "EUR": "_eur", "MWh": "_mwh", "EUR/MWh": "_eur_mwh"}
+    return {
+        name + ends[unit]: None if value == "" else value if isinstance(value, int) else float(value) for name, unit, value in rows
+    }
+
+
+TABLES = {
+    "periods": periods,
+    "orders": orders,
+    "participants": participants,
+    "blocks": lambda day: published.blocks(day, order_cells, ORDER),
+    "curves": published.curves,
+    "commands": lambda day: commands(day.journal, day.reasons),
+    "figures": published.figures,
+}
+# The same in a long form: a row for each period of each thing, or for each number of a period.
+LONG = {
+    "periods": lambda day: published.long_periods(periods(day)),
+    "orders": published.long_orders,
+    "participants": published.long_participants,
+    "blocks": lambda day: published.long_orders(day, "block"),
+}

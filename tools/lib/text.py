@@ -94,6 +94,16 @@ def fixed(value, digits, thousands=""):
     return f"{sign}{whole:,}".replace(",", thousands) + point
 
 
+def cents(price, thousands=""):
+    """A price in EUR/MWh."""
+    return fixed(Fraction(price, 100), 2, thousands)
+
+
+def tenths(volume, thousands=""):
+    """A volume in MW."""
+    return fixed(Fraction(volume, 10), 1, thousands)
+
+
 def euros(amount, hours, thousands=","):
     """An amount in cents per MWh times tenths of a MW, over periods of so many hours, in EUR: with as many digits as it may
     have."""

@@ -14,19 +14,26 @@ PICTURES = ["day", "prices", "blocks"]
 
 
 class Missing(unittest.TestCase):
+    def words(self, module):
+        return f"{module}, which Debian has in the package python3-{module}: apt-get install python3-{module}"
+
+    def test_packages_are_those_of_the_tests(self):
+        listed = (support.TOP / "tests" / "packages").read_text().split("\n")
+        self.assertLessEqual({*command.PACKAGES.values(), "tzdata"}, set(listed))
+
     @unittest.skipUnless(command.is_debians(), "this isn't Debian's Python")
     def test_a_missing_package_is_named(self):
         without = sys.executable, "-S"  # leaves out Debian's packages
         for name in ("plot", "report"):
             status, out, err = tool(name, AUCTION, python=without)
             self.assertEqual((status, out), (command.NO_PACKAGE, b""))
-            self.assertEqual(err, f"{name}: it needs matplotlib, which Debian has in the package python3-matplotlib\n")
+            self.assertEqual(err, f"{name}: it needs {self.words('matplotlib')}\n")
         blocks = [f"submit,A,K{number},block,sell,1,1:1,," for number in range(24)]
         day = journal_of(*blocks)
         text = day + b"results\n" + results_of(day, frozenset())
         status, out, err = tool("audit", "--best", "-", data=text, python=without)
         self.assertEqual((status, out), (command.NO_PACKAGE, b""))
-        self.assertEqual(err, "audit: it needs scipy, which Debian has in the package python3-scipy\n")
+        self.assertEqual(err, f"audit: it needs {self.words('scipy')}\n")
 
 
 @unittest.skipUnless(command.has("matplotlib"), "matplotlib is missing (Debian's python3-matplotlib)")

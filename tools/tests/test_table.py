@@ -243,7 +243,7 @@ class CommandLine(unittest.TestCase):
         for words in ([*texts, "--row", "orders"], ["--journ", AUCTION], ["--journal", "-", "--period", "24"]):
             status, out, err = tool("table", *words)
             self.assertEqual((status, "unrecognized arguments" in err), (command.COMMAND_LINE, True), words)
-        self.assertEqual(tool("table", "--rows", "blocks", AUCTION)[0], command.COMMAND_LINE)
+        self.assertEqual(tool("table", "--rows", "rows", AUCTION)[0], command.COMMAND_LINE)
         self.assertEqual(tool("table", AUCTION)[0], command.NO_INPUT)
         status, _, err = tool("table", "-", data=b"day,24,,,,,,,\nresults\nday,24\n")
         self.assertEqual(
