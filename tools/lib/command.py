@@ -12,7 +12,7 @@ from . import book, journal, lint, results, selection
 
 DEBIAN_PYTHON = "/usr/bin/python3"
 # Debian's packages; tests/packages lists them all.
-PACKAGES = {"matplotlib": "python3-matplotlib", "scipy": "python3-scipy", "pandas": "python3-pandas"}
+PACKAGES = {"jinja2": "python3-jinja2", "matplotlib": "python3-matplotlib", "scipy": "python3-scipy", "pandas": "python3-pandas"}
 
 # The statuses of all tools.
 DONE, DIFFERS, COMMAND_LINE, NO_INPUT, UNDECIDED, NO_PACKAGE = range(6)

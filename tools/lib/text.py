@@ -110,14 +110,21 @@ def euros(amount, hours, thousands=","):
     return fixed(Fraction(amount) * hours / 1_000, 3 if hours == 1 else 5, thousands)
 
 
-def amount(value, hours, thousands="\u202f"):
-    """The same for readers: with two digits behind the point, rounded, and narrow spaces between thousands. What rounds to nothing
-    and isn't has all its digits."""
-    whole = Fraction(value) * hours / 10
-    cents = int(abs(whole) + Fraction(1, 2)) * (-1 if whole < 0 else 1)
-    if value and not cents:
-        return euros(value, hours, thousands)
-    return fixed(Fraction(cents, 100), 2, thousands)
+NARROW = "\u202f"  # the narrow space between thousands, which no line is broken at
+
+
+def shown(value, digits, thousands=NARROW):
+    """A number for readers, rounded to so many digits behind the point. What would round to nothing and isn't has more."""
+    value = Fraction(value)
+    scaled = int(abs(value) * 10**digits + Fraction(1, 2))
+    if value and not scaled:
+        return shown(value, digits + 1, thousands)
+    return fixed(Fraction(scaled if value > 0 else -scaled, 10**digits), digits, thousands)
+
+
+def amount(value, hours, thousands=NARROW):
+    """An amount as `euros` takes it, for readers: in EUR with two digits."""
+    return shown(Fraction(value) * hours / 1_000, 2, thousands)
 
 
 def energy(tenths, hours, thousands=","):

@@ -12,7 +12,7 @@ from support import AUCTION, TOP, tool
 
 from lib import command
 
-TOOLS = {"table": None, "lint": None, "plot": "matplotlib", "report": "matplotlib"}
+TOOLS = {"table": [], "lint": [], "plot": ["matplotlib"], "report": ["matplotlib", "jinja2"]}
 EXAMPLE = re.compile(r"^  (\S*(?:tools/|dam ).*)$", re.MULTILINE)
 
 
@@ -25,8 +25,8 @@ class Help(unittest.TestCase):
 
     def test_examples_work(self):
         """Each example is run in a folder with the examples and the tools, and with a program that prints the worked results."""
-        for name, package in TOOLS.items():
-            if package and not command.has(package):
+        for name, packages in TOOLS.items():
+            if not all(map(command.has, packages)):
                 continue
             with self.subTest(name), tempfile.TemporaryDirectory() as folder:
                 for part in ("tools", "examples"):

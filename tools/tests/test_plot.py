@@ -85,6 +85,30 @@ class Pictures(unittest.TestCase):
         drawn = pictures.picture(figure, "svg", words_as_text=True).decode()
         self.assertEqual(drawn.count(">no trade<"), 2)
 
+    def test_links_groups_and_surpluses_of_blocks(self):
+        from lib import pictures
+
+        day = day_of(AUCTION.read_bytes(), support.printed(AUCTION))
+        for width in pictures.WIDTHS.values():
+            figure = pictures.blocks_picture(day, width)
+            (axes,) = figure.axes
+            # The two links: START to STAY, and STAY to EVENING.
+            arrows = [note for note in axes.texts if getattr(note, "arrow_patch", None)]
+            self.assertEqual([tuple(note.xy)[0] for note in arrows], [10.5, 16.5])
+            self.assertEqual([text.get_text() for text in axes.texts].count("FILL"), 1)
+            drawn = pictures.picture(figure, "svg", words_as_text=True).decode()
+            for words in ("-8\u202f960.00", "146\u202f520.00", "GAS START", "sell 80 MW at 120.00 EUR/MWh"):
+                self.assertIn(words, drawn)
+
+    def test_days_of_quarter_hours_have_no_outline_for_each_period(self):
+        from lib import pictures
+
+        for case, bars in ((AUCTION, 24 * 4), (QUARTERS, 0)):
+            day = day_of(case.read_bytes(), support.printed(case))
+            self.assertEqual(len(pictures.prices_picture(day).axes[1].patches), bars)
+            # Of each block one outline, since its periods follow one another.
+            self.assertEqual(len(pictures.blocks_picture(day).axes[0].patches), len(day.problem.blocks))
+
     def test_the_same_day_gives_the_same_bytes(self):
         from lib import pictures
 
