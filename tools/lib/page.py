@@ -39,6 +39,7 @@ MARKS = {decisions.ACCEPTED: "accepted", decisions.REJECTED: "rejected", decisio
 TEMPLATES = jinja2.Environment(
     loader=jinja2.FileSystemLoader(Path(__file__).parent / "templates"), autoescape=True, undefined=jinja2.StrictUndefined
 )
+MOST_SHOWN = 4  # curves that stand open
 NUMBER = "n"  # the class of cells that stand to the right
 
 
@@ -59,7 +60,8 @@ class Picture(NamedTuple):
     words: str
     broad: Markup
     narrow: Markup
-    heads = summary = None
+    summary: object = None  # what is shown of a picture that has to be opened
+    heads = None
 
 
 class Section(NamedTuple):
@@ -249,6 +251,18 @@ def block_words(found):
     return f"{words} An arrow leads from a parent to its child, and a bracket joins the blocks of an exclusive group."
 
 
+def curve(day, number, folded):
+    """The curves of a period, under a line that opens them if there are many: then one at a time is open."""
+    picture = drawn(lambda width: pictures.period_picture(day, number, width), f"period{number}", curve_words(day, number))
+    if not folded:
+        return picture
+    said, words = day.said, "no trade"
+    if trades.is_traded(day, number):
+        words = f"{price(said.prices[number - 1])} EUR/MWh, {volume(said.volumes[number - 1])} MW"
+    summary = Markup('<b>Period {}</b> {}: <span class="soft">{}</span>')
+    return picture._replace(summary=summary.format(number, clock.span(day.problem.periods, number), words))
+
+
 def sections(day, found, curves):
     parts = [drawn(lambda width: pictures.prices_picture(day, width), "prices", prices_words(day))]
     yield Section("prices", "Prices and volumes", parts)
@@ -257,11 +271,7 @@ def sections(day, found, curves):
         yield Section("blocks", "Blocks", [picture, block_table(day, found)])
     yield Section("periods", "Periods", [period_table(day)])
     if curves:
-        parts = [
-            drawn(lambda width, number=number: pictures.period_picture(day, number, width), f"period{number}", curve_words(day, number))
-            for number in curves
-        ]
-        yield Section("curves", "Supply and demand", parts)
+        yield Section("curves", "Supply and demand", [curve(day, number, len(curves) > MOST_SHOWN) for number in curves])
     yield Section("participants", "Participants", list(participants(day, found)))
     refused = refusals(day)
     if refused:
@@ -284,7 +294,7 @@ def page(day, title, curves):
 
 
 def notable(day):
-    """The periods whose curves are worth a look where none are asked for: the cheapest and the dearest with a volume."""
+    """The periods whose curves are worth a look where none are asked for: the cheapest and the most expensive one with a volume."""
     traded = trades.traded(day)
     if not traded:
         return []

@@ -143,6 +143,13 @@ class Page(unittest.TestCase):
         text = self.page(nothing, results_of(nothing, frozenset()), [1])
         self.assertEqual((text.count("mean price"), text.count("750.00"), text.count(">no trade<")), (0, 0, 26))
 
+    def test_many_curves_are_opened_one_by_one(self):
+        text = self.page(FIRST, results_of(FIRST, frozenset()), range(5, 11))
+        self.assertEqual(Reader(text).wrong, [])
+        self.assertEqual(text.count('<details name="curves">'), 6)
+        self.assertIn("<b>Period 8</b> 07:00 to 08:00: <span class=\"soft\">68.00 EUR/MWh, 55.0 MW</span>", text)
+        self.assertIn("<b>Period 7</b> 06:00 to 07:00: <span class=\"soft\">no trade</span>", text)
+
     def test_participants_add_up(self):
         texts = [words for words in Reader(self.page(AUCTION.read_bytes(), printed(AUCTION))).texts if words]
         at = texts.index("all")
