@@ -64,9 +64,11 @@ class Judge:
 
     def accepted_why(self, place):
         surplus, parent = self.surpluses[place], self.problem.parents[place]
+        if surplus is None:
+            return "is accepted, and has a period that doesn't balance, and so has no price"
         why = "gains nothing" if not surplus else f"{'gains' if surplus > 0 else 'loses'} at the prices"
         helping = selection.helping(self.problem, self.accepted, place)
-        if surplus is not None and surplus < 0 and helping:
+        if surplus < 0 and helping:
             together = selection.answers_for(self.problem, self.accepted, place, self.surpluses)
             why += f" by itself, and with {self.names(helping)} it gains {self.eur(together)}"
         return why + (f", and its parent {self.name(parent)} is accepted" if parent is not None else "")

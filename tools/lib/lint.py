@@ -10,6 +10,7 @@ from . import book, fields, journal, rules, text
 
 DAY = "day,24,,,,,,,"
 CLOSE = "close,,,,,,,,"
+RESULTS = ([b"results"],)  # the line before the results in what `dam day` prints
 FEW = 5  # faults that other tools tell
 BYTE_ORDER_MARKS = {b"\xef\xbb\xbf": "utf-8-sig", b"\xff\xfe": "utf-16", b"\xfe\xff": "utf-16"}
 
@@ -47,6 +48,10 @@ class Lint:
             behind = at
             if number > rules.MOST_RECORDS:
                 self.tell(line, f"a journal has at most {rules.MOST_RECORDS - 1} commands: leave out what follows")
+                break
+            if record in RESULTS or record[0] == b"welfare":
+                whole = "the results of a day begin here" if record in RESULTS else "these are results"
+                self.tell(line, f"{whole}, which are no part of a journal: tools/audit reads both")
                 break
             self.record(line, [field.decode(errors="replace") for field in record])
         self.end(line, number)

@@ -9,7 +9,7 @@ from typing import NamedTuple
 import jinja2
 from markupsafe import Markup, escape
 
-from . import clock, decisions, pictures, published, spans, text, trades
+from . import clock, decisions, pictures, published, spans, tables, text, trades
 from .journal import command_line
 
 # The pictures' colours and the page's own, by light and dark.
@@ -147,10 +147,9 @@ def supporting(found):
 
 
 def period_table(day):
-    shares = [side for of in ("buy", "sell") for side in pictures.shares(day, of)]
-    rows = []
+    rows, shares = [], tables.shares(day)
     for number, found in day.outcome.cleared.items():
-        parts = [text.shown(Fraction(str(share[number - 1])), 1) for share in shares]
+        parts = map(volume, shares[number].values())
         begins = clock.begins(day.problem.periods, number)
         cents = price(day.said.prices[number - 1]) if trades.is_traded(day, number) else "no trade"
         rows.append([number, begins, cents, supporting(found), volume(day.said.volumes[number - 1]), *parts])
@@ -278,12 +277,13 @@ def sections(day, found, curves):
         yield Section("refused", "Refused commands", refused)
 
 
-def page(day, title, curves):
-    """The page of a day, with the curves of some periods."""
+def page(day, title, curves, date=None):
+    """The page of a day, with the curves of some periods, and the date of delivery if it is known."""
     found = decisions.decisions(day.problem, day.said.accepted, day.outcome)
     return TEMPLATES.get_template("page.html").render(
         title=title,
         style=style(),
+        date=f"{date:%A}, {date.day} {date:%B} {date.year}" if date else None,
         periods=day.problem.periods,
         hourly=len(day.problem.rows) - len(found),
         blocks=len(found),

@@ -14,7 +14,7 @@ matplotlib.use("Agg")
 from matplotlib import pyplot
 from matplotlib.patches import Patch, Polygon, Rectangle
 
-from . import clock, decisions, selection, spans, text, trades
+from . import clock, decisions, selection, spans, tables, text, trades
 
 # No two are equal, so that each can be told from the text of a picture.
 COLOURS = {
@@ -209,19 +209,9 @@ def price_bounds(prices, ends):
 
 
 def shares(day, side):
-    """What a side trades in each period: by hourly orders, and by accepted blocks."""
-    hourly = dict.fromkeys(day.problem.orders, 0)
-    blocks = dict.fromkeys(day.problem.orders, 0)
-    rows = [row for row in day.problem.rows if row.order.kind == "hour"]
-    for row, executed in zip(rows, day.said.executed):
-        if row.order.side == side:
-            hourly[row.order.volumes[0][0]] += executed
-    for place in day.said.accepted:
-        order = day.problem.blocks[place].order
-        if order.side == side:
-            for number, volume in order.volumes:
-                blocks[number] += volume
-    return [mw(volume) for volume in hourly.values()], [mw(volume) for volume in blocks.values()]
+    """What a side trades in each period, in MW: by hourly orders, and by accepted blocks."""
+    found = tables.shares(day).values()
+    return [[mw(parts[kind, side]) for parts in found] for kind in ("hour", "block")]
 
 
 def draw_volumes(axes, day):
@@ -411,7 +401,7 @@ def draw_curves(axes, day, number):
     supply = steps(orders, "sell", max(net, 0))
     most = mw(max(demand[2], supply[2], 10))
     if net:
-        draw_net(axes, mw(net), bottom, top)
+        draw_net(axes, net, bottom, top)
     draw_curve(
         axes, demand, mw(max(-net, 0)), top, bottom, color=COLOURS["ink"], linestyle="--", label="demand of hourly orders"
     )
@@ -442,9 +432,9 @@ def draw_net(axes, net, bottom, top):
     over all demand."""
     height = 0.05 * (top - bottom)
     low = bottom if net > 0 else top - height
-    words = f"accepted blocks {'sell' if net > 0 else 'buy'} {text.shown(Fraction(str(abs(net))), 1)} MW net"
+    words = f"accepted blocks {'sell' if net > 0 else 'buy'} {volume_text(abs(net))} MW net"
     look = {"facecolor": COLOURS["rejected"], "edgecolor": COLOURS["ink"], "linewidth": 0.7, "hatch": "////"}
-    axes.add_patch(Rectangle((0, low), abs(net), height, label=words, **look))
+    axes.add_patch(Rectangle((0, low), mw(abs(net)), height, label=words, **look))
 
 
 def draw_curve(axes, points, begin, first, last, **look):

@@ -1,8 +1,9 @@
-"""What others publish of a day: the aggregated curves of its periods, its blocks with what decided each, and its figures."""
+"""What others publish of a day: the aggregated curves of its periods and its figures; and long forms of the tables."""
 
+import math
 from fractions import Fraction
 
-from . import clock, decisions, rules, text, trades
+from . import clock, rules, text, trades
 
 # The hours of a day, by the clock, whose mean price is the peak price.
 PEAK = 8 * 60, 20 * 60
@@ -43,26 +44,6 @@ def curves(day):
             yield [number, "clearing", "", text.cents(day.said.prices[number - 1]), volume, volume]
 
 
-def blocks(day, order_cells, columns):
-    """A row for each block: its order, what became of it and why, and what its best family was worth if it is rejected."""
-    heads = ["offered_mwh", "executed_mwh", "outcome", "surplus_eur", "family", "family_gain_eur", "family_welfare_eur", "why"]
-    yield [*columns, *heads]
-
-    def euros(amount, hours=day.problem.hours):
-        return text.euros(amount, hours, "")
-
-    found = decisions.decisions(day.problem, day.said.accepted, day.outcome, lambda value, hours: text.amount(value, hours, ""))
-    for block, surplus, decision in zip(day.problem.blocks, day.said.surpluses, found):
-        offered = sum(tenths for _, tenths in block.order.volumes)
-        energies = [text.energy(tenths, day.problem.hours, "") for tenths in (offered, offered * (decision.kind == "accepted"))]
-        family = ["", "", ""]
-        if decision.family:
-            names = " ".join(day.problem.blocks[place].name for place in sorted(decision.family.members))
-            welfare = decision.other.welfare
-            family = [names, euros(decision.family.gain()), "" if welfare is None else euros(welfare)]
-        yield [*order_cells(block), *energies, decision.kind, euros(surplus), *family, decision.why]
-
-
 def is_peak(periods, number):
     return PEAK[0] <= clock.minutes(periods, number) < PEAK[1]
 
@@ -74,7 +55,7 @@ def mean(prices):
 
 
 def round_half_up(value):
-    return int((value + Fraction(1, 2)).__floor__())
+    return math.floor(value + Fraction(1, 2))
 
 
 def mean_prices(day):

@@ -13,7 +13,15 @@ LISTS = {"periods", "volume_mw"}  # of a table that has both
 
 
 class Wrong(Exception):
-    """A date that the day isn't of."""
+    """A date that the day isn't of, or that is none."""
+
+
+def date_of(words):
+    """The date of a text, as 2026-11-25."""
+    try:
+        return datetime.date.fromisoformat(words)
+    except ValueError:
+        raise Wrong(f"{words}: it should be a day, as 2026-11-25") from None
 
 
 def begins(date, periods):

@@ -83,6 +83,27 @@ def orders(day):
         yield [*order_cells(row), offered, executed, *outcome, euros(day, amount)]
 
 
+def plain_amount(amount, hours):
+    return text.amount(amount, hours, "")
+
+
+def blocks(day):
+    """A row for each block: its order, what became of it and why, and if it is rejected what its best family was worth."""
+    family_heads = ["family", "family_gain_eur", "family_welfare_eur"]
+    yield [*ORDER, "offered_mwh", "executed_mwh", "outcome", "surplus_eur", *family_heads, "why"]
+    found = decisions.decisions(day.problem, day.said.accepted, day.outcome, plain_amount)
+    for block, surplus, decision in zip(day.problem.blocks, day.said.surpluses, found):
+        offered = sum(tenths for _, tenths in block.order.volumes)
+        executed = offered if decision.kind == decisions.ACCEPTED else 0
+        family = ["", "", ""]
+        if decision.family:
+            names = " ".join(day.problem.blocks[place].name for place in sorted(decision.family.members))
+            welfare = decision.other.welfare
+            family = [names, euros(day, decision.family.gain()), "" if welfare is None else euros(day, welfare)]
+        energies = [energy(day, tenths) for tenths in (offered, executed)]
+        yield [*order_cells(block), *energies, decision.kind, euros(day, surplus), *family, decision.why]
+
+
 def participants(day):
     yield ["participant", "orders", "bought_mwh", "sold_mwh", "paid_eur", "received_eur", "net_eur"]
     for who, total in trades.totals(day).items():
@@ -131,7 +152,7 @@ TABLES = {
     "periods": periods,
     "orders": orders,
     "participants": participants,
-    "blocks": lambda day: published.blocks(day, order_cells, ORDER),
+    "blocks": blocks,
     "curves": published.curves,
     "commands": lambda day: commands(day.journal, day.reasons),
     "figures": published.figures,

@@ -47,6 +47,12 @@ class Hand(unittest.TestCase):
         many = b"day,24,,,,,,,\n" + b"cancel,A,B,,,,,,\n" * 3
         self.check(many, *[("line %d, order" % line, "A has no order B here") for line in (2, 3, 4)], command="replay")
 
+    def test_results_are_no_journal(self):
+        text = support.printed(AUCTION)
+        self.check(GOOD + b"results\n" + text, ("line 5", "the results of a day begin here, which are no part of a journal"))
+        found = told(text)
+        self.assertEqual((len(found), found[1]), (3, "line 2: these are results, which are no part of a journal: tools/audit reads both"))
+
     def test_records(self):
         self.check(GOOD.replace(b"day,24,,,,,,,", b"day,24"), ("line 1", "it has 2 fields and should have 9, so that 7 commas are"
                    " missing: write day,24,,,,,,,"))

@@ -11,7 +11,7 @@ from fractions import Fraction
 import support
 from support import AUCTION, FIRST, QUARTERS, TOP, day_of, printed, results_of, tool
 
-from lib import clock, command, journal, published, rules, shapes, tables, trades
+from lib import clock, command, published, rules, shapes, tables, trades
 
 PAGE = (TOP / "docs" / "TABLES.md").read_text()
 

@@ -198,6 +198,11 @@ class Page(unittest.TestCase):
         drawn = tool("report", *texts, "-o", "-", "--curves", "4, 3-4,3")[1]
         self.assertEqual([drawn.count(b"<figcaption>Supply and demand in period %d" % number) for number in (3, 4, 5)], [1, 1, 0])
         self.assertEqual(tool("report", *texts, "-o", "-", "--curve", "3")[0], command.COMMAND_LINE)
+        if command.has_zone("Europe/Berlin"):
+            dated = tool("report", *texts, "-o", "-", "--curves", "none", "--date", "2026-11-25")[1]
+            self.assertIn(b"Wednesday, 25 November 2026. A delivery day of 24 periods", dated)
+            for words in ("2026-03-29", "25.11.2026"):
+                self.assertEqual(tool("report", *texts, "-o", "-", "--date", words)[0], command.COMMAND_LINE)
         for words in ("25", "x", "1-25", "9-8", "0", ""):
             self.assertEqual(tool("report", *texts, "-o", "-", "--curves", words)[0], command.COMMAND_LINE)
         with tempfile.TemporaryDirectory() as folder:
