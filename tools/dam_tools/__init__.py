@@ -108,8 +108,11 @@ def records(day, table="periods", long=False, date=None):
 
 def frame(day, table="periods", long=False, date=None):
     """The same as a pandas frame; the times at which periods begin are timestamps."""
-    import pandas
-
+    try:
+        import pandas
+    except ImportError:
+        package = command.PACKAGES["pandas"]
+        raise Fault(f"frames need pandas, which Debian has in the package {package}: apt-get install {package}") from None
     rows = list(rows_of(day, table, long, date))
     made = pandas.DataFrame(list(shapes.records(rows)), columns=rows[0])
     if "begins" in made:

@@ -231,6 +231,9 @@ def prices_words(day):
     traded = trades.traded(day)
     if not traded:
         return "Price and volume of each period: nothing is traded."
+    prices = {day.said.prices[number - 1] for number in traded}
+    if len(prices) == 1:
+        return f"Price and volume of each period. The price of all that are traded is {price(*prices)} EUR/MWh."
     least, most = (of(traded, key=lambda number: day.said.prices[number - 1]) for of in (min, max))
     ends = [f"{price(day.said.prices[number - 1])} EUR/MWh in period {number}" for number in (least, most)]
     return f"Price and volume of each period. The price goes from {ends[0]} to {ends[1]}."

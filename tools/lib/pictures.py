@@ -246,8 +246,10 @@ def draw_share(axes, begins, ends, look):
         drawn = [low != high for low, high in zip(lows, highs)]
         axes.fill_between(xs, lows, highs, where=drawn, **outline, **look)
         return
-    numbers, heights = range(1, len(ends) + 1), [end - begin for begin, end in zip(begins, ends)]
-    axes.bar(numbers, heights, bottom=begins, width=0.72, **outline, **look)
+    bars = [(number, end - begin, begin) for number, (begin, end) in enumerate(zip(begins, ends), 1) if begin != end]
+    if bars:
+        numbers, heights, bottoms = zip(*bars)
+        axes.bar(numbers, heights, bottom=bottoms, width=0.72, **outline, **look)
 
 
 def heading(axes, words):

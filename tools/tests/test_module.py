@@ -4,6 +4,7 @@ import datetime
 import sys
 import tempfile
 import unittest
+import unittest.mock
 from pathlib import Path
 
 import support
@@ -74,6 +75,12 @@ class Module(unittest.TestCase):
         self.assertEqual(str(frame["begins"][0]), "2026-11-25 00:00:00+01:00")
         frame = dam_tools.frame(day, "orders", long=True)
         self.assertAlmostEqual(frame["amount_eur"].sum(), 0)
+
+    def test_frames_without_pandas(self):
+        day = dam_tools.read_results(AUCTION, AUCTION.with_suffix(".stdout"))
+        with unittest.mock.patch.dict(sys.modules, {"pandas": None}), self.assertRaises(dam_tools.Fault) as fault:
+            dam_tools.frame(day)
+        self.assertIn("apt-get install python3-pandas", str(fault.exception))
 
     def test_the_project_file_names_the_packages(self):
         text = (TOP / "pyproject.toml").read_text()

@@ -8,7 +8,7 @@ from pathlib import Path
 import support
 from support import AUCTION, FIRST, QUARTERS, day_of, journal_of, results_of, tool
 
-from lib import command
+from lib import command, tables
 
 PICTURES = ["day", "prices", "blocks"]
 
@@ -103,8 +103,10 @@ class Pictures(unittest.TestCase):
     def test_days_of_quarter_hours_have_no_outline_for_each_period(self):
         from lib import pictures
 
-        for case, bars in ((AUCTION, 24 * 4), (QUARTERS, 0)):
+        for case in (AUCTION, QUARTERS):
             day = day_of(case.read_bytes(), support.printed(case))
+            bars = sum(volume > 0 for parts in tables.shares(day).values() for volume in parts.values())
+            bars *= day.problem.periods == 24
             self.assertEqual(len(pictures.prices_picture(day).axes[1].patches), bars)
             # Of each block one outline, since its periods follow one another.
             self.assertEqual(len(pictures.blocks_picture(day).axes[0].patches), len(day.problem.blocks))
