@@ -47,7 +47,7 @@ class Lint:
             line += len(text.LINE_END.findall(data, behind, at))
             behind = at
             if number > rules.MOST_RECORDS:
-                self.tell(line, f"a journal has at most {rules.MOST_RECORDS - 1} commands: leave out what follows")
+                self.tell(line, f"a journal has at most {rules.MOST_RECORDS - 1} commands: remove what follows")
                 break
             if record in RESULTS or record[0] == b"welfare":
                 whole = "the results of a day begin here" if record in RESULTS else "these are results"
@@ -93,9 +93,9 @@ class Lint:
         elif word == "day":
             self.tell(line, "the day is there twice: a journal has one, as its first line")
         elif record[0].lstrip().startswith("#"):
-            self.tell(line, "a journal has no comments: take the line out")
+            self.tell(line, "a journal has no comments: remove the line")
         elif not any(field.strip() for field in record):
-            self.tell(line, "there is nothing in the line but commas: take it out")
+            self.tell(line, "there is nothing in the line but commas: remove it")
         else:
             self.entry(line, self.padded(line, record, CLOSE if word == "close" else None))
 
@@ -105,10 +105,12 @@ class Lint:
         missing = most - count
         if missing > 0:
             commas = "a comma is missing" if missing == 1 else f"{missing} commas are missing"
-            do = f"write {whole}" if whole else "put what is missing at its end"
+            do = f"write {whole}" if whole else "add what is missing at its end"
             self.tell(line, f"it has {count} field{'s' * (count > 1)} and should have {most}, so that {commas}: {do}")
         elif missing < 0:
-            do = "a field has no comma, and a number no decimal one" if any(record[most:]) else f"take {-missing} at its end out"
+            do = "no field has a comma in it, and no number a decimal one"
+            if not any(record[most:]):
+                do = f"remove {-missing} comma{'s' * (missing < -1)} at its end"
             self.tell(line, f"it has {count} fields and should have {most}: {do}")
         return (record + [""] * most)[:most]
 
@@ -119,7 +121,7 @@ class Lint:
                 self.tell(line, f"this is a header, and a journal has none: begin with the day, as {DAY}")
                 return
             if word.startswith("#"):
-                self.tell(line, f"a journal has no comments: take the line out, and begin with the day, as {DAY}")
+                self.tell(line, f"a journal has no comments: remove the line, and begin with the day, as {DAY}")
                 return
             self.tell(line, f"the first line should be the day, as {DAY}, and is '{','.join(record)[:60]}'")
             self.held = book.Book(rules.GREATEST_PERIOD)
@@ -171,7 +173,7 @@ class Lint:
         who, name = values.get("participant"), values.get("order")
         if kind == "close":
             if self.command == "day":
-                self.tell(line, "a journal for `dam day` has no close: take the line out")
+                self.tell(line, "a journal for `dam day` has no close: remove the line")
                 return
             command = journal.Close()
         else:

@@ -42,7 +42,7 @@ class Hand(unittest.TestCase):
         self.check(header, ("line 1", "this is a header"), ("line 1", "there is no day"), ("line 1", "no command closes the book"))
         self.check(GOOD.replace(b"close,,,,,,,,\n", b""), ("line 3", "no command closes the book"))
         self.check(GOOD.replace(b"close,,,,,,,,\n", b""), command="replay")
-        self.check(GOOD, ("line 4", "a journal for `dam day` has no close: take the line out"), command="day")
+        self.check(GOOD, ("line 4", "a journal for `dam day` has no close: remove the line"), command="day")
         self.check(GOOD.replace(b"day,24,,,,,,,\n", b""), ("line 1", "the first line should be the day, as day,24,,,,,,,"))
         many = b"day,24,,,,,,,\n" + b"cancel,A,B,,,,,,\n" * 3
         self.check(many, *[("line %d, order" % line, "A has no order B here") for line in (2, 3, 4)], command="replay")
@@ -58,7 +58,7 @@ class Hand(unittest.TestCase):
                    " missing: write day,24,,,,,,,"))
         self.check(GOOD.replace(b"close,,,,,,,,", b"close"), ("line 4", "8 commas are missing: write close,,,,,,,,"))
         self.check(GOOD.replace(b"8:450,,", b"8:450,"), ("line 2", "it has 8 fields and should have 9, so that a comma is missing"))
-        self.check(GOOD.replace(b"8:450,,", b"8:450,,,"), ("line 2", "it has 10 fields and should have 9: take 1 at its end out"))
+        self.check(GOOD.replace(b"8:450,,", b"8:450,,,"), ("line 2", "it has 10 fields and should have 9: remove 1 comma at its end"))
         self.check(GOOD.replace(b"close", b"# the end\n\n,,,,,,,,\nclose"), ("line 4", "no comments"), ("line 6", "nothing in the"))
         self.check(GOOD.replace(b"close", b"day,24,,,,,,,\nclose"), ("line 4", "the day is there twice"))
         self.check(GOOD.replace(b"submit,NORD", b"Submit,NORD"), ("line 2, command", "'Submit': it should be submit, amend, cancel"))

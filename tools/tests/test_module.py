@@ -1,6 +1,9 @@
 """The module dam_tools: journals, runs of a program, records and frames."""
 
 import datetime
+import os
+import re
+import subprocess
 import sys
 import tempfile
 import unittest
@@ -75,6 +78,19 @@ class Module(unittest.TestCase):
         self.assertEqual(str(frame["begins"][0]), "2026-11-25 00:00:00+01:00")
         frame = dam_tools.frame(day, "orders", long=True)
         self.assertAlmostEqual(frame["amount_eur"].sum(), 0)
+
+    @unittest.skipUnless(command.has("pandas") and command.has_zone(shapes.ZONE), "pandas or the time zones are missing")
+    def test_the_example_of_the_pages(self):
+        (example,) = re.findall(r"```python\n([^`]*import dam_tools.*?)```", (TOP / "docs" / "USING.md").read_text(), re.DOTALL)
+        built = '"crates/dam_cli/out/dam_cli"'
+        self.assertIn(built, example)
+        Path(self.program.parent, "day.csv").write_bytes(AUCTION.read_bytes())
+        words = [sys.executable, "-B", "-c", example.replace(built, repr(str(self.program)))]
+        path = {**os.environ, "PYTHONPATH": str(support.TOOLS)}
+        ran = subprocess.run(words, cwd=self.program.parent, env=path, capture_output=True, text=True)
+        self.assertEqual((ran.returncode, ran.stderr), (0, ""))
+        self.assertIn("OLD UNIT-7 paradoxically rejected would gain", ran.stdout)
+        self.assertRegex(ran.stdout, r"STAD +-1193050\.0")
 
     def test_frames_without_pandas(self):
         day = dam_tools.read_results(AUCTION, AUCTION.with_suffix(".stdout"))
