@@ -8,7 +8,7 @@ from typing import NamedTuple
 from . import families, selection, text
 
 ACCEPTED, REJECTED, PARADOX = "accepted", "rejected", "paradoxically rejected"
-# So many losing blocks of another selection are named.
+# At most this many losing blocks of another selection are named.
 MOST_LOSERS = 3
 
 

@@ -56,7 +56,7 @@ STYLE = {
 # The widths of figures, in inches: for a page or a screen, and for a telephone's.
 WIDTHS = {"broad": 10, "narrow": 4.6}
 BROAD = WIDTHS["broad"]
-# Up to so many periods each bar has an outline.
+# Up to this many periods each bar has an outline.
 MOST_OUTLINED = 25
 
 
@@ -81,7 +81,7 @@ def is_narrow(axes):
 
 
 def legend(axes, *entries, columns, below=False):
-    """A legend above the panel: beside its heading, or under it if the figure is narrow; or then below the panel."""
+    """A legend above the panel: right of its heading, or under it if the figure is narrow; or then below the panel."""
     if is_narrow(axes) and below:
         look = {"loc": "upper left", "bbox_to_anchor": (0, -0.13), "fontsize": 7}
     elif is_narrow(axes):
@@ -268,7 +268,7 @@ def blocks_height(day, width=BROAD):
 
 
 def draw_blocks(axes, day):
-    """A row for each block, with an area over its periods: the height is the volume, beside the block's greatest. Arrows lead from
+    """A row for each block, with an area over its periods: the height is the volume, compared with the greatest. Arrows lead from
     parents to their children, and brackets join the blocks of a group."""
     blocks = day.problem.blocks
     found = decisions.decisions(day.problem, day.said.accepted, day.outcome)
@@ -348,7 +348,7 @@ def draw_groups(axes, day):
 
 
 def label_block(axes, row, block, surplus):
-    """A block's name beside its row, under it the side, the greatest volume and the limit price, and right of it its surplus. If the
+    """A block's name left of its row, under it the side, the greatest volume and the limit price, and right of it its surplus. If the
     figure is narrow, all stand over the row."""
     volumes = {volume for _, volume in block.order.volumes}
     most = ("" if len(volumes) == 1 else "up to ") + volume_text(max(volumes)).removesuffix(".0")

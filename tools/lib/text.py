@@ -85,7 +85,7 @@ def name(text):
 
 
 def fixed(value, digits, thousands=""):
-    """A number with so many digits behind the point, which it must not exceed."""
+    """A number with this many digits after the point, which it must not exceed."""
     whole, rest = divmod(abs(value) * 10**digits, 10**digits)
     if rest != int(rest):
         raise ValueError(f"{value} has more than {digits} digits")
@@ -114,7 +114,7 @@ NARROW = "\u202f"  # the narrow space between thousands, which no line is broken
 
 
 def shown(value, digits, thousands=NARROW):
-    """A number for readers, rounded to so many digits behind the point. What would round to nothing and isn't has more."""
+    """A number for readers, rounded to this many digits after the point. What would round to nothing and isn't has more."""
     value = Fraction(value)
     scaled = int(abs(value) * 10**digits + Fraction(1, 2))
     if value and not scaled:
