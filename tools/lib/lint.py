@@ -11,6 +11,7 @@ from . import book, fields, journal, rules, text
 DAY = "day,24,,,,,,,"
 CLOSE = "close,,,,,,,,"
 RESULTS = ([b"results"],)  # the line before the results in what `dam day` prints
+MOST_LINES = 20  # of those with characters that aren't ASCII
 FEW = 5  # faults that other tools tell
 BYTE_ORDER_MARKS = {b"\xef\xbb\xbf": "utf-8-sig", b"\xff\xfe": "utf-16", b"\xfe\xff": "utf-16"}
 
@@ -76,15 +77,18 @@ class Lint:
         return data, b","
 
     def characters(self, data):
-        """Tells of the first character of each line that isn't ASCII."""
-        told, line, behind = 0, 1, 0
+        """Tells of the first character of each line that isn't ASCII, and of many such lines how many there are."""
+        lines, line, behind = {}, 1, 0
         for found in re.finditer(rb"[\x80-\xff]+", data):
             line += len(text.LINE_END.findall(data, behind, found.start()))
             behind = found.start()
-            if line != told:
-                shown = found[0].decode(errors="replace")
-                self.tell(line, f"'{shown}' isn't ASCII: a journal has no accented letters, and no long dashes or special spaces")
-                told = line
+            lines.setdefault(line, found[0].decode(errors="replace"))
+        allowed = "a journal has no accented letters, and no long dashes or special spaces"
+        for at in list(lines)[:MOST_LINES]:
+            self.tell(at, f"'{lines[at]}' isn't ASCII: {allowed}")
+        if len(lines) > MOST_LINES:
+            at = list(lines)[MOST_LINES]
+            self.tell(at, f"{len(lines) - MOST_LINES} lines from here on aren't ASCII either: save the file as plain CSV, in ASCII")
 
     def record(self, line, record):
         word = record[0].strip().lower()

@@ -47,6 +47,13 @@ class Hand(unittest.TestCase):
         many = b"day,24,,,,,,,\n" + b"cancel,A,B,,,,,,\n" * 3
         self.check(many, *[("line %d, order" % line, "A has no order B here") for line in (2, 3, 4)], command="replay")
 
+    def test_characters(self):
+        data = GOOD.replace(b"NORD", "NØRD".encode())
+        self.check(data, ("line 2", "'Ø' isn't ASCII: a journal has no accented letters"), ("line 2, participant", "A to Z"))
+        found = told(b"\xd8\n" * 100)
+        self.assertEqual(len([line for line in found if "isn't ASCII" in line]), lint.MOST_LINES)
+        self.assertIn("line 21: 80 lines from here on aren't ASCII either: save the file as plain CSV, in ASCII", found)
+
     def test_results_are_no_journal(self):
         text = support.printed(AUCTION)
         self.check(GOOD + b"results\n" + text, ("line 5", "the results of a day begin here, which are no part of a journal"))
