@@ -163,11 +163,13 @@ class Judge:
         return f"the welfare would be {self.eur(abs(more))} {'greater' if more > 0 else 'less'}"
 
     def losses(self, place, other):
+        """Who would lose in another selection, the block itself first."""
         words = []
-        for loser, loss in list(other.losers.items())[:MOST_LOSERS]:
+        first = sorted(other.losers, key=lambda loser: (loser != place, loser))[:MOST_LOSERS]
+        for loser in first:
             family = " together with its accepted descendants" if selection.helping(self.problem, other.accepted, loser) else ""
             who = "the block itself" if loser == place else str(self.problem.blocks[loser])
-            words.append(f"{who} would lose {self.eur(loss)}{family}")
+            words.append(f"{who} would lose {self.eur(other.losers[loser])}{family}")
         more = len(other.losers) - MOST_LOSERS
         if more > 0:
             words.append(f"{more} more block{'s' * (more > 1)} would lose")

@@ -53,8 +53,8 @@ class Hand(unittest.TestCase):
                 ),
                 (
                     decisions.PARADOX,
-                    "with START it would gain 2440.00 EUR at the prices, but with both A,START would lose 1060.00 EUR together"
-                    f" with its accepted descendants and the block itself would lose 980.00 EUR, {end}",
+                    "with START it would gain 2440.00 EUR at the prices, but with both the block itself would lose 980.00 EUR and"
+                    f" A,START would lose 1060.00 EUR together with its accepted descendants, {end}",
                 ),
             ],
         )

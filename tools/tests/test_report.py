@@ -125,7 +125,7 @@ class Page(unittest.TestCase):
             "65 to 84",
             f"3{THIN}098{THIN}696.75",
             "paradoxically rejected",
-            "would gain 675.00 EUR at the prices, but with it COAL,PEAK would lose 3\u202f780.00 EUR",
+            "would gain 675.00 EUR at the prices, but with it the block itself would lose 6\u202f660.00 EUR, COAL,PEAK would lose 3\u202f780.00 EUR",
             "PeriodOutOfDay",
         ):
             self.assertTrue(any(words in text for text in read.texts), words)
