@@ -2,6 +2,7 @@
 
 import datetime
 import json
+import re
 import zoneinfo
 
 from . import rules, spans
@@ -19,9 +20,11 @@ class Wrong(Exception):
 def date_of(words):
     """The date of a text, as 2026-11-25."""
     try:
-        return datetime.date.fromisoformat(words)
+        if re.fullmatch(r"[0-9]{4}-[0-9]{2}-[0-9]{2}", words):
+            return datetime.date.fromisoformat(words)
     except ValueError:
-        raise Wrong(f"{words}: it should be a day, as 2026-11-25") from None
+        pass
+    raise Wrong(f"{words}: it should be a day, as 2026-11-25")
 
 
 def begins(date, periods):
