@@ -85,9 +85,9 @@ def legend(axes, *entries, columns, below=False):
     if is_narrow(axes) and below:
         look = {"loc": "upper left", "bbox_to_anchor": (0, -0.13), "fontsize": 7}
     elif is_narrow(axes):
-        look = {"loc": "lower left", "bbox_to_anchor": (0, 0.98), "fontsize": 7, "columnspacing": 1, "handlelength": 1.4}
+        look = {"loc": "lower left", "bbox_to_anchor": (0, 1), "fontsize": 7, "columnspacing": 1, "handlelength": 1.4}
     else:
-        look = {"loc": "lower right", "bbox_to_anchor": (1, 0.98)}
+        look = {"loc": "lower right", "bbox_to_anchor": (1, 1)}
     axes.legend(*entries, ncols=columns, borderaxespad=0, **look)
 
 
