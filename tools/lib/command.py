@@ -5,12 +5,14 @@ import importlib.util
 import os
 import subprocess
 import sys
+import zoneinfo
 from pathlib import Path
 
-from . import book, journal, results, selection
+from . import book, journal, lint, results, selection
 
 DEBIAN_PYTHON = "/usr/bin/python3"
-PACKAGES = {"matplotlib": "python3-matplotlib", "scipy": "python3-scipy"}  # of Debian
+# Debian's packages; tests/packages lists them all.
+PACKAGES = {"jinja2": "python3-jinja2", "matplotlib": "python3-matplotlib", "scipy": "python3-scipy", "pandas": "python3-pandas"}
 
 # The statuses of all tools.
 DONE, DIFFERS, COMMAND_LINE, NO_INPUT, UNDECIDED, NO_PACKAGE = range(6)
@@ -78,24 +80,34 @@ def parse_journal(path, data):
     try:
         return journal.read_journal(data)
     except journal.Fault as fault:
-        raise Stop(f"{shown(path)} is no journal: {fault}") from None
+        raise Stop(f"{shown(path)} is no journal: {fault}{lint.in_few_words(data)}") from None
 
 
 class Day:
     """A journal with its results, whose form is right. `wrong` has what of the results isn't as the rules say."""
 
     def __init__(self, path, results_path):
+        journal_data, results_data = read_texts(path, results_path)
+        self.read(parse_journal(path, journal_data), results_data, path, results_path or path)
+
+    @classmethod
+    def of(cls, read, results_data):
+        """The same of a journal that was read, and of the bytes of its results."""
+        day = cls.__new__(cls)
+        day.read(read, results_data, "the journal", "the text")
+        return day
+
+    def read(self, read, results_data, path, results_path):
         from . import check
 
-        journal_data, results_data = read_texts(path, results_path)
-        self.journal = parse_journal(path, journal_data)
-        self.book, self.reasons = book.run(self.journal)
+        self.journal = read
+        self.book, self.reasons = book.run(read)
         if not self.book.closed:
             raise Stop(f"no command of {shown(path)} closes the book, so that it has no results")
         self.problem = selection.Problem(self.book)
         self.said, self.wrong = check.differences(self.problem, results_data)
         if self.said is None:
-            raise Stop(f"{shown(results_path or path)} has no results of this journal: {self.wrong[0]}")
+            raise Stop(f"{shown(results_path)} has no results of this journal: {self.wrong[0]}")
         self.outcome = selection.outcome(self.problem, self.said.accepted)
 
 
@@ -124,8 +136,24 @@ def python_with(module):
         os.execv(DEBIAN_PYTHON, [DEBIAN_PYTHON, *sys.argv])
 
 
+def has_zone(name):
+    """Whether the system has a time zone."""
+    try:
+        zoneinfo.ZoneInfo(name)
+    except zoneinfo.ZoneInfoNotFoundError:
+        return False
+    return True
+
+
+def need_zone(name):
+    """Ends the tool where a time zone is missing."""
+    if not has_zone(name):
+        raise Stop("it needs the world's time zones, which Debian has in the package tzdata: apt-get install tzdata", NO_PACKAGE)
+
+
 def need(module):
     """Ends the tool where a module is missing."""
     python_with(module)
     if not has(module):
-        raise Stop(f"it needs {module}, which Debian has in the package {PACKAGES[module]}", NO_PACKAGE)
+        package = PACKAGES[module]
+        raise Stop(f"it needs {module}, which Debian has in the package {package}: apt-get install {package}", NO_PACKAGE)

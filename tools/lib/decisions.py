@@ -1,86 +1,182 @@
-"""What decided each block of a result: accepted, rejected, or paradoxically rejected, and why."""
+"""What decided each block of a result: accepted, rejected, or paradoxically rejected, and why.
+
+A rejected block is judged with the best family that it stands in (see `families`): what that gains at the prices, and what would
+be if it were accepted, in place of the accepted blocks of its groups."""
 
 from typing import NamedTuple
 
-from . import selection
+from . import families, selection, text
 
 ACCEPTED, REJECTED, PARADOX = "accepted", "rejected", "paradoxically rejected"
+# At most this many losing blocks of another selection are named.
+MOST_LOSERS = 3
+
+
+class Other(NamedTuple):
+    """Another selection, and what speaks against it."""
+
+    accepted: frozenset
+    unbalanced: object  # the first period that doesn't balance, or None
+    welfare: object  # None if a period doesn't balance
+    losers: dict  # each accepted block that loses, with its loss
 
 
 class Decision(NamedTuple):
     kind: str
     why: str
+    family: object = None  # of a rejected block; None if it can't be accepted, or has no surplus
+    other: object = None  # the selection with that family
 
 
-def decisions(problem, accepted, outcome):
-    """The decision on each block, by place."""
-    return [decide(problem, accepted, outcome, place) for place in range(len(problem.blocks))]
+def decisions(problem, accepted, outcome, euros=None):
+    """The decision on each block, by place. Amounts are written by `euros`, which `text.amount` is by default."""
+    judge = Judge(problem, frozenset(accepted), outcome, euros or text.amount)
+    return [judge.decision(place) for place in range(len(problem.blocks))]
 
 
-def decide(problem, accepted, outcome, place):
-    surplus = outcome.surpluses[place]
-    if place in accepted:
-        return Decision(ACCEPTED, accepted_why(problem, accepted, outcome, place))
-    reasons, kind = [], REJECTED
-    parent = problem.parents[place]
-    rivals = rivals_of(problem, accepted, place)
-    if surplus is None:
-        reasons.append("a period of it doesn't balance, and has no price")
-    elif surplus <= 0:
-        loss = f"would lose {problem.euros(-surplus)} EUR at the prices"
-        reasons.append(loss if surplus else "would gain nothing")
-    if parent is not None and parent not in accepted:
-        reasons.append(f"its parent {problem.blocks[parent].name} is rejected")
-    if rivals:
-        names = " ".join(problem.blocks[rival].name for rival in rivals)
-        group = problem.blocks[place].order.group
-        reasons.append(f"{names} of its group {group} is accepted" + instead(problem, accepted, outcome, place, rivals))
-    if not reasons:
-        kind = PARADOX
-        gain = f"would gain {problem.euros(surplus)} EUR at the prices"
-        reasons.append(gain + with_it(problem, accepted, outcome, place))
-    return Decision(kind, "; ".join(reasons))
+class Judge:
+    def __init__(self, problem, accepted, outcome, euros):
+        self.problem, self.accepted, self.outcome = problem, accepted, outcome
+        self.surpluses = outcome.surpluses
+        self.write = euros
+
+    def eur(self, amount):
+        return f"{self.write(amount, self.problem.hours)} EUR"
+
+    def name(self, place):
+        return self.problem.blocks[place].name
+
+    def names(self, places):
+        return listed([self.name(place) for place in sorted(places)])
+
+    def decision(self, place):
+        if place in self.accepted:
+            return Decision(ACCEPTED, self.accepted_why(place))
+        conflict = families.never(self.problem, place)
+        if conflict:
+            return Decision(REJECTED, self.never_why(place, *conflict))
+        family = families.best_family(self.problem, self.accepted, self.surpluses, place)
+        if family is None:
+            return Decision(REJECTED, self.unknown_why(place))
+        other = self.selection_with(family)
+        paradox = not family.rivals and not family.losers() and family.gains[place] > 0 and family.gain() > 0
+        return Decision(PARADOX if paradox else REJECTED, self.rejected_why(place, family, other), family, other)
+
+    def accepted_why(self, place):
+        surplus, parent = self.surpluses[place], self.problem.parents[place]
+        if surplus is None:
+            return "is accepted, and has a period that doesn't balance, and so has no price"
+        why = "gains nothing" if not surplus else f"{'gains' if surplus > 0 else 'loses'} at the prices"
+        helping = selection.helping(self.problem, self.accepted, place)
+        if surplus < 0 and helping:
+            together = selection.answers_for(self.problem, self.accepted, place, self.surpluses)
+            why += f" by itself, and with {self.names(helping)} it gains {self.eur(together)}"
+        return why + (f", and its parent {self.name(parent)} is accepted" if parent is not None else "")
+
+    def never_why(self, place, upper, lower):
+        group = self.problem.blocks[upper].order.group
+        both = f"{self.name(upper)} and {self.name(lower)}, from which it descends, are both"
+        if lower == place:
+            both = f"{self.name(upper)}, from which it descends, and it are both"
+        return f"can never be accepted, because {both} of the group {group}"
+
+    def unknown_why(self, place):
+        why = "has a period that doesn't balance, and so has no price"
+        if self.surpluses[place] is not None:
+            why = "descends from a block with a period that doesn't balance, and so has no price"
+        parent = self.problem.parents[place]
+        rejected = parent is not None and parent not in self.accepted
+        return why + (f"; its parent {self.name(parent)} is rejected" if rejected else "")
+
+    def selection_with(self, family):
+        """What would be if a family were accepted."""
+        accepted = self.accepted - family.removed | family.members
+        then = selection.outcome(self.problem, accepted)
+        unbalanced = next((number for number, found in then.cleared.items() if found is None), None)
+        losers = selection.losing(self.problem, accepted, then.surpluses) if unbalanced is None else {}
+        return Other(accepted, unbalanced, then.welfare, losers)
+
+    def rejected_why(self, place, family, other):
+        why = self.at_the_prices(place, family)
+        if family.rivals:
+            return f"{why}; {self.instead(place, family)} {self.consequence(place, other)}"
+        if family.gains[place] < 0:
+            parent = self.problem.parents[place]
+            return why + (f"; its parent {self.name(parent)} is rejected" if parent in family.needed else "")
+        count = len(family.members)
+        word = {1: "it", 2: "both"}.get(count, f"all {count}")
+        join = "; " if family.losers() else ", but " if family.gain() else ", and "
+        return f"{why}{join}with {word} {self.consequence(place, other)}"
+
+    def at_the_prices(self, place, family):
+        """What a block would gain or lose at the prices, with its family."""
+        own, helping = family.gains[place], family.members.intersection(self.problem.rescuers[place])
+        if own < 0:
+            return f"would lose {self.eur(-own)} at the prices" + (f", even with {self.names(helping)}" if helping else "")
+        losers = family.losers()
+        others = helping if losers else family.members - {place}
+        gain = own if losers else family.gain()
+        start = f"with {self.names(others)} it " if others else ""
+        why = start + (f"would gain {self.eur(gain)} at the prices" if gain else "would gain nothing at the prices")
+        if losers:
+            word = "its parent " if losers[0] == self.problem.parents[place] else ""
+            below = family.members.intersection(self.problem.rescuers[losers[0]])
+            why += f", but {word}{self.name(losers[0])}, without which it can't be accepted, would lose"
+            why += f" {self.eur(-family.gains[losers[0]])} even with {'it' if below == {place} else self.names(below)}"
+        return why
+
+    def instead(self, place, family):
+        """Which accepted blocks leave no room in the groups, and what would take their place."""
+        own = self.problem.blocks[place].order.group
+        groups = []
+        for rival in family.rivals:
+            group = self.problem.blocks[rival].order.group
+            of = next(member for member in family.needed if self.problem.blocks[member].order.group == group)
+            words = f"its group {group}" if group == own else f"the group {group} of {self.name(of)}"
+            groups.append(f"{self.name(rival)} of {words}")
+        are = "is" if len(groups) == 1 else "are"
+        their, them = ("its", "it") if len(groups) == 1 else ("their", "them")
+        orphans = family.removed - set(family.rivals)
+        besides = f" and that of {self.names(orphans)}, which can't be accepted without {them}," if orphans else ""
+        return f"{listed(groups)} {are} accepted, and in {their} place{besides}"
+
+    def consequence(self, place, other):
+        """What another selection would be worth, and who would lose in it."""
+        if other.unbalanced is not None:
+            return f"period {other.unbalanced} wouldn't balance"
+        worth = self.worth(other)
+        if other.losers:
+            more = self.outcome.welfare is not None and other.welfare > self.outcome.welfare
+            return f"{self.losses(place, other)}, {'though' if more else 'and'} {worth}"
+        if other.welfare == self.outcome.welfare:
+            flags = len(self.problem.blocks), other.welfare, other.accepted, other.welfare, self.accepted
+            above = selection.ranks_above(*flags)
+            return worth + (", and it ranks above" if above else ", and of equals the one with the earlier block is taken")
+        return worth
+
+    def worth(self, other):
+        if self.outcome.welfare is None:
+            return f"the welfare would be {self.eur(other.welfare)}"
+        more = other.welfare - self.outcome.welfare
+        if not more:
+            return "the welfare would be the same"
+        return f"the welfare would be {self.eur(abs(more))} {'greater' if more > 0 else 'less'}"
+
+    def losses(self, place, other):
+        """Who would lose in another selection, the block itself first."""
+        words = []
+        first = sorted(other.losers, key=lambda loser: (loser != place, loser))[:MOST_LOSERS]
+        for loser in first:
+            family = " together with its accepted descendants" if selection.helping(self.problem, other.accepted, loser) else ""
+            who = "the block itself" if loser == place else str(self.problem.blocks[loser])
+            words.append(f"{who} would lose {self.eur(other.losers[loser])}{family}")
+        more = len(other.losers) - MOST_LOSERS
+        if more > 0:
+            words.append(f"{more} more block{'s' * (more > 1)} would lose")
+        return listed(words)
 
 
-def accepted_why(problem, accepted, outcome, place):
-    surplus, parent = outcome.surpluses[place], problem.parents[place]
-    why = "gains nothing" if not surplus else f"{'gains' if surplus > 0 else 'loses'} at the prices"
-    helping = selection.helping(problem, accepted, place)
-    if surplus is not None and surplus < 0 and helping:
-        together = selection.answers_for(problem, accepted, place, outcome.surpluses)
-        names = " ".join(problem.blocks[other].name for other in helping)
-        why += f" by itself, and with {names} it gains {problem.euros(together)} EUR"
-    return why + (f", and its parent {problem.blocks[parent].name} is accepted" if parent is not None else "")
-
-
-def rivals_of(problem, accepted, place):
-    """The accepted blocks of the group of a block."""
-    members = problem.groups().get((problem.blocks[place].who, problem.blocks[place].order.group), [])
-    return [member for member in members if member in accepted and member != place]
-
-
-def with_it(problem, accepted, outcome, place):
-    return ", but with it " + consequence(problem, frozenset(accepted) | {place}, outcome)
-
-
-def instead(problem, accepted, outcome, place, rivals):
-    """What this block in place of its accepted rivals would lead to, where links admit that."""
-    other = (frozenset(accepted) | {place}) - set(rivals)
-    if any(selection.link_faults(problem, other)):
-        return ""
-    return ", and in its place " + consequence(problem, other, outcome)
-
-
-def consequence(problem, other, outcome):
-    """What forbids another selection, or makes it worse."""
-    then = selection.outcome(problem, other)
-    for number, found in then.cleared.items():
-        if found is None:
-            return f"period {number} wouldn't balance"
-    for loser, loss in selection.losing(problem, other, then.surpluses).items():
-        family = " together with its accepted descendants" if selection.helping(problem, other, loser) else ""
-        return f"{problem.blocks[loser]} would lose {problem.euros(loss)} EUR{family}"
-    if outcome.welfare is None or then.welfare > outcome.welfare:
-        return "the welfare would be greater"
-    less = outcome.welfare - then.welfare
-    return f"the welfare would be {problem.euros(less)} EUR less" if less else "the welfare would be the same"
+def listed(words):
+    """Words in a row, as `A`, `A and B` or `A, B and C`."""
+    words = list(words)
+    return " and ".join([", ".join(words[:-1]), words[-1]] if len(words) > 1 else words)

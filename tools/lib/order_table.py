@@ -6,7 +6,7 @@ import io
 import re
 from fractions import Fraction
 
-from . import book, journal, rules, text
+from . import book, journal, rules, spans, text
 from .tables import ORDER, RESULT
 
 # The columns that a row may leave empty, or a table out.
@@ -24,7 +24,6 @@ REASONS = {
 # The column that a refusal is about.
 COLUMN_OF = {"PeriodOutOfDay": "periods", "NameTaken": "order", "UnknownParent": "parent", "ParentNotBlock": "parent"}
 
-RUN = re.compile(r"([1-9][0-9]{0,3})(?:-([1-9][0-9]{0,3}))?")
 DECIMAL = re.compile(r"(-?)([0-9]{1,9})(?:\.([0-9]+))?")
 
 
@@ -99,16 +98,12 @@ def parts(cell):
 
 def read_periods(cell):
     """Periods and runs of periods by increasing number, as `8`, `8-20` or `1;3;5-7`."""
-    numbers = []
-    for part in parts(cell):
-        found = RUN.fullmatch(part)
-        first, last = (int(found[1]), int(found[2] or found[1])) if found else (0, 0)
-        if not found or first > last or last > rules.GREATEST_PERIOD:
-            form = "periods and runs of them, as 8, 8-20 or 1;3;5-7"
-            raise Wrong(f"'{cell}' should be {form}, from 1 to {rules.GREATEST_PERIOD}")
-        numbers += range(first, last + 1)
-    if not numbers:
+    if not parts(cell):
         raise Wrong("it should name a period, as 8, or several, as 8-20 or 1;3;5-7")
+    try:
+        numbers = spans.read(cell, rules.GREATEST_PERIOD)
+    except ValueError as fault:
+        raise Wrong(f"'{cell}' should be {fault}") from None
     if any(one >= other for one, other in zip(numbers, numbers[1:])):
         raise Wrong(f"the periods '{cell}' should increase")
     return numbers

@@ -1,9 +1,16 @@
-"""A whole day as one page of HTML, with its pictures in it and nothing to fetch."""
+"""A whole day as one page of HTML, with its pictures in it and nothing to fetch. Its form stands in templates/, and is filled in by
+jinja2; here is what it says."""
 
-import html
 import re
+from fractions import Fraction
+from pathlib import Path
+from typing import NamedTuple
 
-from . import clock, decisions, pictures, text, trades
+import jinja2
+from markupsafe import Markup, escape
+
+from . import clock, decisions, pictures, published, spans, tables, text, trades
+from .journal import command_line
 
 # The pictures' colours and the page's own, by light and dark.
 COLOURS = {
@@ -28,116 +35,108 @@ COLOURS = {
         "warn": "#e5b567",
     },
 }
-
-CSS = """
-:root { color-scheme: light dark; LIGHT }
-@media (prefers-color-scheme: dark) { :root { DARK } }
-* { box-sizing: border-box; }
-body { margin: 0; background: var(--page); color: var(--ink); font: 15px/1.45 system-ui, "Segoe UI", "DejaVu Sans", sans-serif; }
-main { max-width: 76rem; margin: 0 auto; padding: 1.5rem clamp(0.75rem, 3vw, 2rem) 4rem; }
-h1 { font-size: 1.6rem; line-height: 1.2; margin: 0.5rem 0 0.25rem; }
-h2 { font-size: 1.15rem; margin: 2.5rem 0 0.75rem; }
-p { max-width: 46rem; margin: 0.4rem 0; }
-.soft, caption { color: var(--soft); }
-.warn { color: var(--warn); }
-dl.figures { display: flex; flex-wrap: wrap; gap: 0.75rem; margin: 1.25rem 0 0; }
-dl.figures div { background: var(--paper); border: 1px solid var(--grid); border-radius: 6px; padding: 0.6rem 0.9rem; }
-dt { color: var(--soft); font-size: 0.8rem; }
-dd { margin: 0; font-size: 1.15rem; font-variant-numeric: tabular-nums; }
-dd small { font-size: 0.75em; color: var(--soft); }
-.wide { overflow-x: auto; background: var(--paper); border: 1px solid var(--grid); border-radius: 6px; margin: 0 0 1rem; }
-.wide svg { display: block; width: 100%; min-width: 44rem; height: auto; padding: 0.75rem; }
-.wide svg text { font-family: inherit !important; }
-table { border-collapse: separate; border-spacing: 0; width: 100%; font-size: 0.87rem; font-variant-numeric: tabular-nums; }
-th, td { padding: 0.3rem 0.55rem; text-align: left; vertical-align: top; white-space: nowrap; }
-th { color: var(--soft); font-weight: 600; border-bottom: 1px solid var(--soft); }
-tbody tr + tr td { border-top: 1px solid var(--grid); }
-th:first-child, td:first-child { position: sticky; left: 0; background: var(--paper); }
-.n { text-align: right; }
-td.why { white-space: normal; min-width: 14rem; }
-details { background: var(--paper); border: 1px solid var(--grid); border-radius: 6px; margin: 0 0 0.6rem; }
-details .wide { border: 0; border-top: 1px solid var(--grid); border-radius: 0; margin: 0; }
-summary { cursor: pointer; padding: 0.55rem 0.9rem; }
-summary b { display: inline-block; min-width: 6.5rem; }
-.mark { display: inline-block; width: 0.8em; height: 0.8em; border: 1px solid var(--ink); margin-right: 0.45em; }
-.accepted { background: var(--accepted); }
-.rejected { background: var(--rejected); }
-.paradox { background: repeating-linear-gradient(45deg, var(--ink) 0 1px, var(--paradox) 1px 4px); }
-@media print { body { background: none; } details { break-inside: avoid; } }
-"""
-
 MARKS = {decisions.ACCEPTED: "accepted", decisions.REJECTED: "rejected", decisions.PARADOX: "paradox"}
+TEMPLATES = jinja2.Environment(
+    loader=jinja2.FileSystemLoader(Path(__file__).parent / "templates"), autoescape=True, undefined=jinja2.StrictUndefined
+)
+MOST_SHOWN = 4  # curves that stand open
+NUMBER = "n"  # the class of cells that stand to the right
 
 
-def variables(colours):
-    return " ".join(f"--{name}: {colour};" for name, colour in colours.items())
+class Head(NamedTuple):
+    words: str
+    kind: str = ""
+
+
+class Table(NamedTuple):
+    caption: str
+    heads: list
+    rows: list
+    sum: object = None  # the last row
+    summary: object = None  # what is shown of a table that has to be opened
+
+
+class Picture(NamedTuple):
+    words: str
+    broad: Markup
+    narrow: Markup
+    summary: object = None  # what is shown of a picture that has to be opened
+    heads = None
+
+
+class Section(NamedTuple):
+    name: str
+    title: str
+    parts: list
+
+
+def heads(*words):
+    """The heads of a table; those that end with a unit or begin with `#` are over numbers."""
+    units = (", MW", ", MWh", ", EUR", "EUR/MWh")
+    return [Head(word.lstrip("#"), NUMBER if word[0] == "#" or word.endswith(units) else "") for word in words]
 
 
 def style():
-    return CSS.replace("LIGHT", variables(COLOURS["light"])).replace("DARK", variables(COLOURS["dark"]))
+    variables = {mode: " ".join(f"--{name}: {colour};" for name, colour in of.items()) for mode, of in COLOURS.items()}
+    return Markup(TEMPLATES.get_template("page.css").render({mode: Markup(words) for mode, words in variables.items()}))
 
 
-def inline(figure, name, words):
+def inline(figure, name, kind, words):
     """A picture within the page: its colours are the page's, and its identifiers its own."""
     drawn = pictures.picture(figure, "svg", words_as_text=True).decode()
     drawn = drawn[drawn.index("<svg") :]
     drawn = re.sub(r"<metadata>.*?</metadata>", "", drawn, flags=re.DOTALL)
     drawn = re.sub(r'(<svg[^>]*?) width="[^"]*" height="[^"]*"', r"\1", drawn, count=1)
-    drawn = drawn.replace("<svg", f'<svg role="img" aria-label="{html.escape(words)}"', 1)
+    drawn = drawn.replace("<svg", f'<svg class="{kind}" role="img" aria-label="{escape(words)}"', 1)
     for pattern in (r'(id=")', r"(url\(#)", r'(href="#)'):
-        drawn = re.sub(pattern, rf"\g<1>{name}-", drawn)
+        drawn = re.sub(pattern, rf"\g<1>{name}-{kind}-", drawn)
     for colour, hexadecimal in pictures.COLOURS.items():
         drawn = drawn.replace(f'fill="{hexadecimal}"', f'style="fill: var(--{colour})"')
         drawn = drawn.replace(hexadecimal, f"var(--{colour})")
-    return f'<div class="wide">{drawn}</div>\n'
+    return Markup(drawn)
 
 
-def cell(value, kind=""):
-    shown = html.escape(str(value))
-    return f'<td class="{kind}">{shown}</td>' if kind else f"<td>{shown}</td>"
-
-
-def table(heads, rows):
-    """A table: heads are pairs of words and a class, rows are lists of values, or of ready cells."""
-    lines = ["<thead><tr>"]
-    lines += [
-        f'<th class="{kind}">{html.escape(words)}</th>' if kind else f"<th>{html.escape(words)}</th>" for words, kind in heads
-    ]
-    lines.append("</tr></thead>\n<tbody>\n")
-    for row in rows:
-        cells = [value if str(value).startswith("<td") else cell(value, kind) for value, (_, kind) in zip(row, heads)]
-        lines.append(f"<tr>{''.join(cells)}</tr>\n")
-    return f'<div class="wide"><table>{"".join(lines)}</tbody></table></div>\n'
+def drawn(draw, name, words):
+    """A picture, for broad screens and for narrow ones."""
+    broad, narrow = (inline(draw(width), name, kind, words) for kind, width in pictures.WIDTHS.items())
+    return Picture(words, broad, narrow)
 
 
 def price(cents):
-    return f"{cents / 100:,.2f}"
+    return text.shown(Fraction(cents, 100), 2)
 
 
 def volume(tenths):
-    return f"{tenths / 10:,.1f}"
+    return text.shown(Fraction(tenths, 10), 1)
 
 
 def energy(day, tenths):
-    return text.energy(tenths, day.problem.hours)
+    return text.shown(Fraction(tenths) * day.problem.hours / 10, 1 if day.problem.hours == 1 else 2)
 
 
-def figure_list(day, found):
-    """What a day comes to, in a few numbers."""
-    total = sum(day.said.volumes)
-    weighted = sum(cents * tenths for cents, tenths in zip(day.said.prices, day.said.volumes))
+def euros(day, amount):
+    return text.amount(amount, day.problem.hours)
+
+
+def figures(day, found):
+    """What a day comes to, in a few numbers: their names, values and units."""
     kinds = [decision.kind for decision in found]
-    figures = [
-        ("welfare", f"{day.problem.euros(day.said.welfare)} <small>EUR</small>"),
-        ("energy traded", f"{energy(day, total)} <small>MWh</small>"),
-        ("mean price of the periods", f"{price(sum(day.said.prices) / len(day.said.prices))} <small>EUR/MWh</small>"),
-    ]
-    if total:
-        figures.append(("mean price by volume", f"{price(weighted / total)} <small>EUR/MWh</small>"))
-    if kinds:
-        figures += [(f"blocks {kind}", f"{kinds.count(kind)} <small>of {len(kinds)}</small>") for kind in MARKS]
-    body = "".join(f"<div><dt>{words}</dt><dd>{value}</dd></div>\n" for words, value in figures)
-    return f'<dl class="figures">\n{body}</dl>\n'
+    yield "welfare", euros(day, day.said.welfare), "EUR"
+    yield "energy traded", energy(day, sum(day.said.volumes)), "MWh"
+    every = len(trades.traded(day)) == day.problem.periods
+    names = {
+        "base": "mean price of the periods" if every else "mean price of the traded periods",
+        "peak": "mean price, 8:00 to 20:00",
+        "by_volume": "mean price by volume",
+        "least": "lowest price",
+        "greatest": "highest price",
+    }
+    prices = published.mean_prices(day)
+    for name, words in names.items():
+        if prices[name] is not None:
+            yield words, price(prices[name]), "EUR/MWh"
+    for kind in MARKS if kinds else ():
+        yield f"blocks {kind}", kinds.count(kind), f"of {len(kinds)}"
 
 
 def supporting(found):
@@ -148,42 +147,33 @@ def supporting(found):
 
 
 def period_table(day):
-    heads = [("period", "n"), ("begins", "n"), ("price, EUR/MWh", "n"), ("supporting prices", "n"), ("volume, MW", "n")]
-    heads += [(f"{words}, MW", "n") for words in ("hourly buys", "block buys", "hourly sells", "block sells")]
-    shares = [side for of in ("buy", "sell") for side in pictures.shares(day, of)]
-    rows = []
+    rows, shares = [], tables.shares(day)
     for number, found in day.outcome.cleared.items():
-        ends = supporting(found)
-        parts = [f"{share[number - 1]:,.1f}" for share in shares]
+        parts = map(volume, shares[number].values())
         begins = clock.begins(day.problem.periods, number)
-        traded = price(day.said.prices[number - 1]), ends, volume(day.said.volumes[number - 1])
-        rows.append([number, begins, *traded, *parts])
-    return table(heads, rows)
+        cents = price(day.said.prices[number - 1]) if trades.is_traded(day, number) else "no trade"
+        rows.append([number, begins, cents, supporting(found), volume(day.said.volumes[number - 1]), *parts])
+    words = ["hourly buys, MW", "block buys, MW", "hourly sells, MW", "block sells, MW"]
+    columns = heads("#period", "#begins", "price, EUR/MWh", "#supporting prices", "volume, MW", *words)
+    return Table("The price of each period, the prices that support it, and what is bought and sold", columns, rows)
 
 
-def spans(volumes):
-    """The periods of a block in few words, as `8 to 20` or `1, 3 to 5`."""
-    runs = []
-    for number, _ in volumes:
-        if runs and runs[-1][1] == number - 1:
-            runs[-1][1] = number
-        else:
-            runs.append([number, number])
-    return ", ".join(str(first) if first == last else f"{first} to {last}" for first, last in runs)
+def periods_of(order):
+    return spans.in_words(number for number, _ in order.volumes)
 
 
 def block_table(day, found):
-    heads = [("block", ""), ("side", ""), ("limit, EUR/MWh", "n"), ("periods", ""), ("MWh", "n"), ("linked by", "")]
-    heads += [("decision", ""), ("surplus, EUR", "n"), ("what decided", "why")]
     rows = []
     for block, surplus, decision in zip(day.problem.blocks, day.said.surpluses, found):
         order = block.order
-        mark = f'<td><span class="mark {MARKS[decision.kind]}"></span>{decision.kind}</td>'
+        mark = Markup('<span class="mark {}"></span>{}').format(MARKS[decision.kind], decision.kind)
         total = energy(day, sum(tenths for _, tenths in order.volumes))
-        row = [f"{block.who} {block.name}", order.side, price(order.price), spans(order.volumes), total]
         links = [f"{word} {name}" for word, name in (("parent", order.parent), ("group", order.group)) if name]
-        rows.append([*row, ", ".join(links), mark, day.problem.euros(surplus), decision.why])
-    return table(heads, rows)
+        row = [f"{block.who} {block.name}", order.side, price(order.price), periods_of(order), total, ", ".join(links)]
+        rows.append([*row, mark, euros(day, surplus), decision.why])
+    columns = heads("block", "side", "limit, EUR/MWh", "periods", "offered, MWh", "linked by", "decision", "surplus, EUR")
+    caption = "Each block, its surplus at the prices, and what decided; of a rejected block, with the best family that it stands in"
+    return Table(caption, [*columns, Head("what decided", "why")], rows)
 
 
 def how(order, tenths):
@@ -195,86 +185,120 @@ def order_row(day, row, made, found):
     """A row of a participant's orders."""
     order = row.order
     done = sum(trade.volume for trade in made)
-    if order.kind == "hour":
-        offered, outcome = order.volumes[0][1], how(order, done)
-    else:
-        offered, outcome = sum(tenths for _, tenths in order.volumes), found[row.who, row.name].kind
-    amount = day.problem.euros(sum(trade.amount() for trade in made))
+    offered = sum(tenths for _, tenths in order.volumes)
+    outcome = how(order, done) if order.kind == "hour" else found[row.who, row.name].kind
+    amount = euros(day, sum(trade.amount() for trade in made))
     energies = energy(day, offered), energy(day, done)
-    return [row.name, order.kind, order.side, price(order.price), spans(order.volumes), *energies, outcome, amount]
+    return [row.name, order.kind, order.side, price(order.price), periods_of(order), *energies, outcome, amount]
+
+
+def total_row(day, who, count, total):
+    amounts = [euros(day, amount) for amount in (total.paid, total.received, total.received - total.paid)]
+    return [who, count, energy(day, total.bought), energy(day, total.sold), *amounts]
 
 
 def participants(day, found):
-    """The orders of each participant under a line with its totals."""
+    """A table of the participants with their sum, and under it the orders of each."""
     by_name = {(block.who, block.name): decision for block, decision in zip(day.problem.blocks, found)}
-    heads = [("order", ""), ("kind", ""), ("side", ""), ("limit, EUR/MWh", "n"), ("periods", "")]
-    heads += [("offered, MWh", "n"), ("executed, MWh", "n"), ("outcome", ""), ("volume times price, EUR", "n")]
     rows = {}
     for row, made in trades.row_trades(day):
         rows.setdefault(row.who, []).append(order_row(day, row, made, by_name))
-    parts = []
-    for who, total in trades.totals(day).items():
-        words = []
-        if total.bought:
-            words.append(f"buys {energy(day, total.bought)} MWh for {day.problem.euros(total.paid)} EUR")
-        if total.sold:
-            words.append(f"sells {energy(day, total.sold)} MWh for {day.problem.euros(total.received)} EUR")
-        count = f"({len(rows[who])} order{'s' * (len(rows[who]) > 1)})"
-        summary = f"<b>{who}</b> {' and '.join(words) or 'trades nothing'} <span class=soft>{count}</span>"
-        parts.append(f"<details><summary>{summary}</summary>\n{table(heads, rows[who])}</details>\n")
-    return "".join(parts)
+    totals = trades.totals(day)
+    summed = trades.Total(*map(sum, zip(*totals.values()))) if totals else trades.Total(0, 0, 0, 0)
+    columns = heads("participant", "#orders", "bought, MWh", "sold, MWh", "pays, EUR", "is paid, EUR", "net, EUR")
+    count = sum(map(len, rows.values()))
+    body = [total_row(day, who, len(rows[who]), total) for who, total in totals.items()]
+    yield Table("What each participant buys and sells, pays and is paid", columns, body, total_row(day, "all", count, summed))
+    columns = heads("order", "kind", "side", "limit, EUR/MWh", "periods", "offered, MWh", "executed, MWh", "outcome")
+    for who in totals:
+        count = f"{len(rows[who])} order{'s' * (len(rows[who]) > 1)}"
+        summary = Markup('<b>{}</b> <span class="soft">{}</span>').format(who, count)
+        yield Table(f"The orders of {who}", [*columns, Head("volume times price, EUR", NUMBER)], rows[who], summary=summary)
 
 
 def refusals(day):
-    from .journal import command_line
-
-    refused = [
+    rows = [
         [number, command_line(command), reason]
         for number, (command, reason) in enumerate(zip(day.journal.commands, day.reasons), 1)
         if reason
     ]
-    if not refused:
-        return ""
-    return "<h2>Refused commands</h2>\n" + table([("command", "n"), ("as given", "why"), ("reason", "")], refused)
+    columns = [Head("command", NUMBER), Head("as given", "why"), Head("reason")]
+    return [Table("The commands that the order book refused; they have no part in the results", columns, rows)] if rows else []
 
 
-def checked(day):
-    """What the audit has to say, above all numbers."""
-    if not day.wrong:
-        words = "Checked against the journal by the rules of the market: every number is as they say."
-        rest = "Whether another selection of blocks would be better is not looked at here."
-        return f"<p>{words} <span class=soft>{rest}</span></p>\n"
-    lines = "".join(f"<li>{html.escape(line)}</li>\n" for line in day.wrong)
-    return f'<div class="warn"><p>The results are not as the rules say:</p>\n<ul>{lines}</ul></div>\n'
+def prices_words(day):
+    """The picture of prices and volumes in words."""
+    traded = trades.traded(day)
+    if not traded:
+        return "Price and volume of each period: nothing is traded."
+    prices = {day.said.prices[number - 1] for number in traded}
+    if len(prices) == 1:
+        return f"Price and volume of each period. The price of all that are traded is {price(*prices)} EUR/MWh."
+    least, most = (of(traded, key=lambda number: day.said.prices[number - 1]) for of in (min, max))
+    ends = [f"{price(day.said.prices[number - 1])} EUR/MWh in period {number}" for number in (least, most)]
+    return f"Price and volume of each period. The price goes from {ends[0]} to {ends[1]}."
 
 
-def page(day, title, curves):
-    """The page of a day, with the curves of some periods."""
-    found = decisions.decisions(day.problem, day.said.accepted, day.outcome)
-    title, hourly = html.escape(title), len(day.problem.rows) - len(found)
-    parts = [
-        "<!doctype html>\n<html lang=en>\n<head>\n<meta charset=utf-8>\n",
-        '<meta name=viewport content="width=device-width, initial-scale=1">\n',
-        f"<title>{title}</title>\n<style>{style()}</style>\n</head>\n<body>\n<main>\n<h1>{title}</h1>\n",
-        f'<p class="soft">A delivery day of {day.problem.periods} periods, with {hourly} hourly orders and',
-        f" {len(found)} blocks.</p>\n{checked(day)}{figure_list(day, found)}",
-        "<h2>Prices and volumes</h2>\n",
-        inline(pictures.prices_picture(day), "prices", "Price and volume of each period"),
-    ]
+def curve_words(day, number):
+    words = f"Supply and demand in period {number}"
+    if not trades.is_traded(day, number):
+        return f"{words}: nothing is traded."
+    said = day.said
+    return f"{words}: {volume(said.volumes[number - 1])} MW are traded at {price(said.prices[number - 1])} EUR/MWh."
+
+
+def block_words(found):
+    counts = [f"{sum(decision.kind == kind for decision in found)} {kind}" for kind in MARKS]
+    words = f"Blocks over their periods: {', '.join(counts)}."
+    return f"{words} An arrow leads from a parent to its child, and a bracket joins the blocks of an exclusive group."
+
+
+def curve(day, number, folded):
+    """The curves of a period, under a line that opens them if there are many: then one at a time is open."""
+    picture = drawn(lambda width: pictures.period_picture(day, number, width), f"period{number}", curve_words(day, number))
+    if not folded:
+        return picture
+    said, words = day.said, "no trade"
+    if trades.is_traded(day, number):
+        words = f"{price(said.prices[number - 1])} EUR/MWh, {volume(said.volumes[number - 1])} MW"
+    summary = Markup('<b>Period {}</b> {}: <span class="soft">{}</span>')
+    return picture._replace(summary=summary.format(number, clock.span(day.problem.periods, number), words))
+
+
+def sections(day, found, curves):
+    parts = [drawn(lambda width: pictures.prices_picture(day, width), "prices", prices_words(day))]
+    yield Section("prices", "Prices and volumes", parts)
     if found:
-        parts.append("<h2>Blocks</h2>\n" + inline(pictures.blocks_picture(day), "blocks", "Blocks over their periods"))
-        parts.append(block_table(day, found))
-    parts.append("<h2>Periods</h2>\n" + period_table(day))
-    for number in curves:
-        drawn = pictures.period_picture(day, number)
-        parts.append(inline(drawn, f"period{number}", f"Supply and demand in period {number}"))
-    parts += ["<h2>Orders by participant</h2>\n", participants(day, found), refusals(day), "</main>\n</body>\n</html>\n"]
-    return "".join(parts)
+        picture = drawn(lambda width: pictures.blocks_picture(day, width), "blocks", block_words(found))
+        yield Section("blocks", "Blocks", [picture, block_table(day, found)])
+    yield Section("periods", "Periods", [period_table(day)])
+    if curves:
+        yield Section("curves", "Supply and demand", [curve(day, number, len(curves) > MOST_SHOWN) for number in curves])
+    yield Section("participants", "Participants", list(participants(day, found)))
+    refused = refusals(day)
+    if refused:
+        yield Section("refused", "Refused commands", refused)
+
+
+def page(day, title, curves, date=None):
+    """The page of a day, with the curves of some periods, and the date of delivery if it is known."""
+    found = decisions.decisions(day.problem, day.said.accepted, day.outcome)
+    return TEMPLATES.get_template("page.html").render(
+        title=title,
+        style=style(),
+        date=f"{date:%A}, {date.day} {date:%B} {date.year}" if date else None,
+        periods=day.problem.periods,
+        hourly=len(day.problem.rows) - len(found),
+        blocks=len(found),
+        wrong=list(day.wrong),
+        figures=list(figures(day, found)),
+        sections=list(sections(day, found, curves)),
+    )
 
 
 def notable(day):
-    """The periods whose curves are worth a look where none are asked for: the cheapest and the dearest with a volume."""
-    traded = [number for number, tenths in enumerate(day.said.volumes, 1) if tenths]
+    """The periods whose curves are worth a look where none are asked for: the cheapest and the most expensive one with a volume."""
+    traded = trades.traded(day)
     if not traded:
         return []
     ends = [of(traded, key=lambda number: day.said.prices[number - 1]) for of in (min, max)]

@@ -4,15 +4,17 @@ They are made for black and white: what matters differs in lightness, hatching o
 they are for, so that a page can put its own in their place."""
 
 import io
+import math
+from fractions import Fraction
 
 import matplotlib
 
 matplotlib.use("Agg")
 
 from matplotlib import pyplot
-from matplotlib.patches import Patch, Rectangle
+from matplotlib.patches import Patch, Polygon, Rectangle
 
-from . import clock, decisions, selection
+from . import clock, decisions, selection, spans, tables, text, trades
 
 # No two are equal, so that each can be told from the text of a picture.
 COLOURS = {
@@ -51,7 +53,11 @@ STYLE = {
     "svg.hashsalt": "dam",
 }
 
-WIDTH = 10  # inches
+# The widths of figures, in inches: for a page or a screen, and for a telephone's.
+WIDTHS = {"broad": 10, "narrow": 4.6}
+BROAD = WIDTHS["broad"]
+# Up to this many periods each bar has an outline.
+MOST_OUTLINED = 25
 
 
 def eur(cents):
@@ -63,7 +69,26 @@ def mw(tenths):
 
 
 def prices_text(cents):
-    return f"{eur(cents):,.2f}"
+    return text.shown(Fraction(cents, 100), 2)
+
+
+def volume_text(tenths):
+    return text.shown(Fraction(tenths, 10), 1)
+
+
+def is_narrow(axes):
+    return axes.figure.get_figwidth() < BROAD
+
+
+def legend(axes, *entries, columns, below=False):
+    """A legend above the panel: right of its heading, or under it if the figure is narrow; or then below the panel."""
+    if is_narrow(axes) and below:
+        look = {"loc": "upper left", "bbox_to_anchor": (0, -0.13), "fontsize": 7}
+    elif is_narrow(axes):
+        look = {"loc": "lower left", "bbox_to_anchor": (0, 1), "fontsize": 7, "columnspacing": 1, "handlelength": 1.4}
+    else:
+        look = {"loc": "lower right", "bbox_to_anchor": (1, 1)}
+    axes.legend(*entries, ncols=columns, borderaxespad=0, **look)
 
 
 def picture(figure, suffix, words_as_text=False):
@@ -76,10 +101,10 @@ def picture(figure, suffix, words_as_text=False):
     return out.getvalue()
 
 
-def panels(heights, share=True):
+def panels(heights, width):
     """A figure of panels under one another."""
     figure, axes = pyplot.subplots(
-        len(heights), 1, figsize=(WIDTH, sum(heights)), sharex=share, height_ratios=heights, squeeze=False
+        len(heights), 1, figsize=(width, sum(heights)), sharex=True, height_ratios=heights, squeeze=False
     )
     return figure, [row[0] for row in axes]
 
@@ -87,7 +112,7 @@ def panels(heights, share=True):
 def day_picture(day):
     """Prices, volumes and blocks under one another."""
     with matplotlib.rc_context(STYLE):
-        figure, axes = panels([2.3, 2.5] + ([blocks_height(day)] if day.problem.blocks else []))
+        figure, axes = panels([2.3, 2.5] + ([blocks_height(day)] if day.problem.blocks else []), BROAD)
         draw_prices(axes[0], day)
         draw_volumes(axes[1], day)
         if day.problem.blocks:
@@ -97,9 +122,9 @@ def day_picture(day):
         return figure
 
 
-def prices_picture(day):
+def prices_picture(day, width=BROAD):
     with matplotlib.rc_context(STYLE):
-        figure, axes = panels([2.5, 2.6])
+        figure, axes = panels([2.5, 2.6], width)
         draw_prices(axes[0], day)
         draw_volumes(axes[1], day)
         period_axis(axes[1], day)
@@ -107,27 +132,27 @@ def prices_picture(day):
         return figure
 
 
-def blocks_picture(day):
+def blocks_picture(day, width=BROAD):
     with matplotlib.rc_context(STYLE):
-        figure, axes = panels([max(blocks_height(day), 1.2)])
+        figure, axes = panels([max(blocks_height(day, width), 1.2)], width)
         draw_blocks(axes[0], day)
         period_axis(axes[0], day)
         figure.tight_layout()
         return figure
 
 
-def period_picture(day, number):
+def period_picture(day, number, width=BROAD):
     with matplotlib.rc_context(STYLE):
-        figure, axes = panels([4.6])
+        figure, axes = panels([4.6 if width == BROAD else 4], width)
         draw_curves(axes[0], day, number)
         figure.tight_layout()
         return figure
 
 
 def period_axis(axes, day):
-    """Periods along the bottom: the number of the first one of each hour, and under it when it begins."""
+    """Periods along the bottom: the number of the first one of each hour, or of three, and under it when it begins."""
     periods = day.problem.periods
-    numbers = range(1, periods + 1, int(1 / day.problem.hours))
+    numbers = range(1, periods + 1, int((3 if is_narrow(axes) else 1) / day.problem.hours))
     axes.set_xlim(0.5, periods + 0.5)
     axes.set_xticks(numbers, [f"{number}\n{clock.begins(periods, number)}" for number in numbers], fontsize=6.5)
     axes.set_xlabel("period of the day, and when it begins")
@@ -143,18 +168,34 @@ def edges(values):
 
 
 def draw_prices(axes, day):
-    prices = [eur(price) for price in day.said.prices]
-    cleared = zip(prices, day.outcome.cleared.values())
-    ends = [(eur(found.low), eur(found.high)) if found else (price, price) for price, found in cleared]
-    xs, lows = edges([low for low, _ in ends])
-    _, highs = edges([high for _, high in ends])
+    """The price of each period in which something is traded, and the prices that support it; others are left out."""
+    traded = trades.traded(day)
+    prices = {number: eur(day.said.prices[number - 1]) for number in traded}
+    cleared = {number: day.outcome.cleared[number] for number in traded}
+    ends = {number: (eur(found.low), eur(found.high)) if found else [prices[number]] * 2 for number, found in cleared.items()}
+    levels = [prices.get(number, math.nan) for number in day.problem.orders]
+    xs, lows = edges([ends.get(number, [math.nan])[0] for number in day.problem.orders])
+    _, highs = edges([ends.get(number, [math.nan])[-1] for number in day.problem.orders])
     axes.fill_between(xs, lows, highs, color=COLOURS["band"], linewidth=0, label="supporting prices")
-    axes.plot(*edges(prices), color=COLOURS["ink"], linewidth=1.8, solid_joinstyle="miter", label="price")
-    axes.set_ylim(*price_bounds(prices, ends))
+    axes.plot(*edges(levels), color=COLOURS["ink"], linewidth=1.8, solid_joinstyle="miter", label="price")
+    if traded:
+        axes.set_ylim(*price_bounds(list(prices.values()), list(ends.values())))
+        legend(axes, columns=2)
+    else:
+        axes.set_yticks([])
+    without_trade(axes, [number for number in day.problem.orders if number not in prices], day.problem.periods)
     axes.set_ylabel("price, EUR/MWh")
     axes.grid(axis="x", visible=False)
-    axes.legend(loc="lower right", bbox_to_anchor=(1, 0.98), ncols=2, borderaxespad=0)
     heading(axes, "Prices")
+
+
+def without_trade(axes, numbers, periods):
+    """Says of each run of periods that nothing is traded in them."""
+    for first, last in spans.runs(numbers):
+        upright = (last - first + 1) / periods < 0.07
+        place = {"transform": axes.get_xaxis_transform(), "ha": "center", "va": "center"}
+        look = {"color": COLOURS["soft"], "fontsize": 7, "rotation": 90 if upright else 0}
+        axes.text((first + last) / 2, 0.5, "no trade", **place, **look)
 
 
 def price_bounds(prices, ends):
@@ -168,46 +209,51 @@ def price_bounds(prices, ends):
 
 
 def shares(day, side):
-    """What a side trades in each period: by hourly orders, and by accepted blocks."""
-    hourly = dict.fromkeys(day.problem.orders, 0)
-    blocks = dict.fromkeys(day.problem.orders, 0)
-    rows = [row for row in day.problem.rows if row.order.kind == "hour"]
-    for row, executed in zip(rows, day.said.executed):
-        if row.order.side == side:
-            hourly[row.order.volumes[0][0]] += executed
-    for place in day.said.accepted:
-        order = day.problem.blocks[place].order
-        if order.side == side:
-            for number, volume in order.volumes:
-                blocks[number] += volume
-    return [mw(volume) for volume in hourly.values()], [mw(volume) for volume in blocks.values()]
+    """What a side trades in each period, in MW: by hourly orders, and by accepted blocks."""
+    found = tables.shares(day).values()
+    return [[mw(parts[kind, side]) for parts in found] for kind in ("hour", "block")]
 
 
 def draw_volumes(axes, day):
     """What is bought above the line, what is sold below it; the blocks' shares are hatched."""
-    numbers = list(day.problem.orders)
-    look = {"width": 0.72, "edgecolor": COLOURS["ink"], "linewidth": 0.5}
     most = 1
     for side, sign in (("buy", 1), ("sell", -1)):
         hourly, blocks = shares(day, side)
-        most = max(most, *(one + other for one, other in zip(hourly, blocks)))
-        axes.bar(numbers, [sign * volume for volume in hourly], color=COLOURS[side], **look)
-        hatch = {"hatch": "////", "facecolor": COLOURS["rejected"]}
-        axes.bar(numbers, [sign * volume for volume in blocks], bottom=[sign * volume for volume in hourly], **hatch, **look)
+        ends = [one + other for one, other in zip(hourly, blocks)]
+        most = max(most, *ends)
+        draw_share(axes, [0] * len(ends), [sign * end for end in hourly], {"facecolor": COLOURS[side]})
+        hatched = {"hatch": "////", "facecolor": COLOURS["rejected"]}
+        draw_share(axes, [sign * end for end in hourly], [sign * end for end in ends], hatched)
     axes.axhline(0, color=COLOURS["ink"], linewidth=0.9)
     axes.set_ylim(-1.12 * most, 1.12 * most)
-    axes.yaxis.set_major_formatter(lambda value, _: f"{abs(value):,.0f}" if most >= 5 else f"{abs(value):.1f}")
-    axes.set_ylabel("sold | bought, MW")
+    axes.yaxis.set_major_formatter(lambda value, _: text.shown(abs(value), 0 if most >= 5 else 1))
+    axes.set_ylabel("sold below, bought above, MW" if not is_narrow(axes) else "MW")
     axes.grid(axis="x", visible=False)
     key = [Patch(facecolor=COLOURS[side], edgecolor=COLOURS["ink"], linewidth=0.5) for side in ("buy", "sell")]
     key.append(Patch(facecolor=COLOURS["rejected"], edgecolor=COLOURS["ink"], linewidth=0.5, hatch="////"))
     words = ["bought by hourly orders", "sold by hourly orders", "by accepted blocks"]
-    axes.legend(key, words, loc="lower right", bbox_to_anchor=(1, 0.98), ncols=3, borderaxespad=0)
+    if is_narrow(axes):
+        words = ["hourly buys (above)", "hourly sells (below)", "blocks"]
+    legend(axes, key, words, columns=3)
     heading(axes, "Volumes")
 
 
+def draw_share(axes, begins, ends, look):
+    """A bar for each period from one level to another; an area without lines in it if there are many periods."""
+    outline = {"edgecolor": COLOURS["ink"], "linewidth": 0.5}
+    if len(ends) > MOST_OUTLINED:
+        (xs, lows), (_, highs) = edges(begins), edges(ends)
+        drawn = [low != high for low, high in zip(lows, highs)]
+        axes.fill_between(xs, lows, highs, where=drawn, **outline, **look)
+        return
+    bars = [(number, end - begin, begin) for number, (begin, end) in enumerate(zip(begins, ends), 1) if begin != end]
+    if bars:
+        numbers, heights, bottoms = zip(*bars)
+        axes.bar(numbers, heights, bottom=bottoms, width=0.72, **outline, **look)
+
+
 def heading(axes, words):
-    axes.set_title(words, loc="left", fontweight="bold", fontsize=10, color=COLOURS["ink"])
+    axes.set_title(words, loc="left", fontweight="bold", fontsize=10, color=COLOURS["ink"], pad=20 if is_narrow(axes) else 6)
 
 
 LOOKS = {
@@ -217,40 +263,107 @@ LOOKS = {
 }
 
 
-def blocks_height(day):
-    return 0.75 + 0.37 * len(day.problem.blocks)
+def blocks_height(day, width=BROAD):
+    return 0.75 + (0.37 if width == BROAD else 0.48) * len(day.problem.blocks)
 
 
 def draw_blocks(axes, day):
-    """A row for each block, with a bar over each of its periods: the height is the volume, beside the block's greatest."""
+    """A row for each block, with an area over its periods: the height is the volume, compared with the greatest. Arrows lead from
+    parents to their children, and brackets join the blocks of a group."""
     blocks = day.problem.blocks
     found = decisions.decisions(day.problem, day.said.accepted, day.outcome)
     for row, (block, decision) in enumerate(zip(blocks, found)):
-        most = max(volume for _, volume in block.order.volumes)
-        for number, volume in block.order.volumes:
-            height = 0.72 * volume / most
-            look = {"edgecolor": COLOURS["ink"], "linewidth": 0.7, **LOOKS[decision.kind]}
-            axes.add_patch(Rectangle((number - 0.5, row + 0.36 - height), 1, height, **look))
+        draw_block(axes, row, block, LOOKS[decision.kind])
         if row:
             axes.axhline(row - 0.5, color=COLOURS["grid"], linewidth=0.6)
-        label_block(axes, row, block)
+        label_block(axes, row, block, text.amount(day.said.surpluses[row], day.problem.hours))
+    draw_links(axes, day)
+    draw_groups(axes, day)
     axes.set_ylim(len(blocks) - 0.45, -0.55)
     axes.set_yticks([])
     axes.grid(visible=False)
     present = [kind for kind in LOOKS if any(decision.kind == kind for decision in found)]
     key = [Patch(edgecolor=COLOURS["ink"], linewidth=0.7, **LOOKS[kind]) for kind in present]
-    axes.legend(key, present, loc="lower right", bbox_to_anchor=(1, 1), ncols=3, borderaxespad=0)
+    legend(axes, key, present, columns=3)
     heading(axes, "Blocks")
 
 
-def label_block(axes, row, block):
-    """A block's name beside its row, and under it the side, the greatest volume and the limit price."""
+def band(axes, row):
+    """Where a block stands in its row, and where its greatest volume ends: under its label if the figure is narrow."""
+    return (row + 0.42, row - 0.06) if is_narrow(axes) else (row + 0.36, row - 0.26)
+
+
+def draw_block(axes, row, block, look):
+    """The volumes of a block: an area for each run of its periods, without lines between them."""
+    volumes = dict(block.order.volumes)
+    most, (bottom, greatest) = max(volumes.values()), band(axes, row)
+    for first, last in spans.runs(volumes):
+        points = [(first - 0.5, bottom)]
+        for number in range(first, last + 1):
+            top = bottom - (bottom - greatest) * volumes[number] / most
+            points += [(number - 0.5, top), (number + 0.5, top)]
+        points.append((last + 0.5, bottom))
+        axes.add_patch(Polygon(points, closed=True, edgecolor=COLOURS["ink"], linewidth=0.7, **look))
+
+
+def extent(block):
+    """From where to where a block's periods go."""
+    numbers = [number for number, _ in block.order.volumes]
+    return numbers[0] - 0.5, numbers[-1] + 0.5
+
+
+def draw_links(axes, day):
+    """An arrow from each parent, down from its beginning, to its child: to the nearer side of it, or onto it."""
+    for row, parent in enumerate(day.problem.parents):
+        if parent is None:
+            continue
+        begin, (left, right) = extent(day.problem.blocks[parent])[0], extent(day.problem.blocks[row])
+        from_x = begin + 0.012 * day.problem.periods
+        bottom, top = band(axes, row)
+        middle = (bottom + top) / 2
+        corner, tip = [(from_x, middle)], (left if from_x < left else right, middle)
+        if left <= from_x <= right:
+            corner, tip = [], (from_x, top)
+        xs, ys = zip((from_x, band(axes, parent)[0]), *corner, tip)
+        look = {"color": COLOURS["soft"], "linewidth": 1.1, "solid_joinstyle": "miter", "zorder": 3}
+        axes.plot(xs[:-1], ys[:-1], **look)
+        arrow = {"arrowstyle": "-|>", "color": COLOURS["soft"], "linewidth": 1.1, "shrinkA": 0, "shrinkB": 0}
+        axes.annotate("", tip, (xs[-2], ys[-2]), arrowprops=arrow, zorder=3)
+
+
+def draw_groups(axes, day):
+    """A bracket right of the blocks of each exclusive group, with its name."""
+    ends = []  # of each column of brackets, the last row
+    place = {"transform": axes.get_yaxis_transform(), "clip_on": False}
+    for (_, group), rows in day.problem.groups().items():
+        column = next((at for at, end in enumerate(ends) if end < rows[0]), len(ends))
+        ends[column : column + 1] = [rows[-1]]
+        x = (1.012 if is_narrow(axes) else 1.10) + (0.05 if is_narrow(axes) else 0.03) * column
+        look = {"color": COLOURS["ink"], "linewidth": 0.9, **place}
+        axes.plot([x, x], [rows[0] - 0.2, rows[-1] + 0.2], **look)
+        for row in rows:
+            axes.plot([x - 0.006, x], [row, row], **look)
+        middle = (rows[0] + rows[-1]) / 2
+        axes.text(x + 0.005, middle, group, rotation=90, ha="left", va="center", fontsize=7, transform=place["transform"])
+
+
+def label_block(axes, row, block, surplus):
+    """A block's name left of its row, under it the side, the greatest volume and the limit price, and right of it its surplus. If the
+    figure is narrow, all stand over the row."""
     volumes = {volume for _, volume in block.order.volumes}
-    most = ("" if len(volumes) == 1 else "up to ") + f"{mw(max(volumes)):,g}"
-    words = f"{block.order.side} {most} MW at {prices_text(block.order.price)} EUR/MWh"
-    place = {"transform": axes.get_yaxis_transform(), "ha": "right"}
-    axes.text(-0.008, row + 0.02, f"{block.who} {block.name}", va="bottom", fontsize=8.5, **place)
-    axes.text(-0.008, row + 0.06, words, va="top", fontsize=7, color=COLOURS["soft"], **place)
+    most = ("" if len(volumes) == 1 else "up to ") + volume_text(max(volumes)).removesuffix(".0")
+    words, name = f"{block.order.side} {most} MW at {prices_text(block.order.price)} EUR/MWh", f"{block.who} {block.name}"
+    place = {"transform": axes.get_yaxis_transform(), "fontsize": 7}
+    if is_narrow(axes):
+        place["fontsize"] = 6.5
+        axes.text(0.004, row - 0.12, f"{name}: {words}", va="bottom", **place)
+        axes.text(0.996, row - 0.12, f"{surplus} EUR", va="bottom", ha="right", color=COLOURS["soft"], **place)
+        return
+    if not row:
+        axes.text(1.088, -0.55, "surplus, EUR", ha="right", va="bottom", color=COLOURS["soft"], **place)
+    axes.text(1.088, row, surplus, va="center", ha="right", **place)
+    axes.text(-0.008, row + 0.06, words, va="top", ha="right", color=COLOURS["soft"], **place)
+    axes.text(-0.008, row + 0.02, name, va="bottom", ha="right", **{**place, "fontsize": 8.5})
 
 
 def steps(orders, side, begin):
@@ -282,30 +395,38 @@ def draw_curves(axes, day, number):
     price = day.said.prices[number - 1]
     sold, bought = net_volume(day, number)
     net = sold - bought
-    limits = [limit for _, limit, _ in orders] + [price]
+    traded = trades.is_traded(day, number)
+    limits = [limit for _, limit, _ in orders] + [price] * (traded or not orders)
     room = max(0.1 * (max(limits) - min(limits)), 500)
     bottom, top = eur(min(limits) - room), eur(max(limits) + room)
     demand = steps(orders, "buy", max(-net, 0))
     supply = steps(orders, "sell", max(net, 0))
     most = mw(max(demand[2], supply[2], 10))
     if net:
-        draw_net(axes, mw(net), bottom, top)
+        draw_net(axes, net, bottom, top)
     draw_curve(
         axes, demand, mw(max(-net, 0)), top, bottom, color=COLOURS["ink"], linestyle="--", label="demand of hourly orders"
     )
     draw_curve(axes, supply, mw(max(net, 0)), bottom, top, color=COLOURS["sell"], label="supply of hourly orders")
-    axes.axhline(eur(price), color=COLOURS["soft"], linewidth=1, linestyle=":")
-    axes.text(1.006, eur(price), f"{prices_text(price)}\nEUR/MWh", transform=axes.get_yaxis_transform(), va="center")
-    buys = executed_buys(day, number)
-    words = f"{mw(buys):,.1f} MW of hourly buys are executed"
-    ring = {"marker": "o", "markersize": 7, "markerfacecolor": COLOURS["paper"], "linestyle": "none"}
-    axes.plot([mw(buys + max(-net, 0))], [eur(price)], color=COLOURS["ink"], label=words, **ring)
+    if traded:
+        draw_clearing(axes, day, number, net)
     axes.set_xlim(0, most * 1.03)
     axes.set_ylim(bottom, top)
     axes.set_xlabel("volume, MW")
     axes.set_ylabel("limit price, EUR/MWh")
-    axes.legend(loc="lower right", bbox_to_anchor=(1, 1), ncols=2, borderaxespad=0.2)
-    heading(axes, f"Period {number}, {clock.span(day.problem.periods, number)}")
+    if axes.get_legend_handles_labels()[0]:
+        legend(axes, columns=1 if is_narrow(axes) else 2, below=True)
+    heading(axes, f"Period {number}, {clock.span(day.problem.periods, number)}" + ("" if traded else ": no trade"))
+
+
+def draw_clearing(axes, day, number, net):
+    """The price, and the point on the curves at which the hourly buys end that are executed."""
+    price, buys = day.said.prices[number - 1], executed_buys(day, number)
+    axes.axhline(eur(price), color=COLOURS["soft"], linewidth=1, linestyle=":")
+    axes.text(1.006, eur(price), f"{prices_text(price)}\nEUR/MWh", transform=axes.get_yaxis_transform(), va="center")
+    words = f"{volume_text(buys)} MW of hourly buys are executed"
+    ring = {"marker": "o", "markersize": 7, "markerfacecolor": COLOURS["paper"], "linestyle": "none"}
+    axes.plot([mw(buys + max(-net, 0))], [eur(price)], color=COLOURS["ink"], label=words, **ring)
 
 
 def draw_net(axes, net, bottom, top):
@@ -313,9 +434,9 @@ def draw_net(axes, net, bottom, top):
     over all demand."""
     height = 0.05 * (top - bottom)
     low = bottom if net > 0 else top - height
-    words = f"accepted blocks {'sell' if net > 0 else 'buy'} {abs(net):,.1f} MW net"
+    words = f"accepted blocks {'sell' if net > 0 else 'buy'} {volume_text(abs(net))} MW net"
     look = {"facecolor": COLOURS["rejected"], "edgecolor": COLOURS["ink"], "linewidth": 0.7, "hatch": "////"}
-    axes.add_patch(Rectangle((0, low), abs(net), height, label=words, **look))
+    axes.add_patch(Rectangle((0, low), mw(abs(net)), height, label=words, **look))
 
 
 def draw_curve(axes, points, begin, first, last, **look):

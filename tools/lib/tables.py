@@ -1,10 +1,11 @@
-"""Results as tables of comma-separated values: a header with units, then a row for each period, order or participant."""
+"""Results as tables of comma-separated values: a header with units, then a row for each period, order or participant.
+
+A table is a list of rows of which the first names the columns. docs/TABLES.md describes each column, and the form as JSON."""
 
 import csv
 import io
-from fractions import Fraction
 
-from . import decisions, text, trades
+from . import decisions, journal, published, selection, spans, text, trades
 
 # The columns of a table of orders that make a journal: `order_table` reads them.
 ORDER = ["participant", "order", "kind", "side", "price_eur_mwh", "periods", "volume_mw", "parent", "group"]
@@ -17,14 +18,6 @@ def written(rows):
     out = io.StringIO()
     csv.writer(out, lineterminator="\n").writerows(rows)
     return out.getvalue()
-
-
-def price(cents):
-    return text.fixed(cents / Fraction(100), 2)
-
-
-def volume(tenths):
-    return text.fixed(tenths / Fraction(10), 1)
 
 
 def euros(day, amount):
@@ -48,33 +41,23 @@ SHARES = [(kind, side) for side in ("buy", "sell") for kind in ("hour", "block")
 
 
 def periods(day):
-    heads = ["period", "hours", "price_eur_mwh", "volume_mw", "low_eur_mwh", "high_eur_mwh"]
+    heads = ["period", "hours", "price_eur_mwh", "volume_mw", "traded", "low_eur_mwh", "high_eur_mwh"]
     yield heads + [f"{'hourly' if kind == 'hour' else kind}_{side}s_mw" for kind, side in SHARES]
     for number, parts in shares(day).items():
         found = day.outcome.cleared[number]
-        ends = ["", ""] if found is None else [price(found.low), price(found.high)]
-        traded = [price(day.said.prices[number - 1]), volume(day.said.volumes[number - 1])]
-        yield [number, float(day.problem.hours), *traded, *ends, *map(volume, parts.values())]
-
-
-def spans(numbers):
-    """Periods in few words, as `1;3-5`."""
-    runs = []
-    for number in numbers:
-        if runs and runs[-1][1] == number - 1:
-            runs[-1][1] = number
-        else:
-            runs.append([number, number])
-    return ";".join(str(first) if first == last else f"{first}-{last}" for first, last in runs)
+        ends = ["", ""] if found is None else [text.cents(found.low), text.cents(found.high)]
+        price_and_volume = [text.cents(day.said.prices[number - 1]), text.tenths(day.said.volumes[number - 1])]
+        traded = "yes" if trades.is_traded(day, number) else "no"
+        yield [number, float(day.problem.hours), *price_and_volume, traded, *ends, *map(text.tenths, parts.values())]
 
 
 def order_cells(row):
     """The cells of `ORDER`."""
     order = row.order
-    volumes = [volume(tenths) for _, tenths in order.volumes]
+    volumes = [text.tenths(tenths) for _, tenths in order.volumes]
     each = volumes[0] if len(set(volumes)) == 1 else ";".join(volumes)
-    numbers = spans(number for number, _ in order.volumes)
-    return [row.who, row.name, order.kind, order.side, price(order.price), numbers, each, order.parent, order.group]
+    numbers = spans.written(number for number, _ in order.volumes)
+    return [row.who, row.name, order.kind, order.side, text.cents(order.price), numbers, each, order.parent, order.group]
 
 
 def outcomes(day):
@@ -100,6 +83,27 @@ def orders(day):
         yield [*order_cells(row), offered, executed, *outcome, euros(day, amount)]
 
 
+def plain_amount(amount, hours):
+    return text.amount(amount, hours, "")
+
+
+def blocks(day):
+    """A row for each block: its order, what became of it and why, and if it is rejected what its best family was worth."""
+    family_heads = ["family", "family_gain_eur", "family_welfare_eur"]
+    yield [*ORDER, "offered_mwh", "executed_mwh", "outcome", "surplus_eur", *family_heads, "why"]
+    found = decisions.decisions(day.problem, day.said.accepted, day.outcome, plain_amount)
+    for block, surplus, decision in zip(day.problem.blocks, day.said.surpluses, found):
+        offered = sum(tenths for _, tenths in block.order.volumes)
+        executed = offered if decision.kind == decisions.ACCEPTED else 0
+        family = ["", "", ""]
+        if decision.family:
+            names = " ".join(day.problem.blocks[place].name for place in sorted(decision.family.members))
+            welfare = decision.other.welfare
+            family = [names, euros(day, decision.family.gain()), "" if welfare is None else euros(day, welfare)]
+        energies = [energy(day, tenths) for tenths in (offered, executed)]
+        yield [*order_cells(block), *energies, decision.kind, euros(day, surplus), *family, decision.why]
+
+
 def participants(day):
     yield ["participant", "orders", "bought_mwh", "sold_mwh", "paid_eur", "received_eur", "net_eur"]
     for who, total in trades.totals(day).items():
@@ -109,4 +113,54 @@ def participants(day):
         yield [who, count, *energies, *amounts]
 
 
-TABLES = {"periods": periods, "orders": orders, "participants": participants}
+def command_cells(command):
+    """What a command says: its kind, and the cells of `ORDER`, empty where it says nothing."""
+    match command:
+        case journal.Submit(who, name, order):
+            return ["submit", *order_cells(selection.Row(who, name, order))]
+        case journal.Amend(who, name, cents, volumes):
+            order = journal.Order("", "", cents, volumes)
+            return ["amend", *order_cells(selection.Row(who, name, order))]
+        case journal.Cancel(who, name):
+            return ["cancel", who, name, *[""] * 7]
+    return ["close", *[""] * 9]
+
+
+def commands(read, reasons):
+    """Each command of a journal with the book's reply."""
+    yield ["command", "what", *ORDER, "reply", "reason"]
+    for number, (command, reason) in enumerate(zip(read.commands, reasons), 1):
+        yield [number, *command_cells(command), "refused" if reason else "done", reason or ""]
+
+
+def refused(reasons):
+    """How many commands were refused, in words; None if none was."""
+    count = sum(reason is not None for reason in reasons)
+    return f"{count} of {len(reasons)} commands {'was' if count == 1 else 'were'} refused" if count else None
+
+
+def figure_values(day):
+    """The figures of a day as numbers by name, with their unit in it."""
+    _, *rows = published.figures(day)
+    ends = {"": "", "EUR": "_eur", "MWh": "_mwh", "EUR/MWh": "_eur_mwh"}
+    return {
+        name + ends[unit]: None if value == "" else value if isinstance(value, int) else float(value) for name, unit, value in rows
+    }
+
+
+TABLES = {
+    "periods": periods,
+    "orders": orders,
+    "participants": participants,
+    "blocks": blocks,
+    "curves": published.curves,
+    "commands": lambda day: commands(day.journal, day.reasons),
+    "figures": published.figures,
+}
+# The same in a long form: a row for each period of each thing, or for each number of a period.
+LONG = {
+    "periods": lambda day: published.long_periods(periods(day)),
+    "orders": published.long_orders,
+    "participants": published.long_participants,
+    "blocks": lambda day: published.long_orders(day, "block"),
+}

@@ -1,14 +1,22 @@
 """Records of comma-separated values, and the texts of numbers and names."""
 
+import functools
 import re
 from fractions import Fraction
 
 from . import rules
 
-# A field begins with a quote, and then goes to the closing quote (two quotes in a row stand for one) with whatever follows
-# it, or to the end of the text where no quote closes it. Else it goes to the next comma or line end.
-FIELD = re.compile(rb'"([^"]*(?:""[^"]*)*)(?:"([^,\r\n]*))?|([^,\r\n]*)')
+LINE_END = re.compile(rb"\r\n|\r|\n")
 LINE_ENDS = re.compile(rb"[\r\n]*")
+
+
+@functools.cache
+def field_of(comma):
+    """A field begins with a quote, and then goes to the closing quote (two quotes in a row stand for one) with whatever follows
+    it, or to the end of the text where no quote closes it. Else it goes to the next comma or line end."""
+    comma = re.escape(comma)
+    return re.compile(rb'"([^"]*(?:""[^"]*)*)(?:"([^' + comma + rb"\r\n]*))?|([^" + comma + rb"\r\n]*)")
+
 
 # No number of a journal or of results has more digits than 18.
 NUMBER = re.compile(rb"-?[1-9][0-9]{0,17}|0")
@@ -18,18 +26,24 @@ NAME = re.compile(rb"[A-Z0-9-]{1,12}")
 
 def records(text):
     """The records of a text, each a list of fields. Empty lines are no records."""
+    return (fields for _, fields in placed_records(text))
+
+
+def placed_records(text, comma=b","):
+    """The same, each with its offset in the text; and of a text whose fields are parted by something else than commas."""
+    field_from = field_of(comma)
     at = LINE_ENDS.match(text).end()
     while at < len(text):
-        fields = []
+        begin, fields = at, []
         while True:
-            field = FIELD.match(text, at)
+            field = field_from.match(text, at)
             quoted, behind, plain = field.groups()
             fields.append(plain if quoted is None else quoted.replace(b'""', b'"') + (behind or b""))
             at = field.end()
-            if text[at : at + 1] != b",":
+            if text[at : at + 1] != comma:
                 break
             at += 1
-        yield fields
+        yield begin, fields
         at = LINE_ENDS.match(text, at).end()
 
 
@@ -71,7 +85,7 @@ def name(text):
 
 
 def fixed(value, digits, thousands=""):
-    """A number with so many digits behind the point, which it must not exceed."""
+    """A number with this many digits after the point, which it must not exceed."""
     whole, rest = divmod(abs(value) * 10**digits, 10**digits)
     if rest != int(rest):
         raise ValueError(f"{value} has more than {digits} digits")
@@ -80,10 +94,37 @@ def fixed(value, digits, thousands=""):
     return f"{sign}{whole:,}".replace(",", thousands) + point
 
 
+def cents(price, thousands=""):
+    """A price in EUR/MWh."""
+    return fixed(Fraction(price, 100), 2, thousands)
+
+
+def tenths(volume, thousands=""):
+    """A volume in MW."""
+    return fixed(Fraction(volume, 10), 1, thousands)
+
+
 def euros(amount, hours, thousands=","):
     """An amount in cents per MWh times tenths of a MW, over periods of so many hours, in EUR: with as many digits as it may
     have."""
     return fixed(Fraction(amount) * hours / 1_000, 3 if hours == 1 else 5, thousands)
+
+
+NARROW = "\u202f"  # the narrow space between thousands, which no line is broken at
+
+
+def shown(value, digits, thousands=NARROW):
+    """A number for readers, rounded to this many digits after the point. What would round to nothing and isn't has more."""
+    value = Fraction(value)
+    scaled = int(abs(value) * 10**digits + Fraction(1, 2))
+    if value and not scaled:
+        return shown(value, digits + 1, thousands)
+    return fixed(Fraction(scaled if value > 0 else -scaled, 10**digits), digits, thousands)
+
+
+def amount(value, hours, thousands=NARROW):
+    """An amount as `euros` takes it, for readers: in EUR with two digits."""
+    return shown(Fraction(value) * hours / 1_000, 2, thousands)
 
 
 def energy(tenths, hours, thousands=","):

@@ -27,6 +27,16 @@ class Total(NamedTuple):
     received: int
 
 
+def is_traded(day, number):
+    """Whether anything is traded in a period. If not, its price says little: without any order it is the middle of the range."""
+    return day.said.volumes[number - 1] > 0
+
+
+def traded(day):
+    """The periods in which something is traded."""
+    return [number for number in range(1, day.problem.periods + 1) if is_traded(day, number)]
+
+
 def row_trades(day):
     """Each row of the book with its trades."""
     executed, place = iter(day.said.executed), 0

@@ -13,6 +13,8 @@ from lib import book, command, journal, results, selection
 
 AUCTION = TOP / "tests" / "cases" / "clear" / "auction-day.csv"
 QUARTERS = AUCTION.with_name("quarter-hour-day.csv")
+# A journal with orders in periods 8 and 9 alone.
+FIRST = (TOP / "examples" / "first-day.csv").read_bytes()
 
 
 def status(case):

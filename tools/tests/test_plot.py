@@ -6,56 +6,34 @@ import unittest
 from pathlib import Path
 
 import support
-from support import AUCTION, QUARTERS, day_of, journal_of, results_of, tool
+from support import AUCTION, FIRST, QUARTERS, day_of, journal_of, results_of, tool
 
-from lib import command, decisions
+from lib import command, tables
 
 PICTURES = ["day", "prices", "blocks"]
 
 
-class Decisions(unittest.TestCase):
-    def decided(self, data, accepted):
-        day = day_of(data, results_of(data, accepted))
-        self.assertEqual(day.wrong, [])
-        return decisions.decisions(day.problem, day.said.accepted, day.outcome)
-
-    def test_the_auction_day(self):
-        day = day_of(AUCTION.read_bytes(), support.printed(AUCTION))
-        found = decisions.decisions(day.problem, day.said.accepted, day.outcome)
-        kinds = [decision.kind for decision in found]
-        self.assertEqual(kinds[:5], [decisions.ACCEPTED] * 5)
-        self.assertEqual(kinds[5:], [decisions.REJECTED, decisions.ACCEPTED, decisions.REJECTED, decisions.PARADOX])
-        self.assertIn("would lose 8,050.000 EUR at the prices", found[5].why)
-        self.assertIn("in its place the welfare would be 5,120.000 EUR less", found[7].why)
-        self.assertIn("with it OLD,UNIT-7 would lose 270.000 EUR", found[8].why)
-
-    def test_parents_and_periods_that_would_not_balance(self):
-        data = journal_of(
-            "submit,A,B1,hour,buy,6000,1:10,,",
-            "submit,A,K1,block,sell,7000,1:5,,",
-            "submit,A,K2,block,sell,100,1:5,K1,",
-            "submit,A,K3,block,sell,100,1:30,,",
-        )
-        found = self.decided(data, frozenset())
-        self.assertEqual([decision.kind for decision in found], [decisions.REJECTED, decisions.REJECTED, decisions.PARADOX])
-        self.assertEqual(found[1].why, "its parent K1 is rejected")
-        self.assertIn("with it period 1 wouldn't balance", found[2].why)
-
-
 class Missing(unittest.TestCase):
+    def words(self, module):
+        return f"{module}, which Debian has in the package python3-{module}: apt-get install python3-{module}"
+
+    def test_packages_are_those_of_the_tests(self):
+        listed = (support.TOP / "tests" / "packages").read_text().split("\n")
+        self.assertLessEqual({*command.PACKAGES.values(), "tzdata"}, set(listed))
+
     @unittest.skipUnless(command.is_debians(), "this isn't Debian's Python")
     def test_a_missing_package_is_named(self):
         without = sys.executable, "-S"  # leaves out Debian's packages
         for name in ("plot", "report"):
             status, out, err = tool(name, AUCTION, python=without)
             self.assertEqual((status, out), (command.NO_PACKAGE, b""))
-            self.assertEqual(err, f"{name}: it needs matplotlib, which Debian has in the package python3-matplotlib\n")
+            self.assertEqual(err, f"{name}: it needs {self.words('matplotlib')}\n")
         blocks = [f"submit,A,K{number},block,sell,1,1:1,," for number in range(24)]
         day = journal_of(*blocks)
         text = day + b"results\n" + results_of(day, frozenset())
         status, out, err = tool("audit", "--best", "-", data=text, python=without)
         self.assertEqual((status, out), (command.NO_PACKAGE, b""))
-        self.assertEqual(err, "audit: it needs scipy, which Debian has in the package python3-scipy\n")
+        self.assertEqual(err, f"audit: it needs {self.words('scipy')}\n")
 
 
 @unittest.skipUnless(command.has("matplotlib"), "matplotlib is missing (Debian's python3-matplotlib)")
@@ -97,6 +75,42 @@ class Pictures(unittest.TestCase):
         for words in ("Period 75, 18:30 to 18:45", "165.00", "726.0 MW of hourly buys are executed"):
             self.assertIn(words, drawn)
 
+    def test_periods_without_trade_do_not_set_the_scale(self):
+        from lib import pictures
+
+        day = day_of(FIRST, results_of(FIRST, frozenset()))
+        figure = pictures.prices_picture(day)
+        least, most = figure.axes[0].get_ylim()
+        self.assertTrue(50 < least < 68 < most < 90, (least, most))
+        drawn = pictures.picture(figure, "svg", words_as_text=True).decode()
+        self.assertEqual(drawn.count(">no trade<"), 2)
+
+    def test_links_groups_and_surpluses_of_blocks(self):
+        from lib import pictures
+
+        day = day_of(AUCTION.read_bytes(), support.printed(AUCTION))
+        for width in pictures.WIDTHS.values():
+            figure = pictures.blocks_picture(day, width)
+            (axes,) = figure.axes
+            # The two links: START to STAY, and STAY to EVENING.
+            arrows = [note for note in axes.texts if getattr(note, "arrow_patch", None)]
+            self.assertEqual([tuple(note.xy)[0] for note in arrows], [10.5, 16.5])
+            self.assertEqual([text.get_text() for text in axes.texts].count("FILL"), 1)
+            drawn = pictures.picture(figure, "svg", words_as_text=True).decode()
+            for words in ("-8\u202f960.00", "146\u202f520.00", "GAS START", "sell 80 MW at 120.00 EUR/MWh"):
+                self.assertIn(words, drawn)
+
+    def test_days_of_quarter_hours_have_no_outline_for_each_period(self):
+        from lib import pictures
+
+        for case in (AUCTION, QUARTERS):
+            day = day_of(case.read_bytes(), support.printed(case))
+            bars = sum(volume > 0 for parts in tables.shares(day).values() for volume in parts.values())
+            bars *= day.problem.periods == 24
+            self.assertEqual(len(pictures.prices_picture(day).axes[1].patches), bars)
+            # Of each block one outline, since its periods follow one another.
+            self.assertEqual(len(pictures.blocks_picture(day).axes[0].patches), len(day.problem.blocks))
+
     def test_the_same_day_gives_the_same_bytes(self):
         from lib import pictures
 
@@ -132,6 +146,10 @@ class Pictures(unittest.TestCase):
                 self.assertTrue(Path(folder, "a.svg").read_bytes().startswith(begins["svg"]))
             self.assertEqual(tool("plot", *texts, "--period", 19, "-o", f"{folder}/a.png"), (0, b"", ""))
             self.assertTrue(Path(folder, "a.png").read_bytes().startswith(begins["png"]))
+            self.assertEqual(tool("plot", *texts, "--period", 19, "-o", "-")[1][:5], begins["svg"])
+            status, _, err = tool("plot", *texts, "--period", 7, "--picture", "blocks", "-o", f"{folder}/b.svg")
+            self.assertEqual((status, "not allowed with" in err), (command.COMMAND_LINE, True))
+            self.assertEqual(tool("plot", *texts, "--pict", "day")[0], command.COMMAND_LINE)
             for words in (["-o", f"{folder}/a.gif"], ["--period", 25, "-o", f"{folder}/a.svg"], ["--picture=x"]):
                 self.assertEqual(tool("plot", *texts, *words)[0], command.COMMAND_LINE)
             self.assertEqual(tool("plot", *texts, "-o", f"{folder}/none/a.svg")[0], command.NO_INPUT)

@@ -1,5 +1,6 @@
 """The page of a day: that it is whole, stands alone, and says what the day's results are."""
 
+import functools
 import html.parser
 import re
 import tempfile
@@ -7,12 +8,13 @@ import unittest
 from pathlib import Path
 
 import support
-from support import AUCTION, QUARTERS, day_of, journal_of, printed, results_of, tool
+from support import AUCTION, FIRST, QUARTERS, day_of, journal_of, printed, results_of, tool
 
 from lib import command, trades
 
 # Elements that have no end.
 VOID = {"meta", "br", "use", "path", "rect", "stop", "line", "circle"}
+THIN = "\u202f"
 
 
 class Reader(html.parser.HTMLParser):
@@ -68,12 +70,20 @@ class Trades(unittest.TestCase):
                 self.assertEqual(value, day.said.welfare)
 
 
-@unittest.skipUnless(command.has("matplotlib"), "matplotlib is missing (Debian's python3-matplotlib)")
+@functools.lru_cache(maxsize=None)
+def made(data, text, curves):
+    from lib import page
+
+    return page.page(day_of(data, text), "A <day> & its results", list(curves))
+
+
+PACKAGES = "matplotlib or jinja2 is missing (Debian's python3-matplotlib, python3-jinja2)"
+
+
+@unittest.skipUnless(command.has("matplotlib") and command.has("jinja2"), PACKAGES)
 class Page(unittest.TestCase):
     def page(self, data, text, curves=()):
-        from lib import page
-
-        return page.page(day_of(data, text), "A <day> & its results", list(curves))
+        return made(data, text, tuple(curves))
 
     def test_the_page_is_whole_and_stands_alone(self):
         for name in ("auction-day", "empty", "too-large-block"):
@@ -96,13 +106,13 @@ class Page(unittest.TestCase):
             self.assertIn(name, read.texts)
         for words in (
             "165.00",
-            "3,021,520.000",
+            f"3{THIN}021{THIN}520.00",
             "8 to 20",
             "group FILL",
             "paradoxically rejected",
-            "loses at the prices by itself, and with STAY EVENING it gains 9,760.000 EUR",
+            "loses at the prices by itself, and with STAY and EVENING it gains 9\u202f760.00 EUR",
             "HasChildren",
-            "521,550.000 EUR",
+            f"521{THIN}550.00",
         ):
             self.assertTrue(any(words in text for text in read.texts), words)
 
@@ -113,12 +123,51 @@ class Page(unittest.TestCase):
             "96 periods",
             "18:30",
             "65 to 84",
-            "3,098,696.75000",
+            f"3{THIN}098{THIN}696.75",
             "paradoxically rejected",
-            "would gain 675.00000 EUR at the prices, but with it COAL,PEAK would lose 3,780.00000 EUR",
+            "would gain 675.00 EUR at the prices, but with it the block itself would lose 6\u202f660.00 EUR, COAL,PEAK would lose 3\u202f780.00 EUR",
             "PeriodOutOfDay",
         ):
             self.assertTrue(any(words in text for text in read.texts), words)
+
+    def test_periods_without_trade_have_no_price(self):
+        text = self.page(FIRST, results_of(FIRST, frozenset()), [1, 8])
+        texts = Reader(text).texts
+        self.assertEqual(texts.count("no trade"), 22 + 2 * 2)  # in the table, and in both pictures of prices
+        self.assertIn("Period 1, 00:00 to 01:00: no trade", texts)
+        self.assertFalse(any("750.00" in words for words in texts))
+        # The price of periods 8 and 9 is 68 EUR.
+        at = texts.index("mean price of the traded periods")
+        self.assertIn("68.00", texts[at : at + 3])
+        nothing = journal_of("submit,A,B1,hour,buy,6000,1:10,,")
+        text = self.page(nothing, results_of(nothing, frozenset()), [1])
+        self.assertEqual((text.count("mean price"), text.count("750.00"), text.count(">no trade<")), (0, 0, 26))
+
+    def test_many_curves_are_opened_one_by_one(self):
+        text = self.page(FIRST, results_of(FIRST, frozenset()), range(5, 11))
+        self.assertEqual(Reader(text).wrong, [])
+        self.assertEqual(text.count('<details name="curves">'), 6)
+        self.assertIn("<b>Period 8</b> 07:00 to 08:00: <span class=\"soft\">68.00 EUR/MWh, 55.0 MW</span>", text)
+        self.assertIn("<b>Period 7</b> 06:00 to 07:00: <span class=\"soft\">no trade</span>", text)
+
+    def test_participants_add_up(self):
+        texts = [words for words in Reader(self.page(AUCTION.read_bytes(), printed(AUCTION))).texts if words]
+        at = texts.index("all")
+        self.assertEqual(texts[at + 1 : at + 7], ["89", f"12{THIN}910.0", f"12{THIN}910.0", *[f"1{THIN}238{THIN}670.00"] * 2, "0.00"])
+
+    def test_tables_and_pictures_have_words(self):
+        for case in (AUCTION, QUARTERS):
+            text = self.page(case.read_bytes(), printed(case), [1])
+            read = Reader(text)
+            tables, pictures = read.elements.count("table"), read.elements.count("figure")
+            self.assertGreater(tables, 5)
+            self.assertEqual((read.elements.count("caption"), text.count("<caption></caption>")), (tables, 0))
+            self.assertEqual(read.elements.count("figcaption"), pictures)
+            self.assertEqual(read.elements.count("th"), text.count("<th scope="))
+            # Each picture has a form for broad screens and one for narrow ones.
+            for kind in ("broad", "narrow"):
+                self.assertEqual(text.count(f'<svg class="{kind}" role="img" aria-label="'), pictures)
+        self.assertIn("The price goes from 50.00 EUR/MWh in period 1 to 165.00 EUR/MWh in period 75.", text)
 
     def test_wrong_results_are_said_to_be_wrong(self):
         wrong = printed(AUCTION).replace(b"period,1,9200", b"period,1,9300")
@@ -132,11 +181,13 @@ class Page(unittest.TestCase):
         text = self.page(case.read_bytes(), printed(case).replace(b"rejected", b"accepted"), [1])
         self.assertIn("period 1: no execution balances", text)
         worse = results_of(AUCTION.read_bytes(), frozenset({0}))
-        self.assertIn("the welfare would be greater", self.page(AUCTION.read_bytes(), worse))
+        self.assertRegex(self.page(AUCTION.read_bytes(), worse), r"the welfare would be [0-9.\u202f]+ EUR greater")
 
     def test_a_participant_without_trades(self):
         data = journal_of("submit,A,B1,hour,buy,6000,1:10,,")
-        self.assertIn("trades nothing", self.page(data, results_of(data, frozenset())))
+        texts = Reader(self.page(data, results_of(data, frozenset()))).texts
+        at = texts.index("A", texts.index("net, EUR"))
+        self.assertEqual([words for words in texts[at:] if words][:7], ["A", "1", "0.0", "0.0", "0.00", "0.00", "0.00"])
 
     def test_command_line(self):
         texts = [AUCTION, AUCTION.with_suffix(".stdout")]
@@ -144,7 +195,15 @@ class Page(unittest.TestCase):
         self.assertEqual((status, err, b"<title>Today</title>" in out), (0, "", True))
         self.assertNotIn(b"Supply and demand in period", out)
         self.assertIn(b"Supply and demand in period 3", tool("report", *texts, "-o", "-", "--curves", "3,4")[1])
-        for words in ("25", "x", "1,,2", "0"):
+        drawn = tool("report", *texts, "-o", "-", "--curves", "4, 3-4,3")[1]
+        self.assertEqual([drawn.count(b"<figcaption>Supply and demand in period %d" % number) for number in (3, 4, 5)], [1, 1, 0])
+        self.assertEqual(tool("report", *texts, "-o", "-", "--curve", "3")[0], command.COMMAND_LINE)
+        if command.has_zone("Europe/Berlin"):
+            dated = tool("report", *texts, "-o", "-", "--curves", "none", "--date", "2026-11-25")[1]
+            self.assertIn(b"Wednesday, 25 November 2026. A delivery day of 24 periods", dated)
+            for words in ("2026-03-29", "25.11.2026"):
+                self.assertEqual(tool("report", *texts, "-o", "-", "--date", words)[0], command.COMMAND_LINE)
+        for words in ("25", "x", "1-25", "9-8", "0", ""):
             self.assertEqual(tool("report", *texts, "-o", "-", "--curves", words)[0], command.COMMAND_LINE)
         with tempfile.TemporaryDirectory() as folder:
             self.assertEqual(tool("report", *texts, "-o", Path(folder, "none", "a.html"))[0], command.NO_INPUT)

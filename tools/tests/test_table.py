@@ -8,7 +8,7 @@ from fractions import Fraction
 from pathlib import Path
 
 import support
-from support import AUCTION, QUARTERS, day_of, printed, tool
+from support import AUCTION, FIRST, QUARTERS, day_of, printed, results_of, tool
 
 from lib import book, command, journal, order_table, tables
 
@@ -34,7 +34,7 @@ class Results(unittest.TestCase):
 
     def test_the_tables_add_up(self):
         for day in self.days():
-            periods, orders, participants = (read(of(day)) for of in tables.TABLES.values())
+            periods, orders, participants = (read(of(day)) for of in (tables.periods, tables.orders, tables.participants))
             self.assertEqual((len(periods), len(orders)), (day.problem.periods, len(day.problem.rows)))
             bought = total(periods, "hourly_buys_mw") + total(periods, "block_buys_mw")
             sold = total(periods, "hourly_sells_mw") + total(periods, "block_sells_mw")
@@ -46,7 +46,7 @@ class Results(unittest.TestCase):
 
     def test_the_auction_day(self):
         day = day_of(AUCTION.read_bytes(), printed(AUCTION))
-        periods, orders, participants = (read(of(day)) for of in tables.TABLES.values())
+        periods, orders, participants = (read(of(day)) for of in (tables.periods, tables.orders, tables.participants))
         row = periods[18]
         self.assertEqual((row["period"], row["price_eur_mwh"], row["volume_mw"]), ("19", "165.00", "730.0"))
         self.assertEqual((periods[1]["low_eur_mwh"], periods[1]["high_eur_mwh"]), ("2.00", "92.00"))
@@ -55,6 +55,14 @@ class Results(unittest.TestCase):
             (row["outcome"], row["surplus_eur"], row["amount_eur"]), ("paradoxically rejected", "7920.000", "0.000")
         )
         self.assertEqual(participants[-1]["paid_eur"], "19860.000")
+
+    def test_periods_without_trade_are_marked(self):
+        for day in self.days():
+            for row in read(tables.periods(day)):
+                self.assertEqual(row["traded"], "no" if row["volume_mw"] == "0.0" else "yes")
+        periods = read(tables.periods(day_of(FIRST, results_of(FIRST, frozenset()))))
+        self.assertEqual([row["period"] for row in periods if row["traded"] == "yes"], ["8", "9"])
+        self.assertEqual((periods[0]["price_eur_mwh"], periods[0]["volume_mw"]), ("1750.00", "0.0"))
 
     def test_the_table_of_orders_makes_the_same_book(self):
         for day in self.days():
@@ -166,13 +174,35 @@ class CommandLine(unittest.TestCase):
     def test_tables_and_journals(self):
         texts = [AUCTION, AUCTION.with_suffix(".stdout")]
         with tempfile.TemporaryDirectory() as folder:
-            self.assertEqual(tool("table", *texts, "--all", folder), (0, b"", ""))
+            note = "table: 1 of 94 commands was refused: see --rows commands\n"
+            self.assertEqual(tool("table", *texts, "--all", folder), (0, b"", note))
             for name in tables.TABLES:
-                self.assertEqual(tool("table", *texts, "--rows", name), (0, Path(folder, f"{name}.csv").read_bytes(), ""))
+                said = "" if name == "commands" else note
+                self.assertEqual(tool("table", *texts, "--rows", name), (0, Path(folder, f"{name}.csv").read_bytes(), said))
             status, out, _ = tool("table", "--journal", Path(folder, "orders.csv"))
             self.assertEqual((status, out.splitlines()[0], out.splitlines()[-1]), (0, b"day,24,,,,,,,", b"close,,,,,,,,"))
             status, out, _ = tool("table", "--journal", "-", "--open", "--periods=25", data=f"{HEADER}\n{HOUR}\n".encode())
             self.assertEqual((status, out), (0, b"day,25,,,,,,,\nsubmit,NORD,WIND-8,hour,sell,1250,8:450,,\n"))
+
+    def test_commands_and_their_replies(self):
+        names = ["command", "what", "order", "price_eur_mwh", "periods", "volume_mw", "reply", "reason"]
+        status, out, err = tool("table", "--rows", "commands", "-", data=FIRST)
+        self.assertEqual((status, err), (0, ""))
+        rows = [[row[name] for name in names] for row in csv.DictReader(io.StringIO(out.decode()))]
+        self.assertEqual(rows[0], ["1", "submit", "WIND-8", "12.00", "8", "45.0", "done", ""])
+        self.assertEqual(rows[8], ["9", "submit", "FURNACE-9", "76.00", "9", "28.0", "refused", "NameTaken"])
+        self.assertEqual(rows[9], ["10", "cancel", "FURNACE-9", "", "", "", "done", ""])
+        self.assertEqual(rows[12], ["13", "submit", "WIND-25", "8.00", "25", "10.0", "refused", "PeriodOutOfDay"])
+        self.assertEqual(rows[13], ["14", "close", "", "", "", "", "done", ""])
+        self.assertEqual(len(rows), 15)
+        # A journal that is still open has commands too, and the text of a day has.
+        opened = FIRST.replace(b"close,,,,,,,,\n", b"")
+        self.assertEqual(len(tool("table", "--rows", "commands", "-", data=opened)[1].splitlines()), 15)
+        day = AUCTION.read_bytes() + b"results\n" + printed(AUCTION)
+        out = tool("table", "--rows", "commands", "-", data=day)[1].decode()
+        self.assertEqual(out, tool("table", "--rows", "commands", AUCTION, AUCTION.with_suffix(".stdout"))[1].decode())
+        self.assertIn("93,cancel,GAS,START,,,,,,,,refused,HasChildren\n", out)
+        self.assertIn(",amend,NORD,WIND-9,,,2.00,9,130.0,,,done,\n", out)
 
     def test_quarter_hours(self):
         rows = f"{HEADER}\nNORD,WIND,hour,sell,12.5,96,45,,\nA,K1,block,sell,60,1-96,0.1,,\n"
@@ -183,18 +213,37 @@ class CommandLine(unittest.TestCase):
         self.assertEqual(tool("table", "--journal", "-", "--periods=91", data=rows.encode())[0], command.COMMAND_LINE)
         texts = [QUARTERS, QUARTERS.with_suffix(".stdout")]
         periods = tool("table", *texts)[1].decode().splitlines()
-        self.assertEqual((len(periods), periods[96].split(",")[:4]), (97, ["96", "0.25", "74.00", "385.0"]))
+        self.assertEqual((len(periods), periods[96].split(",")[:5]), (97, ["96", "0.25", "74.00", "385.0", "yes"]))
         orders = tool("table", *texts, "--rows", "orders")[1].decode().splitlines()
         # A quarter of an hour of 375 MW, at 50 EUR; and 15 MW at 98 EUR.
         self.assertIn("STAD,LOAD-1,hour,buy,300.00,1,375.0,,,93.750,93.750,in full,,-4687.50000", orders)
         self.assertIn("GAS,FLEX-60,hour,sell,98.00,60,205.0,,,51.250,3.750,in part,,367.50000", orders)
 
+    def test_a_table_without_orders(self):
+        status, out, err = tool("table", "--journal", "-", data=f"{HEADER}\n".encode())
+        self.assertEqual((status, out), (0, b"day,24,,,,,,,\nclose,,,,,,,,\n"))
+        self.assertEqual(err, "table: standard input has no orders: the day of the journal is empty\n")
+
     def test_faults(self):
+        texts = [AUCTION, AUCTION.with_suffix(".stdout")]
         status, out, err = tool("table", "--journal", "-", data=f"{HEADER}\n{HOUR},x\n".encode())
         self.assertEqual((status, out), (command.NO_INPUT, b""))
         self.assertEqual(err, "table: standard input: line 2, it has 10 cells, and the header 9\n")
-        self.assertEqual(tool("table", "--journal", AUCTION, AUCTION)[0], command.COMMAND_LINE)
-        self.assertEqual(tool("table", "--rows", "blocks", AUCTION)[0], command.COMMAND_LINE)
+        for words in (
+            ["--journal", AUCTION, AUCTION],
+            ["--journal", AUCTION, "--rows", "orders"],
+            ["--journal", AUCTION, "--all", "."],
+            [*texts, "--periods", "24"],
+            [*texts, "--open"],
+            [*texts, "--all", ".", "--rows", "orders"],
+            [*texts, "--all", ".", "-o", "a.csv"],
+        ):
+            status, out, err = tool("table", *words)
+            self.assertEqual((status, out, "has no use with" in err), (command.COMMAND_LINE, b"", True), words)
+        for words in ([*texts, "--row", "orders"], ["--journ", AUCTION], ["--journal", "-", "--period", "24"]):
+            status, out, err = tool("table", *words)
+            self.assertEqual((status, "unrecognized arguments" in err), (command.COMMAND_LINE, True), words)
+        self.assertEqual(tool("table", "--rows", "rows", AUCTION)[0], command.COMMAND_LINE)
         self.assertEqual(tool("table", AUCTION)[0], command.NO_INPUT)
         status, _, err = tool("table", "-", data=b"day,24,,,,,,,\nresults\nday,24\n")
         self.assertEqual(

@@ -1,0 +1,120 @@
+"""Days of the auction for Python programs: journals, their results by the program `dam`, and these as records or pandas frames.
+
+    import dam_tools
+
+    journal = dam_tools.read_journal("day.csv")
+    day = dam_tools.clear(journal, program="crates/dam_cli/out/dam_cli")
+    for row in dam_tools.records(day, "periods"):
+        print(row["period"], row["price_eur_mwh"])
+    frame = dam_tools.frame(day, "orders", long=True)
+
+The tables and their columns are those of tools/table, which docs/TABLES.md describes. Results are checked against the journal as
+they are read: `Day.wrong` lists what isn't as the market rules say, and is empty for every result of the program."""
+
+import os
+import shutil
+import subprocess
+from pathlib import Path
+
+from .lib import book, command, journal, order_table, shapes, tables
+from .lib.command import Day
+from .lib.journal import Journal
+
+__all__ = ["Day", "Fault", "Journal", "TABLES", "clear", "frame", "journal_of_orders", "read_journal", "read_results", "records"]
+
+TABLES = tuple(tables.TABLES)
+# Where the program is built, in the tree that this module is part of.
+BUILT = Path(__file__).resolve().parents[2] / "crates" / "dam_cli" / "out" / "dam_cli"
+
+
+class Fault(Exception):
+    """A text that can't be read, or a run of the program that failed: `status` is the program's, or None."""
+
+    def __init__(self, words, status=None):
+        super().__init__(words)
+        self.status = status
+
+
+def bytes_of(source):
+    """The bytes of a file, or of a text that was given."""
+    return source if isinstance(source, bytes) else Path(source).read_bytes()
+
+
+def read_journal(source):
+    """The journal of a file, or of bytes."""
+    data = bytes_of(source)
+    try:
+        return command.parse_journal("the text" if isinstance(source, bytes) else str(source), data)
+    except command.Stop as stop:
+        raise Fault(str(stop)) from None
+
+
+def journal_of_orders(source, periods=24, close=True):
+    """The journal of a table of orders, a file or bytes, as tools/table --journal makes it."""
+    try:
+        return order_table.read_orders(bytes_of(source), periods, close)
+    except order_table.Wrong as fault:
+        raise Fault(str(fault)) from None
+
+
+def as_journal(source):
+    return source if isinstance(source, Journal) else read_journal(source)
+
+
+def read_results(source, results):
+    """The day of a journal and its results: files, bytes, or a journal that was read."""
+    try:
+        return Day.of(as_journal(source), bytes_of(results))
+    except command.Stop as stop:
+        raise Fault(str(stop)) from None
+
+
+def program_of(program):
+    found = program or os.environ.get("DAM") or (BUILT if os.access(BUILT, os.X_OK) else shutil.which("dam"))
+    if not found:
+        raise Fault("no program was found: build it, name it as `program`, or in the environment variable DAM")
+    return found
+
+
+def clear(source, program=None, workers=None, cut=None, nodes=None, timeout=None):
+    """The results of a journal, by a run of the program. The options are those of `dam clear`; none changes the answer."""
+    read = as_journal(source)
+    options = [f"--{name}={value}" for name, value in (("workers", workers), ("cut", cut), ("nodes", nodes)) if value is not None]
+    words = [os.fspath(program_of(program)), "clear", *options]
+    ran = subprocess.run(words, input=journal.journal_text(read).encode(), capture_output=True, timeout=timeout)
+    if ran.returncode:
+        raise Fault(ran.stderr.decode(errors="replace").strip(), ran.returncode)
+    return read_results(read, ran.stdout)
+
+
+def rows_of(day, table, long, date):
+    if table not in (tables.LONG if long else tables.TABLES):
+        raise ValueError(f"there is no table {table}" + (" in a long form" if long else ""))
+    if isinstance(day, Journal):
+        if table != "commands":
+            raise ValueError("a journal without results has only the table commands")
+        rows = tables.commands(day, book.run(day)[1])
+    else:
+        rows = (tables.LONG if long else tables.TABLES)[table](day)
+    periods = day.periods if isinstance(day, Journal) else day.problem.periods
+    return shapes.with_times(rows, date, periods) if date else rows
+
+
+def records(day, table="periods", long=False, date=None):
+    """The rows of a table, each a dictionary by column. With a date, a `datetime.date`, periods have the time at which they
+    begin."""
+    return list(shapes.records(rows_of(day, table, long, date)))
+
+
+def frame(day, table="periods", long=False, date=None):
+    """The same as a pandas frame; the times at which periods begin are timestamps."""
+    try:
+        import pandas
+    except ImportError:
+        package = command.PACKAGES["pandas"]
+        raise Fault(f"frames need pandas, which Debian has in the package {package}: apt-get install {package}") from None
+    rows = list(rows_of(day, table, long, date))
+    made = pandas.DataFrame(list(shapes.records(rows)), columns=rows[0])
+    if "begins" in made:
+        made["begins"] = pandas.to_datetime(made["begins"], utc=True).dt.tz_convert(shapes.ZONE)
+    return made

@@ -1,0 +1,111 @@
+"""Which blocks a rejected block would be accepted with: the family that makes most of it at the prices of a result.
+
+A block is accepted only with its ancestors, and what it loses its accepted descendants may make good. So a rejected block is
+judged with those of its ancestors that are rejected, and with the rejected descendants that add most."""
+
+import itertools
+from typing import NamedTuple
+
+
+class Family(NamedTuple):
+    needed: tuple  # the block and its rejected ancestors, the topmost first
+    members: frozenset  # these, and the rejected blocks that descend from them and add most
+    gains: dict  # by needed block: what it gains at the prices, together with the members that descend from it
+    rivals: tuple  # the accepted blocks of the groups of the needed ones
+    removed: frozenset  # the rivals, and the accepted blocks that descend from them
+
+    def gain(self):
+        """What the members gain at the prices, all together."""
+        return self.gains[self.needed[0]]
+
+    def losers(self):
+        """The needed blocks that would lose at the prices, the topmost first."""
+        return [place for place in self.needed if self.gains[place] < 0]
+
+
+def ancestors(problem, place):
+    """The parent of a block, that one's parent, and so on."""
+    while (place := problem.parents[place]) is not None:
+        yield place
+
+
+def group_of(problem, place):
+    """The exclusive group of a block as `Problem.groups` has it; None of a block without one."""
+    block = problem.blocks[place]
+    return (block.who, block.order.group) if block.order.group else None
+
+
+def never(problem, place):
+    """Two blocks of one group of which a block descends or is one, so that it can never be accepted; None if there are none."""
+    seen = {}
+    for member in [place, *ancestors(problem, place)]:
+        group = group_of(problem, member)
+        if group in seen:
+            return member, seen[group]
+        if group is not None:
+            seen[group] = member
+    return None
+
+
+def needed(problem, accepted, place):
+    return tuple(reversed([place, *(above for above in ancestors(problem, place) if above not in accepted)]))
+
+
+def below(problem, accepted, root):
+    """A rejected block and the rejected ones that descend from it by rejected ones, each after its parent."""
+    found = {root}
+    for place in problem.rescuers[root]:
+        if problem.parents[place] in found and place not in accepted:
+            found.add(place)
+    return sorted(found)
+
+
+def rivals(problem, accepted, places):
+    groups = {group_of(problem, place) for place in places} - {None}
+    return tuple(place for place in sorted(accepted) if group_of(problem, place) in groups)
+
+
+def admitted(problem, tree, path, staying):
+    """The sets of blocks of a tree that groups admit besides the needed ones: in turn each of the choices of one block of each
+    group of which the tree has several."""
+    taken = {group_of(problem, place) for place in [*path, *staying]}
+    free = [place for place in tree if place not in path and group_of(problem, place) not in taken - {None}]
+    groups = {}
+    for place in free:
+        groups.setdefault(group_of(problem, place), []).append(place)
+    alone = groups.pop(None, [])
+    for choice in itertools.product(*groups.values()):
+        yield {*path, *alone, *choice}
+
+
+def grown(problem, surpluses, tree, path, allowed):
+    """The members and gains of the family that has the needed blocks, and of the allowed ones each that adds to the gain."""
+    gains = {place: surpluses[place] for place in tree if place in allowed}
+    for place in reversed(tree):
+        parent = problem.parents[place]
+        if place in gains and parent in gains and (place in path or gains[place] > 0):
+            gains[parent] += gains[place]
+    members = set()
+    for place in tree:
+        if place in path or place in gains and gains[place] > 0 and problem.parents[place] in members:
+            members.add(place)
+    return frozenset(members), {place: gains[place] for place in path}
+
+
+def best_family(problem, accepted, surpluses, place):
+    """The best family that a rejected block stands in: one in which nobody loses at the prices before any other, then the one
+    that gains most, then the smallest. None if a needed block has no surplus, since a period of it has no price."""
+    path = needed(problem, accepted, place)
+    if any(surpluses[member] is None for member in path):
+        return None
+    out = rivals(problem, accepted, path)
+    removed = {other for rival in out for other in [rival, *problem.rescuers[rival]] if other in accepted}
+    tree = [member for member in below(problem, accepted, path[0]) if surpluses[member] is not None]
+    found = (grown(problem, surpluses, tree, path, allowed) for allowed in admitted(problem, tree, path, accepted - removed))
+
+    def rank(family):
+        members, gains = family
+        return min(0, *gains.values()) == 0, gains[path[0]], -len(members), [-member for member in sorted(members)]
+
+    members, gains = max(found, key=rank)
+    return Family(path, members, gains, out, frozenset(removed))

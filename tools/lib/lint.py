@@ -1,0 +1,263 @@
+"""Every fault of a journal at once, in words: with its line, the field, what stands there, what is allowed and what to do.
+
+What the format doesn't allow is told of each record, and then the record is taken for what it was probably meant to be, so that
+the commands after it are judged as well: those too that the book would refuse."""
+
+import re
+from typing import NamedTuple
+
+from . import book, fields, journal, rules, text
+
+DAY = "day,24,,,,,,,"
+CLOSE = "close,,,,,,,,"
+RESULTS = ([b"results"],)  # the line before the results in what `dam day` prints
+MOST_LINES = 20  # of those with characters that aren't ASCII
+FEW = 5  # faults that other tools tell
+BYTE_ORDER_MARKS = {b"\xef\xbb\xbf": "utf-8-sig", b"\xff\xfe": "utf-16", b"\xfe\xff": "utf-16"}
+
+
+class Found(NamedTuple):
+    line: int
+    field: str  # its name, or nothing if the whole record or text is meant
+    words: str
+    refusal: str = ""  # the book's reason, if the format allows the record
+
+    def __str__(self):
+        return f"line {self.line}{', ' if self.field else ''}{self.field}: {self.words}"
+
+
+class Lint:
+    """Gathers the faults of a text that should be a journal for a command of the program."""
+
+    def __init__(self, data, command):
+        self.command = command
+        self.found, self.held = [], None
+        self.lines = {}  # of each order of the book that was submitted, by participant and name
+        self.unclear = set()  # participants and names of submits that couldn't be read
+        self.others = set()  # participants
+        self.closed = None  # the line of the first close
+        self.data = data
+
+    def tell(self, line, words, field="", refusal=""):
+        self.found.append(Found(line, field, words, refusal))
+
+    def run(self):
+        data, comma = self.readable(self.data)
+        line, behind, number = 1, 0, 0
+        for number, (at, record) in enumerate(text.placed_records(data, comma), 1):
+            line += len(text.LINE_END.findall(data, behind, at))
+            behind = at
+            if number > rules.MOST_RECORDS:
+                self.tell(line, f"a journal has at most {rules.MOST_RECORDS - 1} commands: remove what follows")
+                break
+            if record in RESULTS or record[0] == b"welfare":
+                whole = "the results of a day begin here" if record in RESULTS else "these are results"
+                self.tell(line, f"{whole}, which are no part of a journal: tools/audit reads both")
+                break
+            self.record(line, [field.decode(errors="replace") for field in record])
+        self.end(line, number)
+        return sorted(self.found, key=lambda found: found.line)
+
+    def readable(self, data):
+        """The text with what concerns all of it put right, and by what its fields are parted."""
+        if len(data) > rules.MOST_BYTES:
+            self.tell(1, f"the text has {len(data):,} bytes, and a journal at most {rules.MOST_BYTES:,}: split the day")
+        for mark, encoding in BYTE_ORDER_MARKS.items():
+            if data.startswith(mark):
+                name = "a byte order mark" if encoding == "utf-8-sig" else "a byte order mark, and the text is in UTF-16"
+                self.tell(1, f"the text begins with {name}: save it as plain CSV, in ASCII or UTF-8 without the mark")
+                data = data.decode(encoding, errors="replace").encode()
+                break
+        self.characters(data)
+        first = re.split(rb"[\r\n]", data.lstrip(b"\r\n"), maxsplit=1)[0]
+        for comma, name in ((b";", "semicolons"), (b"\t", "tabs")):
+            if first.count(comma) > first.count(b",") != len(fields.NAMES) - 1:
+                self.tell(1, f"the fields are separated by {name}: separate them by commas")
+                return data, comma
+        return data, b","
+
+    def characters(self, data):
+        """Tells of the first character of each line that isn't ASCII, and of many such lines how many there are."""
+        lines, line, behind = {}, 1, 0
+        for found in re.finditer(rb"[\x80-\xff]+", data):
+            line += len(text.LINE_END.findall(data, behind, found.start()))
+            behind = found.start()
+            lines.setdefault(line, found[0].decode(errors="replace"))
+        allowed = "a journal has no accented letters, and no long dashes or special spaces"
+        for at in list(lines)[:MOST_LINES]:
+            self.tell(at, f"'{lines[at]}' isn't ASCII: {allowed}")
+        if len(lines) > MOST_LINES:
+            at = list(lines)[MOST_LINES]
+            self.tell(at, f"{len(lines) - MOST_LINES} lines from here on aren't ASCII either: save the file as plain CSV, in ASCII")
+
+    def record(self, line, record):
+        word = record[0].strip().lower()
+        if self.held is None:
+            self.day(line, record, word)
+        elif word == "day":
+            self.tell(line, "the day is there twice: a journal has one, as its first line")
+        elif record[0].lstrip().startswith("#"):
+            self.tell(line, "a journal has no comments: remove the line")
+        elif not any(field.strip() for field in record):
+            self.tell(line, "there is nothing in the line but commas: remove it")
+        else:
+            self.entry(line, self.padded(line, record, CLOSE if word == "close" else None))
+
+    def padded(self, line, record, whole=None):
+        """The nine fields of a record that may have more or fewer."""
+        count, most = len(record), len(fields.NAMES)
+        missing = most - count
+        if missing > 0:
+            commas = "a comma is missing" if missing == 1 else f"{missing} commas are missing"
+            do = f"write {whole}" if whole else "add what is missing at its end"
+            self.tell(line, f"it has {count} field{'s' * (count > 1)} and should have {most}, so that {commas}: {do}")
+        elif missing < 0:
+            do = "no field has a comma in it, and no number a decimal one"
+            if not any(record[most:]):
+                do = f"remove {-missing} comma{'s' * (missing < -1)} at its end"
+            self.tell(line, f"it has {count} fields and should have {most}: {do}")
+        return (record + [""] * most)[:most]
+
+    def day(self, line, record, word):
+        """The first record, which should be the day."""
+        if word != "day":
+            if set(map(str.lower, record)) & {*fields.NAMES, "who", "name", "limit", "volume"}:
+                self.tell(line, f"this is a header, and a journal has none: begin with the day, as {DAY}")
+                return
+            if word.startswith("#"):
+                self.tell(line, f"a journal has no comments: remove the line, and begin with the day, as {DAY}")
+                return
+            self.tell(line, f"the first line should be the day, as {DAY}, and is '{','.join(record)[:60]}'")
+            self.held = book.Book(rules.GREATEST_PERIOD)
+            if word in fields.USED:
+                self.record(line, record)
+            return
+        found = record[1].strip() if len(record) > 1 else ""
+        periods, wrong = fields.read_day(found)
+        whole = f"day,{periods or 24},,,,,,,"
+        record = self.padded(line, record, whole)
+        if record[0] != "day":
+            self.tell(line, f"'{record[0]}' should be day: write {whole}", "command")
+        if wrong or record[1] != found:
+            self.tell(line, f"'{record[1]}': {wrong or f'there is a space round it: write {found}'}", "periods")
+        for place in range(2, 9):
+            if record[place]:
+                self.tell(line, f"'{record[place]}' should be empty: write {whole}", fields.NAMES[place])
+        self.held = book.Book(periods or rules.GREATEST_PERIOD)
+
+    def entry(self, line, record):
+        kind, wrong = fields.read_word(["submit", "amend", "cancel", "close"])(record[0].strip(" \t\u00a0"))
+        if wrong or kind != record[0]:
+            self.tell(line, f"'{record[0]}': {wrong or f'there is a space round it: write {kind}'}", "command")
+        if kind is None:
+            return
+        values, is_whole = {}, True
+        hourly = kind == "submit" and record[3].strip().lower() == "hour"
+        for place, name in list(enumerate(fields.NAMES))[1:]:
+            found = record[place]
+            if name not in fields.USED[kind] or hourly and name in ("parent", "group"):
+                if found:
+                    of = "an hourly order" if hourly and kind == "submit" else f"{'an' if kind == 'amend' else 'a'} {kind}"
+                    self.tell(line, f"'{found}' should be empty in {of}", name)
+                values[name] = ""
+            elif not found and name in ("parent", "group"):
+                values[name] = ""
+            else:
+                values[name], wrong = fields.read(name, found)
+                if name == "volumes" and hourly and values[name] and len(values[name]) != 1:
+                    wrong = f"an hourly order has one pair, as 8:450, and not {len(values[name])}" + (f"; {wrong}" if wrong else "")
+                if wrong:
+                    self.tell(line, f"'{found}': {wrong}" if found else f"it is empty: {wrong}", name)
+                is_whole = is_whole and values[name] is not None
+        if kind == "submit" and hourly and values["volumes"] and len(values["volumes"]) != 1:
+            is_whole = False
+        self.apply(line, kind, values, is_whole)
+
+    def apply(self, line, kind, values, is_whole):
+        who, name = values.get("participant"), values.get("order")
+        if kind == "close":
+            if self.command == "day":
+                self.tell(line, "a journal for `dam day` has no close: remove the line")
+                return
+            command = journal.Close()
+        else:
+            self.others.add(who)
+            if not is_whole:
+                self.unclear |= {(who, name)} if kind == "submit" else set()
+                return
+            command = {"submit": self.submit, "amend": journal.Amend, "cancel": journal.Cancel}[kind](
+                *[values[field] for field in fields.USED[kind]]
+            )
+        self.settle(line, kind, values, self.held.apply(command))
+
+    def settle(self, line, kind, values, reason):
+        """Keeps what later commands are judged by, or tells why the book refuses the command."""
+        who, name = values.get("participant"), values.get("order")
+        if reason is None:
+            if kind == "submit":
+                self.lines[who, name] = line
+            if kind == "close":
+                self.closed = line
+            return
+        parent = (who, values.get("parent"))
+        if reason == "UnknownOrder" and (who, name) in self.unclear or reason == "UnknownParent" and parent in self.unclear:
+            return
+        field, words = self.refusal(reason, who, name, values)
+        self.tell(line, f"{words} (the book refuses it: {reason})", field, reason)
+
+    def submit(self, who, name, kind, side, price, volumes, parent, group):
+        return journal.Submit(who, name, journal.Order(kind, side, price, volumes, parent, group))
+
+    def refusal(self, reason, who, name, values):
+        """The field that a refusal is about, and what to do."""
+        parent = values.get("parent")
+        if reason == "PeriodOutOfDay":
+            late = next(number for number, _ in values["volumes"] if number > self.held.periods)
+            words = f"the day has the periods 1 to {self.held.periods}, and no {late}: correct the period, or the day in the first line"
+            return "volumes", words
+        if reason == "HasChildren":
+            children = [other for (owner, other), order in self.held.rows.items() if (owner, order.parent) == (who, name)]
+            line = self.lines[who, children[0]]
+            return "order", f"{children[0]} of line {line} names {name} as its parent: cancel that first"
+        return {
+            "Closed": ("", f"the book is closed by line {self.closed}: put the command before it"),
+            "NameTaken": (
+                "order",
+                f"{who} has an order {name} since line {self.lines.get((who, name))}: amend that one, or take another name",
+            ),
+            "UnknownOrder": ("order", f"{who} has no order {name} here: it was never entered, was refused, or is cancelled"),
+            "WrongShape": ("volumes", f"the order of line {self.lines.get((who, name))} is hourly: give it one pair, as 8:450"),
+            "UnknownParent": ("parent", f"{who} has no order {parent} here: submit the parent first"),
+            "ParentNotBlock": (
+                "parent",
+                f"{parent} of line {self.lines.get((who, parent))} is an hourly order: name a block",
+            ),
+            "HourlyFull": ("", f"a book holds at most {rules.MOST_HOURLY} hourly orders: cancel others before"),
+            "BlocksFull": ("", f"a book holds at most {rules.MOST_BLOCKS} blocks: cancel others before"),
+        }[reason]
+
+    def end(self, line, records):
+        if not records:
+            self.tell(1, f"the journal is empty: begin with the day, as {DAY}")
+        elif self.held is None:
+            self.tell(line, f"there is no day: begin with it, as {DAY}")
+        if self.command == "clear" and self.closed is None and records:
+            self.tell(line, f"no command closes the book, so that there are no results: end with {CLOSE}")
+        if self.command == "day":
+            if records > rules.MOST_DAY_COMMANDS + 1:
+                self.tell(line, f"`dam day` takes at most {rules.MOST_DAY_COMMANDS} commands")
+            count = len(self.others - {None})
+            if count > rules.MOST_DAY_PARTICIPANTS:
+                self.tell(line, f"`dam day` takes at most {rules.MOST_DAY_PARTICIPANTS} participants, and there are {count}")
+
+
+def faults(data, command="clear"):
+    """What is wrong with a text as a journal for `dam clear`, `dam replay` or `dam day`, by line."""
+    return Lint(data, command).run()
+
+
+def in_few_words(data):
+    """The first faults of a text that can't be read as a journal, each on a line of its own."""
+    lines = [str(fault) for fault in faults(data, "replay") if not fault.refusal]
+    more = [f"and {len(lines) - FEW} more: see tools/lint"] if len(lines) > FEW else []
+    return "".join(f"\n  {line}" for line in lines[:FEW] + more)

@@ -1,0 +1,39 @@
+"""Sets of periods: read from words such as `8`, `8-20` or `1;3;5-7`, and written so that runs stand together."""
+
+import re
+
+RUN = re.compile(r"([1-9][0-9]{0,3})(?:-([1-9][0-9]{0,3}))?")
+
+
+def read(words, greatest, separators=";"):
+    """The periods of a text, in its order; a ValueError says what the text should be."""
+    numbers = []
+    parts = [part for part in re.split(rf"[{separators}\s]+", words) if part]
+    for part in parts or [""]:
+        found = RUN.fullmatch(part)
+        first, last = (int(found[1]), int(found[2] or found[1])) if found else (0, 0)
+        if not found or first > last or last > greatest:
+            by = separators[0]
+            raise ValueError(f"periods and runs of them, as 8, 8-20 or 1{by}3{by}5-7, from 1 to {greatest}")
+        numbers += range(first, last + 1)
+    return numbers
+
+
+def runs(numbers):
+    """The first and the last number of each run of numbers that follow one another."""
+    found = []
+    for number in numbers:
+        if found and found[-1][1] == number - 1:
+            found[-1][1] = number
+        else:
+            found.append([number, number])
+    return found
+
+
+def written(numbers, to="-", between=";"):
+    return between.join(str(first) if first == last else f"{first}{to}{last}" for first, last in runs(numbers))
+
+
+def in_words(numbers):
+    """As `8 to 20` or `1, 3 to 5`."""
+    return written(numbers, " to ", ", ")

@@ -1,0 +1,279 @@
+"""What decided each block: cases worked out by hand, and random families, of which everything is tried."""
+
+import random
+import re
+import unittest
+
+from support import AUCTION, day_of, journal_of, printed, problem, results_of
+
+from lib import book, decisions, journal, selection, text
+from plain import Plain
+
+# Periods in which 50 MW are bought at 80 EUR, and offered at 60. Without a block the price is 70 EUR; with a selling one it is 60,
+# and each MW of it saves 60 EUR.
+PERIODS = [line for number in (1, 2, 3) for line in (
+    f"submit,H,B{number},hour,buy,8000,{number}:500,,", f"submit,H,S{number},hour,sell,6000,{number}:500,,")]
+
+
+def told(data, accepted):
+    """The kind and the words of each block."""
+    day = day_of(data, results_of(data, frozenset(accepted)))
+    found = decisions.decisions(day.problem, day.said.accepted, day.outcome, amount)
+    return [(decision.kind, decision.why) for decision in found]
+
+
+def amount(value, hours):
+    return text.amount(value, hours, "")
+
+
+def best_of(data):
+    read, _ = book.run(journal.read_journal(data))
+    return Plain(read).best()
+
+
+class Hand(unittest.TestCase):
+    def test_a_family_that_would_gain(self):
+        # Of 100 MW that are bought at 170 EUR 60 are offered at 100. The price is 170: START loses 1 MW times 10 EUR, and RUN gains
+        # 49 MW times 50 EUR. With both 110 MW are offered, and the price is 100.
+        data = journal_of(
+            "submit,H,B,hour,buy,17000,1:1000,,",
+            "submit,H,S,hour,sell,10000,1:600,,",
+            "submit,A,START,block,sell,18000,1:10,,",
+            "submit,A,RUN,block,sell,12000,1:490,START,",
+        )
+        self.assertEqual(best_of(data), frozenset())
+        end = "though the welfare would be 1740.00 EUR greater"
+        self.assertEqual(
+            told(data, ()),
+            [
+                (
+                    decisions.PARADOX,
+                    "with RUN it would gain 2440.00 EUR at the prices, but with both the block itself would lose 1060.00 EUR"
+                    f" together with its accepted descendants and A,RUN would lose 980.00 EUR, {end}",
+                ),
+                (
+                    decisions.PARADOX,
+                    "with START it would gain 2440.00 EUR at the prices, but with both the block itself would lose 980.00 EUR and"
+                    f" A,START would lose 1060.00 EUR together with its accepted descendants, {end}",
+                ),
+            ],
+        )
+
+    def test_a_rival_whose_exchange_orphans_a_child(self):
+        # P saves 400 EUR and C 500; Q, which would gain more at the prices than P, saves 450.
+        data = journal_of(
+            *PERIODS,
+            "submit,A,P,block,sell,2000,1:100,,X",
+            "submit,A,C,block,sell,1000,3:100,P,",
+            "submit,A,Q,block,sell,1500,2:100,,X",
+        )
+        self.assertEqual(best_of(data), {0, 1})
+        kind, why = told(data, {0, 1})[2]
+        self.assertEqual(kind, decisions.REJECTED)
+        self.assertEqual(
+            why,
+            "would gain 550.00 EUR at the prices; P of its group X is accepted, and in its place and that of C, which can't be"
+            " accepted without it, the welfare would be 450.00 EUR less",
+        )
+
+    def test_a_parent_that_would_lose_even_with_its_child(self):
+        # At the price of 70 EUR P would lose 300 EUR, and C gain 250; with both, at 60 EUR, 400 and 150.
+        data = journal_of(*PERIODS, "submit,A,P,block,sell,10000,1:100,,", "submit,A,C,block,sell,4500,2:100,P,")
+        self.assertEqual(best_of(data), frozenset())
+        self.assertEqual(
+            told(data, ()),
+            [
+                (decisions.REJECTED, "would lose 50.00 EUR at the prices, even with C"),
+                (
+                    decisions.REJECTED,
+                    "would gain 250.00 EUR at the prices, but its parent P, without which it can't be accepted, would lose 50.00"
+                    " EUR even with it; with both A,P would lose 250.00 EUR together with its accepted descendants, and the"
+                    " welfare would be 250.00 EUR less",
+                ),
+            ],
+        )
+
+    def test_a_child_that_would_lose(self):
+        data = journal_of(*PERIODS, "submit,A,P,block,sell,10000,1:100,,", "submit,A,C,block,sell,9000,2:100,P,")
+        self.assertEqual(told(data, ())[1], (decisions.REJECTED, "would lose 200.00 EUR at the prices; its parent P is rejected"))
+        self.assertEqual(told(data, ())[0], (decisions.REJECTED, "would lose 300.00 EUR at the prices"))
+
+    def test_of_two_children_in_one_group_the_better_one_is_taken(self):
+        # P loses 100 EUR at the price of 70; C1 gains 50, C2 150, D 20. Only C2 and D, a child without a group, are of use.
+        data = journal_of(
+            *PERIODS,
+            "submit,A,P,block,sell,8000,1:100,,",
+            "submit,A,C1,block,sell,6500,2:100,P,X",
+            "submit,A,C2,block,sell,5500,2:100,P,X",
+            "submit,A,D,block,sell,6800,3:100,P,",
+        )
+        found = told(data, ())
+        self.assertTrue(found[0][1].startswith("with C2 and D it would gain 70.00 EUR at the prices, but with all 3 "), found[0])
+        # C1 with P and D would lose 30 EUR.
+        self.assertIn("would gain 50.00 EUR at the prices, but its parent P, without which it can't be", found[1][1])
+        self.assertIn("accepted, would lose 30.00 EUR even with C1 and D; with all 3 ", found[1][1])
+
+    def test_a_rival_of_the_parent(self):
+        # R saves 400 EUR; P would lose 300 EUR at the price of 70, and C gain 500: 200 EUR, and with C at 60 EUR nothing.
+        data = journal_of(
+            *PERIODS,
+            "submit,A,R,block,sell,2000,3:100,,X",
+            "submit,A,P,block,sell,10000,1:100,,X",
+            "submit,A,C,block,sell,2000,2:100,P,",
+        )
+        self.assertEqual(best_of(data), {0})
+        found = told(data, {0})
+        self.assertEqual(
+            found[2],
+            (
+                decisions.REJECTED,
+                "with P it would gain 200.00 EUR at the prices; R of the group X of P is accepted, and in its place the welfare"
+                " would be 400.00 EUR less",
+            ),
+        )
+        self.assertIn("with C it would gain 200.00 EUR at the prices; R of its group X is accepted, and", found[1][1])
+
+    def test_a_block_that_can_never_be_accepted(self):
+        data = journal_of(*PERIODS, "submit,A,P,block,sell,2000,1:100,,X", "submit,A,C,block,sell,10,2:100,P,X")
+        why = "can never be accepted, because P, from which it descends, and it are both of the group X"
+        self.assertEqual(told(data, {0})[1], (decisions.REJECTED, why))
+        data = journal_of(*PERIODS, "submit,A,P,block,sell,2000,1:100,,X", "submit,A,C,block,sell,10,2:100,P,X",
+                          "submit,A,D,block,sell,10,2:100,C,")
+        why = "can never be accepted, because P and C, from which it descends, are both of the group X"
+        self.assertEqual(told(data, {0})[2], (decisions.REJECTED, why))
+
+    def test_equal_welfare(self):
+        data = journal_of(*PERIODS, "submit,A,K1,block,sell,2000,1:500,,X", "submit,A,K2,block,sell,2000,2:500,,X")
+        self.assertEqual(best_of(data), {0})
+        end = "in its place the welfare would be the same, and"
+        self.assertTrue(told(data, {0})[1][1].endswith(f"{end} of equals the one with the earlier block is taken"))
+        self.assertTrue(told(data, {1})[0][1].endswith(f"{end} it ranks above"))
+
+    def test_the_auction_day(self):
+        day = day_of(AUCTION.read_bytes(), printed(AUCTION))
+        found = decisions.decisions(day.problem, day.said.accepted, day.outcome, amount)
+        kinds = [decision.kind for decision in found]
+        self.assertEqual(kinds[:5], [decisions.ACCEPTED] * 5)
+        self.assertEqual(kinds[5:], [decisions.REJECTED, decisions.ACCEPTED, decisions.REJECTED, decisions.PARADOX])
+        self.assertIn("would lose 8050.00 EUR at the prices", found[5].why)
+        self.assertIn("in its place the welfare would be 5120.00 EUR less", found[7].why)
+        self.assertIn(", but with it the block itself would lose 270.00 EUR, though the welfare would be 2810.00 EUR greater", found[8].why)
+
+    def test_a_period_that_would_not_balance(self):
+        data = journal_of(
+            "submit,A,B1,hour,buy,6000,1:10,,",
+            "submit,A,K1,block,sell,7000,1:5,,",
+            "submit,A,K2,block,sell,100,1:5,K1,",
+            "submit,A,K3,block,sell,100,1:30,,",
+        )
+        found = told(data, ())
+        self.assertIn("with it period 1 wouldn't balance", found[2][1])
+        self.assertEqual(found[2][0], decisions.PARADOX)
+
+
+def drawn(count):
+    """Random days of few small orders and of families, with the best selection of each."""
+    made = 0
+    for number in range(10 * count):
+        rng = random.Random(f"families {number}")
+        numbers = range(1, rng.choice([2, 3, 3, 4]))
+        lines = []
+        for at in range(rng.randint(2, 9)):
+            side = rng.choice(["buy", "sell"])
+            price = 5_000 + 500 * rng.randint(-4, 4) + (1_500 if side == "buy" else 0)
+            lines.append(f"submit,H,H{at},hour,{side},{price},{rng.choice(numbers)}:{rng.randint(1, 9)},,")
+        for at in range(rng.randint(2, 5)):
+            parent = f"K{rng.randrange(at)}" if at and rng.random() < 0.7 else ""
+            group = rng.choice("XY") if rng.random() < 0.4 else ""
+            periods = sorted(rng.sample(numbers, rng.randint(1, min(2, len(numbers)))))
+            volumes = ";".join(f"{period}:{rng.randint(1, 4)}" for period in periods)
+            price = 5_000 + 400 * rng.randint(-5, 6)
+            lines.append(f"submit,A,K{at},block,{rng.choice(['sell', 'sell', 'buy'])},{price},{volumes},{parent},{group}")
+        data = journal_of(*lines)
+        plain = Plain(book.run(journal.read_journal(data))[0])
+        best = plain.best()
+        if len(best) < len(plain.blocks):
+            made += 1
+            yield data, plain, best
+        if made == count:
+            return
+
+
+WORTH = re.compile(r"the welfare would be (?:([0-9.]+) EUR (greater|less)|(the same))")
+
+
+class Random(unittest.TestCase):
+    def test_what_is_named_is_the_best_family_and_worth_what_is_told(self):
+        seen = dict.fromkeys(["blocks", "families", "losing", "rivals", "orphans", "paradox", "never", "unbalanced"], 0)
+        for data, plain, best in drawn(2_000):
+            day = problem(data)
+            outcome = selection.outcome(day, best)
+            self.assertEqual(outcome.welfare, plain.welfare(best), data)
+            for place, decision in enumerate(decisions.decisions(day, best, outcome, amount)):
+                if place not in best:
+                    with self.subTest(data=data, place=place, why=decision.why):
+                        self.judge(day, plain, best, place, decision, seen)
+        for kind, count in seen.items():
+            self.assertGreater(count, 20, kind)
+
+    def judge(self, day, plain, best, place, decision, seen):
+        surpluses, choices = plain.surpluses(best), dict(plain.families(best, place))
+        seen["blocks"] += 1
+        if not choices:
+            seen["never"] += 1
+            self.assertIn("can never be accepted", decision.why)
+            return
+        ranks = {family: self.rank(plain, family, surpluses) for family in choices}
+        family = decision.family.members
+        self.assertEqual(ranks[family], max(ranks.values()))
+        self.assertEqual((decision.other.accepted, decision.family.gain()), (choices[family], ranks[family][1]))
+        without, welfare = plain.welfare(best), plain.welfare(choices[family])
+        self.assertEqual(decision.other.welfare, welfare)
+        lost = best - choices[family]
+        is_paradox = not lost and ranks[family][0] and ranks[family][1] > 0 and plain.gain(place, family, surpluses) > 0
+        self.assertEqual(decision.kind, decisions.PARADOX if is_paradox else decisions.REJECTED)
+        named = set(re.findall(r"K\d", decision.why))
+        if welfare is None:
+            seen["unbalanced"] += 1
+            self.assertTrue("wouldn't balance" in decision.why or surpluses[place] < 0, decision.why)
+        else:
+            losers = plain.losers(choices[family], plain.surpluses(choices[family]))
+            self.assertEqual(decision.other.losers, losers)
+            # The selection is the best one: what is named must speak against another.
+            self.assertTrue(losers or welfare <= without)
+            self.told(decision, welfare - without, losers, place)
+        for kind, holds in {
+            "families": len(family) > 1,
+            "losing": not ranks[family][0],
+            "rivals": bool(lost),
+            "orphans": len(lost) > len(decision.family.rivals),
+            "paradox": is_paradox,
+        }.items():
+            seen[kind] += holds
+        if lost:
+            self.assertLessEqual({day.blocks[other].name for other in lost}, named)
+
+    def rank(self, plain, family, surpluses):
+        """That nobody in it loses at the prices, and what it gains; the fewer blocks the better."""
+        return not plain.losers(family, surpluses), sum(surpluses[place] for place in family), -len(family)
+
+    def told(self, decision, more, losers, place):
+        """What is told of the welfare and of who would lose; nothing is told of a block that would lose by itself, whose family
+        can't be worth more."""
+        found = WORTH.search(decision.why)
+        if found is None:
+            self.assertLess(decision.family.gains[place], 0)
+            if len(decision.family.needed) == 1:
+                self.assertLess(more, 0)
+            return
+        worth, way, _ = found.groups()
+        self.assertAlmostEqual(float(worth or 0) * (1_000 if way == "greater" else -1_000), more, delta=5)
+        named = re.findall(r"(itself|A,K\d) would lose ([0-9.]+) EUR", decision.why)
+        names = {"itself" if loser == place else f"A,K{loser}": loss for loser, loss in losers.items()}
+        self.assertEqual(len(named), min(len(losers), decisions.MOST_LOSERS))
+        for name, loss in named:
+            self.assertAlmostEqual(float(loss) * 1_000, names[name], delta=5)
+
+
+if __name__ == "__main__":
+    unittest.main()

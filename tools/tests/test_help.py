@@ -1,0 +1,47 @@
+"""The help of the tools: each shows examples, and they work."""
+
+import re
+import shlex
+import subprocess
+import sys
+import tempfile
+import unittest
+from pathlib import Path
+
+from support import AUCTION, TOP, tool
+
+from lib import command
+
+TOOLS = {"table": [], "lint": [], "plot": ["matplotlib"], "report": ["matplotlib", "jinja2"]}
+EXAMPLE = re.compile(r"^  (\S*(?:tools/|dam ).*)$", re.MULTILINE)
+
+
+class Help(unittest.TestCase):
+    def examples(self, name):
+        status, out, _ = tool(name, "--help")
+        self.assertEqual(status, 0)
+        text = out.decode()
+        return EXAMPLE.findall(text[text.index("\nexamples:\n") :])
+
+    def test_examples_work(self):
+        """Each example is run in a folder with the examples and the tools, and with a program that prints the worked results."""
+        for name, packages in TOOLS.items():
+            if not all(map(command.has, packages)):
+                continue
+            with self.subTest(name), tempfile.TemporaryDirectory() as folder:
+                for part in ("tools", "examples"):
+                    Path(folder, part).symlink_to(TOP / part)
+                program = Path(folder, "dam")
+                program.write_text(f'#!/bin/sh\ncat > journal; cat "{AUCTION.with_suffix(".stdout")}"\n')
+                program.chmod(0o755)
+                lines = self.examples(name)
+                self.assertTrue(any(line.startswith(f"tools/{name} ") for line in lines))
+                for line in lines:
+                    shown = re.sub(r"(?<!\S)tools/", f"{shlex.quote(sys.executable)} -B tools/", line)
+                    ran = subprocess.run(["sh", "-c", shown], cwd=folder, capture_output=True, text=True)
+                    # The lint finds what the examples' books refuse.
+                    self.assertEqual(ran.returncode, command.DIFFERS if name == "lint" else 0, f"{line}\n{ran.stderr}")
+
+
+if __name__ == "__main__":
+    unittest.main()

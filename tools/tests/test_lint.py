@@ -1,0 +1,196 @@
+"""The lint: each fault by hand, and that it tells of one exactly if the program's format or book has one."""
+
+import random
+import unittest
+
+import support
+from support import AUCTION, FIRST, cases, journal_of, tool
+
+import days
+from lib import book, command, journal, lint
+
+GOOD = b"day,24,,,,,,,\nsubmit,NORD,WIND-8,hour,sell,1200,8:450,,\nsubmit,GAS,UNIT-1,block,sell,6800,8:200;9:200,,\nclose,,,,,,,,\n"
+HOUR, BLOCK = GOOD.splitlines()[1:3]
+
+
+def told(data, command="clear"):
+    return [str(fault) for fault in lint.faults(data, command)]
+
+
+class Hand(unittest.TestCase):
+    def check(self, data, *wanted, command="clear"):
+        """Each fault that is told begins and ends in a way."""
+        found = told(data, command)
+        self.assertEqual(len(found), len(wanted), found)
+        for line, (begin, part) in zip(found, wanted):
+            self.assertTrue(line.startswith(f"{begin}: ") and part in line, (line, begin, part))
+
+    def test_nothing(self):
+        self.check(GOOD)
+        self.check(GOOD.replace(b"\n", b"\r\n\r\n"))
+        self.check(GOOD.replace(b"day,24", b'"day","24"'))
+
+    def test_the_whole_text(self):
+        self.check(b"", ("line 1", "the journal is empty: begin with the day, as day,24,,,,,,,"))
+        self.check(b"\xef\xbb\xbf" + GOOD, ("line 1", "begins with a byte order mark: save it as plain CSV"))
+        self.check(GOOD.decode().encode("utf-16"), ("line 1", "in UTF-16: save it as plain CSV"))
+        semicolons = GOOD.replace(b"8:200;9:200", b'"8:200;9:200"').replace(b",", b";")
+        self.check(semicolons, ("line 1", "separated by semicolons: separate them by commas"))
+        self.check(GOOD.replace(b",", b"\t"), ("line 1", "separated by tabs"))
+        header = b"kind,participant,name,type,side,price,volumes,parent,group\n"
+        self.check(header + GOOD, ("line 1", "this is a header, and a journal has none: begin with the day"))
+        self.check(header, ("line 1", "this is a header"), ("line 1", "there is no day"), ("line 1", "no command closes the book"))
+        self.check(GOOD.replace(b"close,,,,,,,,\n", b""), ("line 3", "no command closes the book"))
+        self.check(GOOD.replace(b"close,,,,,,,,\n", b""), command="replay")
+        self.check(GOOD, ("line 4", "a journal for `dam day` has no close: remove the line"), command="day")
+        self.check(GOOD.replace(b"day,24,,,,,,,\n", b""), ("line 1", "the first line should be the day, as day,24,,,,,,,"))
+        many = b"day,24,,,,,,,\n" + b"cancel,A,B,,,,,,\n" * 3
+        self.check(many, *[("line %d, order" % line, "A has no order B here") for line in (2, 3, 4)], command="replay")
+
+    def test_characters(self):
+        data = GOOD.replace(b"NORD", "NØRD".encode())
+        self.check(data, ("line 2", "'Ø' isn't ASCII: a journal has no accented letters"), ("line 2, participant", "A to Z"))
+        found = told(b"\xd8\n" * 100)
+        self.assertEqual(len([line for line in found if "isn't ASCII" in line]), lint.MOST_LINES)
+        self.assertIn("line 21: 80 lines from here on aren't ASCII either: save the file as plain CSV, in ASCII", found)
+
+    def test_results_are_no_journal(self):
+        text = support.printed(AUCTION)
+        self.check(GOOD + b"results\n" + text, ("line 5", "the results of a day begin here, which are no part of a journal"))
+        found = told(text)
+        self.assertEqual((len(found), found[1]), (3, "line 2: these are results, which are no part of a journal: tools/audit reads both"))
+
+    def test_records(self):
+        self.check(GOOD.replace(b"day,24,,,,,,,", b"day,24"), ("line 1", "it has 2 fields and should have 9, so that 7 commas are"
+                   " missing: write day,24,,,,,,,"))
+        self.check(GOOD.replace(b"close,,,,,,,,", b"close"), ("line 4", "8 commas are missing: write close,,,,,,,,"))
+        self.check(GOOD.replace(b"8:450,,", b"8:450,"), ("line 2", "it has 8 fields and should have 9, so that a comma is missing"))
+        self.check(GOOD.replace(b"8:450,,", b"8:450,,,"), ("line 2", "it has 10 fields and should have 9: remove 1 comma at its end"))
+        self.check(GOOD.replace(b"close", b"# the end\n\n,,,,,,,,\nclose"), ("line 4", "no comments"), ("line 6", "nothing in the"))
+        self.check(GOOD.replace(b"close", b"day,24,,,,,,,\nclose"), ("line 4", "the day is there twice"))
+        self.check(GOOD.replace(b"submit,NORD", b"Submit,NORD"), ("line 2, command", "'Submit': it should be submit, amend, cancel"))
+        self.check(GOOD.replace(b"close", b"stop,,,,,,,,\nclose"), ("line 4, command", "'stop': it should be submit, amend, cancel or"))
+        self.check(GOOD.replace(b"day,24", b"day,22"), ("line 1, periods", "'22': the number of periods should be 23, 24, 25 (hours)"))
+        self.check(GOOD.replace(b"day,24,", b"day, 24,A"), ("line 1, periods", "a space round it: write 24"), ("line 1, order", "empty"))
+
+    def test_fields(self):
+        for line, old, new, field, part in (
+            (HOUR, b"NORD", b" NORD", "participant", "' NORD': there is a space round it: write NORD"),
+            (HOUR, b"NORD", b"Nord", "participant", "'Nord': it should be 1 to 8 capitals A to Z: write NORD"),
+            (HOUR, b"NORD", b"NORD2", "participant", "'NORD2': it should be 1 to 8 capitals A to Z"),
+            (HOUR, b"NORD", b"", "participant", "it is empty: it should be 1 to 8 capitals"),
+            (HOUR, b"WIND-8", b"wind_8", "order", "'wind_8': it should be 1 to 12 of A to Z, 0 to 9 and -: write WIND-8"),
+            (HOUR, b"hour", b"Hour", "kind", "'Hour': it should be hour or block: write hour"),
+            (HOUR, b"sell", b"offer", "side", "'offer': it should be buy or sell"),
+            (HOUR, b"1200", b"12.50", "price", "whole cents per MWh from -50000 to 400000: write 1250 for 12.50 EUR/MWh"),
+            (HOUR, b"1200", b'"12,5"', "price", "write 1250 for 12.5 EUR/MWh"),
+            (HOUR, b"1200", b"012", "price", "write 12"),
+            (HOUR, b"1200", b"-0", "price", "write 0"),
+            (HOUR, b"1200", b"400001", "price", "'400001': it should be whole cents"),
+            (HOUR, b"1200", b"12 EUR", "price", "'12 EUR': it should be whole cents"),
+            (HOUR, b"8:450", b"8:45.5", "volumes", "'45.5' in '8:45.5' should be whole tenths of a MW from 1 to 99999: write 455 for"),
+            (HOUR, b"8:450", b"8:0", "volumes", "'0' in '8:0' should be whole tenths of a MW from 1 to 99999"),
+            (HOUR, b"8:450", b"450", "volumes", "'450' should be period:volume, as 8:450"),
+            (HOUR, b"8:450", b"0:450", "volumes", "'0' in '0:450' should be a period from 1 to 100"),
+            (HOUR, b"8:450", b"8:450;9:450", "volumes", "an hourly order has one pair, as 8:450, and not 2"),
+            (HOUR, b"8:450", b"", "volumes", "it is empty: it should be period:volume"),
+            (HOUR, b"8:450,,", b"8:450,K1,", "parent", "'K1' should be empty in an hourly order"),
+            (BLOCK, b"8:200;9:200", b"8-9:200", "volumes", "'8-9:200' has a range of periods: write a pair for each"),
+            (BLOCK, b"8:200;9:200", b"9:200;8:200", "volumes", "period 8 stands after 9: write the pairs by increasing period"),
+            (BLOCK, b"8:200;9:200", b"8:200;8:100", "volumes", "period 8 is there twice"),
+            (BLOCK, b"8:200;9:200", b"8:200; 9:200", "volumes", "has a space: write 9:200"),
+            (BLOCK, b"8:200;9:200", b"8:200;", "volumes", "one `;` too many"),
+            (BLOCK, b"9:200,,", b"9:200,,pump", "group", "write PUMP"),
+        ):
+            with self.subTest(new):
+                self.assertIn(old, line)
+                number = GOOD.splitlines().index(line) + 1
+                self.check(GOOD.replace(line, line.replace(old, new)), (f"line {number}, {field}", part))
+
+    def test_what_the_book_refuses(self):
+        child = b"submit,GAS,UNIT-2,block,sell,6800,8:200,"
+        for line, field, part in (
+            (b"submit,NORD,WIND-9,hour,sell,1200,25:450,,", "volumes", "the day has the periods 1 to 24, and no 25"),
+            (HOUR, "order", "NORD has an order WIND-8 since line 2: amend that one, or take another name"),
+            (child + b"UNIT-9,", "parent", "GAS has no order UNIT-9 here: submit the parent first"),
+            (b"submit,NORD,K,block,sell,1,8:1,WIND-8,", "parent", "WIND-8 of line 2 is an hourly order: name a block"),
+            (b"cancel,NORD,WIND-9,,,,,,", "order", "NORD has no order WIND-9 here"),
+            (b"amend,NORD,WIND-8,,,1200,8:1;9:1,,", "volumes", "the order of line 2 is hourly: give it one pair"),
+        ):
+            self.check(GOOD.replace(b"close", line + b"\nclose"), (f"line 4, {field}", part))
+        both = child + b"UNIT-1,\ncancel,GAS,UNIT-1,,,,,,\n"
+        self.check(GOOD.replace(b"close", both + b"close"), ("line 5, order", "UNIT-2 of line 4 names UNIT-1 as its parent"))
+        self.check(GOOD + HOUR, ("line 5", "the book is closed by line 4: put the command before it"))
+        blocks = b"".join(b"submit,A,K%d,block,sell,1,1:1,,\n" % number for number in range(24))
+        self.check(GOOD.replace(b"close", blocks + b"close"), ("line 27", "a book holds at most 24 blocks"))
+
+    def test_one_fault_is_not_told_of_as_many(self):
+        # The order is taken for what it was meant to be, so that the cancel finds it; of one that can't be read nothing is told.
+        cancel = GOOD.replace(b"close", b"cancel,NORD,WIND-8,,,,,,\nclose")
+        self.check(cancel.replace(b"NORD,WIND-8,hour", b"nord,WIND-8,hour"), ("line 2, participant", "write NORD"))
+        self.check(cancel.replace(b"8:450", b"x"), ("line 2, volumes", "'x' should be period:volume"))
+
+
+class Random(unittest.TestCase):
+    def test_a_fault_is_told_exactly_if_there_is_one(self):
+        refused = faulty = 0
+        for number in range(1_500):
+            rng = random.Random(f"lint {number}")
+            data = self.spoilt(rng, days.text(rng, 6))
+            found = lint.faults(data, "replay")
+            told = [fault for fault in found if not fault.refusal]
+            try:
+                read = journal.read_journal(data)
+            except journal.Fault as fault:
+                faulty += 1
+                self.assertTrue(told, (data, fault))
+                continue
+            self.assertEqual(told, [], data)
+            reasons = [reason for reason in book.run(read)[1] if reason]
+            refused += len(reasons)
+            self.assertEqual([fault.refusal for fault in found], reasons)
+            is_open = "Closed" not in reasons and journal.Close() not in read.commands
+            self.assertEqual(any("no command closes" in fault.words for fault in lint.faults(data)), is_open)
+        self.assertGreater(refused, 300)
+        self.assertGreater(faulty, 300)
+
+    def spoilt(self, rng, data):
+        """The text with some bytes changed, left out or doubled."""
+        if rng.random() < 0.3 or len(data) > 5_000:
+            return data
+        for _ in range(rng.choice([1, 1, 2])):
+            at = rng.randrange(len(data))
+            new = rng.choice([b"", b" ", b",", b";", b":", b"0", b"-", b".", b'"', b"\n", b"a", b"\xff", data[at : at + 1] * 2])
+            data = data[:at] + new + data[at + rng.choice([0, 1]) :]
+        return data
+
+
+class CommandLine(unittest.TestCase):
+    def test_worked_cases(self):
+        for case in cases("replay"):
+            with self.subTest(case.stem):
+                found = lint.faults(case.read_bytes(), "replay")
+                reply, fault = support.printed(case), support.printed(case, "stderr")
+                self.assertEqual(any(not one.refusal for one in found), bool(fault))
+                if not fault:
+                    self.assertEqual(len(found), reply.count(b",refused,"))
+
+    def test_statuses(self):
+        self.assertEqual(tool("lint", "-", data=GOOD), (command.DONE, b"nothing is wrong\n", ""))
+        status, out, _ = tool("lint", AUCTION)
+        self.assertEqual((status, out.splitlines()[-1], b"line 94, order: STAY of line 86" in out), (command.DIFFERS, b"1 fault", True))
+        self.assertEqual(tool("lint", "--quiet", "-", data=FIRST), (command.DIFFERS, b"", ""))
+        self.assertEqual(tool("lint", "/nowhere/a.csv")[0], command.NO_INPUT)
+        self.assertEqual(tool("lint", "--fo", "day", AUCTION)[0], command.COMMAND_LINE)
+
+    def test_other_tools_say_the_same(self):
+        data = journal_of("submit,NORD,WIND-8,hour,sell,12.50,8:450,,", *["x,,,,,,,,"] * 6)
+        status, _, err = tool("table", "--rows", "commands", "-", data=data)
+        lines = err.splitlines()
+        self.assertEqual((status, lines[0]), (command.NO_INPUT, "table: standard input is no journal: input: BadField in record 2 field 6"))
+        self.assertIn("  line 2, price: '12.50': it should be whole cents", lines[1])
+        self.assertEqual((len(lines), lines[-1]), (7, "  and 2 more: see tools/lint"))
+
+
+if __name__ == "__main__":
+    unittest.main()

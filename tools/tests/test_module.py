@@ -1,0 +1,111 @@
+"""The module dam_tools: journals, runs of a program, records and frames."""
+
+import datetime
+import os
+import re
+import subprocess
+import sys
+import tempfile
+import unittest
+import unittest.mock
+from pathlib import Path
+
+import support
+from support import AUCTION, FIRST, TOP, printed
+
+import dam_tools
+from lib import command, shapes, tables
+
+FAKE = support.TOOLS / "tests" / "fake_dam.py"
+
+
+class Module(unittest.TestCase):
+    def setUp(self):
+        folder = tempfile.TemporaryDirectory()
+        self.addCleanup(folder.cleanup)
+        self.program = Path(folder.name, "dam")
+        self.program.write_text(f'#!/bin/sh\nPYTHONPATH="{FAKE.parent}" exec "{sys.executable}" "{FAKE}" "$@"\n')
+        self.program.chmod(0o755)
+
+    def test_a_run_of_the_program(self):
+        day = dam_tools.clear(dam_tools.read_journal(AUCTION), program=self.program, workers=2)
+        self.assertEqual((day.wrong, day.said.welfare), ([], 3021520000))
+        rows = dam_tools.records(day)
+        self.assertEqual((len(rows), rows[18]["price_eur_mwh"], rows[18]["traded"]), (24, 165.0, True))
+        again = dam_tools.read_results(AUCTION, AUCTION.with_suffix(".stdout"))
+        for name in dam_tools.TABLES:
+            self.assertEqual(dam_tools.records(day, name), dam_tools.records(again, name))
+        self.assertEqual(dam_tools.TABLES, tuple(tables.TABLES))
+
+    def test_bytes_and_tables_of_orders(self):
+        journal = dam_tools.read_journal(FIRST)
+        self.assertEqual(dam_tools.records(journal, "commands")[12]["reason"], "PeriodOutOfDay")
+        day = dam_tools.read_results(AUCTION.read_bytes(), printed(AUCTION))
+        text = tables.written(tables.orders(day)).encode()
+        made = dam_tools.journal_of_orders(text)
+        self.assertEqual(dam_tools.clear(made, program=self.program).said.welfare, day.said.welfare)
+
+    def test_faults(self):
+        with self.assertRaises(dam_tools.Fault) as fault:
+            dam_tools.read_journal(b"day,24\n")
+        self.assertIn("FieldCount in record 1", str(fault.exception))
+        opened = dam_tools.read_journal(b"day,24,,,,,,,\n")
+        with self.assertRaises(dam_tools.Fault) as fault:
+            dam_tools.clear(opened, program=self.program)
+        self.assertEqual((str(fault.exception), fault.exception.status), ("input: StillOpen", 1))
+        with self.assertRaises(dam_tools.Fault):
+            dam_tools.read_results(AUCTION, b"day,24\n")
+        with self.assertRaises(dam_tools.Fault):
+            dam_tools.journal_of_orders(b"x\n")
+        day = dam_tools.read_results(AUCTION, AUCTION.with_suffix(".stdout"))
+        for words in ({"table": "none"}, {"table": "curves", "long": True}):
+            with self.assertRaises(ValueError):
+                dam_tools.records(day, **words)
+        with self.assertRaises(ValueError):
+            dam_tools.records(opened)
+
+    @unittest.skipUnless(command.has_zone(shapes.ZONE), "the time zones are missing (Debian's tzdata)")
+    def test_dates(self):
+        day = dam_tools.read_results(AUCTION, AUCTION.with_suffix(".stdout"))
+        rows = dam_tools.records(day, "orders", long=True, date=datetime.date(2026, 7, 1))
+        self.assertEqual(rows[0]["begins"], "2026-07-01T00:00:00+02:00")
+
+    @unittest.skipUnless(command.has("pandas"), "pandas is missing (Debian's python3-pandas)")
+    def test_frames(self):
+        day = dam_tools.read_results(AUCTION, AUCTION.with_suffix(".stdout"))
+        frame = dam_tools.frame(day, "periods", date=datetime.date(2026, 11, 25))
+        self.assertEqual((len(frame), frame["price_eur_mwh"].max()), (24, 165.0))
+        self.assertEqual(str(frame["begins"][0]), "2026-11-25 00:00:00+01:00")
+        frame = dam_tools.frame(day, "orders", long=True)
+        self.assertAlmostEqual(frame["amount_eur"].sum(), 0)
+
+    @unittest.skipUnless(command.has("pandas") and command.has_zone(shapes.ZONE), "pandas or the time zones are missing")
+    def test_the_example_of_the_pages(self):
+        (example,) = re.findall(r"```python\n([^`]*import dam_tools.*?)```", (TOP / "docs" / "USING.md").read_text(), re.DOTALL)
+        built = '"crates/dam_cli/out/dam_cli"'
+        self.assertIn(built, example)
+        Path(self.program.parent, "day.csv").write_bytes(AUCTION.read_bytes())
+        words = [sys.executable, "-B", "-c", example.replace(built, repr(str(self.program)))]
+        path = {**os.environ, "PYTHONPATH": str(support.TOOLS)}
+        ran = subprocess.run(words, cwd=self.program.parent, env=path, capture_output=True, text=True)
+        self.assertEqual((ran.returncode, ran.stderr), (0, ""))
+        self.assertIn("OLD UNIT-7 paradoxically rejected would gain", ran.stdout)
+        self.assertRegex(ran.stdout, r"STAD +-1193050\.0")
+
+    def test_frames_without_pandas(self):
+        day = dam_tools.read_results(AUCTION, AUCTION.with_suffix(".stdout"))
+        with unittest.mock.patch.dict(sys.modules, {"pandas": None}), self.assertRaises(dam_tools.Fault) as fault:
+            dam_tools.frame(day)
+        self.assertIn("apt-get install python3-pandas", str(fault.exception))
+
+    def test_the_project_file_names_the_packages(self):
+        text = (TOP / "pyproject.toml").read_text()
+        for name in ("dam_tools", "dam_tools.lib"):
+            self.assertIn(f'"{name}"', text)
+            self.assertTrue(Path(TOP, "tools", *name.split(".")).is_dir())
+        version = next(line for line in (TOP / "CHANGELOG.md").read_text().splitlines() if line.startswith("## "))
+        self.assertIn(f'version = "{version[3:]}"', text)
+
+
+if __name__ == "__main__":
+    unittest.main()

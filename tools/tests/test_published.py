@@ -1,0 +1,217 @@
+"""The tables that others publish: curves, blocks, figures, the long form, times, and JSON with the columns that the page describes."""
+
+import csv
+import datetime
+import io
+import json
+import re
+import unittest
+from fractions import Fraction
+
+import support
+from support import AUCTION, FIRST, QUARTERS, TOP, day_of, printed, results_of, tool
+
+from lib import clock, command, published, rules, shapes, tables, trades
+
+PAGE = (TOP / "docs" / "TABLES.md").read_text()
+
+
+def read(rows):
+    return list(csv.DictReader(io.StringIO(tables.written(rows))))
+
+
+def days():
+    return [(name, day_of(data, text)) for name, data, text in support.cleared_cases()]
+
+
+def total(rows, name):
+    return sum(Fraction(row[name]) for row in rows)
+
+
+class Curves(unittest.TestCase):
+    def test_the_clearing_point_lies_on_both_curves(self):
+        points = 0
+        for name, day in days():
+            rows = read(published.curves(day))
+            for number in trades.traded(day):
+                own = [row for row in rows if row["period"] == str(number)]
+                (point,) = [row for row in own if row["curve"] == "clearing"]
+                price, volume = Fraction(point["price_eur_mwh"]), Fraction(point["to_mw"])
+                with self.subTest(name, period=number):
+                    for curve, sign in (("demand", 1), ("supply", -1)):
+                        steps = [row for row in own if row["curve"] == curve]
+                        self.assertEqual([row["from_mw"] for row in steps], ["0.0", *[row["to_mw"] for row in steps][:-1]])
+                        limits = [sign * Fraction(row["price_eur_mwh"]) for row in steps]
+                        self.assertEqual(limits, sorted(limits, reverse=True))
+                        # Up to the volume nobody is worse than the price, and beyond it nobody is better.
+                        for row, limit in zip(steps, limits):
+                            if Fraction(row["from_mw"]) < volume:
+                                self.assertGreaterEqual(limit, sign * price)
+                            if Fraction(row["to_mw"]) > volume:
+                                self.assertLessEqual(limit, sign * price)
+                points += 1
+        self.assertGreater(points, 100)
+
+    def test_an_hour_of_the_auction_day(self):
+        rows = [row[1:] for row in published.curves(day_of(AUCTION.read_bytes(), printed(AUCTION))) if row[0] == 19]
+        self.assertEqual(
+            rows,
+            [
+                ["demand", "hourly", "300.00", "0.0", "730.0"],
+                ["demand", "hourly", "110.00", "730.0", "790.0"],
+                ["supply", "blocks", "-500.00", "0.0", "350.0"],
+                ["supply", "hourly", "2.00", "350.0", "410.0"],
+                ["supply", "hourly", "92.00", "410.0", "710.0"],
+                ["supply", "hourly", "165.00", "710.0", "960.0"],
+                ["clearing", "", "165.00", "730.0", "730.0"],
+            ],
+        )
+
+
+class Blocks(unittest.TestCase):
+    def test_the_auction_day(self):
+        rows = {row["order"]: row for row in read(tables.TABLES["blocks"](day_of(AUCTION.read_bytes(), printed(AUCTION))))}
+        # RULES.md works these out.
+        self.assertEqual(rows["NOON"]["family_welfare_eur"], "3016400.000")
+        self.assertEqual(rows["UNIT-7"]["family_welfare_eur"], "3024330.000")
+        self.assertEqual((rows["UNIT-7"]["outcome"], rows["UNIT-7"]["family"]), ("paradoxically rejected", "UNIT-7"))
+        self.assertIn("the block itself would lose 270.00 EUR", rows["UNIT-7"]["why"])
+        self.assertEqual((rows["START"]["family"], rows["START"]["surplus_eur"]), ("", "-8960.000"))
+
+
+class Figures(unittest.TestCase):
+    def test_means_by_hand(self):
+        # 24 prices; those from 8:00 to 20:00 are the periods 9 to 20.
+        day = day_of(AUCTION.read_bytes(), printed(AUCTION))
+        prices = [int(line.split(b",")[2]) for line in printed(AUCTION).splitlines() if line.startswith(b"period")]
+        found = {row["figure"]: row["value"] for row in read(published.figures(day))}
+        self.assertEqual(Fraction(found["base_price"]), Fraction(round(Fraction(sum(prices), 24)), 100))
+        self.assertEqual(Fraction(found["peak_price"]), Fraction(round(Fraction(sum(prices[8:20]), 12)), 100))
+        self.assertEqual(Fraction(found["off_peak_price"]), Fraction(round(Fraction(sum(prices[:8] + prices[20:]), 12)), 100))
+        self.assertEqual((found["least_price"], found["greatest_price"]), ("47.00", "165.00"))
+        self.assertEqual((found["welfare"], found["energy"]), ("3021520.000", "12910.0"))
+
+    def test_periods_without_trade_are_left_out(self):
+        found = {row["figure"]: row["value"] for row in read(published.figures(day_of(FIRST, results_of(FIRST, frozenset()))))}
+        self.assertEqual((found["traded_periods"], found["base_price"], found["greatest_price"]), ("2", "68.00", "68.00"))
+        data = b"day,24,,,,,,,\nclose,,,,,,,,\n"
+        found = {row["figure"]: row["value"] for row in read(published.figures(day_of(data, results_of(data, frozenset()))))}
+        self.assertEqual((found["traded_periods"], found["base_price"], found["by_volume_price"]), ("0", "", ""))
+
+    def test_the_peak_is_by_the_clock(self):
+        for periods in rules.DAYS:
+            peak = [number for number in range(1, periods + 1) if published.is_peak(periods, number)]
+            self.assertEqual(len(peak) * rules.DAYS[periods], 12)
+            self.assertEqual(clock.begins(periods, peak[0]), "08:00")
+
+    def test_rounding(self):
+        self.assertEqual([published.mean(pair) for pair in ([1, 2], [-1, -2], [1, 1, 2], [])], [2, -1, 1, None])
+
+
+class Long(unittest.TestCase):
+    def test_it_adds_up_to_the_tables(self):
+        for name, day in days():
+            with self.subTest(name):
+                hours = day.problem.hours
+                orders, long = read(tables.orders(day)), read(published.long_orders(day))
+                self.assertEqual(total(long, "executed_mw") * hours, total(orders, "executed_mwh"))
+                self.assertEqual(total(long, "offered_mw") * hours, total(orders, "offered_mwh"))
+                self.assertEqual(total(long, "amount_eur"), 0)
+                blocks = [row for row in orders if row["kind"] == "block"]
+                self.assertEqual(total(read(tables.LONG["blocks"](day)), "amount_eur"), total(blocks, "amount_eur"))
+                participants, long = read(tables.participants(day)), read(published.long_participants(day))
+                self.assertEqual(total(long, "paid_eur"), total(participants, "paid_eur"))
+                self.assertEqual(total(long, "sold_mw") * hours, total(participants, "sold_mwh"))
+                periods, long = read(tables.periods(day)), read(tables.LONG["periods"](day))
+                volumes = [row for row in long if row["quantity"] == "volume_mw"]
+                self.assertEqual(total(volumes, "value"), total(periods, "volume_mw"))
+
+
+class Times(unittest.TestCase):
+    @unittest.skipUnless(command.has_zone(shapes.ZONE), "the time zones are missing (Debian's tzdata)")
+    def test_the_clocks_change(self):
+        # In 2026 on 29 March and 25 October.
+        for date, hours in (((2026, 3, 29), 23), ((2026, 10, 25), 25), ((2026, 11, 25), 24)):
+            for periods in (hours, 4 * hours):
+                times = shapes.begins(datetime.date(*date), periods)
+                clocks = [clock.begins(periods, number) for number in range(1, periods + 1)]
+                self.assertEqual([time.strftime("%H:%M") for time in times[:-1]], clocks)
+                self.assertEqual(len({time.timestamp() for time in times}), periods + 1)
+                self.assertEqual(times[-1].strftime("%H:%M"), "00:00")
+            for wrong in set(rules.DAYS) - {hours, 4 * hours}:
+                with self.assertRaises(shapes.Wrong):
+                    shapes.begins(datetime.date(*date), wrong)
+        autumn = [time.isoformat() for time in shapes.begins(datetime.date(2026, 10, 25), 25)[2:4]]
+        self.assertEqual(autumn, ["2026-10-25T02:00:00+02:00", "2026-10-25T02:00:00+01:00"])
+
+    @unittest.skipUnless(command.has_zone(shapes.ZONE), "the time zones are missing (Debian's tzdata)")
+    def test_command_line(self):
+        texts = [AUCTION, AUCTION.with_suffix(".stdout")]
+        rows = tool("table", *texts, "--date", "2026-11-25", "--only", "8-9;19")[1].decode().splitlines()
+        self.assertEqual(rows[0].split(",")[:2], ["period", "begins"])
+        self.assertEqual([row.split(",")[1] for row in rows[1:]], [f"2026-11-25T{hour}:00:00+01:00" for hour in ("07", "08", "18")])
+        for words, said in (
+            (["--date", "2026-03-29"], "2026-03-29 has 23 hours, and so 23 or 92 periods, and the day has 24"),
+            (["--date", "29.3.2026"], "it should be a day, as 2026-11-25"),
+            (["--date", "20261125"], "it should be a day, as 2026-11-25"),
+            (["--date", "2026-02-29"], "it should be a day, as 2026-11-25"),
+            (["--date", "2026-11-25", "--rows", "orders"], "--date has no use with orders"),
+            (["--only", "3", "--rows", "orders"], "--only has no use with orders"),
+            (["--only", "25"], "from 1 to 24"),
+            (["--long", "--rows", "curves"], "--long has no use with curves"),
+        ):
+            status, out, err = tool("table", *texts, *words)
+            self.assertEqual((status, out, said in err), (command.COMMAND_LINE, b"", True), err)
+
+
+class Json(unittest.TestCase):
+    def test_every_table_has_the_columns_of_the_page(self):
+        day = day_of(QUARTERS.read_bytes(), printed(QUARTERS))
+        for name, of in tables.TABLES.items():
+            heads = next(iter(of(day)))
+            section = re.search(rf"^\*\*{name}\*\*.*?(?=^\*\*|^## )", PAGE, re.MULTILINE | re.DOTALL)[0]
+            told = re.findall(r"`([a-z_]+)`", section)
+            if name in ("blocks", "commands"):
+                told += tables.ORDER + tables.RESULT
+            with self.subTest(name):
+                self.assertLessEqual(set(heads), set(told))
+        for name, of in tables.LONG.items():
+            for head in next(iter(of(day))):
+                self.assertIn(f"`{head}`", PAGE)
+
+    def test_the_schema(self):
+        kinds = {"string": str, "number": (int, float), "integer": int, "boolean": bool, "array": list}
+        for data, text in ((QUARTERS.read_bytes(), printed(QUARTERS)), (FIRST, results_of(FIRST, frozenset()))):
+            day = day_of(data, text)
+            for form in (tables.TABLES, tables.LONG):
+                for name, of in form.items():
+                    made = json.loads(shapes.as_json(name, of(day), {"date": None}))
+                    self.assertEqual(list(made), ["table", "day", "columns", "rows"])
+                    self.assertEqual(len(made["rows"]), len(list(of(day))) - 1)
+                    self.assertEqual({tuple(column) for column in made["columns"]}, {("name", "type", "unit")})
+                    for row in made["rows"]:
+                        self.assertEqual(list(row), [column["name"] for column in made["columns"]])
+                        for column in made["columns"]:
+                            value = row[column["name"]]
+                            self.assertTrue(value is None or isinstance(value, kinds[column["type"]]), (name, column, value))
+                        if "volume_mw" in row and "periods" in row:
+                            self.assertEqual(len(row["periods"]), len(row["volume_mw"]))
+
+    def test_values_are_those_of_the_cells(self):
+        day = day_of(AUCTION.read_bytes(), printed(AUCTION))
+        rows = json.loads(shapes.as_json("periods", tables.periods(day), {}))["rows"]
+        self.assertEqual([row["price_eur_mwh"] for row in rows], [cents / 100 for cents in day.said.prices])
+        rows = json.loads(shapes.as_json("blocks", tables.TABLES["blocks"](day), {}))["rows"]
+        self.assertEqual(rows[2]["periods"], [7, 8, 9, 10])
+        self.assertEqual((rows[2]["volume_mw"], rows[2]["parent"], rows[3]["parent"]), ([80.0] * 4, None, "START"))
+
+    def test_command_line(self):
+        texts = [AUCTION, AUCTION.with_suffix(".stdout")]
+        made = json.loads(tool("table", *texts, "--json", "--rows", "curves", "--only", "19")[1])
+        self.assertEqual((made["table"], len(made["rows"]), made["day"]["welfare_eur"]), ("curves", 7, 3021520.0))
+        made = json.loads(tool("table", AUCTION, "--json", "--rows", "commands")[1])
+        self.assertEqual((made["day"], made["rows"][92]["reason"]), ({"date": None, "periods": 24, "hours_per_period": 1.0}, "HasChildren"))
+
+
+if __name__ == "__main__":
+    unittest.main()
