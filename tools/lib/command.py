@@ -10,7 +10,7 @@ from pathlib import Path
 from . import book, journal, results, selection
 
 DEBIAN_PYTHON = "/usr/bin/python3"
-PACKAGES = {"matplotlib": "python3-matplotlib", "scipy": "python3-scipy"}  # of Debian
+PACKAGES = {"matplotlib": "python3-matplotlib", "numpy": "python3-numpy", "scipy": "python3-scipy"}  # of Debian
 
 # The statuses of all tools.
 DONE, DIFFERS, COMMAND_LINE, NO_INPUT, UNDECIDED, NO_PACKAGE = range(6)
@@ -70,7 +70,7 @@ def read_texts(path, results_path):
         return data, read_bytes(results_path)
     texts = results.split_day(data)
     if texts is None:
-        raise Stop(f"{shown(path)} has no line 'results': name the results' file behind the journal's")
+        raise Stop(f"{shown(path)} has no line 'results': name the results' file after the journal's")
     return texts
 
 
@@ -128,4 +128,5 @@ def need(module):
     """Ends the tool where a module is missing."""
     python_with(module)
     if not has(module):
-        raise Stop(f"it needs {module}, which Debian has in the package {PACKAGES[module]}", NO_PACKAGE)
+        package = PACKAGES[module]
+        raise Stop(f"it needs {module}, which Debian has in the package {package}: apt-get install {package}", NO_PACKAGE)

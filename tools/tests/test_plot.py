@@ -46,16 +46,17 @@ class Missing(unittest.TestCase):
     @unittest.skipUnless(command.is_debians(), "this isn't Debian's Python")
     def test_a_missing_package_is_named(self):
         without = sys.executable, "-S"  # leaves out Debian's packages
+        package = "python3-matplotlib"
         for name in ("plot", "report"):
             status, out, err = tool(name, AUCTION, python=without)
             self.assertEqual((status, out), (command.NO_PACKAGE, b""))
-            self.assertEqual(err, f"{name}: it needs matplotlib, which Debian has in the package python3-matplotlib\n")
+            self.assertEqual(err, f"{name}: it needs matplotlib, which Debian has in the package {package}: apt-get install {package}\n")
         blocks = [f"submit,A,K{number},block,sell,1,1:1,," for number in range(24)]
         day = journal_of(*blocks)
         text = day + b"results\n" + results_of(day, frozenset())
         status, out, err = tool("audit", "--best", "-", data=text, python=without)
         self.assertEqual((status, out), (command.NO_PACKAGE, b""))
-        self.assertEqual(err, "audit: it needs scipy, which Debian has in the package python3-scipy\n")
+        self.assertEqual(err, "audit: it needs numpy, which Debian has in the package python3-numpy: apt-get install python3-numpy\n")
 
 
 @unittest.skipUnless(command.has("matplotlib"), "matplotlib is missing (Debian's python3-matplotlib)")
