@@ -1,10 +1,10 @@
 """The results text of a clearing: reading one against its problem, and writing the one that follows from a selection."""
 
-import difflib
 import re
 from typing import NamedTuple
 
 from . import text
+from .lines import matched, shown
 
 # No welfare, surplus or volume of a result is as large.
 LARGE = 10**16
@@ -60,31 +60,10 @@ def line_values(line, known, behind):
     return values
 
 
-def shown(line):
-    """A line in a message."""
-    return line[:60].decode("ascii", errors="backslashreplace").replace("\r", "\\r")
-
-
 def beginning(line):
     """What a line is about, if it is one of results: its known fields."""
     fields = line.split(b",")
     return tuple(fields[: {b"day": 2, b"welfare": 1, b"period": 2}.get(fields[0], 3)])
-
-
-def pairs(expected, found):
-    """The places of the expected lines and of the lines found, one after another, each with the place of the other; None for
-    the other of a line that is missing, or that nothing is expected for."""
-    wanted = [tuple(field.encode() for field in known) for _, known, _ in expected]
-    # All at their places is the usual case, and far quicker to see.
-    there = [beginning(line) for line in found[: 2 * len(expected)]]
-    if wanted == there:
-        return list(zip(range(len(expected)), range(len(found))))
-    all_pairs = []
-    for _, first, last, begin, end in difflib.SequenceMatcher(None, wanted, there, autojunk=False).get_opcodes():
-        both = min(last - first, end - begin)
-        all_pairs += [(first + step, begin + step) for step in range(both)]
-        all_pairs += [(at, None) for at in range(first + both, last)] + [(None, at) for at in range(begin + both, end)]
-    return all_pairs + [(None, at) for at in range(len(there), len(found))]
 
 
 def read_results(problem, data):
@@ -95,7 +74,8 @@ def read_results(problem, data):
     found = data.removesuffix(b"\n").split(b"\n")
     expected = list(expected_lines(problem))
     last = 0  # the last line that was found
-    for at, place in pairs(expected, found):
+    wanted = [tuple(field.encode() for field in known) for _, known, _ in expected]
+    for at, place in matched(wanted, [beginning(line) for line in found]):
         last = last if place is None else place + 1
         if at is None:
             wrong.append(f"results line {last}: '{shown(found[place])}' doesn't belong there")

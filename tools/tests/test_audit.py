@@ -309,8 +309,18 @@ class CommandLine(unittest.TestCase):
     def test_replies(self):
         data, text = journal_of("cancel,A,B,,,,,,"), b"day,24\n1,refused,UnknownOrder\n2,done\n"
         self.assertEqual(audit(data, text, "--replies")[0], command.DONE)
-        for other in (text[:-1], text + b"3,done\n", text.replace(b"refused,UnknownOrder", b"done"), b""):
-            self.assertEqual(audit(data, other, "--replies")[0], command.DIFFERS)
+        for other, said in (
+            (text[:-1], "the last line of the replies isn't ended"),
+            (text + b"3,done\n", "replies line 4: '3,done' doesn't belong there"),
+            (b"1,done\n" + text, "replies line 1: '1,done' doesn't belong there"),
+            (text.replace(b"1,refused,UnknownOrder\n", b""), "replies line 2: '1,refused,UnknownOrder' is missing"),
+            (
+                text.replace(b"refused,UnknownOrder", b"done"),
+                "replies line 2: it is '1,done' and should be '1,refused,UnknownOrder'",
+            ),
+        ):
+            self.assertEqual(audit(data, other, "--replies"), (command.DIFFERS, f"{said}\n".encode(), ""))
+        self.assertEqual(audit(data, b"", "--replies")[0], command.DIFFERS)
 
     def test_the_text_of_a_day(self):
         day = AUCTION.read_bytes() + b"results\n" + printed(AUCTION)
@@ -363,8 +373,8 @@ class CommandLine(unittest.TestCase):
     def test_one_stray_or_missing_line_is_one_message(self):
         data, lines = AUCTION.read_bytes(), printed(AUCTION).splitlines(keepends=True)
         for at in (0, 1, 2, 30, len(lines)):
-            stray = b"".join([*lines[:at], b"stray,\xff\r,line\n", *lines[at:]])
-            said = f"results line {at + 1}: 'stray,\\xff\\r,line' doesn't belong there\n".encode()
+            stray = b"".join([*lines[:at], b"stray,\xff\r\x1b,line\n", *lines[at:]])
+            said = f"results line {at + 1}: 'stray,\\xff\\r\\x1b,line' doesn't belong there\n".encode()
             self.assertEqual(audit(data, stray), (command.DIFFERS, said, ""))
         for at, about in (0, "the day"), (1, "the welfare"), (4, "period 3"), (len(lines) - 1, "block OLD,UNIT-7"):
             missing = b"".join(lines[:at] + lines[at + 1 :])
