@@ -301,7 +301,7 @@ class Rows:
         self.looked += len(numbers)
         for place in sorted(self.lost, key=lambda place: -self.lost[place]):
             before = len(numbers)
-            if before > FEW:
+            if before >= FEW:
                 accepting = numpy.flatnonzero(self.every.accepted_of(numbers, place))
                 losing = accepting[self.every.loses(place, numbers[accepting])]
                 self.lost[place] += len(losing)

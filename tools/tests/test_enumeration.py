@@ -25,18 +25,20 @@ def family(name, orders, *more):
 
 @unittest.skipUnless(command.has("numpy"), "numpy is missing (Debian's python3-numpy)")
 class Enumeration(unittest.TestCase):
-    def better(self, day, accepted, welfare, **more):
+    def better(self, day, accepted, welfare, few=1_024, **more):
+        """`few` selections are looked at for every block's loss at once, and more of them for one block's at first."""
         from lib import enumeration
 
-        return enumeration.better(day, frozenset(accepted), welfare, Progress("test", 600), **more)
+        with mock.patch.object(enumeration, "FEW", few):
+            return enumeration.better(day, frozenset(accepted), welfare, Progress("test", 600), **more)
 
     def test_the_best_of_small_days_and_none_above_it(self):
         """However the bits of a selection's number are parted, and however many threads there are."""
         tried = 0
         for day, selections in small_problems(120):
             for rank, (welfare, accepted) in enumerate([*selections[:3], selections[-1]]):
-                low_bits, jobs = (1 + tried) % 7, 1 + tried % 3
-                found, _ = self.better(day, accepted, welfare, low_bits=low_bits, jobs=jobs)
+                low_bits, jobs, few = (1 + tried) % 7, 1 + tried % 3, 1 + tried % 2 * 1_023
+                found, _ = self.better(day, accepted, welfare, few, low_bits=low_bits, jobs=jobs)
                 best_one = (welfare, accepted) == selections[0]
                 self.assertEqual(best_one, rank == 0 or len(selections) == 1)
                 self.assertEqual(found and (found.welfare, found.accepted), None if best_one else selections[0])
@@ -103,6 +105,40 @@ class Enumeration(unittest.TestCase):
                 welfare = selection.eligible(day, one_less)
                 if welfare is not None:
                     self.assertEqual(self.better(day, one_less, welfare)[0], found)
+
+    def test_losses_of_each_block(self):
+        """Of one block at a time, and of all at once, in each selection that links and groups admit and that balances."""
+        import numpy
+        from lib import enumeration
+
+        losing = rescued = 0
+        for day, _ in small_problems(60):
+            every = enumeration.Selections(day, low_bits=2)
+            for number in range(2 ** len(day.blocks)):
+                accepted = every.accepted(number)
+                outcome = selection.outcome(day, accepted)
+                if any(selection.link_faults(day, accepted)) or outcome.welfare is None:
+                    continue
+                wanted = set(selection.losing(day, accepted, outcome.surpluses))
+                numbers = numpy.array([number])
+                self.assertEqual({place for place in accepted if every.loses(place, numbers)[0]}, wanted)
+                self.assertEqual(set(numpy.flatnonzero(every.all_losing(numbers)[:, 0]).tolist()), wanted)
+                losing += len(wanted)
+                rescued += any(outcome.surpluses[place] < 0 for place in accepted - wanted)
+        self.assertGreater(losing, 100)
+        self.assertGreater(rescued, 5)
+
+    def test_a_loss_of_one_is_a_loss(self):
+        """Of a period at 50 cents with the block, the block asks 50 or 51; the welfare is greater with it."""
+        import numpy
+        from lib import enumeration
+
+        for few, (limit, accepted) in itertools.product((1, 1_024), ((50, frozenset({0})), (51, None))):
+            hourly = ["submit,A,B,hour,buy,100,1:10,,", "submit,A,S1,hour,sell,40,1:9,,", "submit,A,S2,hour,sell,60,1:1,,"]
+            day = problem(journal_of(*hourly, f"submit,A,K,block,sell,{limit},1:1,,"))
+            found, _ = self.better(day, (), selection.eligible(day, frozenset()), few)
+            self.assertEqual(found and found.accepted, accepted)
+            self.assertEqual(enumeration.Selections(day).loses(0, numpy.array([1])).tolist(), [accepted is None])
 
     def test_as_many_are_tried_as_there_are(self):
         blocks = [f"submit,A,K{number},block,sell,1,1:1,{'K0' if number else ''},{'G' if number else ''}" for number in range(6)]
