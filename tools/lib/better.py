@@ -1,7 +1,6 @@
 """How a better selection of blocks is looked for, and what is said of one."""
 
 from . import best, command, selection
-from .progress import Progress
 
 ENUMERATION, HIGHS = METHODS = ["enumeration", "highs"]
 
@@ -9,17 +8,17 @@ ENUMERATION, HIGHS = METHODS = ["enumeration", "highs"]
 FEW_BLOCKS = 10
 
 
-def look(problem, said, method, seconds, jobs):
+def look(problem, said, method, progress, jobs):
     """A selection that ranks above that of right results, or None; and how it was looked for. Ends the tool if the time is over."""
     try:
-        return {ENUMERATION: enumerate_all, HIGHS: ask_highs}[method](problem, said, seconds, jobs)
+        return {ENUMERATION: enumerate_all, HIGHS: ask_highs}[method](problem, said, progress, jobs)
     except TimeoutError as fault:
         raise command.Stop(fault, command.UNDECIDED) from None
 
 
-def enumerate_all(problem, said, seconds, jobs, few=FEW_BLOCKS):
-    """By numpy, but for few blocks, and those that can be tried without it if it is missing."""
-    count, progress = len(problem.blocks), Progress("audit", seconds)
+def enumerate_all(problem, said, progress, jobs, few=FEW_BLOCKS):
+    """By numpy; but few blocks without it, and if it is missing as many as can be tried without it."""
+    count = len(problem.blocks)
     if count <= few or count <= best.ENUMERABLE and not command.has("numpy"):
         try:
             found, how = best.enumerate_all(problem, progress)
@@ -32,11 +31,11 @@ def enumerate_all(problem, said, seconds, jobs, few=FEW_BLOCKS):
     return enumeration.better(problem, frozenset(said.accepted), said.welfare, progress, jobs)
 
 
-def ask_highs(problem, said, seconds, _):
+def ask_highs(problem, said, progress, _):
     command.need("scipy")
     from . import solver
 
-    return solver.better(problem, frozenset(said.accepted), said.welfare, seconds)
+    return solver.better(problem, frozenset(said.accepted), said.welfare, progress.seconds)
 
 
 def named(problem, places):

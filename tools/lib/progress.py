@@ -9,8 +9,9 @@ class Progress:
     """Counts the steps of a run, of which several threads may tell. It ends the run, at a step, when its time is over or it is
     stopped."""
 
-    def __init__(self, tool, seconds):
+    def __init__(self, tool, seconds, quiet=False):
         self.tool, self.seconds = tool, seconds
+        self.told = not quiet and sys.stderr.isatty()
         self.begun = time.monotonic()
         self.stopped = False
         self.done = self.steps = 0
@@ -30,7 +31,7 @@ class Progress:
             raise TimeoutError(f"after {self.seconds:g} seconds not every selection has been tried: --seconds gives more time")
         with self.lock:
             self.done += done
-            if sys.stderr.isatty():
+            if self.told:
                 self.show(f"{self.tool}: {100 * self.done // max(self.steps, 1)} % of all selections, {took:.0f} s")
 
     def show(self, line):
