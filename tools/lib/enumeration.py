@@ -21,7 +21,7 @@ import numpy
 from . import rules, selection
 from .best import Found, tried
 
-LOW_BITS = 15
+LOW_BITS = 14
 # The welfare of a period that doesn't balance. It is so low that a sum with it is under every welfare, and 100 of it are a number.
 NEVER = -(2**56)
 # Selections that are looked at for the loss of one block, and of all, at once.
@@ -69,11 +69,12 @@ class Period:
     def worths(self):
         """The welfare by what is taken, from `least` to `most`."""
         table = numpy.full(self.most - self.least + 1, NEVER, dtype=numpy.int64)
-        counts = numpy.diff(numpy.clip(self.ends, self.first, self.last))
-        costs = numpy.cumsum(numpy.repeat(numpy.array(self.limits, dtype=numpy.int64), counts))
         balanced = table[self.first - self.least : self.last - self.least + 1]
         balanced[0] = self.worth(self.first)
-        balanced[1:] = balanced[0] - costs
+        # What each further tenth adds.
+        counts = numpy.diff(numpy.clip(self.ends, self.first, self.last))
+        balanced[1:] = numpy.repeat(-numpy.array(self.limits, dtype=numpy.int64), counts)
+        numpy.cumsum(balanced, out=balanced)
         return table
 
     def prices(self, highs, lows):
