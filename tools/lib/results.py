@@ -75,7 +75,10 @@ def read_results(problem, data):
     expected = list(expected_lines(problem))
     last = 0  # the last line that was found
     wanted = [tuple(field.encode() for field in known) for _, known, _ in expected]
-    for at, place in matched(wanted, [beginning(line) for line in found]):
+    beginnings = [beginning(line) for line in found]
+    if set(wanted).isdisjoint(beginnings):
+        return None, [f"no line of it is one of these results: the first is '{shown(found[0])}'" if data else "the results are empty"]
+    for at, place in matched(wanted, beginnings):
         last = last if place is None else place + 1
         if at is None:
             wrong.append(f"results line {last}: '{shown(found[place])}' doesn't belong there")

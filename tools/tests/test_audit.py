@@ -386,9 +386,12 @@ class CommandLine(unittest.TestCase):
     def test_no_more_than_twenty_lines_are_told(self):
         data = AUCTION.read_bytes()
         junk = b"".join(b"%d\n" % number for number in range(500))
-        status, out, _ = audit(data, junk)
+        status, out, _ = audit(data, printed(AUCTION) + junk)
         lines = out.decode().splitlines()
         self.assertEqual((status, len(lines), lines[-1]), (command.DIFFERS, 21, "and 480 more"))
+        said = b"no line of it is one of these results: the first is '0'\n"
+        self.assertEqual(audit(data, junk), (command.DIFFERS, said, ""))
+        self.assertEqual(audit(data, b""), (command.DIFFERS, b"the results are empty\n", ""))
         self.assertEqual(len(audit(data, b"day,24\n" + junk, "--replies")[1].splitlines()), 21)
 
     def test_refused_commands_are_counted(self):
