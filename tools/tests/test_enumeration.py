@@ -7,7 +7,7 @@ import sys
 import unittest
 from unittest import mock
 
-from support import TOP, journal_of, problem, results_of
+from support import TOP, journal_of, problem, results_of, tool
 from test_audit import audit
 
 import days
@@ -182,6 +182,18 @@ class CommandLine(unittest.TestCase):
         self.assertEqual(lines[2], f"its prices, from period 1 on, are {' '.join(prices)}")
         self.assertRegex(lines[3], r"^the results have other prices in periods \d+( \d+)*$")
         self.assertEqual(len(lines), 4)
+
+    @unittest.skipUnless(command.is_debians(), "this isn't Debian's Python")
+    def test_without_numpy_fewer_blocks_are_tried(self):
+        """By the same results, and the same lines of what is better."""
+        data = family("market", "200", "11")
+        found, _ = best.enumerate_all(problem(data))
+        for accepted in found.accepted, frozenset():
+            text = data + b"results\n" + results_of(data, accepted)
+            ran = [tool("audit", "--best", "-", data=text, python=python) for python in ([sys.executable], [sys.executable, "-S"])]
+            self.assertEqual(ran[0][0], command.DONE if accepted else command.DIFFERS)
+            self.assertEqual(ran[0][1].partition(b"; ")[0], ran[1][1].partition(b"; ")[0])
+            self.assertEqual((ran[0][0], ran[0][2]), (ran[1][0], ran[1][2]))
 
     def test_every_way_of_checking_takes_no_longer_than_it_may(self):
         ways = ["--by", "enumeration"], ["--by", "highs"]
