@@ -50,6 +50,8 @@ def main():
         answer = answer._replace(stdout=answer.stdout.replace(b"period,1,175000", b"period,1,175001"))
     if defect == "lower" and command == "clear" and answer.status == 0:
         answer = answer._replace(stdout=lower(data))
+    if defect == "plan" and sys.argv[2:] == ["--workers", "8", "--cut", "8"]:
+        answer = answer._replace(stdout=answer.stdout.replace(b"welfare,", b"welfare,1", 1))
     if defect == "status" and answer.status:
         answer = answer._replace(status=answer.status + 1)
     if defect == "order" and b"results\n" in answer.stdout:
