@@ -429,7 +429,8 @@ class CommandLine(unittest.TestCase):
     def test_the_words_for_what_was_tried(self):
         self.assertEqual(best.tried(0, 1), "there is no block to select")
         self.assertEqual(best.tried(1, 2), "each of 2 selections was tried")
-        self.assertEqual(best.tried(24, 16_777_216, 1), "each of 16,777,216 selections was tried; 1 would be better if no block of them lost")
+        whole = "each of 16,777,216 selections was tried; 1 would be better if no block of them lost"
+        self.assertEqual(best.tried(24, 2**24, 1), whole)
         self.assertEqual(best.tried(11, 7), "each of 2,048 selections was tried, of which links and groups admit 7")
 
     def test_quiet_and_help(self):

@@ -27,7 +27,7 @@ class Told(unittest.TestCase):
 
     def test_at_a_terminal_the_line_is_written_over_and_taken_away(self):
         *lines, cleared, end = self.told(Terminal()).split("\r")[1:]
-        self.assertEqual(lines, [f"audit: {part} % of all selections, 0 s" for part in (25, 50, 75)] + ["audit: 100 % of all selections, 0 s"])
+        self.assertEqual(lines, [f"audit: {part} % of all selections, 0 s" for part in (25, 50, 75, 100)])
         self.assertEqual((cleared.strip(), len(cleared), end), ("", len(lines[-1]), ""))
 
     def test_elsewhere_nothing_is_told(self):

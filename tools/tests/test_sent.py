@@ -98,7 +98,8 @@ class Worked(unittest.TestCase):
         self.assertEqual(audit(PUBLISHED.replace(b"cancel,B,H1,,,,,,\n", b""), table, "B")[0], command.DONE)
         self.assertEqual(audit(PUBLISHED, table, "B")[1], "record 6 of the journal was not sent: cancel,B,H1,,,,,,\n")
         self.assertEqual(audit(PUBLISHED, b"", "C")[0], command.NO_INPUT)
-        self.assertEqual(audit(PUBLISHED, b"day,24,,,,,,,\n", "C")[:2], (command.DONE, "as sent: 0 commands of C, each once, in their order, and no others\n"))
+        said = "as sent: 0 commands of C, each once, in their order, and no others\n"
+        self.assertEqual(audit(PUBLISHED, b"day,24,,,,,,,\n", "C")[:2], (command.DONE, said))
 
     def test_what_no_participant_sends(self):
         for own, said in (
