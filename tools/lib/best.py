@@ -11,6 +11,7 @@ from . import rules, selection
 
 # So many blocks take some ten seconds, and each further one twice the time.
 ENUMERABLE = 18
+STEP = 256  # selections from one look at the time to the next
 
 
 class Found(NamedTuple):
@@ -63,8 +64,8 @@ def curves(problem):
 class Search:
     """Tries the selections that links and groups admit, those first that accept earlier blocks."""
 
-    def __init__(self, problem):
-        self.problem = problem
+    def __init__(self, problem, progress=None):
+        self.problem, self.progress = problem, progress
         self.curves = curves(problem)
         self.group_of = {place: key for key, members in problem.groups().items() for place in members}
         self.best = None
@@ -100,6 +101,8 @@ class Search:
     def look(self, accepted, net, worth, value):
         """Keeps a selection where it is eligible and of greater welfare than those before."""
         self.tried += 1
+        if self.progress and self.tried % STEP == 1:
+            self.progress.step(STEP)
         if None in worth.values():
             return
         welfare = sum(worth.values()) + value
@@ -111,10 +114,23 @@ class Search:
             self.best = Found(accepted, welfare)
 
 
-def enumerate_all(problem):
+def enumerate_all(problem, progress=None):
     """The best selection, and how it was found."""
-    search = Search(problem)
+    search = Search(problem, progress)
+    if progress:
+        progress.expect(2 ** len(problem.blocks))
     best = search.run()
     if selection.eligible(problem, best.accepted) != best.welfare:
         raise AssertionError(f"the selection {sorted(best.accepted)} is not what the search holds it for")
-    return best, f"all {search.tried} selections that links and groups admit were tried"
+    return best, tried(len(problem.blocks), search.tried)
+
+
+def tried(blocks, admitted, losing=0):
+    """How many selections were tried, and how many of them links and groups admit; and, if none is better, how many would be but
+    for a block that loses."""
+    if blocks == 0:
+        return "there is no block to select"
+    whole = f"each of {2**blocks:,} selections was tried"
+    if admitted < 2**blocks:
+        whole += f", of which links and groups admit {admitted:,}"
+    return whole + (f"; {losing:,} would be better if no block of them lost" if losing else "")

@@ -12,7 +12,13 @@ from . import book, journal, lint, results, selection
 
 DEBIAN_PYTHON = "/usr/bin/python3"
 # Debian's packages; tests/packages lists them all.
-PACKAGES = {"jinja2": "python3-jinja2", "matplotlib": "python3-matplotlib", "scipy": "python3-scipy", "pandas": "python3-pandas"}
+PACKAGES = {
+    "jinja2": "python3-jinja2",
+    "matplotlib": "python3-matplotlib",
+    "numpy": "python3-numpy",
+    "pandas": "python3-pandas",
+    "scipy": "python3-scipy",
+}
 
 # The statuses of all tools.
 DONE, DIFFERS, COMMAND_LINE, NO_INPUT, UNDECIDED, NO_PACKAGE = range(6)
@@ -72,7 +78,7 @@ def read_texts(path, results_path):
         return data, read_bytes(results_path)
     texts = results.split_day(data)
     if texts is None:
-        raise Stop(f"{shown(path)} has no line 'results': name the results' file behind the journal's")
+        raise Stop(f"{shown(path)} has no line 'results': name the results' file after the journal's")
     return texts
 
 

@@ -1,8 +1,10 @@
 """The results text of a clearing: reading one against its problem, and writing the one that follows from a selection."""
 
+import re
 from typing import NamedTuple
 
 from . import text
+from .lines import matched, shown
 
 # No welfare, surplus or volume of a result is as large.
 LARGE = 10**16
@@ -20,10 +22,8 @@ class Results(NamedTuple):
 
 def split_day(data):
     """The journal and the results of the text of a day, which the line `results` parts; None where it isn't there."""
-    if data.startswith(b"results\n"):
-        return b"", data[len(b"results\n") :]
-    journal, line, results = data.partition(b"\nresults\n")
-    return (journal + b"\n", results) if line else None
+    line = re.search(rb"^results\r?\n", data, re.MULTILINE)
+    return line and (data[: line.start()], data[line.end() :])
 
 
 def number(field):
@@ -60,6 +60,12 @@ def line_values(line, known, behind):
     return values
 
 
+def beginning(line):
+    """What a line is about, if it is one of results: its known fields."""
+    fields = line.split(b",")
+    return tuple(fields[: {b"day": 2, b"welfare": 1, b"period": 2}.get(fields[0], 3)])
+
+
 def read_results(problem, data):
     """The results that a text is for this problem, and what is wrong with its form; results are None where something is."""
     wrong, lines, values = [], {}, []
@@ -67,19 +73,26 @@ def read_results(problem, data):
         wrong.append("the last line of the results isn't ended")
     found = data.removesuffix(b"\n").split(b"\n")
     expected = list(expected_lines(problem))
-    for at, (about, known, behind) in enumerate(expected):
-        lines[about] = at + 1
-        if at >= len(found):
-            wrong.append(f"results line {at + 1}: there is no line of {about}")
-            break
-        read = line_values(found[at], known, behind)
+    last = 0  # the last line that was found
+    wanted = [tuple(field.encode() for field in known) for _, known, _ in expected]
+    beginnings = [beginning(line) for line in found]
+    if set(wanted).isdisjoint(beginnings):
+        return None, [f"no line of it is one of these results: the first is '{shown(found[0])}'" if data else "the results are empty"]
+    for at, place in matched(wanted, beginnings):
+        last = last if place is None else place + 1
+        if at is None:
+            wrong.append(f"results line {last}: '{shown(found[place])}' doesn't belong there")
+            continue
+        about, known, behind = expected[at]
+        if place is None:
+            wrong.append(f"results line {last + 1}: there is no line of {about}")
+            continue
+        read = line_values(found[place], known, behind)
+        lines[about] = last
         if read is None:
             form = ",".join(known + [{"n": "<number>", "a": "accepted|rejected"}[kind] for kind in behind])
-            shown = found[at][:60].decode(errors="replace")
-            wrong.append(f"results line {at + 1}: {about} should be '{form}' and is '{shown}'")
+            wrong.append(f"results line {last}: {about} should be '{form}' and is '{shown(found[place])}'")
         values.append(read)
-    if len(found) > len(expected):
-        wrong.append(f"results line {len(expected) + 1}: there is nothing left to publish")
     return (None if wrong else gather(problem, values, lines)), wrong
 
 

@@ -12,6 +12,7 @@ from support import AUCTION, cleared_cases, journal_of, printed, problem, result
 
 import days
 from lib import best, book, check, command, journal, period, rules, selection
+from small_days import ranked, small_problems
 
 NUMBER = re.compile(rb"(?<=,)-?\d+(?=[,\n])")
 
@@ -226,26 +227,6 @@ class Period(unittest.TestCase):
                     self.assertEqual(curve.supporting(net), (found.low, found.high))
 
 
-def small_problems(count):
-    """Random days of at most six blocks, each with its eligible selections from the best one down."""
-    for number in itertools.count():
-        day = problem(days.text(random.Random(f"small {number}"), 6).replace(b"close,,,,,,,,\n", b"") + b"close,,,,,,,,\n")
-        if 0 < len(day.blocks) <= 6 and count > 0:
-            count -= 1
-            yield day, ranked(day)
-        if count == 0:
-            return
-
-
-def ranked(day):
-    """The eligible selections of a problem, with their welfare, the best one first."""
-    subsets = itertools.product([True, False], repeat=len(day.blocks))
-    chosen = [frozenset(itertools.compress(range(len(day.blocks)), flags)) for flags in subsets]
-    found = [(selection.eligible(day, accepted), accepted) for accepted in chosen]
-    # The selections come from the one that accepts most in front, and the sort keeps that order among equals.
-    return sorted(((welfare, accepted) for welfare, accepted in found if welfare is not None), key=lambda pair: -pair[0])
-
-
 class Best(unittest.TestCase):
     def test_enumeration(self):
         for day, selections in small_problems(200):
@@ -328,8 +309,18 @@ class CommandLine(unittest.TestCase):
     def test_replies(self):
         data, text = journal_of("cancel,A,B,,,,,,"), b"day,24\n1,refused,UnknownOrder\n2,done\n"
         self.assertEqual(audit(data, text, "--replies")[0], command.DONE)
-        for other in (text[:-1], text + b"3,done\n", text.replace(b"refused,UnknownOrder", b"done"), b""):
-            self.assertEqual(audit(data, other, "--replies")[0], command.DIFFERS)
+        for other, said in (
+            (text[:-1], "the last line of the replies isn't ended"),
+            (text + b"3,done\n", "replies line 4: '3,done' doesn't belong there"),
+            (b"1,done\n" + text, "replies line 1: '1,done' doesn't belong there"),
+            (text.replace(b"1,refused,UnknownOrder\n", b""), "replies line 2: '1,refused,UnknownOrder' is missing"),
+            (
+                text.replace(b"refused,UnknownOrder", b"done"),
+                "replies line 2: it is '1,done' and should be '1,refused,UnknownOrder'",
+            ),
+        ):
+            self.assertEqual(audit(data, other, "--replies"), (command.DIFFERS, f"{said}\n".encode(), ""))
+        self.assertEqual(audit(data, b"", "--replies")[0], command.DIFFERS)
 
     def test_the_text_of_a_day(self):
         day = AUCTION.read_bytes() + b"results\n" + printed(AUCTION)
@@ -338,11 +329,11 @@ class CommandLine(unittest.TestCase):
         self.assertEqual(tool("audit", "-", data=day.replace(b"day,24,", b'"day",24,'))[0], command.DIFFERS)
         self.assertEqual(tool("audit", "-", data=AUCTION.read_bytes())[0], command.NO_INPUT)
 
-    def test_too_many_blocks_for_no_solver(self):
+    def test_the_most_blocks(self):
         blocks = [f"submit,A,K{number},block,sell,1,1:1,," for number in range(24)]
         data = journal_of(*blocks)
         text = results_of(data, frozenset())
-        wanted = command.DONE if command.has("scipy") or command.elsewhere("scipy") else command.NO_PACKAGE
+        wanted = command.DONE if command.has("numpy") or command.elsewhere("numpy") else command.NO_PACKAGE
         self.assertEqual(audit(data, text, "--best")[0], wanted)
 
     def test_too_little_time(self):
@@ -351,10 +342,103 @@ class CommandLine(unittest.TestCase):
         status, out, err = audit(AUCTION.read_bytes(), printed(AUCTION), "--best", "--by", "highs", "--seconds", "0")
         self.assertEqual((status, out, "HiGHS has still others to offer" in err), (command.UNDECIDED, b"", True))
 
+    def test_lines_that_end_with_two_bytes(self):
+        """One line says it, of results, replies and days; and what else is wrong is said too."""
+        returned = printed(AUCTION).replace(b"\n", b"\r\n")
+        said = b"the lines end with CR LF, where LF alone should be\n"
+        self.assertEqual(audit(AUCTION.read_bytes(), returned), (command.DIFFERS, said, ""))
+        status, out, _ = audit(AUCTION.read_bytes(), returned.replace(b"welfare,3", b"welfare,4"))
+        self.assertEqual((status, out.startswith(said), out.count(b"\n")), (command.DIFFERS, True, 2))
+        replies = b"day,24\r\n1,done\r\n"
+        self.assertEqual(audit(journal_of(), replies, "--replies"), (command.DIFFERS, said, ""))
+        day = (AUCTION.read_bytes() + b"results\n" + printed(AUCTION)).replace(b"\n", b"\r\n")
+        self.assertEqual(tool("audit", "-", data=day), (command.DIFFERS, said, ""))
+        self.assertEqual(audit(AUCTION.read_bytes().replace(b"\n", b"\r\n"), printed(AUCTION))[0], command.DONE)
+
+    def test_a_text_in_the_place_of_another_is_named(self):
+        journal_data, text = AUCTION.read_bytes(), printed(AUCTION)
+        replies, day = b"day,24\n1,done\n", journal_data + b"results\n" + text
+        for words, one, other, said in (
+            ([], text, journal_data, "journal has results, where a journal should be"),
+            ([], journal_data, journal_data, "results has a journal, where results should be"),
+            ([], replies, text, "journal has replies, where a journal should be; --replies checks replies"),
+            ([], journal_data, replies, "results has replies, where results should be; --replies checks replies"),
+            ([], journal_data, day, "results has the text of a day, where results should be; name it alone"),
+            (["--replies"], journal_data, text, "results has results, where replies should be"),
+        ):
+            status, out, err = audit(one, other, *words)
+            self.assertEqual((status, out), (command.NO_INPUT, b""))
+            self.assertTrue(err.startswith("audit: /") and err.endswith(f"/{said}\n"), err)
+
+    def test_one_stray_or_missing_line_is_one_message(self):
+        data, lines = AUCTION.read_bytes(), printed(AUCTION).splitlines(keepends=True)
+        for at in (0, 1, 2, 30, len(lines)):
+            stray = b"".join([*lines[:at], b"stray,\xff\r\x1b,line\n", *lines[at:]])
+            said = f"results line {at + 1}: 'stray,\\xff\\r\\x1b,line' doesn't belong there\n".encode()
+            self.assertEqual(audit(data, stray), (command.DIFFERS, said, ""))
+        for at, about in (0, "the day"), (1, "the welfare"), (4, "period 3"), (len(lines) - 1, "block OLD,UNIT-7"):
+            missing = b"".join(lines[:at] + lines[at + 1 :])
+            said = f"results line {at + 1}: there is no line of {about}\n".encode()
+            self.assertEqual(audit(data, missing), (command.DIFFERS, said, ""))
+        twice = b"".join(lines[:5] + lines[4:])
+        self.assertEqual(audit(data, twice)[1].count(b"\n"), 1)
+
+    def test_no_more_than_twenty_lines_are_told(self):
+        data = AUCTION.read_bytes()
+        junk = b"".join(b"%d\n" % number for number in range(500))
+        status, out, _ = audit(data, printed(AUCTION) + junk)
+        lines = out.decode().splitlines()
+        self.assertEqual((status, len(lines), lines[-1]), (command.DIFFERS, 21, "and 480 more"))
+        said = b"no line of it is one of these results: the first is '0'\n"
+        self.assertEqual(audit(data, junk), (command.DIFFERS, said, ""))
+        self.assertEqual(audit(data, b""), (command.DIFFERS, b"the results are empty\n", ""))
+        self.assertEqual(len(audit(data, b"day,24\n" + junk, "--replies")[1].splitlines()), 21)
+
+    def test_refused_commands_are_counted(self):
+        text = results_of(journal_of("submit,A,B,hour,buy,1,24:1,,"), frozenset())
+        for command_line, said in (b"cancel,A,C,,,,,,\n", b"welfare 0.000 EUR, 1 of 3 commands refused\n"), (b"", b"EUR\n"):
+            data = journal_of("submit,A,B,hour,buy,1,24:1,,").replace(b"close", command_line + b"close")
+            status, out, _ = audit(data, text)
+            self.assertEqual((status, out.endswith(said)), (command.DONE, True), out)
+        data = journal_of("submit,A,B,hour,buy,1,25:1,,")
+        status, out, _ = audit(data, b"day,24\n1,refused,PeriodOutOfDay\n2,done\n", "--replies")
+        self.assertEqual((status, out), (command.DONE, b"as the rules say: 2 replies, 1 of 2 commands refused\n"))
+
+    def test_no_option_is_ignored_or_short(self):
+        for words in (
+            ["--bes"],
+            ["--best", "--sec", "3"],
+            ["--best", "--seconds", "-3"],
+            ["--best", "--seconds", "nan"],
+            ["--best", "--seconds", "inf"],
+            ["--best", "--seconds", "x"],
+            ["--best", "--jobs", "0"],
+            ["--best", "--jobs", "65"],
+            ["--best", "--by", "highs", "--jobs", "2"],
+            ["--by", "enumeration"],
+            ["--seconds", "3"],
+            ["--jobs", "2"],
+            ["--best", "--replies"],
+        ):
+            status, out, err = audit(AUCTION.read_bytes(), printed(AUCTION), *words)
+            self.assertEqual((status, out), (command.COMMAND_LINE, b""), words)
+            self.assertIn("audit: error: ", err)
+        for words in (["-", "-"], ["--replies", "-"]):
+            self.assertEqual(tool("audit", *words)[0], command.COMMAND_LINE)
+
+    def test_the_words_for_what_was_tried(self):
+        self.assertEqual(best.tried(0, 1), "there is no block to select")
+        self.assertEqual(best.tried(1, 2), "each of 2 selections was tried")
+        whole = "each of 16,777,216 selections was tried; 1 would be better if no block of them lost"
+        self.assertEqual(best.tried(24, 2**24, 1), whole)
+        self.assertEqual(best.tried(11, 7), "each of 2,048 selections was tried, of which links and groups admit 7")
+
     def test_quiet_and_help(self):
         self.assertEqual(audit(AUCTION.read_bytes(), printed(AUCTION), "--quiet"), (0, b"", ""))
         status, out, _ = tool("audit", "--help")
         self.assertEqual((status, b"JOURNAL" in out), (0, True))
+        self.assertIn(b"tools/audit --best examples/auction-day.csv results.txt\n", out)
+        self.assertEqual(audit((support.TOP / "examples/auction-day.csv").read_bytes(), printed(AUCTION), "--best")[0], 0)
 
 
 if __name__ == "__main__":

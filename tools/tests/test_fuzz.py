@@ -9,10 +9,11 @@ import unittest
 from pathlib import Path
 
 import support
+from lib import command
 
 
 def fake_program(folder, name, setting=""):
-    """A program in a folder that runs the stand-in, with a setting of its environment."""
+    """A program in a folder that answers by the tools' reading of the rules, with a setting of its environment."""
     program = Path(folder, name)
     fake = support.TOOLS / "tests" / "fake_dam.py"
     program.write_text(f'#!/bin/sh\n{setting} PYTHONPATH="{fake.parent}" exec "{sys.executable}" "{fake}" "$@"\n')
@@ -67,6 +68,27 @@ class Fuzz(unittest.TestCase):
         status, out, kept = self.fuzz(*words, defect="late")
         self.assertEqual((status, "no answer in time" in out, len(kept)), (1, True, 1), out)
         self.assertEqual(out.splitlines()[-1], "0 passed, 1 failed")
+
+
+@unittest.skipUnless(command.has("numpy"), "numpy is missing (Debian's python3-numpy)")
+class Selections(unittest.TestCase):
+    def selections(self, *words, defect=""):
+        with tempfile.TemporaryDirectory() as folder:
+            run = [sys.executable, support.TOP / "tests" / "fuzz" / "selections", fake_program(folder, "dam"), "--blocks", "7", *words]
+            ran = subprocess.run(run, capture_output=True, text=True, env={**os.environ, "DAM_DEFECT": defect})
+            return ran.returncode, ran.stdout + ran.stderr
+
+    def test_a_program_that_is_right(self):
+        status, out = self.selections("--count", "10")
+        lines = out.splitlines()
+        self.assertEqual((status, lines[-1]), (0, "10 passed, 0 failed"))
+        self.assertRegex(out, r"\b[1-9]\d* altered to an eligible selection of less welfare\n")
+
+    def test_a_lower_selection_is_found(self):
+        status, out = self.selections("--count", "10", defect="lower")
+        self.assertEqual(status, 1)
+        self.assertRegex(out, r"differs: case \d+ of seed 1: the selection \[.+\] is better, with \d+\n")
+        self.assertRegex(out, r"\n\d passed, [1-9]\d* failed\n$")
 
 
 if __name__ == "__main__":

@@ -24,6 +24,7 @@ class Missing(unittest.TestCase):
     @unittest.skipUnless(command.is_debians(), "this isn't Debian's Python")
     def test_a_missing_package_is_named(self):
         without = sys.executable, "-S"  # leaves out Debian's packages
+        package = "python3-matplotlib"
         for name in ("plot", "report"):
             status, out, err = tool(name, AUCTION, python=without)
             self.assertEqual((status, out), (command.NO_PACKAGE, b""))
@@ -33,7 +34,7 @@ class Missing(unittest.TestCase):
         text = day + b"results\n" + results_of(day, frozenset())
         status, out, err = tool("audit", "--best", "-", data=text, python=without)
         self.assertEqual((status, out), (command.NO_PACKAGE, b""))
-        self.assertEqual(err, f"audit: it needs {self.words('scipy')}\n")
+        self.assertEqual(err, f"audit: it needs {self.words('numpy')}\n")
 
 
 @unittest.skipUnless(command.has("matplotlib"), "matplotlib is missing (Debian's python3-matplotlib)")

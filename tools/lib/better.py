@@ -1,0 +1,60 @@
+"""How a better selection of blocks is looked for, and what is said of one."""
+
+from . import best, command, selection
+
+ENUMERATION, HIGHS = METHODS = ["enumeration", "highs"]
+
+# So many blocks are tried out sooner than numpy is loaded.
+FEW_BLOCKS = 10
+
+
+def look(problem, said, method, progress, jobs):
+    """A selection that ranks above that of right results, or None; and how it was looked for. Ends the tool if the time is over."""
+    try:
+        return {ENUMERATION: enumerate_all, HIGHS: ask_highs}[method](problem, said, progress, jobs)
+    except TimeoutError as fault:
+        raise command.Stop(fault, command.UNDECIDED) from None
+
+
+def enumerate_all(problem, said, progress, jobs, few=FEW_BLOCKS):
+    """By numpy; but few blocks without it, and if it is missing as many as can be tried without it."""
+    count = len(problem.blocks)
+    if count <= few or count <= best.ENUMERABLE and not command.has("numpy"):
+        try:
+            found, how = best.enumerate_all(problem, progress)
+        finally:
+            progress.end()
+        return (None if found.accepted == said.accepted else found), how
+    command.need("numpy")
+    from . import enumeration
+
+    return enumeration.better(problem, frozenset(said.accepted), said.welfare, progress, jobs)
+
+
+def ask_highs(problem, said, progress, _):
+    command.need("scipy")
+    from . import solver
+
+    return solver.better(problem, frozenset(said.accepted), said.welfare, progress.seconds)
+
+
+def named(problem, places):
+    return " ".join(str(problem.blocks[place]) for place in sorted(places)) or "no block"
+
+
+def told(problem, said, found):
+    """What is said of a better selection: its blocks and welfare, its prices, and how it differs from the published one."""
+    more = found.welfare - said.welfare
+    if more:
+        kind = f"a greater welfare, {problem.euros(found.welfare)} EUR, which is {problem.euros(more)} EUR more"
+    else:
+        first = min(found.accepted ^ said.accepted)
+        kind = f"the same welfare, {problem.euros(found.welfare)} EUR, and ranks above, since it accepts {problem.blocks[first]}"
+    yield f"a better selection accepts {named(problem, found.accepted)}: it has {kind}"
+    turned = [("accepts", found.accepted - said.accepted), ("rejects", said.accepted - found.accepted)]
+    yield "unlike the results it " + " and ".join(f"{does} {named(problem, places)}" for does, places in turned if places)
+    prices = [cleared.price for cleared in selection.outcome(problem, found.accepted).cleared.values()]
+    yield f"its prices, from period 1 on, are {' '.join(map(str, prices))}"
+    changed = [f"{number}" for number, pair in enumerate(zip(prices, said.prices), 1) if pair[0] != pair[1]]
+    if changed:
+        yield f"the results have other prices in period{'s' * (len(changed) > 1)} {' '.join(changed)}"

@@ -1,0 +1,22 @@
+"""The lines of a text, compared with those that should be there."""
+
+import difflib
+
+
+def shown(line):
+    """A line in a message."""
+    return line[:60].decode("latin-1").encode("unicode_escape").decode()
+
+
+def matched(wanted, found):
+    """The places of the lines that are wanted and of those found, in their order, as pairs; None for the other place of a line that
+    is missing, or that is found and not wanted. Lines are given by what they are about, so that a stray line is one pair."""
+    if wanted == found:  # the usual case, and far quicker to see
+        return [(at, at) for at in range(len(wanted))]
+    near = found[: 2 * len(wanted)]
+    pairs = []
+    for _, first, last, begin, end in difflib.SequenceMatcher(None, wanted, near, autojunk=False).get_opcodes():
+        both = min(last - first, end - begin)
+        pairs += [(first + step, begin + step) for step in range(both)]
+        pairs += [(at, None) for at in range(first + both, last)] + [(None, at) for at in range(begin + both, end)]
+    return pairs + [(None, at) for at in range(len(near), len(found))]

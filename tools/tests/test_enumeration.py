@@ -1,0 +1,209 @@
+"""The enumeration of all selections, compared with the plain reading of the rules on small days, and on books of the most blocks."""
+
+import itertools
+import random
+import subprocess
+import sys
+import unittest
+from unittest import mock
+
+from support import TOP, journal_of, problem, results_of, tool
+from test_audit import audit
+
+import days
+from lib import best, command, period, rules, selection
+from lib.progress import Progress
+from small_days import ranked, small_problems
+
+MAKE_FAMILY = TOP / "bench" / "make_family.py"
+
+
+def family(name, orders, *more):
+    """The journal of a book that is hard for a search."""
+    return subprocess.run([sys.executable, MAKE_FAMILY, name, orders, *more], capture_output=True, check=True).stdout
+
+
+@unittest.skipUnless(command.has("numpy"), "numpy is missing (Debian's python3-numpy)")
+class Enumeration(unittest.TestCase):
+    def better(self, day, accepted, welfare, few=1_024, **more):
+        """`few` selections are looked at for every block's loss at once, and more of them for one block's at first."""
+        from lib import enumeration
+
+        with mock.patch.object(enumeration, "FEW", few):
+            return enumeration.better(day, frozenset(accepted), welfare, Progress("test", 600), **more)
+
+    def test_the_best_of_small_days_and_none_above_it(self):
+        """However the bits of a selection's number are parted, and however many threads there are."""
+        tried = 0
+        for day, selections in small_problems(120):
+            for rank, (welfare, accepted) in enumerate([*selections[:3], selections[-1]]):
+                low_bits, jobs, few = (1 + tried) % 7, 1 + tried % 3, 1 + tried % 2 * 1_023
+                found, _ = self.better(day, accepted, welfare, few, low_bits=low_bits, jobs=jobs)
+                best_one = (welfare, accepted) == selections[0]
+                self.assertEqual(best_one, rank == 0 or len(selections) == 1)
+                self.assertEqual(found and (found.welfare, found.accepted), None if best_one else selections[0])
+                tried += 1
+        self.assertGreater(tried, 300)
+
+    def test_small_days_have_links_groups_and_losses(self):
+        """That the test above would see a defect in each."""
+        found = {"links": 0, "groups": 0, "losses": 0, "ties": 0, "unbalanced": 0}
+        for day, selections in small_problems(120):
+            found["links"] += any(parent is not None for parent in day.parents)
+            found["groups"] += any(len(members) > 1 for members in day.groups().values())
+            welfares = [welfare for welfare, _ in selections]
+            found["ties"] += welfares.count(welfares[0]) > 1
+            places = range(len(day.blocks))
+            every = [frozenset(part) for count in range(len(places) + 1) for part in itertools.combinations(places, count)]
+            linked = [selection.outcome(day, part).welfare for part in every if not any(selection.link_faults(day, part))]
+            found["unbalanced"] += None in linked
+            found["losses"] += any(welfare is not None and welfare > welfares[0] for welfare in linked)
+        self.assertGreater(min(found.values()), 5, found)
+
+    def test_tables_of_a_period(self):
+        from lib import enumeration
+
+        for number in range(300):
+            rng = random.Random(number)
+            middle = rng.choice([rules.LEAST_PRICE + 2, 0, 5_000, rules.GREATEST_PRICE - 2])
+            orders = tuple(
+                (rng.choice(["buy", "sell"]), middle + rng.randint(-2, 2), rng.randint(1, 3)) for _ in range(rng.randint(0, 5))
+            )
+            nets = [rng.randint(-4, 4) for _ in range(rng.randint(0, 5))]
+            low_bits = rng.randint(0, len(nets))
+            tables = enumeration.Period(orders, [-net for net in nets], low_bits)
+            worths = tables.worths().tolist()
+            for chosen in range(2 ** len(nets)):
+                flags = f"{chosen:0{len(nets)}b}" if nets else ""
+                net = sum(net for net, flag in zip(nets, flags) if flag == "1")
+                found = period.clear(orders, net)
+                self.assertEqual(worths[tables.buys - net - tables.least], found.welfare if found else enumeration.NEVER)
+                if found:
+                    at = [chosen >> low_bits], [chosen & (2**low_bits - 1)]
+                    self.assertEqual(tables.prices(*at).tolist(), [found.price])
+
+    def test_sums_fit(self):
+        """No sum of the fullest book is as far from 0 as what stands for a period that doesn't balance."""
+        from lib import enumeration
+
+        volumes = 4_000 + 24 * rules.GREATEST_PERIOD
+        self.assertLess(2 * volumes * rules.GREATEST_VOLUME * rules.GREATEST_PRICE, -enumeration.NEVER)
+        self.assertLess((rules.GREATEST_PERIOD + 1) * -enumeration.NEVER, 2**63)
+        with mock.patch.object(enumeration, "NEVER", -(2**30)), self.assertRaises(AssertionError):
+            enumeration.Selections(problem(family("market", "500")))
+
+    def test_books_of_the_most_blocks(self):
+        """What is found is the best: nothing ranks above it, and it is found from wherever one begins."""
+        for name, parts in ("links", "1"), ("groups", "4"), ("ties", "1"):
+            with self.subTest(name):
+                day = problem(family(name, "200", "24", parts))
+                found, how = self.better(day, (), selection.eligible(day, frozenset()), jobs=2)
+                self.assertIn("each of 16,777,216 selections was tried", how)
+                again, _ = self.better(day, found.accepted, found.welfare)
+                self.assertIsNone(again)
+                one_less = found.accepted - {max(found.accepted)}
+                welfare = selection.eligible(day, one_less)
+                if welfare is not None:
+                    self.assertEqual(self.better(day, one_less, welfare)[0], found)
+
+    def test_losses_of_each_block(self):
+        """Of one block at a time, and of all at once, in each selection that links and groups admit and that balances."""
+        import numpy
+        from lib import enumeration
+
+        losing = rescued = 0
+        for day, _ in small_problems(60):
+            every = enumeration.Selections(day, low_bits=2)
+            for number in range(2 ** len(day.blocks)):
+                accepted = every.accepted(number)
+                outcome = selection.outcome(day, accepted)
+                if any(selection.link_faults(day, accepted)) or outcome.welfare is None:
+                    continue
+                wanted = set(selection.losing(day, accepted, outcome.surpluses))
+                numbers = numpy.array([number])
+                self.assertEqual({place for place in accepted if every.loses(place, numbers)[0]}, wanted)
+                self.assertEqual(set(numpy.flatnonzero(every.all_losing(numbers)[:, 0]).tolist()), wanted)
+                losing += len(wanted)
+                rescued += any(outcome.surpluses[place] < 0 for place in accepted - wanted)
+        self.assertGreater(losing, 100)
+        self.assertGreater(rescued, 5)
+
+    def test_a_loss_of_one_is_a_loss(self):
+        """Of a period at 50 cents with the block, the block asks 50 or 51; the welfare is greater with it."""
+        import numpy
+        from lib import enumeration
+
+        for few, (limit, accepted) in itertools.product((1, 1_024), ((50, frozenset({0})), (51, None))):
+            hourly = ["submit,A,B,hour,buy,100,1:10,,", "submit,A,S1,hour,sell,40,1:9,,", "submit,A,S2,hour,sell,60,1:1,,"]
+            day = problem(journal_of(*hourly, f"submit,A,K,block,sell,{limit},1:1,,"))
+            found, _ = self.better(day, (), selection.eligible(day, frozenset()), few)
+            self.assertEqual(found and found.accepted, accepted)
+            self.assertEqual(enumeration.Selections(day).loses(0, numpy.array([1])).tolist(), [accepted is None])
+
+    def test_as_many_are_tried_as_there_are(self):
+        blocks = [f"submit,A,K{number},block,sell,1,1:1,{'K0' if number else ''},{'G' if number else ''}" for number in range(6)]
+        day = problem(journal_of(*blocks, "submit,A,B,hour,buy,1000,1:100,,"))
+        found, how = self.better(day, {0, 1}, selection.eligible(day, frozenset({0, 1})), low_bits=2)
+        self.assertIsNone(found)
+        self.assertEqual(how, "each of 64 selections was tried, of which links and groups admit 7")
+
+    def test_what_would_be_better_but_for_a_loss_is_counted(self):
+        day = problem((TOP / "examples" / "auction-day.csv").read_bytes())
+        found, _ = best.enumerate_all(day)
+        _, how = self.better(day, found.accepted, found.welfare)
+        self.assertIn("; 1 would be better if no block of them lost", how)
+
+    def test_time_is_over(self):
+        day = problem(family("spread", "200"))
+        with self.assertRaisesRegex(TimeoutError, "after 0 seconds not every selection has been tried"):
+            from lib import enumeration
+
+            enumeration.better(day, frozenset(), selection.eligible(day, frozenset()), Progress("test", 0), jobs=2)
+
+
+@unittest.skipUnless(command.has("numpy"), "numpy is missing (Debian's python3-numpy)")
+class CommandLine(unittest.TestCase):
+    def test_a_better_selection_is_told(self):
+        data = family("market", "200", "12")
+        day = problem(data)
+        from lib import enumeration
+
+        found, _ = enumeration.better(day, frozenset(), selection.eligible(day, frozenset()), Progress("test", 600))
+        status, out, _ = audit(data, results_of(data, found.accepted), "--best", "--jobs", "2")
+        self.assertEqual((status, b"each of 4,096 selections was tried" in out), (command.DONE, True))
+        status, out, _ = audit(data, results_of(data, frozenset()), "--best")
+        names = " ".join(str(day.blocks[place]) for place in sorted(found.accepted))
+        lines = out.decode().splitlines()
+        euros = day.euros(found.welfare)
+        self.assertEqual(status, command.DIFFERS)
+        self.assertTrue(lines[0].startswith(f"a better selection accepts {names}: it has a greater welfare, {euros} EUR, which is "))
+        self.assertEqual(lines[1], f"unlike the results it accepts {names}")
+        prices = [str(cleared.price) for cleared in selection.outcome(day, found.accepted).cleared.values()]
+        self.assertEqual(lines[2], f"its prices, from period 1 on, are {' '.join(prices)}")
+        self.assertRegex(lines[3], r"^the results have other prices in periods \d+( \d+)*$")
+        self.assertEqual(len(lines), 4)
+
+    @unittest.skipUnless(command.is_debians(), "this isn't Debian's Python")
+    def test_without_numpy_fewer_blocks_are_tried(self):
+        """By the same results, and the same lines of what is better."""
+        data = family("market", "200", "11")
+        found, _ = best.enumerate_all(problem(data))
+        for accepted in found.accepted, frozenset():
+            text = data + b"results\n" + results_of(data, accepted)
+            ran = [tool("audit", "--best", "-", data=text, python=python) for python in ([sys.executable], [sys.executable, "-S"])]
+            self.assertEqual(ran[0][0], command.DONE if accepted else command.DIFFERS)
+            self.assertEqual(ran[0][1].partition(b"; ")[0], ran[1][1].partition(b"; ")[0])
+            self.assertEqual((ran[0][0], ran[0][2]), (ran[1][0], ran[1][2]))
+
+    def test_every_way_of_checking_takes_no_longer_than_it_may(self):
+        ways = ["--by", "enumeration"], ["--by", "highs"]
+        for count, way in itertools.product(("6", "12"), ways if command.has("scipy") else ways[:1]):
+            data = family("market", "200", count)
+            accepted = best.enumerate_all(problem(data))[0].accepted if count == "6" else frozenset()
+            status, out, err = audit(data, results_of(data, accepted), "--best", *way, "--seconds", "0")
+            self.assertEqual((status, out), (command.UNDECIDED, b""), (way, err))
+            self.assertIn("after 0 seconds", err)
+
+
+if __name__ == "__main__":
+    unittest.main()

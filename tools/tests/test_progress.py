@@ -1,0 +1,67 @@
+"""How far a long run is, told at a terminal alone; and the end of its time."""
+
+import io
+import threading
+import unittest
+from unittest import mock
+
+import support  # noqa: F401 (it makes lib found)
+
+from lib.progress import Progress
+
+
+class Terminal(io.StringIO):
+    def isatty(self):
+        return True
+
+
+class Told(unittest.TestCase):
+    def told(self, stream, **more):
+        with mock.patch("sys.stderr", stream):
+            progress = Progress("audit", 60, **more)
+            progress.expect(4)
+            for _ in range(4):
+                progress.step()
+            progress.end()
+        return stream.getvalue()
+
+    def test_at_a_terminal_the_line_is_written_over_and_taken_away(self):
+        *lines, cleared, end = self.told(Terminal()).split("\r")[1:]
+        self.assertEqual(lines, [f"audit: {part} % of all selections, 0 s" for part in (25, 50, 75, 100)])
+        self.assertEqual((cleared.strip(), len(cleared), end), ("", len(lines[-1]), ""))
+
+    def test_elsewhere_nothing_is_told(self):
+        self.assertEqual(self.told(io.StringIO()), "")
+        self.assertEqual(self.told(Terminal(), quiet=True), "")
+
+
+class Time(unittest.TestCase):
+    def test_no_step_is_made_when_the_time_is_over(self):
+        with self.assertRaisesRegex(TimeoutError, "^after 0 seconds "):
+            Progress("audit", 0).step()
+        progress = Progress("audit", 60)
+        progress.step()
+        with mock.patch("time.monotonic", lambda: progress.begun + 60), self.assertRaisesRegex(TimeoutError, "^after 60 seconds "):
+            progress.step()
+
+    def test_threads_end_when_it_is_over(self):
+        progress, ended = Progress("audit", 60), []
+
+        def run():
+            try:
+                while True:
+                    progress.step()
+            except TimeoutError:
+                ended.append(True)
+
+        threads = [threading.Thread(target=run) for _ in range(3)]
+        for thread in threads:
+            thread.start()
+        progress.end()
+        for thread in threads:
+            thread.join(10)
+        self.assertEqual(ended, [True] * 3)
+
+
+if __name__ == "__main__":
+    unittest.main()

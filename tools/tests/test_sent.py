@@ -1,0 +1,196 @@
+"""The comparison of what a participant sent with the published journal."""
+
+import random
+import tempfile
+import unittest
+from pathlib import Path
+
+from support import AUCTION, journal_of, printed, tool
+
+import days
+from lib import book, command, journal, sent
+
+
+def audit(published, own, who="A", *words):
+    """A run of the tool on a journal and what a participant sent."""
+    with tempfile.TemporaryDirectory() as folder:
+        paths = Path(folder, "journal"), Path(folder, "sent")
+        for path, content in zip(paths, (published, own)):
+            path.write_bytes(content)
+        status, out, err = tool("audit", paths[0], "--sent", paths[1], "--participant", who, *words)
+        return status, out.decode(), err.replace(f"{folder}/", "")
+
+
+def own_lines(data, who):
+    return [line for line in data.decode().splitlines() if line.split(",")[1] == who]
+
+
+def text_of(lines):
+    return "".join(f"{line}\n" for line in lines).encode()
+
+
+PUBLISHED = journal_of(
+    "submit,A,H1,hour,buy,100,1:10,,",
+    "submit,B,H1,hour,sell,50,1:10,,",
+    "submit,A,H1,hour,buy,200,1:10,,",
+    "amend,A,H1,,,300,1:10,,",
+    "cancel,B,H1,,,,,,",
+    "submit,A,K1,block,buy,100,1:10;2:10,,",
+)
+OWN = own_lines(PUBLISHED, "A")
+
+
+class Worked(unittest.TestCase):
+    """By hand: A's records 1 to 4 are records 2, 4, 5 and 7 of the journal."""
+
+    def differences(self, lines):
+        status, out, err = audit(PUBLISHED, text_of(lines))
+        self.assertEqual((status, err), (command.DIFFERS, ""))
+        return out.splitlines()
+
+    def test_as_sent(self):
+        status, out, _ = audit(PUBLISHED, text_of(OWN))
+        self.assertEqual(status, command.DONE)
+        self.assertEqual(
+            out.splitlines(),
+            [
+                "as sent: 4 commands of A, each once, in their order, and no others, 1 of 4 commands refused",
+                f"sent record 1 is record 2: done: {OWN[0]}",
+                f"sent record 2 is record 4: refused, NameTaken: {OWN[1]}",
+                f"sent record 3 is record 5: done: {OWN[2]}",
+                f"sent record 4 is record 7: done: {OWN[3]}",
+            ],
+        )
+        self.assertEqual(audit(PUBLISHED, text_of(OWN), "A", "--quiet"), (0, "", ""))
+
+    def test_missing(self):
+        lines = [*OWN[:2], "cancel,A,H2,,,,,,", *OWN[2:]]
+        self.assertEqual(self.differences(lines), ["sent record 3 is missing in the journal: cancel,A,H2,,,,,,"])
+
+    def test_twice(self):
+        data = PUBLISHED.replace(b"cancel,B", f"{OWN[0]}\ncancel,B".encode())
+        status, out, _ = audit(data, text_of(OWN))
+        self.assertEqual((status, out), (command.DIFFERS, f"record 6 of the journal repeats what was sent once: {OWN[0]}\n"))
+        self.assertEqual(audit(data, text_of([*OWN[:3], OWN[0], OWN[3]]))[0], command.DONE)
+
+    def test_changed(self):
+        other = OWN[2].replace(",300,", ",301,")
+        said = f"sent record 3 is changed: it was '{other}', and record 5 of the journal is '{OWN[2]}'"
+        self.assertEqual(self.differences([*OWN[:2], other, OWN[3]]), [said])
+
+    def test_moved(self):
+        said = f"sent record 1 is moved: record 7 of the journal is out of its order: {OWN[3]}"
+        self.assertEqual(self.differences([OWN[3], *OWN[:3]]), [said])
+
+    def test_not_sent(self):
+        self.assertEqual(self.differences([*OWN[:2], OWN[3]]), [f"record 5 of the journal was not sent: {OWN[2]}"])
+        self.assertEqual(len(self.differences(["day,24,,,,,,,"])), 4)
+
+    def test_forms_of_what_was_sent(self):
+        """A journal of the participant's own, its day counted as a record and its close left out; a day's text; a table."""
+        own = journal_of(*OWN)
+        status, out, _ = audit(PUBLISHED, own)
+        self.assertEqual((status, out.count("\n"), f"sent record 2 is record 2: done: {OWN[0]}" in out), (command.DONE, 5, True))
+        self.assertEqual(audit(PUBLISHED, own.replace(b"\n", b"\r\n\r\n"))[0], command.DONE)
+        day = AUCTION.read_bytes() + b"results\n" + printed(AUCTION)
+        self.assertEqual(audit(day, text_of(own_lines(AUCTION.read_bytes(), "GAS")), "GAS")[0], command.DONE)
+        table = b"participant,order,kind,side,price_eur_mwh,periods,volume_mw\nB,H1,hour,sell,0.50,1,1\n"
+        self.assertEqual(audit(PUBLISHED.replace(b"cancel,B,H1,,,,,,\n", b""), table, "B")[0], command.DONE)
+        self.assertEqual(audit(PUBLISHED, table, "B")[1], "record 6 of the journal was not sent: cancel,B,H1,,,,,,\n")
+        self.assertEqual(audit(PUBLISHED, b"", "C")[0], command.NO_INPUT)
+        said = "as sent: 0 commands of C, each once, in their order, and no others\n"
+        self.assertEqual(audit(PUBLISHED, b"day,24,,,,,,,\n", "C")[:2], (command.DONE, said))
+
+    def test_what_no_participant_sends(self):
+        for own, said in (
+            ([OWN[0], "cancel,B,H1,,,,,,"], "record 2 is of B: it should have commands of A alone"),
+            (["day,23,,,,,,,", *OWN], "it is of a day of 23 periods, and the journal of one of 24"),
+            ([OWN[0], "cancel,A,H1"], "record 2 has 3 fields, where 9 should be"),
+            ([OWN[0], OWN[1].replace("200", "2.00")], "field 6 of record 2 breaks its rule"),
+            ([OWN[0], "day,24,,,,,,,"], "field 1 of record 2 breaks its rule"),
+            (["cancel,A,H\u00e9,,,,,,"], "it has a byte over 127"),
+        ):
+            self.assertEqual(audit(PUBLISHED, text_of(own)), (command.NO_INPUT, "", f"audit: sent isn't what A sent: {said}\n"))
+        for own in (b"welfare,0\n", b"", b"\xff"):
+            status, out, err = audit(PUBLISHED, own)
+            self.assertEqual((status, out), (command.NO_INPUT, ""))
+            self.assertIn("audit: sent isn't what A sent: it has no records of a journal, and is no table of orders: ", err)
+
+    def test_command_line(self):
+        for words in (
+            ["--sent", AUCTION],
+            ["--participant", "GAS"],
+            ["--sent", AUCTION, "--participant", "gas"],
+            ["--sent", AUCTION, "--participant", "GAS", "--best"],
+            ["--sent", AUCTION, "--participant", "GAS", "--replies"],
+            [AUCTION, "--sent", AUCTION, "--participant", "GAS"],
+        ):
+            self.assertEqual(tool("audit", AUCTION, *words)[:2], (command.COMMAND_LINE, b""), words)
+        self.assertEqual(tool("audit", "-", "--sent", "-", "--participant", "GAS")[0], command.COMMAND_LINE)
+        status, _, err = audit(printed(AUCTION), text_of(OWN))
+        self.assertEqual((status, err), (command.NO_INPUT, "audit: journal has results, where a journal should be\n"))
+
+
+class Drawn(unittest.TestCase):
+    def days(self, count):
+        """Random days and a participant's commands in them."""
+        for number in range(count):
+            rng = random.Random(f"sent {number}")
+            read = journal.read_journal(days.text(rng, 8))
+            commands = [entry for entry in read.commands if getattr(entry, "who", None) == "A"]
+            if commands:
+                yield rng, read, [sent.Sent(at, entry) for at, entry in enumerate(commands, 1)]
+
+    def differences(self, read, own):
+        return sent.differences(own, sent.published_of(read, book.run(read)[1], "A"))
+
+    def test_what_was_sent_is_there_with_its_replies(self):
+        tried = 0
+        for _, read, own in self.days(200):
+            self.assertEqual(self.differences(read, own), [])
+            published = sent.published_of(read, book.run(read)[1], "A")
+            lines = book.replies_text(read).splitlines()
+            for one, other in zip(own, published):
+                self.assertEqual(read.commands[other.record - 2], one.command)
+                self.assertEqual(lines[other.record - 1], f"{other.record - 1},{other.reply.replace(', ', ',')}")
+                tried += 1
+        self.assertGreater(tried, 500)
+
+    def test_each_change_is_one_line(self):
+        """A command less, more, twice, changed or elsewhere; as many lines as that takes, and each names a record."""
+        for rng, read, own in self.days(200):
+            at = rng.randrange(len(own))
+            gone, entry = own[:at] + own[at + 1 :], own[at]
+            self.check(read, gone, "was not sent|repeats what was sent")
+            self.check(read, own[:at] + [sent.Sent(99, journal.Cancel("A", "NOWHERE"))] + own[at:], "sent record 99 is missing")
+            self.check(read, own[:at] + [sent.Sent(99, entry.command)] + own[at:], r"sent record \d+ is (missing|moved)")
+            if not isinstance(entry.command, journal.Cancel):
+                other = self.changed(entry.command)
+                if all(one.command != other for one in own):
+                    self.check(read, own[:at] + [sent.Sent(99, other)] + own[at + 1 :], "sent record 99 is changed")
+            if len(own) > 1 and entry.command not in [one.command for one in gone]:
+                elsewhere = rng.choice([place for place in range(len(own)) if place != at])
+                self.check(read, gone[:elsewhere] + [entry] + gone[elsewhere:], "is moved")
+
+    def changed(self, entry):
+        if isinstance(entry, journal.Submit):
+            return entry._replace(order=entry.order._replace(price=entry.order.price ^ 1))
+        return entry._replace(price=entry.price ^ 1)
+
+    def check(self, read, own, said):
+        found = self.differences(read, own)
+        self.assertEqual(len(found), 1, found)
+        self.assertRegex(found[0], said)
+
+    def test_long_lists(self):
+        """Many equal commands, and two lists with nothing in common, take no long time."""
+        cancels = [sent.Sent(at, journal.Cancel("A", f"N{at % 3}")) for at in range(1, 9_000)]
+        others = [sent.Published(at, journal.Cancel("A", f"M{at}"), None) for at in range(2, 9_000)]
+        published = [sent.Published(one.record + 1, one.command, "UnknownOrder") for one in cancels]
+        self.assertEqual(sent.differences(cancels, published), [])
+        self.assertEqual(len(sent.differences(cancels[:4_000] + cancels[4_001:], published)), 1)
+        self.assertEqual(len(sent.differences(cancels, others)), len(cancels) + len(others))
+
+
+if __name__ == "__main__":
+    unittest.main()
