@@ -190,23 +190,26 @@ class Page(unittest.TestCase):
         self.assertEqual([words for words in texts[at:] if words][:7], ["A", "1", "0.0", "0.0", "0.00", "0.00", "0.00"])
 
     def test_command_line(self):
-        texts = [AUCTION, AUCTION.with_suffix(".stdout")]
-        status, out, err = tool("report", *texts, "-o", "-", "--curves", "none", "--title", "Today")
+        day = FIRST + b"results\n" + results_of(FIRST, frozenset())
+        status, out, err = tool("report", "-", "-o", "-", "--curves", "none", "--title", "Today", data=day)
         self.assertEqual((status, err, b"<title>Today</title>" in out), (0, "", True))
         self.assertNotIn(b"Supply and demand in period", out)
-        self.assertIn(b"Supply and demand in period 3", tool("report", *texts, "-o", "-", "--curves", "3,4")[1])
-        drawn = tool("report", *texts, "-o", "-", "--curves", "4, 3-4,3")[1]
-        self.assertEqual([drawn.count(b"<figcaption>Supply and demand in period %d" % number) for number in (3, 4, 5)], [1, 1, 0])
-        self.assertEqual(tool("report", *texts, "-o", "-", "--curve", "3")[0], command.COMMAND_LINE)
-        if command.has_zone("Europe/Berlin"):
-            dated = tool("report", *texts, "-o", "-", "--curves", "none", "--date", "2026-11-25")[1]
-            self.assertIn(b"Wednesday, 25 November 2026. A delivery day of 24 periods", dated)
-            for words in ("2026-03-29", "25.11.2026"):
-                self.assertEqual(tool("report", *texts, "-o", "-", "--date", words)[0], command.COMMAND_LINE)
-        for words in ("25", "x", "1-25", "9-8", "0", ""):
-            self.assertEqual(tool("report", *texts, "-o", "-", "--curves", words)[0], command.COMMAND_LINE)
+        words = ["--date", "2026-11-25"] if command.has_zone("Europe/Berlin") else []
+        out = tool("report", "-", "-o", "-", "--curves", "4, 3-4,3", *words, data=day)[1]
+        self.assertEqual([out.count(b"<figcaption>Supply and demand in period %d" % number) for number in (3, 4, 5)], [1, 1, 0])
+        self.assertEqual(b"Wednesday, 25 November 2026. A delivery day of 24 periods" in out, bool(words))
         with tempfile.TemporaryDirectory() as folder:
-            self.assertEqual(tool("report", *texts, "-o", Path(folder, "none", "a.html"))[0], command.NO_INPUT)
+            out = Path(folder, "none", "a.html")
+            self.assertEqual(tool("report", "-", "--curves", "none", "-o", out, data=day)[0], command.NO_INPUT)
+
+    def test_wrong_command_lines(self):
+        texts = [AUCTION, AUCTION.with_suffix(".stdout"), "-o", "-"]
+        for words in ("25", "x", "1-25", "9-8", "0", ""):
+            self.assertEqual(tool("report", *texts, "--curves", words)[0], command.COMMAND_LINE)
+        self.assertEqual(tool("report", *texts, "--curve", "3")[0], command.COMMAND_LINE)
+        if command.has_zone("Europe/Berlin"):
+            for words in ("2026-03-29", "25.11.2026"):
+                self.assertEqual(tool("report", *texts, "--date", words)[0], command.COMMAND_LINE)
 
 
 if __name__ == "__main__":
