@@ -17,11 +17,11 @@ PART = os.path.basename(sys.argv[0]).partition(".")[0]
 FIGURES = f"out/{PART}.tsv"
 TIME = "/usr/bin/time"
 
-# A run that takes longer, in seconds, is ended and said to have given up; and so long HiGHS is given for a book.
+# The seconds after which a run is ended, and those that HiGHS gets for a book.
 LIMIT = float(os.environ.get("LIMIT", "60"))
 HIGHS_LIMIT = float(os.environ.get("HIGHS_LIMIT", "20"))
 
-# How many bytes a program's stack is moved by from turn to turn, over so many places.
+# By how many bytes a program's stack moves from turn to turn, and over how many places.
 STACKS, PLACES = 32, 32
 
 
@@ -29,13 +29,13 @@ class Run(NamedTuple):
     """What a program printed, and its seconds."""
 
     text: bytes
-    told: bytes  # on standard error
+    stderr: bytes
     wall: float
     processor: float
 
     def laps(self, name):
-        """The seconds of each lap of that name that the program tells."""
-        lines = (line.split() for line in self.told.decode().splitlines())
+        """The seconds of each lap of that name that the program reports."""
+        lines = (line.split() for line in self.stderr.decode().splitlines())
         return [int(line[1]) / 1e9 for line in lines if line[0] == name]
 
     def lap(self, name):
@@ -44,12 +44,12 @@ class Run(NamedTuple):
 
 
 def run(words, given=os.devnull, statuses=(0,), limit=LIMIT, padding=0):
-    """Runs a program on a file; None where it didn't end in time. Ends this one where that fails. The padding is so many bytes more of
-    its environment, which move its stack."""
-    with open(given, "rb") as text, tempfile.TemporaryFile() as printed, tempfile.TemporaryFile() as told:
+    """Runs a program on a file. Returns None if it didn't end in time, and ends the bench if it failed. The padding is the number of bytes
+    that are added to its environment, which move its stack."""
+    with open(given, "rb") as text, tempfile.TemporaryFile() as printed, tempfile.TemporaryFile() as errors:
         begun = time.perf_counter()
         surroundings = {**os.environ, "PADDING": "." * padding}
-        started = subprocess.Popen(words, stdin=text, stdout=printed, stderr=told, env=surroundings)
+        started = subprocess.Popen(words, stdin=text, stdout=printed, stderr=errors, env=surroundings)
         clock = threading.Timer(limit, started.kill)
         clock.start()
         _, status, used = os.wait4(started.pid, 0)
@@ -57,17 +57,17 @@ def run(words, given=os.devnull, statuses=(0,), limit=LIMIT, padding=0):
         clock.cancel()
         started.returncode = os.waitstatus_to_exitcode(status)
         printed.seek(0)
-        told.seek(0)
+        errors.seek(0)
         if wall >= limit:
             return None
         if started.returncode not in statuses:
-            sys.exit(f"{' '.join(words)} < {given}: status {started.returncode}, {told.read().decode()}")
-        return Run(printed.read(), told.read(), wall, used.ru_utime + used.ru_stime)
+            sys.exit(f"{' '.join(words)} < {given}: status {started.returncode}, {errors.read().decode()}")
+        return Run(printed.read(), errors.read(), wall, used.ru_utime + used.ru_stime)
 
 
 def by_turns(programs, given=os.devnull, most=31, seconds=5.0):
-    """Runs programs by turns: for each name its runs, at most so many, and no further one after so many seconds. A program that
-    didn't end in time has no runs. Each turn has their stacks elsewhere, since a walk's time varies with that by half."""
+    """Runs programs in turns. Returns for each name its runs: at most `most`, and no further one after `seconds`. A program that didn't end
+    in time has no runs. Each turn has their stacks at another place, because a walk's time varies with that by half."""
     runs = {name: [] for name in programs}
     begun = time.perf_counter()
     for turn in range(most):
@@ -80,13 +80,13 @@ def by_turns(programs, given=os.devnull, most=31, seconds=5.0):
 
 
 def peak(words, given):
-    """The peak memory of a program in MiB. (The usage that this process is told of a child has its own pages in it.)"""
+    """The peak memory of a program in MiB. (What the system reports of a child of this process also counts this process's pages.)"""
     if not os.access(TIME, os.X_OK):
         sys.exit(f"{TIME} is missing")
-    with open(given, "rb") as text, tempfile.NamedTemporaryFile("r") as told:
-        command = [TIME, "-f", "%M", "-o", told.name, *words]
+    with open(given, "rb") as text, tempfile.NamedTemporaryFile("r") as used:
+        command = [TIME, "-f", "%M", "-o", used.name, *words]
         subprocess.run(command, stdin=text, stdout=subprocess.DEVNULL, stderr=subprocess.DEVNULL, check=True)
-        return int(told.read()) / 1024
+        return int(used.read()) / 1024
 
 
 def seconds(value):
@@ -114,7 +114,7 @@ def times(value):
 
 
 def ratio(what, ones, others, most=None, least=None, shown=seconds, note=""):
-    """A line of how many times the others' median the ones' is; its details say how it is for the least of both."""
+    """Prints the median of `ones` as a multiple of that of `others`; the details have both, and the multiple for the least of both."""
     one, other = statistics.median(ones), statistics.median(others)
     value = one / other
     target = f"at most {times(most)}" if most else f"at least {times(least)}" if least else ""

@@ -1,7 +1,7 @@
 #!/usr/bin/env python3
-"""highs.py JOURNAL SECONDS: how long HiGHS takes to find a selection of greatest welfare of a journal's blocks, by the program of
-tools/lib/solver.py: it is asked again without each selection that turns out not to be eligible. Prints the welfare, and on
-standard error the nanoseconds that HiGHS itself took; or prints `gave up`, or `no scipy`."""
+"""highs.py JOURNAL SECONDS: measures how long HiGHS takes to find a selection of greatest welfare of a journal's blocks, with the model of
+tools/lib/solver.py. HiGHS is asked again without each selection that isn't eligible. Prints the welfare, and on standard error the
+nanoseconds that HiGHS itself took; or prints `gave up`, or `no scipy`."""
 
 import sys
 import time
@@ -14,7 +14,7 @@ from lib import book, command, journal, selection
 
 
 def find(problem, limit):
-    """The welfare, and the seconds; None where HiGHS gave up."""
+    """The welfare, and the seconds; None if HiGHS gave up."""
     from lib import solver
 
     model = solver.Model(problem)
@@ -27,7 +27,7 @@ def find(problem, limit):
             return None
         welfare = selection.eligible(problem, chosen)
         taken = time.perf_counter() - begun
-        if welfare is not None and taken < limit:  # at its limit HiGHS offers what it has, the best or not
+        if welfare is not None and taken < limit:  # at its limit HiGHS returns what it has, whether it is the best or not
             return welfare, taken
         model.forbid(chosen)
     return None

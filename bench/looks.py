@@ -2,8 +2,8 @@
 """Looks at versions of a book of 4,000 orders, alone and while other threads call and look, compared with a plain program's; what a
 call costs with 100, 1,000 and 4,000 orders held; and the time and memory of a day of 9,999 commands.
 
-The plain program looks at a version through a lock-free pointer, and copies its book at every call. A day's memory may be 4 times what
-a gate took whose looks took its lock."""
+The plain program looks at a version through a lock-free pointer, and copies its book in every call. A day's memory may be 4 times that
+of a gate whose looks took its lock."""
 
 import statistics
 
@@ -22,16 +22,16 @@ def laps(runs, name, repeats):
 
 def looks():
     none = None
-    for beside in (0, 1, 3):
-        words = ["looks", str(beside), str(LOOKS)]
+    for others_at_work in (0, 1, 3):
+        words = ["looks", str(others_at_work), str(LOOKS)]
         runs = by_turns({"one": [MEASURES, *words], "other": [PLAIN, *words]}, "out/hourly.csv", most=9)
         ones, others = laps(runs["one"], "looks", LOOKS), laps(runs["other"], "looks", LOOKS)
-        ratio(f"a look compared with a plain one, while {beside} threads call and look", ones, others, 3)
+        ratio(f"a look compared with a plain one, while {others_at_work} threads call and look", ones, others, 3)
         if none is None:
             none = ones
         else:
-            what = f"looks a second while {beside} threads call and look, compared with none"
-            least = 0.5 if beside == 3 else None
+            what = f"looks a second while {others_at_work} threads call and look, compared with none"
+            least = 0.5 if others_at_work == 3 else None
             ratio(what, [1 / one for one in ones], [1 / one for one in none], least=least, shown="{:,.0f}".format)
 
 

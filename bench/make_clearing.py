@@ -1,7 +1,7 @@
 #!/usr/bin/env python3
-"""make_clearing.py HOURLY BLOCKS [LENGTH [HOURS]]: prints the journal of a closed day of 24 periods with so many hourly orders,
-spread evenly over the first HOURS periods (24), and so many blocks over LENGTH periods each (6). Every run with the same words
-prints the same bytes."""
+"""make_clearing.py HOURLY BLOCKS [LENGTH [HOURS]]: prints the journal of a closed day of 24 periods, with HOURLY hourly orders, spread
+evenly over the first HOURS periods (24), and with BLOCKS blocks over LENGTH periods each (6). Every run with the same arguments prints
+the same bytes."""
 
 import random
 import sys

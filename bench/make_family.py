@@ -1,15 +1,15 @@
 #!/usr/bin/env python3
-"""make_family.py FAMILY HOURLY [BLOCKS [PARTS]]: prints the journal of a closed day of 24 hours, with so many hourly orders, and 24
-blocks or as many as are asked for. With 4 for PARTS each hour is four periods, so that the day has 96; without it, one. The families are
-hard in different ways for a search over selections of blocks; every run with the same words prints the same bytes.
+"""make_family.py FAMILY HOURLY [BLOCKS [PARTS]]: prints the journal of a closed day of 24 hours, with HOURLY hourly orders and BLOCKS
+blocks (24). Each hour has PARTS periods, 1 or 4 (1), so with 4 the day has 96. The families are hard in different ways for a search
+over selections of blocks. Every run with the same arguments prints the same bytes.
 
-market    hourly orders round a daily curve of prices, and blocks round it
-paradox   blocks that gain alone and lose together, since each moves the price
-spread    many small blocks over a wide spread of limits
-nearties  blocks of nearly one worth
+market    hourly orders around a daily curve of prices, and blocks around it
+paradox   blocks that gain alone and lose together, because each moves the price
+spread    many small blocks with a wide spread of limits
+nearties  blocks of nearly the same worth
 links     deep families of linked blocks
 groups    exclusive groups of blocks
-ties      blocks that change no welfare, so that every selection is as good as another"""
+ties      blocks that don't change the welfare, so that all selections are equally good"""
 
 import math
 import random
@@ -43,7 +43,7 @@ def periods_of_day():
 
 
 def curve(period):
-    """The price that the hourly orders of a period lie round, in cents per MWh."""
+    """The price around which the hourly orders of a period lie, in cents per MWh."""
     hour = 1 + (period - 1) // parts
     return round(6_000 + 2_500 * math.sin((hour - 7) * math.pi / 12))
 
@@ -56,7 +56,7 @@ def hourly(number, rng):
 
 
 def periods_of(first, last):
-    """The periods of these hours, the last one not among them."""
+    """The periods of these hours, without the last one."""
     return range(1 + parts * (first - 1), 1 + parts * (last - 1))
 
 

@@ -1,8 +1,8 @@
 #!/usr/bin/env python3
-"""make_journal.py [day | blocks]: prints a journal of 10,000 records: a day of 24 periods, hourly orders of 8 participants with
-cancels among them, and a close; with `day` one command more stands in place of the close. With `blocks` it prints a day of 100 periods
-and 10,000 commands, each of them a block with a volume of five digits in every period: 9 MB of the 16,777,216 bytes that may be read,
-about as long as a written journal gets. Every run prints the same bytes."""
+"""make_journal.py [day | blocks]: prints a journal of 10,000 records: a day of 24 periods, hourly orders and cancels of 8 participants,
+and a close; with `day` the close is replaced by another command. With `blocks` it prints a day of 100 periods and 10,000 commands, each
+of them a block with a volume of five digits in every period: 9 MB of the 16,777,216 bytes that may be read, about as long as a written
+journal gets. Every run prints the same bytes."""
 
 import random
 import sys
@@ -10,7 +10,7 @@ import sys
 RECORDS = 10_000
 PERIODS = 24
 PARTICIPANTS = ["ALPHA", "BRAVO", "CHARLIE", "DELTA", "ECHO", "FOXTROT", "GOLF", "HOTEL"]
-# Of a hundred commands, how many submit a new order, cancel one that stands, or ask for what the book refuses.
+# Of a hundred commands, how many submit a new order and how many cancel one; the book refuses the rest.
 SUBMITS, CANCELS = 62, 33
 
 

@@ -1,6 +1,6 @@
 #!/usr/bin/env python3
-"""page.py PART..: writes the figures that these parts of the bench printed to docs/MEASURED.md, a section each. The sections of the
-other parts stay as they are, with their own date and commit."""
+"""page.py PART..: writes the figures that these parts of the bench printed to docs/MEASURED.md, one section for each part. The sections
+of the other parts stay unchanged, with their own date and commit."""
 
 import ast
 import datetime
@@ -14,9 +14,9 @@ PARTS = ["quick", "families", "workers", "looks", "quarters"]
 COLUMNS = ["What", "Figure", "Target", "Holds", "Details"]
 HEAD = """# Measured figures
 
-`bench/run` writes this page: a section for each of its parts, with the figures of the last run of that part, on the day and of the
-commit that it names. A figure is the median of runs that take turns. If it compares one thing with another, the details have the
-figure of each. The load says how busy the machine was before: on a busy one a figure says little.
+`bench/run` writes this page. It has a section for each part of the bench, with the figures of the part's last run, and the day, commit
+and machine of that run. A figure is the median of several runs; runs that are compared take turns. If a figure compares two things, the
+details have the figure of each. The load says how busy the machine was before: on a busy machine a figure says little.
 Sections marked 'before 2026-11-25' were carried over from earlier runs, and name no commit.
 """
 
@@ -45,7 +45,7 @@ def state():
 
 
 def about(part):
-    """The text of the part's script."""
+    """The opening text of the part's script."""
     script = f"{part}.py" if os.path.exists(f"{part}.py") else part
     with open(script, encoding="utf-8") as text:
         return ast.get_docstring(ast.parse(text.read()))
@@ -63,7 +63,7 @@ def section(part):
 
 
 def sections():
-    """The sections that the page has now, by part."""
+    """The present sections of the page, by part."""
     if not os.path.exists(PAGE):
         return {}
     with open(PAGE, encoding="utf-8") as text:

@@ -1,34 +1,37 @@
 #!/usr/bin/env python3
-"""Days of quarter-hours: the families with 96 periods compared with those with 24, and a journal of 10,000 blocks that each have
-a volume in all of 100 periods, compared with the baseline."""
+"""Days of quarter-hours: the families with 96 periods compared with those with 24, for 500 and 4,000 hourly orders; and a journal of
+10,000 blocks that each have a volume in all of 100 periods, compared with the baseline.
+
+With 500 orders there is no target: there are about five of them in each of 96 periods, and the figure shows what a hard day of
+quarter-hours costs."""
 
 import make_family
 from figures import BASELINE, DAM, by_turns, line, ratio, run
 
-ORDERS = "4000"
-# Of its books every selection is visited, which takes too long to be run by turns.
+# How many hourly orders, and how many times as long as 24 periods 96 may take at most.
+ORDERS = {"500": None, "4000": 4.5}
+# Of its books every selection is visited, which takes too long to be run in turns.
 LONG = "ties"
 JOURNAL = "out/blocks.csv"
 
 
-def clearing(family, parts):
-    """`dam clear` of a family's book with so many periods an hour."""
-    path = f"out/{family}-{ORDERS}-{parts}.csv"
+def clearing(family, orders, parts):
+    """`dam clear` of a family's book whose hours have that many periods."""
+    path = f"out/{family}-{orders}-{parts}.csv"
     with open(path, "wb") as made:
-        made.write(run(["./make_family.py", family, ORDERS, "24", parts]).text)
+        made.write(run(["./make_family.py", family, orders, "24", parts]).text)
     return ["sh", "-c", 'exec "$0" clear < "$1"', DAM, path]
 
 
 def families():
     for family in make_family.FAMILIES:
-        if family == LONG:
-            continue
-        runs = by_turns({parts: clearing(family, parts) for parts in ("1", "4")}, most=15)
-        what = f"{family} {ORDERS}: dam clear of 96 periods compared with 24"
-        if all(runs.values()):
-            ratio(what, *([each.wall for each in runs[parts]] for parts in ("4", "1")), most=4.5)
-        else:
-            line(what, "?", "ends", False)
+        for orders, most in ORDERS.items() if family != LONG else ():
+            runs = by_turns({parts: clearing(family, orders, parts) for parts in ("1", "4")}, most=15)
+            what = f"{family} {orders}: dam clear of 96 periods compared with 24"
+            if all(runs.values()):
+                ratio(what, *([each.wall for each in runs[parts]] for parts in ("4", "1")), most=most)
+            else:
+                line(what, "?", "ends", False)
 
 
 def longest_journal():

@@ -1,12 +1,13 @@
 #!/usr/bin/env python3
-"""`dam replay`, `dam clear` and `dam day` compared with a baseline and one another, a settlement, clears of one period, and the levels
-that the bounds of a search are read off.
+"""`dam replay`, `dam clear` and `dam day` compared with a baseline and with one another, a settlement, clears of one period, and the
+levels that give a search its bounds.
 
-The baseline is a plain Rust program over std: a hash map, and an order list with gaps; for a day, a thread for each participant round
-one `Mutex`, settled and printed, and nothing cleared. A day holds each command three times: as it was read, in the journal and as a
-receipt. The input is freed before the commands are entered, and the room for journal and receipts is made once. A settlement is compared
-with a plain pass that compares each receipt with its entry. An hour finds where the best execution ends by one bisection over the buys'
-own limits, with one over the sells inside, and both ends of the price from there by two look-ups among the sells."""
+The baseline is a plain Rust program with std only: a hash map, and a list of orders with gaps. For a day it has a thread for each
+participant and one `Mutex`; it settles and prints the day, and clears nothing. A day of `dam` holds each command three times: as it was
+read, in the journal and as a receipt. The input is freed before the commands are entered, and the room for journal and receipts is made
+once. A settlement is compared with a plain pass that compares each receipt with its entry. An hour finds the end of the best execution
+by one bisection over the buys' own limits, with one over the sells inside, and then both ends of the price by two look-ups among the
+sells."""
 
 import statistics
 import sys
@@ -20,9 +21,9 @@ MIB = "{:.1f} MiB".format
 SPREADS = [("evenly, blocks of 6 periods", 6, 24), ("evenly, blocks of 24", 24, 24), ("all in one period, blocks of 24", 24, 1)]
 
 
-def compare(what, words, beside, journal, most, same=False):
+def compare(what, words, other, journal, most, same=False):
     """Wall and processor time of a program compared with another one's."""
-    runs = by_turns({"one": words, "other": beside}, journal, seconds=30)
+    runs = by_turns({"one": words, "other": other}, journal, seconds=30)
     if same and len({each.text for pair in runs.values() for each in pair}) > 1:
         sys.exit(f"{what}: they print different texts")
     for field in ("wall", "processor"):
@@ -33,11 +34,11 @@ def compare(what, words, beside, journal, most, same=False):
 def journals():
     compare("dam replay compared with the baseline, 10,000 records", [DAM, "replay"], [BASELINE], JOURNAL, 1.2, same=True)
     compare("dam clear compared with dam replay, 4,000 hourly orders", [DAM, "clear"], [DAM, "replay"], HOURLY, 1.5)
-    beside = [BASELINE, "day"]
-    compare("dam day compared with the baseline with threads, 9,999 commands", [DAM, "day"], beside, DAY, 2)
+    baseline = [BASELINE, "day"]
+    compare("dam day compared with the baseline with threads, 9,999 commands", [DAM, "day"], baseline, DAY, 2)
     what = "dam day compared with the baseline with threads, peak memory"
     note = "the baseline keeps one book, and a gate that shows versions three; each command and order has room for 100 volumes"
-    ratio(what, [peak([DAM, "day"], DAY)], [peak(beside, DAY)], 1.5, shown=MIB, note=note)
+    ratio(what, [peak([DAM, "day"], DAY)], [peak(baseline, DAY)], 1.5, shown=MIB, note=note)
     compare("dam day compared with dam replay, 9,999 commands", [DAM, "day"], [DAM, "replay"], DAY, None)
 
 

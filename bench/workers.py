@@ -1,11 +1,11 @@
 #!/usr/bin/env python3
 """How much faster several workers are than one; one worker on shared words compared with one on a word of its own; and the default
-plan compared with one worker. Seconds are those of the search alone.
+plan compared with one worker. The seconds are those of the search alone.
 
-A second worker costs the start of a thread, some tenth of a millisecond, which a search that ends within some milliseconds doesn't win
-back. What shared words cost shows in instructions better than in time: 1.04 times those without for `spread` with 500 orders, and 1.03
-for `ties` with 18 blocks, as `valgrind` counts them. The size of a program's environment moves its stack, and the time of one and the
-same walk varies with that by half; so each turn has the stack at another place."""
+A second worker costs the start of a thread, about a tenth of a millisecond, which a search that ends within a few milliseconds doesn't
+win back. Instructions show the cost of shared words better than time does: as `valgrind` counts them, there are 1.04 times as many as
+without for `spread` with 500 orders, and 1.03 times as many for `ties` with 18 blocks. The size of a program's environment moves its
+stack, and with that the time of the same walk varies by half; so each turn has the stack at another place."""
 
 import statistics
 
@@ -27,19 +27,19 @@ def make(family, orders, blocks="24"):
 
 
 def searched(plans, book, most):
-    """The seconds of the search under each plan, in several runs; of one that doesn't end, those after which it is given up."""
+    """The seconds of the search under each plan, in several runs; for one that doesn't end, the limit."""
     runs = by_turns({plan: [MEASURES, "search", *plan] for plan in plans}, book, most, seconds=20)
     return {plan: [each.lap("search") for each in found] or [LIMIT] for plan, found in runs.items()}
 
 
 def largest(family):
-    """Of the books of a family the one that one worker searches longest."""
+    """The book of a family that one worker searches longest."""
     books = {f"{family} {orders}": make(family, orders) for orders in ORDERS}
     return max(books.items(), key=lambda named: searched([ONE], named[1], most=1)[ONE][0])
 
 
 def ties():
-    """A book of `ties` of which one worker's search takes some ten seconds, and at least five."""
+    """A book of `ties` that one worker searches for some ten seconds, and for at least five."""
     for blocks in range(16, 25):
         book = make("ties", "500", str(blocks))
         if searched([ONE], book, most=1)[ONE][0] > TEN / 2:

@@ -1,11 +1,11 @@
 #!/usr/bin/env python3
-"""Writes the journal of a sunny spring day: some 40 steps in each hour, from water and wind to oil, a morning and an evening peak, a
-noon at which sun and wind press the price below zero, and twelve blocks: a family, a group, a battery, a profile, and a block that
-comes out paradoxically rejected. All volumes below are MW and all prices EUR/MWh; the journal has tenths of a MW and cents."""
+"""Prints the journal of a sunny spring day. It has some 40 orders in each hour, from water and wind to oil; a morning and an evening
+peak; a noon when sun and wind press the price below zero; and twelve blocks: a family, a group, a battery, a profile, and one that is
+paradoxically rejected. All volumes below are in MW and all prices in EUR/MWh; the journal has tenths of a MW and cents."""
 
 HOURS = range(1, 25)
 
-# What the town takes in each hour, at any price up to its last limit, and what wind and sun are expected to give.
+# What the town buys in each hour, and what wind and sun are expected to give.
 LOAD = [3020, 2880, 2790, 2750, 2810, 2990, 3440, 3990, 4180, 4050, 3830, 3640]
 LOAD += [3500, 3390, 3400, 3560, 3860, 4210, 4480, 4520, 4310, 3930, 3560, 3210]
 WIND = [1130, 1180, 1210, 1190, 1140, 1080, 1010, 960, 940, 970, 1040, 1110]
@@ -13,8 +13,8 @@ WIND += [1160, 1190, 1170, 1110, 1020, 910, 820, 780, 810, 880, 960, 1040]
 SUN = [0, 0, 0, 0, 0, 20, 210, 760, 1530, 2340, 3060, 3580]
 SUN += [3790, 3610, 3090, 2280, 1330, 470, 60, 0, 0, 0, 0, 0]
 
-# The merit order: participant, name, limit and volume of each step that is offered in all hours. What runs on heat or water has
-# to run, and pays for it.
+# The merit order: participant, name, limit and volume of each step that is offered in all hours. Plants that have to run, for heat or
+# water, pay for it.
 PLANTS = [
     ("HYDRO", "RIVER-A", -40, 260),
     ("HYDRO", "RIVER-B", 2, 240),
@@ -43,12 +43,12 @@ PLANTS = [
     ("OIL", "DIESEL-B", 246, 50),
 ]
 
-# The wind farms and solar parks: name, limit, and the share of what is expected. Some are paid for what they feed in, and ask less
-# than nothing.
+# The wind farms and solar parks: name, limit, and share of what is expected, in per cent. Some are subsidised for what they feed in, and
+# ask less than nothing.
 FARMS = [("COAST", -55, 35), ("PLAIN", -12, 40), ("RIDGE", 1, 25)]
 PARKS = [("ROOF", -60, 45), ("FIELD", -18, 35), ("DAM", 0, 20)]
 
-# What industry takes: name, limit, volume, and its hours.
+# What industry buys: name, limit, volume and hours.
 WORKS = [
     ("FOUNDRY", 132, 90, range(7, 20)),
     ("MILL", 104, 110, HOURS),
@@ -100,7 +100,7 @@ def orders():
             for name, limit, share in farms:
                 yield from hourly(who, name, "sell", limit, hour, expected[hour - 1] * share / 100)
         for who, name, limit, volume in PLANTS:
-            # a plant that has run for some hours is a little cheaper, and gas costs more in the evening
+            # a plant gets a little cheaper after some hours, and gas costs more in the evening
             drift = (0.75 if hour > 16 and who == "GAS" else 0) - 0.05 * (hour % 6)
             yield from hourly(who, name, "sell", limit + drift, hour, volume)
 
@@ -115,7 +115,7 @@ def journal():
     yield record("day", 24)
     yield from orders()
     yield from blocks()
-    # a cloudier forecast for hour 10, a furnace that stays cold in hour 17, and a block that its children hold in the book
+    # a cloudier forecast for hour 10, a foundry that stands still in hour 17, and a block that can't be cancelled, since it has a child
     yield record("amend", "SOL", "FIELD-10", "", "", -1800, "10:5100")
     yield record("cancel", "STEEL", "FOUNDRY-17")
     yield record("cancel", "GAS", "START")

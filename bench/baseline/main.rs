@@ -1,8 +1,8 @@
-//! What `dam replay` does, as a plain Rust program over std alone: the measure that `dam` is timed against.
+//! What `dam replay` does, as a plain Rust program with std only, with which `dam` is compared.
 //!
-//! It reads the same journals, but for amends and for blocks with a parent or a group, and prints the same replies and fault lines.
-//! With the word `day` it does what `dam day` does before it clears: one thread a participant enters its commands round a `Mutex`, and
-//! the journal that they made is compared with what the threads were answered, and printed.
+//! It reads the same journals, except amends and blocks with a parent or a group, and prints the same replies and fault lines. With the
+//! word `day` it does what `dam day` does before it clears: one thread for each participant enters its commands under a `Mutex`, and the
+//! journal that they made is compared with what the threads were answered, and printed.
 
 use std::collections::HashMap;
 use std::env;
@@ -205,7 +205,7 @@ impl Book {
     }
 }
 
-/// The fields of the next record, and where it ends; `None` where no record is left.
+/// The fields of the next record, and where it ends; `None` if no record is left.
 fn next_record(text: &[u8], mut at: usize) -> Option<(Vec<Vec<u8>>, usize)> {
     while at < text.len() && matches!(text[at], b'\n' | b'\r') {
         at += 1;
@@ -388,7 +388,7 @@ struct Entry {
     reply: Result<(), Reason>,
 }
 
-/// What lies under the lock.
+/// What the lock protects.
 struct Gate {
     book: Book,
     entries: Vec<Entry>,
@@ -413,7 +413,7 @@ fn participants(commands: &[Command]) -> Vec<&str> {
     found
 }
 
-/// The entries that each participant was answered with, all entering at once, and then the close.
+/// The entries that answered each participant's commands, all entered at the same time, and then the close.
 fn enter(gate: &Mutex<Gate>, commands: &[Command]) -> Vec<Entry> {
     let own = |who| move |command: &&Command| command.participant() == Some(who);
     let mut receipts: Vec<Entry> = thread::scope(|scope| {
@@ -432,7 +432,7 @@ fn enter(gate: &Mutex<Gate>, commands: &[Command]) -> Vec<Entry> {
     receipts
 }
 
-/// The journal of a day, or nothing where an entry isn't what its participant was answered.
+/// The journal of a day, or nothing if an entry isn't what its participant was answered.
 fn journal(periods: u8, commands: &[Command]) -> Option<String> {
     let gate = Mutex::new(Gate { book: Book::new(periods), entries: Vec::new() });
     let receipts = enter(&gate, commands);

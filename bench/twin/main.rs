@@ -1,15 +1,14 @@
-//! The search for the best selection of blocks, in plain Rust over std, to compare with: the same rules for what is visited,
-//! without any proof. `twin WORKERS CUT [TIMES] < JOURNAL` prints the welfare, the selection, and the nodes visited by the last
-//! of so many walks; and on standard error, a line each, what was timed and the nanoseconds that it took. It takes the journals of
-//! 24 periods that `make_family.py` prints: submits alone, each of them accepted.
+//! The search for the best selection of blocks in plain Rust with std only, for comparison: it visits the same nodes, without any
+//! proof. `twin WORKERS CUT [TIMES] < JOURNAL` prints the welfare, the selection, and the nodes that the last of TIMES walks visited;
+//! and on standard error lines with what was timed and the nanoseconds that it took. It reads the journals of 24 periods that
+//! `make_family.py` prints, which have only submits that are accepted.
 //!
-//! A period's hourly orders and undecided blocks stand in one stack of supply: the sells, and each buy as supply of
-//! what of it isn't served, by rising price. With x units taken from the bottom, all buys less the net volume, the
-//! welfare is the value of all buys less the cost of these units. A node carries for each period the units taken, the row
-//! of the last one, and what the period is worth.
+//! A period's hourly orders and undecided blocks make one stack of supply by rising price: the sells, and for each buy the supply of
+//! what isn't served of it. If x units, all buys less the net volume, are taken from the bottom, the welfare is the value of all buys
+//! less the cost of these units. A node carries for each period the units taken, the row of the last one, and the period's worth.
 //!
-//! Workers draw the pieces from one shared word, and prune by another one, the greatest welfare that any of them has found. So
-//! one worker visits them in turn, with one incumbent for all.
+//! Workers draw the pieces from one shared word and prune by another, the greatest welfare that any of them has found. So one worker
+//! visits them in turn, with one incumbent for all.
 
 use std::collections::HashMap;
 use std::io::Read;
@@ -91,7 +90,7 @@ impl Stack {
         self.rows[self.rows.len() - 1].before
     }
 
-    /// The row that unit x, from 1, lies in, looked for from a row near by.
+    /// The row of unit x, counted from 1; the search begins at a row near by.
     fn place(&self, x: i64, near: usize) -> usize {
         let mut at = near.min(self.rows.len() - 2);
         while self.rows[at].before >= x {
@@ -135,14 +134,14 @@ struct Best {
 }
 
 impl Best {
-    /// Greater welfare is above, and of equal welfare what accepts at the first place where two differ.
+    /// Greater welfare ranks above; of two equal ones, the selection that accepts the first place at which they differ.
     fn ranks_above(self, other: Best) -> bool {
         let first = (self.accepted ^ other.accepted).trailing_zeros();
         self.welfare > other.welfare || self.welfare == other.welfare && first < 32 && self.accepted >> first & 1 == 1
     }
 }
 
-/// What the nodes of a problem are reckoned by.
+/// What the nodes of a problem are computed from.
 struct Relaxed<'a> {
     problem: &'a Problem,
     /// For each period its stacks, by how many of its blocks are decided.
@@ -188,7 +187,7 @@ impl Relaxed<'_> {
         Relaxed { problem, stacks, levels }
     }
 
-    /// The day on which nothing is decided; None where some period doesn't balance.
+    /// The day on which nothing is decided; None if some period doesn't balance.
     fn root(&self) -> Option<Day> {
         let mut day = Day { periods: [DayPeriod::default(); 25], total: 0 };
         for (period, stacks) in self.stacks.iter().enumerate() {
@@ -199,7 +198,7 @@ impl Relaxed<'_> {
         Some(day)
     }
 
-    /// The day with one more block decided; None where a period doesn't balance or the total is under `least`.
+    /// The day with one more block decided; None if a period doesn't balance or the total is under `least`.
     fn child(&self, day: &Day, place: usize, accept: bool, least: i64) -> Option<Day> {
         let block = &self.problem.blocks[place];
         let mut child = day.clone();
@@ -248,7 +247,7 @@ impl Relaxed<'_> {
         })
     }
 
-    /// The welfare of a selection, where it is eligible.
+    /// The welfare of a selection, if it is eligible.
     fn score(&self, accepted: u32) -> Option<i64> {
         let mut day = self.root()?;
         for place in 0..self.problem.blocks.len() {
@@ -261,7 +260,7 @@ impl Relaxed<'_> {
         if self.loses(&day, accepted) { None } else { Some(day.total) }
     }
 
-    /// From the empty selection the one flip that gains most, and where none gains the best pair of flips.
+    /// From the empty selection, repeats the flip that gains most or, if none gains, the best pair of flips.
     fn first_selection(&self) -> (i64, u64) {
         let count = self.problem.blocks.len();
         let mut best = Best { accepted: 0, welfare: self.score(0).unwrap_or(0) };
@@ -302,7 +301,7 @@ struct Shared {
 struct Walk<'a> {
     relaxed: &'a Relaxed<'a>,
     shared: &'a Shared,
-    /// The best of the piece at hand.
+    /// The best of the present piece.
     best: Option<Best>,
     visited: u64,
 }

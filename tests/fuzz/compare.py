@@ -10,7 +10,7 @@ from lib import best, book, check, journal, results, rules, selection
 
 # A program that tries all selections takes twice the time with each block.
 MOST_BLOCKS = 10
-# So long the program may take for an answer, in seconds.
+# How long the program may take to answer, in seconds.
 wait = 60.0
 COMMAND_LINE = 2  # the program's status
 ENDED = -1  # that of a program which took too long
@@ -24,8 +24,8 @@ class Printed(NamedTuple):
 
 
 def printed(program, words, data):
-    """What the program prints of an input. Its streams are files in memory: pipes would have to be served while it runs, which
-    takes longer than most runs."""
+    """What the program prints for an input. Its streams are files in memory: pipes would have to be served while it runs, which takes
+    longer than most runs."""
     with in_memory(data) as stdin, in_memory() as stdout, in_memory() as stderr:
         ran = subprocess.Popen([program, *words], stdin=stdin, stdout=stdout, stderr=stderr, close_fds=False)
         try:
@@ -54,7 +54,7 @@ def contents(file):
 
 
 def wait_for(ran):
-    """Waits until a process has ended; not for ever."""
+    """Waits until a process has ended, for at most `wait` seconds."""
     process = os.pidfd_open(ran.pid)
     try:
         poll = select.poll()
@@ -65,7 +65,7 @@ def wait_for(ran):
 
 
 def takes(program, words):
-    """Whether the program has such a command: it finds no journal in an empty input, and no fault in the words."""
+    """Whether the program has such a command: it then finds a fault in the empty input, and none in the command line."""
     return printed(program, words, b"").status != COMMAND_LINE
 
 
@@ -75,15 +75,16 @@ def refused(line):
 
 @functools.lru_cache(maxsize=1)
 def reading(data):
-    """What the rules read an input as: a journal or a fault. The last one is kept, since several commands get the same input."""
+    """The journal or the fault that the rules read from an input. The last one is kept, since several commands get the same input."""
     try:
         return journal.read_journal(data)
     except journal.Fault as fault:
         return fault
 
 
+@functools.lru_cache(maxsize=1)
 def wanted(command, data):
-    """What a command must print of an input; None where that takes too long."""
+    """What a command must print for an input; None if that takes too long. The last answer is kept, for several plans."""
     read = reading(data)
     if isinstance(read, journal.Fault):
         return refused(read)
@@ -110,7 +111,7 @@ def wanted_results(read):
 
 
 def day_faults(read):
-    """The fault of `dam day` on a journal; None where it has none."""
+    """The fault of `dam day` on a journal; None if there is none."""
     if len(read.commands) > rules.MOST_DAY_COMMANDS:
         return "input: TooManyCommands"
     participants = set()
@@ -164,8 +165,8 @@ def by_participant(commands):
 
 
 def differences(program, command, words, data):
-    """What is wrong with what a command prints of an input; nothing where all is right, and LATE alone where it was ended. A
-    reading of the rules that fails is a difference too."""
+    """What is wrong with what a command prints for an input: nothing if all is right, only LATE if it took too long. A failure of the
+    tool is a difference too."""
     try:
         return found_differences(program, command, words, data)
     except Exception as fault:

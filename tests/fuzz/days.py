@@ -58,8 +58,8 @@ class Draft:
         self.lines = [f"day,{self.periods},,,,,,,"]
 
     def meet(self):
-        """Many small orders at near prices in few periods, and smaller blocks: there are many ways to accept them, and some
-        would lose where the welfare is greatest."""
+        """Many small orders at similar prices in few periods, and smaller blocks: there are many ways to accept them, and some would
+        lose in the selection of greatest welfare."""
         rng = self.rng
         middle, most = rng.randint(2_000, 9_000), rng.choice([10, 60])
         self.price = lambda: middle + 50 * rng.randint(-6, 6)
@@ -105,7 +105,7 @@ class Draft:
         self.submitted(who, name)
 
     def limit(self, side, child):
-        """The limit of a block. That of a child may be the best of several, so that it gains where its parent loses."""
+        """The limit of a block. A child's may be the best of several, so that the child gains while its parent loses."""
         drawn = [self.price() for _ in range(4 if child and self.rng.random() < 0.6 else 1)]
         return max(drawn) if side == "buy" else min(drawn)
 

@@ -2,7 +2,7 @@
 
 
 def without(parts, fails, tries):
-    """Leaves out runs of parts, long ones first, as long as what is left still fails; and how many tries are left."""
+    """Leaves out runs of parts, long ones first, while what is left still fails. Returns that, and how many tries are left."""
     size = len(parts) // 2
     while size >= 1:
         at = 0
@@ -18,7 +18,7 @@ def without(parts, fails, tries):
 
 
 def shrink(data, fails, tries):
-    """A part of the input that still fails: with fewer lines, then with fewer bytes. So many smaller inputs are tried."""
+    """A part of the input that still fails: with fewer lines, then with fewer bytes. At most `tries` smaller inputs are tried."""
     lines, tries = without(data.splitlines(keepends=True), fails, tries)
     data = b"".join(lines)
     parts, _ = without([data[at : at + 1] for at in range(len(data))], fails, tries)

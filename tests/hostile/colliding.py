@@ -1,5 +1,5 @@
 """Names of orders that collide in a book's map under the fixed seed cost no more than others, since the program draws a seed of its
-own. If it gets no random bytes, it takes the fixed seed, and then they do: so the names collide, and each engine hands its seed on.
+own. If it gets no random bytes, it takes the fixed seed, and then they do: so the names collide, and each engine passes its seed on.
 
 The cost is a number of instructions, which valgrind counts: it does not depend on what else the machine does."""
 
@@ -11,7 +11,7 @@ import subprocess
 from preload import Refusal
 
 ORDERS = 4_000  # the most that a book holds
-TIMES = 3  # names that collide take less than so many times the instructions of others; with the fixed seed 50 times and more
+TIMES = 3  # names that collide take less than 3 times the instructions of others; with the fixed seed 50 times or more
 SECONDS = 1_200  # for a run of some seconds, on a machine that has much else to do
 DRAWN = Refusal("random")
 FIXED = Refusal("random", first=1, error=errno.ENOSYS)
@@ -34,7 +34,7 @@ def journal(names, word):
 
 
 def instructions(program, word, data, refusal):
-    """How many instructions a run takes that answers."""
+    """How many instructions a run takes, which must succeed."""
     log = program.counts().with_suffix(".valgrind")
     count = [shutil.which("valgrind"), "--tool=cachegrind", "--cache-sim=no", "--cachegrind-out-file=/dev/null", f"--log-file={log}"]
     printed, _ = program.run([word], data, refusal, seconds=SECONDS, under=count)
@@ -51,6 +51,7 @@ def run(runs):
     counts = list(runs.pool.map(lambda it: instructions(runs.program, *it), tried))
     for at, word in enumerate(WORDS):
         drawn, fixed = (counts[4 * at + seed + 1] / counts[4 * at + seed] for seed in (0, 2))
-        print(f"{word}, names that collide: {drawn:.1f} times the instructions of others, {fixed:.1f} times with the fixed seed", flush=True)
+        took = f"{drawn:.1f} times the instructions of others, {fixed:.1f} times with the fixed seed"
+        print(f"{word}, names that collide: {took}", flush=True)
         runs.check(f"{word}: names that collide take {drawn:.1f} times the instructions of others", drawn < TIMES)
         runs.check(f"{word}: with the fixed seed, names that collide take only {fixed:.1f} times those of others", fixed > TIMES)

@@ -1,5 +1,5 @@
-"""Memory refused to the calls at a gate: `dam_refusals` makes each call again that memory was refused to, and looks whether the
-refused one has changed nothing."""
+"""Memory is refused to the calls at a gate: `dam_refusals` repeats each call that was refused memory, and checks that the refused call
+changed nothing."""
 
 from pathlib import Path
 
@@ -16,8 +16,8 @@ def told(entries, refused):
 
 
 def run(runs, room, data):
-    """Refuses each call for memory in turn: up to some call they are of what comes before the gate, and then of calls at the gate,
-    each of which is refused once and then answered."""
+    """Refuses each call for memory in turn. The first ones come before the gate; the others come from calls at the gate, each of which
+    is refused once and then answered."""
     runs.check("dam_refusals is built", REFUSALS.exists())
     if not REFUSALS.exists():
         return

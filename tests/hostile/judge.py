@@ -66,8 +66,8 @@ def by_participant(commands):
 
 
 def memory(answer, refusal, got, calls):
-    """Want of memory: the answer as usual, or the line for memory; and where nothing is granted any more, or the fault's line is
-    what was refused, no line."""
+    """Memory is refused: the usual answer, or the line for memory; or no line, if nothing is granted any more or the fault's line
+    itself was refused."""
     if answer.is_given(got):
         return True
     if calls < refusal.first:
@@ -78,7 +78,7 @@ def memory(answer, refusal, got, calls):
 
 
 def unchanged(answer, _refusal, got, _calls):
-    """A thread that can't be started, or random bytes that aren't given, change no answer."""
+    """A refused thread or refused random bytes change no answer."""
     return answer.is_given(got)
 
 
@@ -90,7 +90,7 @@ def read(answer, refusal, got, calls):
 
 
 def write(answer, refusal, got, calls):
-    """A failed write ends the run, what was written is a front of the text, and the line tells its length."""
+    """A failed write ends the run; what was written are the first bytes of the text, and the line says how many."""
     text = answer.usual.stdout
     if calls < refusal.first:
         return got == answer.usual
@@ -100,5 +100,5 @@ def write(answer, refusal, got, calls):
 
 
 def report(answer, _refusal, got, _calls):
-    """Where the fault's line can't be written, its status stands."""
+    """If the fault's line can't be written, its status stays."""
     return answer.usual.stderr.startswith(got.stderr) and got._replace(stderr=answer.usual.stderr) == answer.usual

@@ -18,8 +18,8 @@ class Printed(NamedTuple):
 
 
 class Refusal(NamedTuple):
-    """The calls of a kind that fail, by their numbers from 1, with an error number, or with 0 bytes moved where that is 0; and how
-    many bytes every other one moves at most, where that isn't 0."""
+    """The calls of a kind that fail, by their numbers from 1, with an error number or, if that is 0, with 0 bytes moved; and how many
+    bytes every other call moves at most, if that isn't 0."""
 
     kind: str
     first: int = EVERY
@@ -28,7 +28,7 @@ class Refusal(NamedTuple):
     most: int = 0
 
     def moved_before(self, count):
-        """How many of so many bytes the reads or writes before the first refused one move."""
+        """How many of `count` bytes the reads or writes before the first refused one move."""
         return min(count, (self.first - 1) * (self.most or count))
 
 

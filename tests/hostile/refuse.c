@@ -3,8 +3,8 @@
 
    HOSTILE in the environment is 'KIND FIRST LAST ERROR MOST'. KIND is memory, thread, random, read (of standard input), write (of
    standard output) or report (writes to standard error). The calls of the kind whose numbers are from FIRST to LAST fail with the
-   error number ERROR; where that is 0, such a read or write moves no byte. Every other read or write of the kind moves MOST bytes
-   at most, or all where MOST is 0. The number of calls so far stands in the file that HOSTILE_CALLS names. */
+   error number ERROR; if that is 0, such a read or write moves no byte. Every other read or write of the kind moves at most MOST
+   bytes, or all if MOST is 0. The file that HOSTILE_CALLS names holds the number of calls so far. */
 
 #define _GNU_SOURCE
 #include <dlfcn.h>

@@ -31,7 +31,7 @@ class Row(NamedTuple):
     data: bytes
     kind: str
     judge: object
-    last: object = None  # the last refused call, where that isn't the first one
+    last: object = None  # the last refused call, if that isn't the first one
     error: int = 0
     most: int = 0
     runs: int = FEW
@@ -195,12 +195,12 @@ class Answer(judge.Answer):
         self.words = words
 
     def of_front(self, count):
-        """The answer on so many of the first bytes."""
+        """The answer to the first `count` bytes."""
         return self.runs.answer(self.words, self.data[:count])
 
 
 def closed(program, words, data, stream):
-    """What is printed where a standard stream is closed from the start."""
+    """What is printed if a standard stream is closed from the start."""
     command = ["sh", "-c", f'exec "$0" "$@" {stream}', program.path, *words]
     with open(program.given(data), "rb") as stdin:
         ran = subprocess.run(command, stdin=stdin, stdout=subprocess.PIPE, stderr=subprocess.PIPE, timeout=SECONDS)
@@ -208,7 +208,7 @@ def closed(program, words, data, stream):
 
 
 def devices(runs):
-    """Standard streams that are closed, full, or that nobody reads."""
+    """Standard streams that are closed or full, or that no program reads."""
     for words, data in [(["replay"], AUCTION), (["clear"], AUCTION), (["day"], OPEN_AUCTION), (["--help"], b"")]:
         runs.check(f"{words[0]} to a closed stream", is_failed_write(closed(runs.program, words, data, ">&-")))
         runs.check(f"{words[0]} with no standard error", closed(runs.program, words, data, ">&- 2>&-").status == judge.MACHINE)
@@ -253,7 +253,7 @@ def main():
         colliding.run(runs)
         cancels.run(runs)
     else:
-        print("left out: names that collide, cancels: there is no valgrind, which counts instructions")
+        print("left out: names that collide, and many cancels: valgrind, which counts instructions, is missing")
         skipped = 2
     print(f"{runs.passed} passed, {runs.failed} failed" + f", {skipped} skipped" * skipped)
     return 1 if runs.failed else 0

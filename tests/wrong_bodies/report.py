@@ -1,6 +1,6 @@
 """What a check printed: whether the crate is proved, and which functions were refused for themselves.
 
-A check goes on after a function that it does not prove, and tells of each function by a line `fn NAME: ..`. The goals that are not
+A check goes on after a function that it does not prove, and reports each function in a line `fn NAME: ..`. The goals that are not
 proved stand in notes right above that line; the errors of proof files stand together at the top, and belong to the function of
 their folder. `it calls F, which is not proved` alone is no refusal of the function's own: what calls a function sees its contract
 and never its body, so a caller is checked to its end all the same.

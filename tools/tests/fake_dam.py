@@ -42,6 +42,8 @@ def main():
         time.sleep(60)
     if defect == "price" and b"period,1,175000" in answer.stdout:
         answer = answer._replace(stdout=answer.stdout.replace(b"period,1,175000", b"period,1,175001"))
+    if defect == "plan" and sys.argv[2:] == ["--workers", "8", "--cut", "8"]:
+        answer = answer._replace(stdout=answer.stdout.replace(b"welfare,", b"welfare,1", 1))
     if defect == "status" and answer.status:
         answer = answer._replace(status=answer.status + 1)
     if defect == "order" and b"results\n" in answer.stdout:

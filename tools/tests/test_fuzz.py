@@ -35,6 +35,12 @@ class Fuzz(unittest.TestCase):
         self.assertTrue(all(re.fullmatch(rb"day,(?:2[345]|9[26]|100),,,,,,,\nclose,,,,,,,,\n?", case) for case in kept), kept)
         self.assertGreater(len(kept), 0)
 
+    def test_one_plan_that_differs_is_found(self):
+        words = ["--count", "2", "--seed", "a", "--commands", "clear", "--every-plan", "--tries", "3"]
+        self.assertEqual(self.fuzz(*words), (0, "2 passed, 0 failed\n", []))
+        status, out, _ = self.fuzz(*words, defect="plan")
+        self.assertEqual((status, "clear --workers 8 --cut 8: stdout differs" in out), (1, True), out)
+
     def test_a_wrong_status_is_found(self):
         status, out, kept = self.fuzz("--count", "4", "--seed", "b", "--commands", "replay", defect="status")
         self.assertEqual((status, "status differs" in out, b"" in kept), (1, True, True), out)

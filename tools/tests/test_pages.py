@@ -1,16 +1,17 @@
-"""The pages: that their links lead somewhere, that a table can be read, and that README's first example is printed."""
+"""The pages: that links lead somewhere, that lines and cells can be read, and that README's first example is printed."""
 
 import re
 import unittest
 
-from support import TOP, cases, printed
+from support import TOP, book, cases, journal, printed, tool
 
 PAGES = [TOP / "README.md", TOP / "CHANGELOG.md", *sorted((TOP / "docs").glob("*.md"))]
 LINK = re.compile(r"\]\(([^)#\s]*)(?:#([^)\s]*))?\)")
 FENCE = re.compile(r"^```.*?^```$", re.MULTILINE | re.DOTALL)
-# Pages that are reference tables, and the one that bench/run writes.
-WIDE = {"DEFINITIONS.md", "FORMATS.md", "MEASURED.md"}
 MOST = 200  # characters of a cell
+WIDEST = 140  # columns of a line that isn't of a table
+# What the house rule of English has other words for, apart from the table of that rule.
+OTHER_WORDS = re.compile(r"\b(anew|beside|dear|so many|want of|whoever)\b", re.IGNORECASE)
 EXAMPLE = re.compile(r"^```text\n(day,24\nwelfare.*?)^```$", re.MULTILINE | re.DOTALL)
 
 
@@ -37,18 +38,51 @@ class Pages(unittest.TestCase):
     def test_cells_of_tables_are_short(self):
         for page in PAGES:
             for line in prose(page).splitlines():
-                if page.name not in WIDE and line.startswith("|"):
+                if line.startswith("|"):
                     for cell in line.strip("|").split("|"):
                         with self.subTest(page=page.name, cell=cell[:40]):
                             self.assertLessEqual(len(cell.strip()), MOST)
 
+    def test_tables_have_a_head(self):
+        for page in PAGES:
+            for table in re.findall(r"(?:^\|.*\n)+", prose(page), re.MULTILINE):
+                with self.subTest(page=page.name, table=table[:40]):
+                    self.assertRegex(table, r"\A\|.*\n\|[-|]+\n\|")
+
+    def test_lines_are_not_too_wide(self):
+        for page in PAGES:
+            for line in page.read_text().splitlines():
+                if not line.startswith("|"):
+                    with self.subTest(page=page.name, line=line[:40]):
+                        self.assertLessEqual(len(line), WIDEST)
+
+    def test_words_of_the_house_rule(self):
+        for page in PAGES:
+            for line in page.read_text().splitlines():
+                if not (page.name == "CONTRIBUTING.md" and line.startswith("|")):
+                    with self.subTest(page=page.name, line=line[:40]):
+                        self.assertIsNone(OTHER_WORDS.search(line))
+
     def test_the_first_example_is_printed(self):
-        case = next(case for case in cases("clear") if case.stem == "auction-day")
+        (case,) = cases("clear-merit-order")
         lines = printed(case).decode().splitlines()
         quoted = [line.split("  ")[0] for line in EXAMPLE.search((TOP / "README.md").read_text())[1].splitlines() if line != ".."]
         self.assertGreater(len(quoted), 4)
         self.assertEqual(quoted, [line for line in lines if line in quoted])
-        self.assertEqual(case.read_bytes(), (TOP / "examples" / "auction-day.csv").read_bytes())
+        self.assertEqual(case.read_bytes(), (TOP / "examples" / "sunny-day.csv").read_bytes())
+
+    def test_the_table_of_orders_makes_a_journal(self):
+        table = re.search(r"```text\n(participant,order,.*?)```", (TOP / "docs" / "USING.md").read_text(), re.DOTALL)[1]
+        status, made, said = tool("table", "--journal", "-", data=table.encode())
+        self.assertEqual((status, said), (0, ""))
+        _, reasons = book.run(journal.read_journal(made))
+        self.assertEqual(reasons, [None] * len(table.splitlines()))
+
+    def test_the_refused_commands_are_refused(self):
+        text = (TOP / "docs" / "USING.md").read_text()
+        quoted = re.search(r"replay < examples/(\S+) \| grep refused\n```\n\n```text\n(.*?)```", text, re.DOTALL)
+        read = journal.read_journal((TOP / "examples" / quoted[1]).read_bytes())
+        self.assertEqual(quoted[2].splitlines(), [line for line in book.replies_text(read).splitlines() if "refused" in line])
 
 
 if __name__ == "__main__":
