@@ -253,7 +253,7 @@ def main():
         colliding.run(runs)
         cancels.run(runs)
     else:
-        print("left out: names that collide, and cancels: valgrind, which counts instructions, is missing")
+        print("left out: names that collide, and many cancels: valgrind, which counts instructions, is missing")
         skipped = 2
     print(f"{runs.passed} passed, {runs.failed} failed" + f", {skipped} skipped" * skipped)
     return 1 if runs.failed else 0
