@@ -7,7 +7,9 @@
 mod progress;
 
 use dam_book::Seed;
-use dam_engines::{RunFault, fault_line, run_clear, run_day, run_replay, status, write_text};
+use dam_engines::{
+    RunFault, Sink, Source, fault_line, run_clear, run_day, run_replay, status, write_text,
+};
 use dam_line::{Job, LineFault, read_line};
 use dam_search::FreeTurn;
 use progress::Progress;
@@ -26,7 +28,7 @@ fn main(rt: HostRuntime) -> ExitCode {
     };
     hint(&rt);
     let progress = Progress::new(&rt, rt.stderr().is_terminal());
-    let (mut input, mut output) = (rt.stdin(), rt.stdout());
+    let (mut input, mut output) = (Source::new(rt.stdin()), Sink::new(rt.stdout()));
     let seed = Seed::drawn(&rt);
     let done = match job {
         Job::Replay => run_replay(rt.alloc(), seed, &mut input, &mut output),
@@ -101,7 +103,7 @@ fn report(rt: &HostRuntime, fault: &RunFault) -> ExitCode {
 fn answer(rt: &HostRuntime, fault: &LineFault) -> ExitCode {
     match fault {
         LineFault::Refused { help: true, text } => {
-            match write_text(&mut rt.stdout(), text.as_bytes()) {
+            match write_text(&mut Sink::new(rt.stdout()), text.as_bytes()) {
                 Ok(()) => ExitCode::SUCCESS,
                 Err(fault) => report(rt, &fault),
             }

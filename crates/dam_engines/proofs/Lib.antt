@@ -1,6 +1,7 @@
 pub mod Readings
 pub mod Fronts
 pub mod Cuts
+pub mod Devices
 pub mod Runs
 pub mod Results
 pub mod DayFaults

@@ -1,4 +1,5 @@
 pub mod Fault
+pub mod Device
 pub mod Engine
 pub mod Replay
 pub mod Clear

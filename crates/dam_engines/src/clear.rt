@@ -1,10 +1,12 @@
-ghost use Rattle.std.specs.Prelude.{◌≡◌, ◌≢◌, ◌↔◌, ℕ, List, false, IfOk, IfErr, IfSome, IsErrOf, OnOk, MatchResult};
+ghost use Rattle.std.specs.Prelude.{◌≡◌, ◌≢◌, ◌≤◌, ◌+◌, ◌↔◌, ℕ, List, false, IfOk, IfErr, IfSome, IsErrOf, OnOk, MatchResult};
 ghost use Rattle.dam_book.specs.Book.{run};
 ghost use Rattle.dam_book.specs.declared.command.Command.{Command};
 ghost use Rattle.dam_results.specs.Journal.{ReadsAs};
-ghost use Rattle.dam_engines.specs.Engine.{CutsOff, IsTextFault, Writes};
+ghost use Rattle.dam_engines.specs.Device.{HaveFailed, HaveServed};
+ghost use Rattle.dam_engines.specs.Engine.{CutsOff, IsTextFault, Writes, most_read};
 ghost use Rattle.dam_engines.specs.Clear.{AreResultsTo, IsBookFault, IsClearedAs, IsClearFault, IsClearTextFault, IsFaultOnBook};
 
+use crate::device::{Sink, Source};
 use crate::fault::RunFault;
 use crate::input::read_input;
 use crate::output::write_text;
@@ -25,29 +27,33 @@ use std::thread::Threads;
 /// plan changes no results, but by its limit on nodes the search may end `Unfinished`. The book hashes names by the seed.
 ///
 /// Of a reader that doesn't tell its bytes nothing is said, and of a writer that doesn't tell its bytes
-/// nothing is said of what it took. Standard input and output tell no bytes. No clause says that the
-/// reader or the writer failed where `Read` or `Write` is answered: tests show it.
+/// nothing is said of what it took. Standard input and output tell no bytes. Whether a device failed, how often the reader
+/// was asked, and that the writer was flushed is said of every reader and writer.
 pub fn run_clear<H: Threads + Sync, R: Read, W: Write, T: Watch + Sync>(
     rt: &H,
     alloc: Global,
     seed: Seed,
-    reader: &mut R,
-    writer: &mut W,
+    reader: &mut Source<R>,
+    writer: &mut Sink<W>,
     plan: Plan,
     turnstile: &T,
 ) -> Result<(), RunFault>
-    ensures done { OnOk result (IfSome (R.remaining reader.old) (λ given.
-        Writes (W.contents writer.old) (W.contents writer.new) (AreResultsTo given))) }
+    ensures done { OnOk result (IfSome reader.old.given (λ given.
+        Writes writer.old.taken writer.new.taken (AreResultsTo given))) }
     ensures fault { IfErr result (λ fault.
-        IfSome (R.remaining reader.old) (λ given. IsClearFault plan given fault)) }
+        IfSome reader.old.given (λ given. IsClearFault plan given fault)) }
     ensures unwritten { IfErr result (λ fault.
         ((written : ℕ) → fault ≢ RunFault.Write written) → writer.new ≡ writer.old) }
-    ensures cut { IfErr result (λ fault. IfSome (R.remaining reader.old) (λ given.
-        CutsOff (W.contents writer.old) (W.contents writer.new) (AreResultsTo given) fault)) }
-    ensures exact { (periods : ℕ) (commands : List Command) → IfSome (R.remaining reader.old)
+    ensures cut { IfErr result (λ fault. IfSome reader.old.given (λ given.
+        CutsOff writer.old.taken writer.new.taken (AreResultsTo given) fault)) }
+    ensures exact { (periods : ℕ) (commands : List Command) → IfSome reader.old.given
         (λ given. ReadsAs given periods commands → MatchResult result
-        (λ _. Writes (W.contents writer.old) (W.contents writer.new) (IsClearedAs (run periods commands)))
+        (λ _. Writes writer.old.taken writer.new.taken (IsClearedAs (run periods commands)))
         (IsFaultOnBook plan (run periods commands))) }
+    ensures devices { MatchResult result
+        (λ _. HaveServed reader.old reader.new writer.old writer.new)
+        (HaveFailed reader.old reader.new writer.old writer.new) }
+    ensures asked { reader.new.asked ≤ reader.old.asked + most_read }
 {
     let text = read_input(alloc, reader)?;
     let results = clear_text(rt, alloc, seed, text.as_slice(), plan, turnstile)?;

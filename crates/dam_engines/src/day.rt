@@ -1,14 +1,16 @@
-ghost use Rattle.std.specs.Prelude.{◌≡◌, ◌≢◌, ℕ, List, None, true, IfOk, IfErr, IfSome, OnOk, MatchResult};
+ghost use Rattle.std.specs.Prelude.{◌≡◌, ◌≢◌, ◌≤◌, ◌+◌, ℕ, List, None, true, IfOk, IfErr, IfSome, OnOk, MatchResult};
 ghost use Rattle.dam_book.specs.Book.{is_day};
 ghost use Rattle.dam_book.specs.declared.command.Command.{Command};
 ghost use Rattle.dam_gate.specs.Day.{IsDayRun, refused};
 ghost use Rattle.dam_gate.specs.Journal.{IsJournal};
 ghost use Rattle.dam_results.specs.Journal.{ReadsAs};
-ghost use Rattle.dam_engines.specs.Engine.{CutsOff, Writes};
+ghost use Rattle.dam_engines.specs.Device.{HaveFailed, HaveServed};
+ghost use Rattle.dam_engines.specs.Engine.{CutsOff, Writes, most_read};
 ghost use Rattle.dam_engines.specs.Clear.{IsBookFault, IsClearedAs};
 ghost use Rattle.dam_engines.specs.Day.{IsCommandsFault, IsDayText, IsDayTextFault, IsDayTextTo, IsEarlyFault, IsFaultOnDay, IsRunDayFault, with_results};
 
 use crate::clear::clear_book;
+use crate::device::{Sink, Source};
 use crate::fault::RunFault;
 use crate::input::read_input;
 use crate::output::write_text;
@@ -39,24 +41,28 @@ pub fn run_day<H: Threads + Wait + Sync, R: Read, W: Write, T: Watch + Sync, U: 
     rt: &H,
     alloc: Global,
     seed: Seed,
-    reader: &mut R,
-    writer: &mut W,
+    reader: &mut Source<R>,
+    writer: &mut Sink<W>,
     plan: Plan,
     turnstile: &T,
     entrance: &U,
 ) -> Result<(), RunFault>
-    ensures done { OnOk result (IfSome (R.remaining reader.old) (λ given.
-        Writes (W.contents writer.old) (W.contents writer.new) (IsDayTextTo given))) }
+    ensures done { OnOk result (IfSome reader.old.given (λ given.
+        Writes writer.old.taken writer.new.taken (IsDayTextTo given))) }
     ensures fault { IfErr result (λ fault.
-        IfSome (R.remaining reader.old) (λ given. IsRunDayFault plan given fault)) }
+        IfSome reader.old.given (λ given. IsRunDayFault plan given fault)) }
     ensures unwritten { IfErr result (λ fault.
         ((written : ℕ) → fault ≢ RunFault.Write written) → writer.new ≡ writer.old) }
-    ensures cut { IfErr result (λ fault. IfSome (R.remaining reader.old) (λ given.
-        CutsOff (W.contents writer.old) (W.contents writer.new) (IsDayTextTo given) fault)) }
-    ensures exact { (periods : ℕ) (commands : List Command) → IfSome (R.remaining reader.old)
+    ensures cut { IfErr result (λ fault. IfSome reader.old.given (λ given.
+        CutsOff writer.old.taken writer.new.taken (IsDayTextTo given) fault)) }
+    ensures exact { (periods : ℕ) (commands : List Command) → IfSome reader.old.given
         (λ given. ReadsAs given periods commands → MatchResult result
-        (λ _. Writes (W.contents writer.old) (W.contents writer.new) (IsDayText periods commands))
+        (λ _. Writes writer.old.taken writer.new.taken (IsDayText periods commands))
         (IsFaultOnDay plan periods commands)) }
+    ensures devices { MatchResult result
+        (λ _. HaveServed reader.old reader.new writer.old writer.new)
+        (HaveFailed reader.old reader.new writer.old writer.new) }
+    ensures asked { reader.new.asked ≤ reader.old.asked + most_read }
 {
     let text = read_input(alloc, reader)?;
     let day = day_text(rt, alloc, seed, text, plan, turnstile, entrance)?;

@@ -1,6 +1,8 @@
-ghost use Rattle.std.specs.Prelude.{◌≡◌, take, IfOk, IfErr, IfSome};
+ghost use Rattle.std.specs.Prelude.{◌≡◌, ◌≤◌, ◌+◌, take, IfOk, IfErr, IfSome, MatchResult};
+ghost use Rattle.dam_engines.specs.Device.{HasRead};
 ghost use Rattle.dam_engines.specs.Engine.{most_read, IsReadingFault};
 
+use crate::device::Source;
 use crate::fault::RunFault;
 use dam_results::MOST_BYTES;
 use std::alloc::Global;
@@ -14,12 +16,16 @@ const CHUNK: usize = 65_536;
 
 /// The reader's bytes, to their end or to the first `MOST_READ` of them.
 ///
-/// Any error of the reader ends it, one that asks to try again too. Each answer but the last gives a
-/// byte or more, so the reader is asked at most once more than there are bytes read.
-pub fn read_input<R: Read>(alloc: Global, reader: &mut R) -> Result<Vec<u8>, RunFault>
+/// The first failure of the reader ends it. Each answer but the last gives a byte or more, and after `MOST_READ` bytes the
+/// reader isn't asked again.
+pub fn read_input<R: Read>(alloc: Global, reader: &mut Source<R>) -> Result<Vec<u8>, RunFault>
     ensures text { IfOk result (λ text.
-        IfSome (R.remaining reader.old) (λ given. text.items ≡ take most_read given)) }
+        IfSome reader.old.given (λ given. text.items ≡ take most_read given)) }
     ensures fault { IfErr result IsReadingFault }
+    ensures cause { MatchResult result
+        (λ _. reader.new.failed ≡ reader.old.failed)
+        (HasRead reader.old reader.new) }
+    ensures asked { reader.new.asked ≤ reader.old.asked + most_read }
 {
     let mut text = Vec::new(alloc);
     let mut chunk = [0; CHUNK];

@@ -8,6 +8,7 @@
 //!
 //! ```
 //! let plan = Plan::new(2, 3, MOST_NODES)?; // workers, depth of the cutting, nodes of a piece
+//! let (mut reader, mut writer) = (Source::new(rt.stdin()), Sink::new(rt.stdout()));
 //! match run_clear(rt, alloc, Seed::fixed(), &mut reader, &mut writer, plan, &FreeTurn) {
 //!     Ok(()) => 0,
 //!     Err(fault) => status(&fault),
@@ -16,8 +17,12 @@
 //!
 //! A contract sees a reader as the bytes that it has left, and a writer as those that it took, if they tell them: standard
 //! input and output don't. What is printed for which bytes, and the text of each fault, stand in `specs/`. A closed book has
-//! one results text at most ([`laws::cleared_text_is_one`]). Only tested is that a failure of the reader or of the writer is
-//! told only after there was one, that the writer is flushed, how often the reader is asked, that a [`Watch`] is called, and
+//! one results text at most ([`laws::cleared_text_is_one`]).
+//!
+//! A reader comes as a [`Source`] and a writer as a [`Sink`], which keep whether they failed, how often they were asked, and
+//! whether the writer was flushed after all that it took. So the contracts say, of any reader and writer, that an engine
+//! reports each failure of a device and no other, flushes its text, and asks the reader at most once for each byte up to the
+//! first beyond the limit. Only tested is that the few lines of the two types keep this rightly, that a [`Watch`] is called, and
 //! that memory isn't said to have run out if it hasn't.
 //!
 //! The crate knows nothing of the command line, nor of terminals.
@@ -25,6 +30,7 @@
 
 mod clear;
 mod day;
+mod device;
 mod fault;
 mod input;
 pub mod laws;
@@ -34,6 +40,7 @@ mod watch;
 
 pub use clear::run_clear;
 pub use day::run_day;
+pub use device::{Sink, Source};
 pub use fault::{RunFault, fault_line, status};
 pub use output::write_text;
 pub use replay::run_replay;

@@ -1,11 +1,13 @@
-ghost use Rattle.std.specs.Prelude.{◌≡◌, ◌≢◌, ℕ, List, IfOk, IfErr, IfSome, OnOk, MatchResult};
+ghost use Rattle.std.specs.Prelude.{◌≡◌, ◌≢◌, ◌≤◌, ◌+◌, ℕ, List, IfOk, IfErr, IfSome, OnOk, MatchResult};
 ghost use Rattle.std.specs.Io.KnownBytes.{Appends};
 ghost use Rattle.dam_book.specs.declared.command.Command.{Command};
 ghost use Rattle.dam_results.specs.Journal.{ReadsAs};
-ghost use Rattle.dam_engines.specs.Engine.{CutsOff, IsFaultOn, IsMachineFault, IsTextFault, Writes};
+ghost use Rattle.dam_engines.specs.Device.{HaveFailed, HaveServed};
+ghost use Rattle.dam_engines.specs.Engine.{CutsOff, IsFaultOn, IsMachineFault, IsTextFault, Writes, most_read};
 ghost use Rattle.dam_results.specs.Replies.{replies_to};
 ghost use Rattle.dam_engines.specs.Replay.{AreRepliesTo};
 
+use crate::device::{Sink, Source};
 use crate::fault::RunFault;
 use crate::input::read_input;
 use crate::output::write_text;
@@ -21,26 +23,30 @@ use std::io::{Read, Write};
 /// may be, not all of it is read. The book hashes names by the seed.
 ///
 /// Of a reader that doesn't tell its bytes nothing is said, and of a writer that doesn't tell its bytes
-/// nothing is said of what it took. Standard input and output tell no bytes. No clause says that the
-/// reader or the writer failed where `Read` or `Write` is answered: tests show it.
+/// nothing is said of what it took. Standard input and output tell no bytes. Whether a device failed, how often the reader
+/// was asked, and that the writer was flushed is said of every reader and writer.
 pub fn run_replay<R: Read, W: Write>(
     alloc: Global,
     seed: Seed,
-    reader: &mut R,
-    writer: &mut W,
+    reader: &mut Source<R>,
+    writer: &mut Sink<W>,
 ) -> Result<(), RunFault>
-    ensures done { OnOk result (IfSome (R.remaining reader.old) (λ given.
-        Writes (W.contents writer.old) (W.contents writer.new) (AreRepliesTo given))) }
+    ensures done { OnOk result (IfSome reader.old.given (λ given.
+        Writes writer.old.taken writer.new.taken (AreRepliesTo given))) }
     ensures fault { IfErr result (λ fault.
-        IfSome (R.remaining reader.old) (λ given. IsFaultOn given fault)) }
+        IfSome reader.old.given (λ given. IsFaultOn given fault)) }
     ensures unwritten { IfErr result (λ fault.
         ((written : ℕ) → fault ≢ RunFault.Write written) → writer.new ≡ writer.old) }
-    ensures cut { IfErr result (λ fault. IfSome (R.remaining reader.old) (λ given.
-        CutsOff (W.contents writer.old) (W.contents writer.new) (AreRepliesTo given) fault)) }
-    ensures exact { (periods : ℕ) (commands : List Command) → IfSome (R.remaining reader.old)
+    ensures cut { IfErr result (λ fault. IfSome reader.old.given (λ given.
+        CutsOff writer.old.taken writer.new.taken (AreRepliesTo given) fault)) }
+    ensures exact { (periods : ℕ) (commands : List Command) → IfSome reader.old.given
         (λ given. ReadsAs given periods commands → MatchResult result
-        (λ _. Appends (W.contents writer.old) (W.contents writer.new) (replies_to periods commands))
+        (λ _. Appends writer.old.taken writer.new.taken (replies_to periods commands))
         IsMachineFault) }
+    ensures devices { MatchResult result
+        (λ _. HaveServed reader.old reader.new writer.old writer.new)
+        (HaveFailed reader.old reader.new writer.old writer.new) }
+    ensures asked { reader.new.asked ≤ reader.old.asked + most_read }
 {
     let text = read_input(alloc, reader)?;
     let replies = replies_of(alloc, seed, text.as_slice())?;

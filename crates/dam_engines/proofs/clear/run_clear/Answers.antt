@@ -1,9 +1,13 @@
 -- What is answered to the text that was read is answered to the given one.
+use Rattle.std.proofs.Common.{refl}
 use Rattle.std.proofs.lemmas.Result.{err_from_is_err_and}
 use Rattle.dam_book.specs.Book.{run}
 use Rattle.dam_engines.specs.Clear.{AreResults, AreResultsTo, IsBookFault, IsClearFault, IsClearTextFault, IsFaultOnBook}
 use Rattle.dam_engines.proofs.Fronts.{clear_fault-given, results-closed, book_fault-run}
 use Rattle.dam_engines.proofs.Runs.{known-fault, known-failed, known-done, known-exact, known-write, known-cut, known-uncut, unwritten, writes}
+use Rattle.dam_engines.proofs.Devices.{neither-failed, written-devices}
+use Rattle.dam_engines.proofs.Cuts.{reading-told}
+use Rattle.dam_engines.specs.Device.{HasWritten}
 use Rattle.dam_engines.proofs.clear.run_clear.Goals as goal
 
 pub returns-in_err-results-clause-fault : goal.returns-in_err-results-clause-fault
@@ -46,3 +50,18 @@ pub returns-clause-cut : goal.returns-clause-cut
 returns-clause-cut g c =
     let done = rw c.as_slice.ensures.value at c.in_ok-results.ensures.done in
     known-cut AreResults _ _ _ _ _ _ _ c.in_ok-text.ensures.text c.as_slice-2.ensures.value c.write_text.ensures.fault done
+
+pub returns-in_err-text-clause-devices : goal.returns-in_err-text-clause-devices
+returns-in_err-text-clause-devices g c =
+    let p = err_from_is_err_and c.from_residual.result c.from_residual.ensures.1 in
+    rw (p.1, p.2) (c.in_err-text.ensures.cause, reading-told (HasWritten c.args.writer.now c.args.writer.now) refl refl _ c.in_err-text.ensures.fault)
+
+pub returns-in_err-results-clause-devices : goal.returns-in_err-results-clause-devices
+returns-in_err-results-clause-devices g c =
+    let p = err_from_is_err_and c.from_residual-in_err-results.result c.from_residual-in_err-results.ensures.1 in
+    rw (p.1, p.2) (neither-failed (IsClearTextFault c.args.plan _) c.args.reader.now c.read_input.new.reader c.args.writer.now c.args.writer.now (λ is. is) (λ written is. is) c.in_ok-text.ensures.cause refl _ c.in_err-results.ensures.fault)
+
+pub returns-clause-devices : goal.returns-clause-devices
+returns-clause-devices g c =
+    written-devices c.args.reader.now c.read_input.new.reader c.args.writer.now c.write_text.new.writer _ _ _ _
+    c.in_ok-text.ensures.cause c.write_text.ensures.fault c.write_text.ensures.flushed c.write_text.ensures.cause

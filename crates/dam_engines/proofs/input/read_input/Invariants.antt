@@ -1,5 +1,5 @@
--- The text so far is within the bound, and is what the reader's bytes have lost.
-use Rattle.std.proofs.Common.{◌≡◌, ◌≤◌, ◌-◌, length}
+-- The text so far is within the bound, and is what the reader's bytes have lost; each turn so far gave it a byte or more.
+use Rattle.std.proofs.Common.{◌≡◌, ◌≤◌, ◌+◌, ◌-◌, length}
 use Rattle.std.specs.Io.KnownBytes.{Consumes}
 use Rattle.dam_engines.specs.declared.input.TheConstants.{CHUNK}
 use Rattle.dam_engines.specs.Engine.{most_read}
@@ -8,8 +8,10 @@ use Rattle.dam_engines.proofs.input.read_input.Given as goal
 abbrev pub invariant-loop-chunk : goal.invariant-loop-chunk
 invariant-loop-chunk g l = record {
   within : length l.text.items ≤ most_read;
-  taken : Consumes (g.R.Read.remaining l.initial.reader) (g.R.Read.remaining l.reader) l.text.items;
+  taken : Consumes l.initial.reader.given l.reader.given l.text.items;
   chunk : length l.chunk ≡ CHUNK;
+  asked : l.reader.asked ≤ l.initial.reader.asked + length l.text.items;
+  failed : l.reader.failed ≡ l.initial.reader.failed;
 }
 
 abbrev pub decreases-loop-chunk : goal.decreases-loop-chunk

@@ -1,9 +1,8 @@
 -- What a write took stands behind what the writer had taken before it.
-use Rattle.std.proofs.Common.{◌-◌, ◌≤◌, ◌++◌, length, take, drop, sym, ap, subst, ◌∙◌, arith, length-take}
-use Rattle.std.proofs.lemmas.List.{take_all}
+use Rattle.std.proofs.Common.{◌-◌, ◌++◌, length, take, drop, sym, ap, subst, ◌∙◌, arith, length-take}
 use Rattle.std.proofs.Math.Seq.{take-add, take-take}
 use Rattle.std.specs.Io.KnownBytes.{Appends}
-use Rattle.std.proofs.KnownBytes.{Appends-trans, Appends-kept}
+use Rattle.std.proofs.KnownBytes.{Appends-trans}
 use Rattle.dam_engines.proofs.output.write_text.Goals as goal
 
 pub loop-written-preserved : goal.loop-written-preserved
@@ -15,4 +14,8 @@ loop-written-preserved g c =
     let fits = c.in-Ok.ensures.bound in
     let most = length-take (length xs - done) (drop done xs) in
     let joined = ap (λ l. take done xs ++ l) (take-take n (length xs - done) (drop done xs) (omega arith)) ∙ sym (take-add done n xs) in
-    (omega arith, subst (Appends _ _) joined (Appends-trans _ _ _ _ _ before.1 c.in-Ok.ensures.bytes))
+    record {
+      taken = (omega (arith, fits), subst (Appends _ _) joined (Appends-trans _ _ _ _ _ before.taken.1 c.in-Ok.ensures.bytes));
+      asked = omega (arith, before.asked, c.write.ensures.asked, fits);
+      failed = c.in-Ok.ensures.cause ∙ before.failed;
+    }

@@ -1,5 +1,5 @@
 -- What is answered to the text that was read is answered to the given one.
-use Rattle.std.proofs.Common.{◌≡◌, ◌∙◌, subst, sym}
+use Rattle.std.proofs.Common.{◌≡◌, ◌∙◌, subst, sym, refl}
 use Rattle.std.proofs.lemmas.Result.{err_from_is_err_and, on_ok_weaker}
 use Rattle.std.specs.Io.KnownBytes.{Appends}
 use Rattle.dam_engines.specs.declared.fault.RunFault.TheVariants.{Memory}
@@ -8,6 +8,9 @@ use Rattle.dam_results.specs.Replies.{AreReplies}
 use Rattle.dam_engines.specs.Replay.{AreRepliesTo}
 use Rattle.dam_engines.proofs.Fronts.{fault-on_given, printed-journal}
 use Rattle.dam_engines.proofs.Runs.{known-fault, known-failed, known-done, known-exact, known-write, known-cut, known-uncut, unwritten}
+use Rattle.dam_engines.proofs.Devices.{neither-failed, written-devices}
+use Rattle.dam_engines.proofs.Cuts.{reading-told}
+use Rattle.dam_engines.specs.Device.{HasWritten}
 use Rattle.dam_engines.proofs.replay.run_replay.Goals as goal
 
 pub returns-in_err-replies-clause-fault : goal.returns-in_err-replies-clause-fault
@@ -50,3 +53,18 @@ pub returns-clause-cut : goal.returns-clause-cut
 returns-clause-cut g c =
     let done = rw c.as_slice.ensures.value at c.in_ok-replies.ensures.done in
     known-cut AreReplies _ _ _ _ _ _ _ c.in_ok-text.ensures.text c.as_slice-2.ensures.value c.write_text.ensures.fault done
+
+pub returns-in_err-text-clause-devices : goal.returns-in_err-text-clause-devices
+returns-in_err-text-clause-devices g c =
+    let p = err_from_is_err_and c.from_residual.result c.from_residual.ensures.1 in
+    rw (p.1, p.2) (c.in_err-text.ensures.cause, reading-told (HasWritten c.args.writer.now c.args.writer.now) refl refl _ c.in_err-text.ensures.fault)
+
+pub returns-in_err-replies-clause-devices : goal.returns-in_err-replies-clause-devices
+returns-in_err-replies-clause-devices g c =
+    let p = err_from_is_err_and c.from_residual-in_err-replies.result c.from_residual-in_err-replies.ensures.1 in
+    rw (p.1, p.2) (neither-failed (IsTextFault _) c.args.reader.now c.read_input.new.reader c.args.writer.now c.args.writer.now (λ is. is) (λ written is. is) c.in_ok-text.ensures.cause refl _ c.in_err-replies.ensures.fault)
+
+pub returns-clause-devices : goal.returns-clause-devices
+returns-clause-devices g c =
+    written-devices c.args.reader.now c.read_input.new.reader c.args.writer.now c.write_text.new.writer _ _ _ _
+    c.in_ok-text.ensures.cause c.write_text.ensures.fault c.write_text.ensures.flushed c.write_text.ensures.cause

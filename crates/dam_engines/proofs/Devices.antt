@@ -1,0 +1,34 @@
+-- The devices of a run that ends with a fault which isn't of a device, and of one whose writer failed.
+use Rattle.std.proofs.Common.{◌≡◌, ℕ, true, List, Option, Result, Ok, Err, OnOk, IfErr, MatchResult}
+use Rattle.dam_engines.specs.declared.fault.RunFault.{RunFault}
+use Rattle.dam_engines.specs.declared.fault.RunFault.TheVariants.{Read, Input, TooManyCommands, CloseGiven, TooManyParticipants, StillOpen, Mismatch, Unfinished, Collected, Memory, Write}
+use Rattle.dam_engines.specs.Device.{SourceState, SinkState, HaveFailed, HaveServed}
+use Rattle.dam_engines.specs.Engine.{IsCutOff}
+use Rattle.dam_engines.proofs.Cuts.{cut-told}
+
+-- a fault of no device, after which neither has failed
+pub neither-failed : {R W : Type 0} (Fails : RunFault → Type 0) (reader_old reader_new : SourceState R) (writer_old writer_new : SinkState W)
+    → ¬ (Fails Read) → ((written : ℕ) → ¬ (Fails (Write written)))
+    → reader_new.failed ≡ reader_old.failed → writer_new.failed ≡ writer_old.failed
+    → (fault : RunFault) → Fails fault → HaveFailed reader_old reader_new writer_old writer_new fault
+neither-failed Fails ro rn wo wn no_read no_write read written Read is = absurd (no_read is)
+neither-failed Fails ro rn wo wn no_read no_write read written (Input why) is = (read, written)
+neither-failed Fails ro rn wo wn no_read no_write read written TooManyCommands is = (read, written)
+neither-failed Fails ro rn wo wn no_read no_write read written (CloseGiven at) is = (read, written)
+neither-failed Fails ro rn wo wn no_read no_write read written (TooManyParticipants at) is = (read, written)
+neither-failed Fails ro rn wo wn no_read no_write read written StillOpen is = (read, written)
+neither-failed Fails ro rn wo wn no_read no_write read written (Mismatch why) is = (read, written)
+neither-failed Fails ro rn wo wn no_read no_write read written (Unfinished piece visited) is = (read, written)
+neither-failed Fails ro rn wo wn no_read no_write read written (Collected piece) is = (read, written)
+neither-failed Fails ro rn wo wn no_read no_write read written Memory is = (read, written)
+neither-failed Fails ro rn wo wn no_read no_write read written (Write count) is = absurd (no_write count is)
+
+-- a run of which the reader gave all, and whose text was then written
+pub written-devices : {R W : Type 0} (reader_old reader_new : SourceState R) (writer_old writer_new : SinkState W)
+    (old new : Option (List ℕ)) (sent : List ℕ) (result : Result (Unit {0}) RunFault)
+    → reader_new.failed ≡ reader_old.failed → IfErr result (IsCutOff old new sent) → OnOk result (writer_new.flushed ≡ true)
+    → MatchResult result (λ _. writer_new.failed ≡ writer_old.failed) (λ _. writer_new.failed ≡ true)
+    → MatchResult result (λ _. HaveServed reader_old reader_new writer_old writer_new) (HaveFailed reader_old reader_new writer_old writer_new)
+written-devices ro rn wo wn old new sent (Ok done) read cut flushed cause = (read, cause, flushed)
+written-devices ro rn wo wn old new sent (Err fault) read cut flushed cause =
+    cut-told (HaveFailed ro rn wo wn) old new sent (λ written. (read, cause)) fault cut

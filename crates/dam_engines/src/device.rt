@@ -1,0 +1,152 @@
+//! A reader and a writer that keep how often they were asked and whether they failed, so that contracts can say it. What is
+//! wrapped is reached through the three calls below and by nothing else.
+ghost use Rattle.std.specs.Prelude.{◌≡◌, ◌<◌, ◌≤◌, ◌+◌, ◌-◌, ◌^◌, true, false, min, length, MatchResult, IfOk, OnOk};
+ghost use Rattle.std.specs.Io.KnownBytes.{ReadConsumes, WriteAppends, Keeps};
+
+use std::io::{Read, Write};
+use std::marker::Model;
+
+/// A device refused.
+#[derive(Clone, Copy, PartialEq, Eq, Debug)]
+pub(crate) struct DeviceFailed;
+
+/// A reader, of which an engine's contract also says how often it was asked and whether it failed.
+#[derive(Drop)]
+pub struct Source<R: Read> {
+    inner: R,
+    asked: u64,
+    failed: bool,
+}
+
+impl<R: Read> Model for Source<R> {
+    ghost use Rattle.dam_engines.specs.Device.{SourceState};
+
+    ghost Value = { SourceState R };
+
+    ghost view = { λ s. record {
+      inner = s.inner;
+      given = R.remaining s.inner;
+      asked = s.asked;
+      failed = s.failed;
+    } };
+}
+
+impl<R: Read> Source<R> {
+    /// A reader that wasn't asked yet.
+    pub fn new(inner: R) -> Source<R>
+        ensures { result ≡ record {
+          inner = inner;
+          given = R.remaining inner;
+          asked = 0;
+          failed = false;
+        } }
+    {
+        Source {
+            inner,
+            asked: 0,
+            failed: false,
+        }
+    }
+
+    /// One read. Any error is a failure, one that asks to try again too.
+    pub(crate) fn read(&mut self, buf: &mut [u8]) -> Result<usize, DeviceFailed>
+        ensures bound { IfOk result (λ count. count ≤ length buf.new) }
+        ensures room { length buf.new ≡ length buf.old }
+        ensures bytes { ReadConsumes self.old.given self.new.given result buf.new }
+        ensures asked { self.new.asked ≡ min (self.old.asked + 1) (2 ^ 64 - 1) }
+        ensures cause { MatchResult result
+            (λ _. self.new.failed ≡ self.old.failed)
+            (λ _. self.new.failed ≡ true) }
+    {
+        self.asked = self.asked.saturating_add(1);
+        match self.inner.read(buf) {
+            Ok(count) => Ok(count),
+            Err(_) => {
+                self.failed = true;
+                Err(DeviceFailed)
+            }
+        }
+    }
+}
+
+/// A writer, of which an engine's contract also says whether it failed, and whether it was flushed after all that it took.
+#[derive(Drop)]
+pub struct Sink<W: Write> {
+    inner: W,
+    asked: u64,
+    failed: bool,
+    flushed: bool,
+}
+
+impl<W: Write> Model for Sink<W> {
+    ghost use Rattle.dam_engines.specs.Device.{SinkState};
+
+    ghost Value = { SinkState W };
+
+    ghost view = { λ s. record {
+      inner = s.inner;
+      taken = W.contents s.inner;
+      asked = s.asked;
+      failed = s.failed;
+      flushed = s.flushed;
+    } };
+}
+
+impl<W: Write> Sink<W> {
+    /// A writer that wasn't asked yet.
+    pub fn new(inner: W) -> Sink<W>
+        ensures { result ≡ record {
+          inner = inner;
+          taken = W.contents inner;
+          asked = 0;
+          failed = false;
+          flushed = false;
+        } }
+    {
+        Sink {
+            inner,
+            asked: 0,
+            failed: false,
+            flushed: false,
+        }
+    }
+
+    /// One write. Any error is a failure, and so is an answer that no byte was taken.
+    pub(crate) fn write(&mut self, buf: &[u8]) -> Result<usize, DeviceFailed>
+        requires { 0 < length buf.now }
+        ensures bound { IfOk result (λ count. (0 < count) × (count ≤ length buf.now)) }
+        ensures bytes { WriteAppends self.old.taken self.new.taken result buf.now }
+        ensures asked { self.new.asked ≡ min (self.old.asked + 1) (2 ^ 64 - 1) }
+        ensures cause { MatchResult result
+            (λ _. self.new.failed ≡ self.old.failed)
+            (λ _. self.new.failed ≡ true) }
+    {
+        self.asked = self.asked.saturating_add(1);
+        self.flushed = false;
+        match self.inner.write(buf) {
+            Ok(0) | Err(_) => {
+                self.failed = true;
+                Err(DeviceFailed)
+            }
+            Ok(count) => Ok(count),
+        }
+    }
+
+    /// One flush, which has the writer pass on what it holds back.
+    pub(crate) fn flush(&mut self) -> Result<(), DeviceFailed>
+        ensures bytes { Keeps self.old.taken self.new.taken }
+        ensures asked { self.new.asked ≡ self.old.asked }
+        ensures cause { MatchResult result
+            (λ _. self.new.failed ≡ self.old.failed)
+            (λ _. self.new.failed ≡ true) }
+        ensures flushed { OnOk result (self.new.flushed ≡ true) }
+    {
+        self.flushed = false;
+        if self.inner.flush().is_err() {
+            self.failed = true;
+            return Err(DeviceFailed);
+        }
+        self.flushed = true;
+        Ok(())
+    }
+}
