@@ -1,8 +1,8 @@
--- By cases on the fault: what a failed write tells, and what another fault does.
+-- By cases on the fault: what a failed write says, and how a run with another fault ends.
 use Rattle.std.proofs.Common.{ℕ, List, Option}
 use Rattle.dam_engines.specs.declared.fault.RunFault.{RunFault}
 use Rattle.dam_engines.specs.declared.fault.RunFault.TheVariants.{Read, Input, TooManyCommands, CloseGiven, TooManyParticipants, StillOpen, Mismatch, Unfinished, Collected, Memory, Write}
-use Rattle.dam_engines.specs.Engine.{CutsOff, IsCutOff, IsReadingFault}
+use Rattle.dam_engines.specs.Engine.{EndsIn, IsCutOff, IsReadingFault}
 
 -- what holds of each failed write holds of a text's that was cut off
 pub cut-told : (Q : RunFault → Type 0) (old new : Option (List ℕ)) (sent : List ℕ) → ((written : ℕ) → Q (Write written))
@@ -19,34 +19,51 @@ cut-told Q old new sent told (Collected piece) cut = absurd cut
 cut-told Q old new sent told Memory cut = absurd cut
 cut-told Q old new sent told (Write written) cut = told written
 
-pub cut-off : (IsPrinted : List ℕ → Type 0) (old new : Option (List ℕ)) (printed : List ℕ) → IsPrinted printed
-    → (fault : RunFault) → IsCutOff old new printed fault → CutsOff old new IsPrinted fault
-cut-off IsPrinted old new printed is Read cut = tt
-cut-off IsPrinted old new printed is (Input why) cut = tt
-cut-off IsPrinted old new printed is TooManyCommands cut = tt
-cut-off IsPrinted old new printed is (CloseGiven at) cut = tt
-cut-off IsPrinted old new printed is (TooManyParticipants at) cut = tt
-cut-off IsPrinted old new printed is StillOpen cut = tt
-cut-off IsPrinted old new printed is (Mismatch why) cut = tt
-cut-off IsPrinted old new printed is (Unfinished piece visited) cut = tt
-cut-off IsPrinted old new printed is (Collected piece) cut = tt
-cut-off IsPrinted old new printed is Memory cut = tt
-cut-off IsPrinted old new printed is (Write written) cut = (printed, is, cut)
+-- a text that may be printed was cut off
+pub cut-ends : (IsPrinted : List ℕ → Type 0) (IsFault : RunFault → Type 0) (old new : Option (List ℕ)) (printed : List ℕ) → IsPrinted printed
+    → (fault : RunFault) → IsCutOff old new printed fault → EndsIn IsPrinted IsFault old new fault
+cut-ends IsPrinted IsFault old new printed is Read cut = absurd cut
+cut-ends IsPrinted IsFault old new printed is (Input why) cut = absurd cut
+cut-ends IsPrinted IsFault old new printed is TooManyCommands cut = absurd cut
+cut-ends IsPrinted IsFault old new printed is (CloseGiven at) cut = absurd cut
+cut-ends IsPrinted IsFault old new printed is (TooManyParticipants at) cut = absurd cut
+cut-ends IsPrinted IsFault old new printed is StillOpen cut = absurd cut
+cut-ends IsPrinted IsFault old new printed is (Mismatch why) cut = absurd cut
+cut-ends IsPrinted IsFault old new printed is (Unfinished piece visited) cut = absurd cut
+cut-ends IsPrinted IsFault old new printed is (Collected piece) cut = absurd cut
+cut-ends IsPrinted IsFault old new printed is Memory cut = absurd cut
+cut-ends IsPrinted IsFault old new printed is (Write written) cut = (printed, is, cut)
 
--- a fault that is no failed write
-pub uncut : (Fails : RunFault → Type 0) (old new : Option (List ℕ)) (IsPrinted : List ℕ → Type 0) → ((written : ℕ) → ¬ (Fails (Write written)))
-    → (fault : RunFault) → Fails fault → CutsOff old new IsPrinted fault
-uncut Fails old new IsPrinted none Read is = tt
-uncut Fails old new IsPrinted none (Input why) is = tt
-uncut Fails old new IsPrinted none TooManyCommands is = tt
-uncut Fails old new IsPrinted none (CloseGiven at) is = tt
-uncut Fails old new IsPrinted none (TooManyParticipants at) is = tt
-uncut Fails old new IsPrinted none StillOpen is = tt
-uncut Fails old new IsPrinted none (Mismatch why) is = tt
-uncut Fails old new IsPrinted none (Unfinished piece visited) is = tt
-uncut Fails old new IsPrinted none (Collected piece) is = tt
-uncut Fails old new IsPrinted none Memory is = tt
-uncut Fails old new IsPrinted none (Write written) is = absurd (none written is)
+-- a fault that may be answered, and is no failed write
+pub fault-ends : (IsPrinted : List ℕ → Type 0) (IsFault : RunFault → Type 0) (old new : Option (List ℕ)) → ((written : ℕ) → ¬ (IsFault (Write written)))
+    → (fault : RunFault) → IsFault fault → EndsIn IsPrinted IsFault old new fault
+fault-ends IsPrinted IsFault old new none Read is = tt
+fault-ends IsPrinted IsFault old new none (Input why) is = is
+fault-ends IsPrinted IsFault old new none TooManyCommands is = is
+fault-ends IsPrinted IsFault old new none (CloseGiven at) is = is
+fault-ends IsPrinted IsFault old new none (TooManyParticipants at) is = is
+fault-ends IsPrinted IsFault old new none StillOpen is = is
+fault-ends IsPrinted IsFault old new none (Mismatch why) is = is
+fault-ends IsPrinted IsFault old new none (Unfinished piece visited) is = is
+fault-ends IsPrinted IsFault old new none (Collected piece) is = is
+fault-ends IsPrinted IsFault old new none Memory is = is
+fault-ends IsPrinted IsFault old new none (Write written) is = absurd (none written is)
+
+-- what is weaker ends a run too
+pub ends-weaker : (IsPrinted IsText : List ℕ → Type 0) (IsFault IsOther : RunFault → Type 0) (old new : Option (List ℕ))
+    → ((printed : List ℕ) → IsPrinted printed → IsText printed) → ((fault : RunFault) → IsFault fault → IsOther fault)
+    → (fault : RunFault) → EndsIn IsPrinted IsFault old new fault → EndsIn IsText IsOther old new fault
+ends-weaker IsPrinted IsText IsFault IsOther old new text other Read is = tt
+ends-weaker IsPrinted IsText IsFault IsOther old new text other (Input why) is = other (Input why) is
+ends-weaker IsPrinted IsText IsFault IsOther old new text other TooManyCommands is = other TooManyCommands is
+ends-weaker IsPrinted IsText IsFault IsOther old new text other (CloseGiven at) is = other (CloseGiven at) is
+ends-weaker IsPrinted IsText IsFault IsOther old new text other (TooManyParticipants at) is = other (TooManyParticipants at) is
+ends-weaker IsPrinted IsText IsFault IsOther old new text other StillOpen is = other StillOpen is
+ends-weaker IsPrinted IsText IsFault IsOther old new text other (Mismatch why) is = other (Mismatch why) is
+ends-weaker IsPrinted IsText IsFault IsOther old new text other (Unfinished piece visited) is = other (Unfinished piece visited) is
+ends-weaker IsPrinted IsText IsFault IsOther old new text other (Collected piece) is = other (Collected piece) is
+ends-weaker IsPrinted IsText IsFault IsOther old new text other Memory is = other Memory is
+ends-weaker IsPrinted IsText IsFault IsOther old new text other (Write written) is = (is.0, text is.0 is.1, is.2)
 
 -- what holds of both faults of reading
 pub reading-told : (Q : RunFault → Type 0) → Q Read → Q Memory → (fault : RunFault) → IsReadingFault fault → Q fault

@@ -18,8 +18,8 @@ use Rattle.dam_engines.specs.declared.fault.RunFault.{RunFault}
 use Rattle.dam_engines.specs.declared.fault.RunFault.TheVariants.{Read, Input, TooManyCommands, CloseGiven, TooManyParticipants, StillOpen, Mismatch, Unfinished, Collected, Memory, Write}
 use Rattle.dam_engines.specs.Engine.{most_read}
 use Rattle.dam_engines.specs.Clear.{IsBookFault}
-use Rattle.dam_engines.specs.Day.{IsCommandsFault, IsDayTextFault, IsDayTextTo, IsEarlyFault, IsFaultOnDay, IsRunDayFault}
-use Rattle.dam_engines.proofs.Fronts.{fault-on_given, reads-given}
+use Rattle.dam_engines.specs.Day.{IsCommandsFault, IsDayTextFault, IsEarlyFault}
+use Rattle.dam_engines.proofs.Fronts.{reads-given, text_fault-given}
 
 -- the place of the command that the fault tells, if any, is below this one
 abbrev pub IsBelow : ℕ → Option DayFault → Type 0
@@ -98,20 +98,6 @@ early_fault-commands plan periods commands (Collected piece) is = absurd is
 early_fault-commands plan periods commands Memory is = tt
 early_fault-commands plan periods commands (Write written) is = absurd is
 
--- what commands are answered, a run over their journal answers
-pub commands_fault-run : (plan : PlanTerms) (periods : ℕ) (commands : List Command) (fault : RunFault) → IsCommandsFault plan periods commands fault → IsFaultOnDay plan periods commands fault
-commands_fault-run plan periods commands Read is = tt
-commands_fault-run plan periods commands (Input fault) is = absurd is
-commands_fault-run plan periods commands TooManyCommands is = is
-commands_fault-run plan periods commands (CloseGiven at) is = is
-commands_fault-run plan periods commands (TooManyParticipants at) is = is
-commands_fault-run plan periods commands StillOpen is = absurd is
-commands_fault-run plan periods commands (Mismatch why) is = is
-commands_fault-run plan periods commands (Unfinished piece visited) is = is
-commands_fault-run plan periods commands (Collected piece) is = absurd is
-commands_fault-run plan periods commands Memory is = tt
-commands_fault-run plan periods commands (Write written) is = absurd is
-
 -- what the commands of a text's journal are answered, the text is answered
 pub commands_fault-text : (plan : PlanTerms) (text : List ℕ) (fault : RunFault) → IsMadeFrom (IsCommandsFault plan) text fault → IsDayTextFault plan text fault
 commands_fault-text plan text Read is = is
@@ -129,9 +115,9 @@ commands_fault-text plan text (Write written) is = is
 made-given : (plan : PlanTerms) (given : List ℕ) (fault : RunFault) → IsMadeFrom (IsCommandsFault plan) (take most_read given) fault → IsMadeFrom (IsCommandsFault plan) given fault
 made-given plan given fault is = (is.0, is.1, reads-given given is.0 is.1 is.2, is.3)
 
-pub day_fault-given : (plan : PlanTerms) (given : List ℕ) (fault : RunFault) → IsDayTextFault plan (take most_read given) fault → IsRunDayFault plan given fault
-day_fault-given plan given Read is = tt
-day_fault-given plan given (Input fault) is = fault-on_given given (Input fault) is
+pub day_fault-given : (plan : PlanTerms) (given : List ℕ) (fault : RunFault) → IsDayTextFault plan (take most_read given) fault → IsDayTextFault plan given fault
+day_fault-given plan given Read is = made-given plan given Read is
+day_fault-given plan given (Input why) is = text_fault-given given (Input why) is
 day_fault-given plan given TooManyCommands is = made-given plan given TooManyCommands is
 day_fault-given plan given (CloseGiven at) is = made-given plan given (CloseGiven at) is
 day_fault-given plan given (TooManyParticipants at) is = made-given plan given (TooManyParticipants at) is
@@ -140,8 +126,4 @@ day_fault-given plan given (Mismatch why) is = made-given plan given (Mismatch w
 day_fault-given plan given (Unfinished piece visited) is = made-given plan given (Unfinished piece visited) is
 day_fault-given plan given (Collected piece) is = made-given plan given (Collected piece) is
 day_fault-given plan given Memory is = tt
-day_fault-given plan given (Write written) is = absurd is.3
-
--- where it is the text of a day, the journal's commands aren't refused
-pub day_text-taken : (plan : PlanTerms) (printed given : List ℕ) → IsDayTextTo (take most_read given) printed → (written : ℕ) → IsRunDayFault plan given (Write written)
-day_text-taken plan printed given are written = (are.0, are.1, reads-given given are.0 are.1 are.2, are.3.taken)
+day_fault-given plan given (Write written) is = made-given plan given (Write written) is

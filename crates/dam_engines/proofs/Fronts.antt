@@ -1,5 +1,5 @@
 -- A text and its front that is one byte longer than a journal may be: where one of them is short enough, they are equal.
-use Rattle.std.proofs.Common.{◌≡◌, ◌≤◌, ℕ, true, min, List, length, take, refl, subst, sym, arith}
+use Rattle.std.proofs.Common.{◌≡◌, ◌≤◌, ℕ, true, min, List, length, take, refl, subst, arith}
 use Rattle.std.proofs.lemmas.List.{take_all, length-take}
 use Rattle.dam_book.specs.Book.{BookState, run}
 use Rattle.dam_blocks.specs.Problem.{problem_of}
@@ -12,25 +12,19 @@ use Rattle.dam_results.specs.Limits.{most_bytes}
 use Rattle.dam_results.specs.declared.journal.JournalFault.{JournalFault}
 use Rattle.dam_results.specs.declared.journal.JournalFault.TheVariants.{TooLong, NotAscii, TooManyRecords, NotDay, FieldCount, BadField}
 use Rattle.dam_results.specs.declared.journal.JournalFault.TheVariants.{Memory as NoMemory}
-use Rattle.dam_results.specs.Journal.{IsMadeFrom, ReadsAs}
+use Rattle.dam_results.specs.Journal.{ReadsAs}
 use Rattle.dam_results.specs.Faults.{IsFaultOf}
 use Rattle.dam_engines.specs.declared.fault.RunFault.{RunFault}
 use Rattle.dam_engines.specs.declared.fault.RunFault.TheVariants.{Read, Input, TooManyCommands, CloseGiven, TooManyParticipants, StillOpen, Mismatch, Unfinished, Collected, Memory, Write}
-use Rattle.dam_engines.specs.Engine.{most_read, IsJournal, IsTextFault, IsFaultOn}
+use Rattle.dam_engines.specs.Engine.{most_read, IsTextFault}
 use Rattle.dam_engines.specs.Fault.{search_fault_of}
-use Rattle.dam_engines.specs.Clear.{AreResultsTo, IsClosedJournal, IsBookFault, IsFaultOnBook, IsClearTextFault, IsClearFault}
-
-front-of_short : (given : List ℕ) → length given ≤ most_bytes → take most_read given ≡ given
-front-of_short given short = take_all most_read given (omega (arith, short))
+use Rattle.dam_engines.specs.Clear.{IsBookFault, IsClearTextFault}
 
 front-short : (given : List ℕ) → length (take most_read given) ≤ most_bytes → take most_read given ≡ given
 front-short given short = take_all most_read given (omega (arith, short, length-take most_read given))
 
 pub reads-given : (given : List ℕ) (periods : ℕ) (commands : List Command) → ReadsAs (take most_read given) periods commands → ReadsAs given periods commands
 reads-given given periods commands reads = subst (λ text. ReadsAs text periods commands) (front-short given reads.short) reads
-
-pub reads-front : (given : List ℕ) (periods : ℕ) (commands : List Command) → ReadsAs given periods commands → ReadsAs (take most_read given) periods commands
-reads-front given periods commands reads = subst (λ text. ReadsAs text periods commands) (sym (front-of_short given reads.short)) reads
 
 fault-given : (given : List ℕ) (fault : JournalFault) → IsFaultOf (take most_read given) fault → IsFaultOf given fault
 fault-given given TooLong is = omega (arith, is, length-take most_read given)
@@ -41,23 +35,23 @@ fault-given given (FieldCount at) is = subst (λ text. IsFaultOf text (FieldCoun
 fault-given given (BadField at field) is = subst (λ text. IsFaultOf text (BadField at field)) (front-short given is.0) is
 fault-given given NoMemory is = subst (λ text. IsFaultOf text NoMemory) (front-short given is.0) is
 
--- a fault of the front is one on the text
-pub fault-on_given : (given : List ℕ) (fault : RunFault) → IsTextFault (take most_read given) fault → IsFaultOn given fault
-fault-on_given given Read is = tt
-fault-on_given given (Input fault) is = (fault-given given fault is.0, is.1)
-fault-on_given given StillOpen is = absurd is
-fault-on_given given TooManyCommands is = absurd is
-fault-on_given given (CloseGiven at) is = absurd is
-fault-on_given given (TooManyParticipants at) is = absurd is
-fault-on_given given (Mismatch why) is = absurd is
-fault-on_given given (Unfinished piece visited) is = absurd is
-fault-on_given given (Collected piece) is = absurd is
-fault-on_given given Memory is = tt
-fault-on_given given (Write written) is = absurd is
+-- a fault of the front is one of the text
+pub text_fault-given : (given : List ℕ) (fault : RunFault) → IsTextFault (take most_read given) fault → IsTextFault given fault
+text_fault-given given Read is = absurd is
+text_fault-given given (Input why) is = (fault-given given why is.0, is.1)
+text_fault-given given TooManyCommands is = absurd is
+text_fault-given given (CloseGiven at) is = absurd is
+text_fault-given given (TooManyParticipants at) is = absurd is
+text_fault-given given StillOpen is = absurd is
+text_fault-given given (Mismatch why) is = absurd is
+text_fault-given given (Unfinished piece visited) is = absurd is
+text_fault-given given (Collected piece) is = absurd is
+text_fault-given given Memory is = tt
+text_fault-given given (Write written) is = absurd is
 
-pub clear_fault-given : (plan : PlanTerms) (given : List ℕ) (fault : RunFault) → IsClearTextFault plan (take most_read given) fault → IsClearFault plan given fault
-clear_fault-given plan given Read is = tt
-clear_fault-given plan given (Input fault) is = (fault-given given fault is.0, is.1)
+pub clear_fault-given : (plan : PlanTerms) (given : List ℕ) (fault : RunFault) → IsClearTextFault plan (take most_read given) fault → IsClearTextFault plan given fault
+clear_fault-given plan given Read is = absurd is
+clear_fault-given plan given (Input why) is = (fault-given given why is.0, is.1)
 clear_fault-given plan given TooManyCommands is = absurd is
 clear_fault-given plan given (CloseGiven at) is = absurd is
 clear_fault-given plan given (TooManyParticipants at) is = absurd is
@@ -67,20 +61,6 @@ clear_fault-given plan given (Unfinished piece visited) is = (is.0, is.1, reads-
 clear_fault-given plan given (Collected piece) is = absurd is
 clear_fault-given plan given Memory is = tt
 clear_fault-given plan given (Write written) is = absurd is
-
--- what a book is answered, a run answers that makes it
-pub book_fault-run : (plan : PlanTerms) (book : BookState) (fault : RunFault) → IsBookFault plan book fault → IsFaultOnBook plan book fault
-book_fault-run plan book Read is = tt
-book_fault-run plan book (Input fault) is = is
-book_fault-run plan book TooManyCommands is = absurd is
-book_fault-run plan book (CloseGiven at) is = absurd is
-book_fault-run plan book (TooManyParticipants at) is = absurd is
-book_fault-run plan book StillOpen is = is
-book_fault-run plan book (Mismatch why) is = absurd is
-book_fault-run plan book (Unfinished piece visited) is = is
-book_fault-run plan book (Collected piece) is = absurd is
-book_fault-run plan book Memory is = tt
-book_fault-run plan book (Write written) is = absurd is
 
 -- the first fault of a text is one that its clearing answers
 pub text_fault-clear : (plan : PlanTerms) (text : List ℕ) (fault : RunFault) → IsTextFault text fault → IsClearTextFault plan text fault
@@ -119,11 +99,3 @@ pub search_fault-book : (plan : PlanTerms) (book : BookState) (fault : SearchFau
 search_fault-book plan book NoSpace closed cut whole = tt
 search_fault-book plan book (IsFaulty piece) closed cut whole = absurd (whole piece refl)
 search_fault-book plan book (IsCut piece visited) closed cut whole = record { closed = closed; unfinished = cut piece visited refl }
-
--- a text for whose front something is printed is a journal
-pub printed-journal : (Prints : ℕ → List Command → List ℕ → Type 0) (printed given : List ℕ) → IsMadeFrom Prints (take most_read given) printed → IsJournal given
-printed-journal Prints printed given are = (are.0, are.1, reads-given given are.0 are.1 are.2)
-
--- where it is a results text, the journal's book is closed
-pub results-closed : (printed given : List ℕ) → AreResultsTo (take most_read given) printed → IsClosedJournal given
-results-closed printed given are = (are.0, are.1, reads-given given are.0 are.1 are.2, are.3.closed)

@@ -5,3 +5,4 @@ pub mod Devices
 pub mod Runs
 pub mod Results
 pub mod DayFaults
+pub mod Exact

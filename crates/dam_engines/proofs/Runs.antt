@@ -1,14 +1,14 @@
 -- What is known of the given text, which may be unknown, from what is known of the text that was read.
-use Rattle.std.proofs.Common.{◌≡◌, ℕ, List, take, Option, Some, None, IfSome, Result, IfErr, OnOk, MatchResult, refl, subst}
-use Rattle.std.proofs.lemmas.Result.{MatchResult-from_both, on_ok_weaker, IfErr-weaker}
+use Rattle.std.proofs.Common.{◌≡◌, ℕ, List, take, Option, Some, None, IfSome, Result, Ok, Err, IfErr, OnOk, refl, subst}
+use Rattle.std.proofs.lemmas.Result.{IfErr-weaker}
 use Rattle.std.specs.Io.KnownBytes.{Appends}
 use Rattle.dam_book.specs.declared.command.Command.{Command}
-use Rattle.dam_results.specs.Journal.{IsMadeFrom, ReadsAs}
+use Rattle.dam_results.specs.Journal.{IsMadeFrom}
 use Rattle.dam_engines.specs.declared.fault.RunFault.{RunFault}
-use Rattle.dam_engines.specs.declared.fault.RunFault.TheVariants.{Write}
-use Rattle.dam_engines.specs.Engine.{most_read, CutsOff, IsCutOff, Writes}
-use Rattle.dam_engines.proofs.Cuts.{cut-told, cut-off, uncut}
-use Rattle.dam_engines.proofs.Fronts.{reads-given, reads-front}
+use Rattle.dam_engines.specs.declared.fault.RunFault.TheVariants.{Memory, Write}
+use Rattle.dam_engines.specs.Engine.{most_read, Ends, EndsIn, IsCutOff, IsReadingFault}
+use Rattle.dam_engines.proofs.Cuts.{cut-told, cut-ends, ends-weaker, fault-ends, reading-told}
+use Rattle.dam_engines.proofs.Fronts.{reads-given}
 
 -- the text is the front that is read of the given bytes
 abbrev pub IsFrontOf : Option (List ℕ) → List ℕ → Type 0
@@ -20,68 +20,44 @@ known-front : (P Q : List ℕ → Type 0) (known : Option (List ℕ)) (text : Li
 known-front P Q None text carries front holds = tt
 known-front P Q (Some given) text carries front holds = carries given (subst P front holds)
 
-pub known-fault : (P Q : List ℕ → RunFault → Type 0) (known : Option (List ℕ)) (text : List ℕ) (fault : RunFault)
-    → ((given : List ℕ) (fault : RunFault) → P (take most_read given) fault → Q given fault) → IsFrontOf known text → P text fault → IfSome known (λ given. Q given fault)
-known-fault P Q known text fault carries = known-front (λ bs. P bs fault) (λ bs. Q bs fault) known text (λ given. carries given fault)
+-- a run that ends at its reading
+pub known-unread : (IsPrinted : List ℕ → List ℕ → Type 0) (IsFault : List ℕ → RunFault → Type 0) (old new known : Option (List ℕ)) (fault : RunFault)
+    → ((given : List ℕ) → IsFault given Memory) → IsReadingFault fault → IfSome known (λ given. EndsIn (IsPrinted given) (IsFault given) old new fault)
+known-unread IsPrinted IsFault old new None fault memory is = tt
+known-unread IsPrinted IsFault old new (Some given) fault memory is =
+    reading-told (EndsIn (IsPrinted given) (IsFault given) old new) tt (memory given) fault is
 
-pub known-failed : (Fails Told : RunFault → Type 0) (known : Option (List ℕ)) (text : List ℕ) (fault : RunFault) (periods : ℕ) (commands : List Command)
-    → ((fault : RunFault) → Fails fault → Told fault) → IsFrontOf known text → (ReadsAs text periods commands → Fails fault)
-    → IfSome known (λ given. ReadsAs given periods commands → Told fault)
-known-failed Fails Told known text fault periods commands weaker =
-    known-front (λ bs. ReadsAs bs periods commands → Fails fault) (λ bs. ReadsAs bs periods commands → Told fault) known text
-    (λ given failed reads. weaker fault (failed (reads-front given periods commands reads)))
+-- a run that ends with a fault of the text that was read
+pub known-fault : (IsPrinted : List ℕ → List ℕ → Type 0) (IsFault : List ℕ → RunFault → Type 0) (old new known : Option (List ℕ)) (text : List ℕ) (fault : RunFault)
+    → ((given : List ℕ) (written : ℕ) → ¬ (IsFault given (Write written)))
+    → ((given : List ℕ) (fault : RunFault) → IsFault (take most_read given) fault → IsFault given fault)
+    → IsFrontOf known text → IsFault text fault → IfSome known (λ given. EndsIn (IsPrinted given) (IsFault given) old new fault)
+known-fault IsPrinted IsFault old new known text fault none carries =
+    known-front (λ bs. IsFault bs fault) (λ bs. EndsIn (IsPrinted bs) (IsFault bs) old new fault) known text
+    (λ given is. fault-ends (IsPrinted given) (IsFault given) old new (none given) fault (carries given fault is))
 
--- where the writer failed, what its text shows of the given bytes lets it be told
-pub known-write : (P : List ℕ → Type 0) (Q : List ℕ → RunFault → Type 0) (known : Option (List ℕ)) (text : List ℕ)
-    (old new : Option (List ℕ)) (sent : List ℕ) (result : Result (Unit {0}) RunFault)
-    → ((given : List ℕ) → P (take most_read given) → (written : ℕ) → Q given (Write written)) → IsFrontOf known text → IfErr result (IsCutOff old new sent) → P text
-    → IfErr result (λ fault. IfSome known (λ given. Q given fault))
-known-write P Q known text old new sent result carries front cut holds =
-    IfErr-weaker result _ _ (λ fault is. known-front P (λ bs. Q bs fault) known text (λ given shown. cut-told (Q given) old new sent (carries given shown) fault is) front holds) cut
+-- a run whose text was written, as a whole or up to where the writer failed
+pub known-written : (Prints : ℕ → List Command → List ℕ → Type 0) (IsFault : List ℕ → RunFault → Type 0) (old new known : Option (List ℕ))
+    (text sent printed : List ℕ) (result : Result (Unit {0}) RunFault)
+    → IsFrontOf known text → sent ≡ printed → OnOk result (Appends old new sent) → IfErr result (IsCutOff old new sent)
+    → IsMadeFrom Prints text printed → IfSome known (λ given. Ends (IsMadeFrom Prints given) (IsFault given) old new result)
+known-written Prints IsFault old new known text sent printed (Ok done) front same wrote cut =
+    known-front (λ bs. IsMadeFrom Prints bs printed) (λ bs. Ends (IsMadeFrom Prints bs) (IsFault bs) old new (Ok done)) known text
+    (λ given is. (printed, (is.0, is.1, reads-given given is.0 is.1 is.2, is.3), subst (Appends old new) same wrote)) front
+known-written Prints IsFault old new known text sent printed (Err fault) front same wrote cut =
+    known-front (λ bs. IsMadeFrom Prints bs printed) (λ bs. Ends (IsMadeFrom Prints bs) (IsFault bs) old new (Err fault)) known text
+    (λ given is. cut-ends (IsMadeFrom Prints given) (IsFault given) old new printed (is.0, is.1, reads-given given is.0 is.1 is.2, is.3) fault
+    (subst (λ bs. IsCutOff old new bs fault) same cut)) front
 
--- where the writer failed, it took just the first bytes of a text for the given one
-pub known-cut : (Prints : ℕ → List Command → List ℕ → Type 0) (old new : Option (List ℕ))
-    (known : Option (List ℕ)) (text sent printed : List ℕ) (result : Result (Unit {0}) RunFault)
-    → IsFrontOf known text → sent ≡ printed → IfErr result (IsCutOff old new sent)
-    → IsMadeFrom Prints text printed → IfErr result (λ fault. IfSome known (λ given. CutsOff old new (IsMadeFrom Prints given) fault))
-known-cut Prints old new known text sent printed result front same cut are =
-    IfErr-weaker result _ _ (λ fault is. known-front (λ bs. IsMadeFrom Prints bs printed) (λ bs. CutsOff old new (IsMadeFrom Prints bs) fault) known text
-    (λ given made. cut-off (IsMadeFrom Prints given) old new printed (made.0, made.1, reads-given given made.0 made.1 made.2, made.3) fault
-    (subst (λ bs. IsCutOff old new bs fault) same is)) front are) cut
-
--- another fault than that the writer failed says nothing of what it took
-pub known-uncut : (Fails : RunFault → Type 0) (IsPrinted : List ℕ → List ℕ → Type 0) (old new known : Option (List ℕ)) (fault : RunFault)
-    → ((written : ℕ) → ¬ (Fails (Write written))) → Fails fault → IfSome known (λ given. CutsOff old new (IsPrinted given) fault)
-known-uncut Fails IsPrinted old new None fault none is = tt
-known-uncut Fails IsPrinted old new (Some given) fault none is = uncut Fails old new (IsPrinted given) none fault is
-
--- only where the writer failed did it take bytes
+-- only if the writer failed did it take bytes
 pub unwritten : (Kept : Type 0) (old new : Option (List ℕ)) (sent : List ℕ) (result : Result (Unit {0}) RunFault)
     → IfErr result (IsCutOff old new sent) → IfErr result (λ fault. ((written : ℕ) → ¬ (fault ≡ Write written)) → Kept)
 unwritten Kept old new sent result cut =
     IfErr-weaker result _ _ (cut-told (λ fault. ((written : ℕ) → ¬ (fault ≡ Write written)) → Kept) old new sent (λ written none. absurd (none written refl))) cut
 
--- what was sent is what was printed
-pub writes : (IsPrinted : List ℕ → Type 0) (old new : Option (List ℕ)) (sent printed : List ℕ) (result : Result (Unit {0}) RunFault)
-    → sent ≡ printed → OnOk result (Appends old new sent) → IsPrinted printed → OnOk result (Writes old new IsPrinted)
-writes IsPrinted old new sent printed result same wrote is = on_ok_weaker result (λ appended. (printed, is, subst (Appends old new) same appended)) wrote
-
--- the text that was printed is one for the given text
-pub known-done : (Prints : ℕ → List Command → List ℕ → Type 0) (old new : Option (List ℕ))
-    (known : Option (List ℕ)) (text sent printed : List ℕ) (result : Result (Unit {0}) RunFault)
-    → IsFrontOf known text → sent ≡ printed → OnOk result (Appends old new sent)
-    → IsMadeFrom Prints text printed → OnOk result (IfSome known (λ given. Writes old new (IsMadeFrom Prints given)))
-known-done Prints old new known text sent printed result front same wrote are =
-    on_ok_weaker result (λ appended. known-front (λ bs. IsMadeFrom Prints bs printed) (λ bs. Writes old new (IsMadeFrom Prints bs)) known text
-    (λ given is. (printed, (is.0, is.1, reads-given given is.0 is.1 is.2, is.3), subst (Appends old new) same appended)) front are) wrote
-
--- where the given text is a journal, its own text is printed
-pub known-exact : (IsItsOwn Told : Type 0) (Fails : RunFault → Type 0) (old new : Option (List ℕ)) (sent : List ℕ)
-    (known : Option (List ℕ)) (text : List ℕ) (result : Result (Unit {0}) RunFault) (periods : ℕ) (commands : List Command)
-    → IsFrontOf known text → (IsItsOwn → OnOk result Told) → (IsItsOwn → (written : ℕ) → Fails (Write written)) → IfErr result (IsCutOff old new sent)
-    → (ReadsAs text periods commands → IsItsOwn)
-    → IfSome known (λ given. ReadsAs given periods commands → MatchResult result (λ _. Told) Fails)
-known-exact IsItsOwn Told Fails old new sent known text result periods commands front told may cut are =
-    known-front (λ bs. ReadsAs bs periods commands → IsItsOwn) (λ bs. ReadsAs bs periods commands → MatchResult result (λ _. Told) Fails) known text
-    (λ given own reads. let is_own = own (reads-front given periods commands reads) in
-    MatchResult-from_both result _ _ (told is_own) (IfErr-weaker result _ _ (cut-told Fails old new sent (may is_own)) cut)) front are
+-- a run whose text and fault are such a weaker one
+pub result-weaker : (IsPrinted IsText : List ℕ → Type 0) (IsFault IsOther : RunFault → Type 0) (old new : Option (List ℕ))
+    → ((printed : List ℕ) → IsPrinted printed → IsText printed) → ((fault : RunFault) → IsFault fault → IsOther fault)
+    → (result : Result (Unit {0}) RunFault) → Ends IsPrinted IsFault old new result → Ends IsText IsOther old new result
+result-weaker IsPrinted IsText IsFault IsOther old new text other (Ok done) is = (is.0, text is.0 is.1, is.2)
+result-weaker IsPrinted IsText IsFault IsOther old new text other (Err fault) is = ends-weaker IsPrinted IsText IsFault IsOther old new text other fault is

@@ -11,7 +11,7 @@ use Rattle.dam_results.specs.declared.published.RowResult.{RowResult}
 use Rattle.dam_results.specs.Journal.{IsMadeFrom, ReadsAs}
 use Rattle.dam_results.specs.Published.{ArePublished, results_text}
 use Rattle.dam_engines.specs.declared.fault.RunFault.{RunFault}
-use Rattle.dam_engines.specs.declared.fault.RunFault.TheVariants.{Read, StillOpen, Unfinished, Memory, Write}
+use Rattle.dam_engines.specs.declared.fault.RunFault.TheVariants.{StillOpen, Unfinished, Memory}
 use Rattle.dam_engines.specs.Engine.{IsTextFault}
 
 -- the book is closed, and this is the results text of the result of its problem
@@ -37,10 +37,6 @@ AreResultsTo text printed = IsMadeFrom AreResults text printed
 abbrev pub IsOpenJournal : List ℕ → Type 0
 IsOpenJournal text = (periods : ℕ) × (commands : List Command) × ReadsAs text periods commands × ((run periods commands).closed ≡ false)
 
--- the text is a journal whose book is closed
-abbrev pub IsClosedJournal : List ℕ → Type 0
-IsClosedJournal text = (periods : ℕ) × (commands : List Command) × ReadsAs text periods commands × ((run periods commands).closed ≡ true)
-
 -- the book is closed, and the search of its problem by this plan could not finish this piece within its limit on nodes
 pub record IsCutShort (plan : PlanTerms) (book : BookState) (piece visited : ℕ) : Type 0 where
   pub closed : book.closed ≡ true
@@ -53,20 +49,8 @@ IsBookFault plan book (Unfinished piece visited) = IsCutShort plan book piece vi
 IsBookFault plan book Memory = Unit {0}
 IsBookFault plan book fault = ⊥
 
--- what a run whose journal makes this book can answer: what the book can be answered, that the reader failed, or, where the book is closed, that the writer did
-abbrev pub IsFaultOnBook : PlanTerms → BookState → RunFault → Type 0
-IsFaultOnBook plan book Read = Unit {0}
-IsFaultOnBook plan book (Write written) = book.closed ≡ true
-IsFaultOnBook plan book fault = IsBookFault plan book fault
-
 -- what a text can be answered that was read: its first fault, or what the book of its journal can be answered
 abbrev pub IsClearTextFault : PlanTerms → List ℕ → RunFault → Type 0
 IsClearTextFault plan text StillOpen = IsOpenJournal text
 IsClearTextFault plan text (Unfinished piece visited) = (periods : ℕ) × (commands : List Command) × ReadsAs text periods commands × IsCutShort plan (run periods commands) piece visited
 IsClearTextFault plan text fault = IsTextFault text fault
-
--- what a run over a text can answer: what its text can be answered, that the reader failed, or, where the text is a journal whose book is closed, that the writer did
-abbrev pub IsClearFault : PlanTerms → List ℕ → RunFault → Type 0
-IsClearFault plan text Read = Unit {0}
-IsClearFault plan text (Write written) = IsClosedJournal text
-IsClearFault plan text fault = IsClearTextFault plan text fault

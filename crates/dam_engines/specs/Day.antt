@@ -9,7 +9,7 @@ use Rattle.dam_search.specs.Plan.{PlanTerms}
 use Rattle.dam_results.specs.Journal.{IsMadeFrom}
 use Rattle.dam_results.specs.Written.{journal_text}
 use Rattle.dam_engines.specs.declared.fault.RunFault.{RunFault}
-use Rattle.dam_engines.specs.declared.fault.RunFault.TheVariants.{Read, Input, TooManyCommands, CloseGiven, TooManyParticipants, Mismatch, Unfinished, Memory, Write}
+use Rattle.dam_engines.specs.declared.fault.RunFault.TheVariants.{Input, TooManyCommands, CloseGiven, TooManyParticipants, Mismatch, Unfinished, Memory}
 use Rattle.dam_engines.specs.Engine.{IsTextFault}
 use Rattle.dam_engines.specs.Clear.{IsClearedAs, IsCutShort}
 
@@ -64,23 +64,9 @@ IsCommandsFault plan periods commands (Unfinished piece visited) =
     IsDayCutShort plan periods commands piece visited
 IsCommandsFault plan periods commands fault = IsEarlyFault commands fault
 
--- what a run over a journal of these commands can answer: what they can be answered, that the reader failed, or, where they
--- aren't refused, that the writer did
-abbrev pub IsFaultOnDay : PlanTerms → ℕ → List Command → RunFault → Type 0
-IsFaultOnDay plan periods commands Read = Unit {0}
-IsFaultOnDay plan periods commands (Write written) = refused commands ≡ None
-IsFaultOnDay plan periods commands fault = IsCommandsFault plan periods commands fault
-
 -- what a text can be answered that was read: its first fault, what the commands of its journal can be answered, or that
 -- memory ran out
 abbrev pub IsDayTextFault : PlanTerms → List ℕ → RunFault → Type 0
 IsDayTextFault plan text (Input fault) = IsTextFault text (Input fault)
 IsDayTextFault plan text Memory = Unit {0}
 IsDayTextFault plan text fault = IsMadeFrom (IsCommandsFault plan) text fault
-
--- what a run over a text can answer: what its text can be answered, that the reader failed, or, where the text is a journal
--- whose commands aren't refused, that the writer did
-abbrev pub IsRunDayFault : PlanTerms → List ℕ → RunFault → Type 0
-IsRunDayFault plan text Read = Unit {0}
-IsRunDayFault plan text (Write written) = IsMadeFrom (IsFaultOnDay plan) text (Write written)
-IsRunDayFault plan text fault = IsDayTextFault plan text fault

@@ -1,10 +1,8 @@
--- What the engines have in common: what is printed for a journal, and the faults of texts and of the machine.
-use Rattle.std.specs.Prelude.{◌≢◌, ◌≤◌, ◌+◌, ℕ, List, Option, length, take}
+-- What the engines have in common: how a run ends, and the faults of texts.
+use Rattle.std.specs.Prelude.{◌≢◌, ◌≤◌, ◌+◌, ℕ, List, Option, Result, MatchResult, length, take}
 use Rattle.std.specs.Io.KnownBytes.{Appends}
-use Rattle.dam_book.specs.declared.command.Command.{Command}
 use Rattle.dam_results.specs.declared.journal.JournalFault.TheVariants.{Memory as NoMemory}
 use Rattle.dam_results.specs.Limits.{most_bytes}
-use Rattle.dam_results.specs.Journal.{ReadsAs}
 use Rattle.dam_results.specs.Faults.{IsFaultOf}
 use Rattle.dam_engines.specs.declared.fault.RunFault.{RunFault}
 use Rattle.dam_engines.specs.declared.fault.RunFault.TheVariants.{Read, Input, Memory, Write}
@@ -13,23 +11,9 @@ use Rattle.dam_engines.specs.declared.fault.RunFault.TheVariants.{Read, Input, M
 abbrev pub most_read : ℕ
 most_read = most_bytes + 1
 
--- the text is a journal
-abbrev pub IsJournal : List ℕ → Type 0
-IsJournal text = (periods : ℕ) × (commands : List Command) × ReadsAs text periods commands
-
--- the writer took just one text, and it is such a one
-abbrev pub Writes : Option (List ℕ) → Option (List ℕ) → (List ℕ → Type 0) → Type 0
-Writes old new IsPrinted = (printed : List ℕ) × IsPrinted printed × Appends old new printed
-
 -- the writer took just the first so many bytes of the text
 abbrev pub TakesFront : Option (List ℕ) → Option (List ℕ) → ℕ → List ℕ → Type 0
 TakesFront old new written text = (written ≤ length text) × Appends old new (take written text)
-
--- where the fault is that the writer failed, it took just the first bytes of such a text, as many as the fault tells
-abbrev pub CutsOff : Option (List ℕ) → Option (List ℕ) → (List ℕ → Type 0) → RunFault → Type 0
-CutsOff old new IsPrinted (Write written) =
-    (printed : List ℕ) × IsPrinted printed × TakesFront old new written printed
-CutsOff old new IsPrinted fault = Unit {0}
 
 -- the writer failed, and took just the first bytes of the text, as many as the fault tells
 abbrev pub IsCutOff : Option (List ℕ) → Option (List ℕ) → List ℕ → RunFault → Type 0
@@ -42,21 +26,23 @@ IsReadingFault Read = Unit {0}
 IsReadingFault Memory = Unit {0}
 IsReadingFault fault = ⊥
 
--- memory ran out, or the reader or the writer failed
-abbrev pub IsMachineFault : RunFault → Type 0
-IsMachineFault Read = Unit {0}
-IsMachineFault Memory = Unit {0}
-IsMachineFault (Write written) = Unit {0}
-IsMachineFault fault = ⊥
-
 -- what a text can be answered that was read: its first fault, or that memory ran out
 abbrev pub IsTextFault : List ℕ → RunFault → Type 0
 IsTextFault text (Input fault) = IsFaultOf text fault × (fault ≢ NoMemory)
 IsTextFault text Memory = Unit {0}
 IsTextFault text fault = ⊥
 
--- what a run over a text can answer: what its text can be answered, that the reader failed, or, where the text is a journal, that the writer did
-abbrev pub IsFaultOn : List ℕ → RunFault → Type 0
-IsFaultOn text Read = Unit {0}
-IsFaultOn text (Write written) = IsJournal text
-IsFaultOn text fault = IsTextFault text fault
+-- how a run with this fault ends: if the writer failed, it took just the first bytes of a text that may be printed, as many as
+-- the fault says; otherwise the reader failed, or the fault is one that may be answered
+abbrev pub EndsIn : (List ℕ → Type 0) → (RunFault → Type 0) → Option (List ℕ) → Option (List ℕ) → RunFault → Type 0
+EndsIn IsPrinted IsFault old new Read = Unit {0}
+EndsIn IsPrinted IsFault old new (Write written) =
+    (printed : List ℕ) × IsPrinted printed × TakesFront old new written printed
+EndsIn IsPrinted IsFault old new fault = IsFault fault
+
+-- how a run ends: the writer took just one text that may be printed; or the run has a fault, as above
+abbrev pub Ends : (List ℕ → Type 0) → (RunFault → Type 0) → Option (List ℕ) → Option (List ℕ) → Result (Unit {0}) RunFault → Type 0
+Ends IsPrinted IsFault old new result =
+    MatchResult result
+    (λ _. (printed : List ℕ) × IsPrinted printed × Appends old new printed)
+    (EndsIn IsPrinted IsFault old new)

@@ -1,10 +1,10 @@
-ghost use Rattle.std.specs.Prelude.{◌≡◌, ◌≢◌, ◌≤◌, ◌+◌, ◌↔◌, ℕ, List, false, IfOk, IfErr, IfSome, IsErrOf, OnOk, MatchResult};
+ghost use Rattle.std.specs.Prelude.{◌≡◌, ◌≢◌, ◌≤◌, ◌+◌, ◌↔◌, ℕ, List, false, IfOk, IfErr, IfSome, IsErrOf, MatchResult};
 ghost use Rattle.dam_book.specs.Book.{run};
 ghost use Rattle.dam_book.specs.declared.command.Command.{Command};
 ghost use Rattle.dam_results.specs.Journal.{ReadsAs};
 ghost use Rattle.dam_engines.specs.Device.{HaveFailed, HaveServed};
-ghost use Rattle.dam_engines.specs.Engine.{CutsOff, IsTextFault, Writes, most_read};
-ghost use Rattle.dam_engines.specs.Clear.{AreResultsTo, IsBookFault, IsClearedAs, IsClearFault, IsClearTextFault, IsFaultOnBook};
+ghost use Rattle.dam_engines.specs.Engine.{Ends, IsTextFault, most_read};
+ghost use Rattle.dam_engines.specs.Clear.{AreResultsTo, IsBookFault, IsClearedAs, IsClearTextFault};
 
 use crate::device::{Sink, Source};
 use crate::fault::RunFault;
@@ -38,18 +38,11 @@ pub fn run_clear<H: Threads + Sync, R: Read, W: Write, T: Watch + Sync>(
     plan: Plan,
     turnstile: &T,
 ) -> Result<(), RunFault>
-    ensures done { OnOk result (IfSome reader.old.given (λ given.
-        Writes writer.old.taken writer.new.taken (AreResultsTo given))) }
-    ensures fault { IfErr result (λ fault.
-        IfSome reader.old.given (λ given. IsClearFault plan given fault)) }
+    ensures ends { IfSome reader.old.given (λ given.
+        Ends (AreResultsTo given) (IsClearTextFault plan given)
+        writer.old.taken writer.new.taken result) }
     ensures unwritten { IfErr result (λ fault.
         ((written : ℕ) → fault ≢ RunFault.Write written) → writer.new ≡ writer.old) }
-    ensures cut { IfErr result (λ fault. IfSome reader.old.given (λ given.
-        CutsOff writer.old.taken writer.new.taken (AreResultsTo given) fault)) }
-    ensures exact { (periods : ℕ) (commands : List Command) → IfSome reader.old.given
-        (λ given. ReadsAs given periods commands → MatchResult result
-        (λ _. Writes writer.old.taken writer.new.taken (IsClearedAs (run periods commands)))
-        (IsFaultOnBook plan (run periods commands))) }
     ensures devices { MatchResult result
         (λ _. HaveServed reader.old reader.new writer.old writer.new)
         (HaveFailed reader.old reader.new writer.old writer.new) }
@@ -71,10 +64,6 @@ fn clear_text<H: Threads + Sync, T: Watch + Sync>(
 ) -> Result<Vec<u8>, RunFault>
     ensures done { IfOk result (λ results. AreResultsTo text.now results.items) }
     ensures fault { IfErr result (IsClearTextFault plan text.now) }
-    ensures exact { (periods : ℕ) (commands : List Command) → ReadsAs text.now periods commands
-        → MatchResult result
-        (λ results. IsClearedAs (run periods commands) results.items)
-        (IsBookFault plan (run periods commands)) }
 {
     let book = run_journal(alloc, seed, text)?;
     clear_book(rt, alloc, &book, plan, turnstile)
@@ -85,10 +74,6 @@ fn run_journal(alloc: Global, seed: Seed, text: &[u8]) -> Result<Book, RunFault>
     ensures done { IfOk result (λ book. (periods : ℕ) × (commands : List Command)
         × ReadsAs text.now periods commands × (book ≡ run periods commands)) }
     ensures fault { IfErr result (IsTextFault text.now) }
-    ensures exact { (periods : ℕ) (commands : List Command) → ReadsAs text.now periods commands
-        → MatchResult result
-        (λ book. book ≡ run periods commands)
-        (λ fault. fault ≡ RunFault.Memory) }
 {
     Ok(book_of_text(alloc, seed, text)?)
 }

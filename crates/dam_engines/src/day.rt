@@ -1,13 +1,11 @@
 ghost use Rattle.std.specs.Prelude.{◌≡◌, ◌≢◌, ◌≤◌, ◌+◌, ℕ, List, None, true, IfOk, IfErr, IfSome, OnOk, MatchResult};
 ghost use Rattle.dam_book.specs.Book.{is_day};
-ghost use Rattle.dam_book.specs.declared.command.Command.{Command};
 ghost use Rattle.dam_gate.specs.Day.{IsDayRun, refused};
 ghost use Rattle.dam_gate.specs.Journal.{IsJournal};
-ghost use Rattle.dam_results.specs.Journal.{ReadsAs};
 ghost use Rattle.dam_engines.specs.Device.{HaveFailed, HaveServed};
-ghost use Rattle.dam_engines.specs.Engine.{CutsOff, Writes, most_read};
+ghost use Rattle.dam_engines.specs.Engine.{Ends, most_read};
 ghost use Rattle.dam_engines.specs.Clear.{IsBookFault, IsClearedAs};
-ghost use Rattle.dam_engines.specs.Day.{IsCommandsFault, IsDayText, IsDayTextFault, IsDayTextTo, IsEarlyFault, IsFaultOnDay, IsRunDayFault, with_results};
+ghost use Rattle.dam_engines.specs.Day.{IsCommandsFault, IsDayText, IsDayTextFault, IsDayTextTo, IsEarlyFault, with_results};
 
 use crate::clear::clear_book;
 use crate::device::{Sink, Source};
@@ -47,18 +45,11 @@ pub fn run_day<H: Threads + Wait + Sync, R: Read, W: Write, T: Watch + Sync, U: 
     turnstile: &T,
     entrance: &U,
 ) -> Result<(), RunFault>
-    ensures done { OnOk result (IfSome reader.old.given (λ given.
-        Writes writer.old.taken writer.new.taken (IsDayTextTo given))) }
-    ensures fault { IfErr result (λ fault.
-        IfSome reader.old.given (λ given. IsRunDayFault plan given fault)) }
+    ensures ends { IfSome reader.old.given (λ given.
+        Ends (IsDayTextTo given) (IsDayTextFault plan given)
+        writer.old.taken writer.new.taken result) }
     ensures unwritten { IfErr result (λ fault.
         ((written : ℕ) → fault ≢ RunFault.Write written) → writer.new ≡ writer.old) }
-    ensures cut { IfErr result (λ fault. IfSome reader.old.given (λ given.
-        CutsOff writer.old.taken writer.new.taken (IsDayTextTo given) fault)) }
-    ensures exact { (periods : ℕ) (commands : List Command) → IfSome reader.old.given
-        (λ given. ReadsAs given periods commands → MatchResult result
-        (λ _. Writes writer.old.taken writer.new.taken (IsDayText periods commands))
-        (IsFaultOnDay plan periods commands)) }
     ensures devices { MatchResult result
         (λ _. HaveServed reader.old reader.new writer.old writer.new)
         (HaveFailed reader.old reader.new writer.old writer.new) }
@@ -82,11 +73,6 @@ fn day_text<H: Threads + Wait + Sync, T: Watch + Sync, U: Turnstile + Sync>(
 ) -> Result<Vec<u8>, RunFault>
     ensures done { IfOk result (λ day. IsDayTextTo text.items day.items) }
     ensures fault { IfErr result (IsDayTextFault plan text.items) }
-    ensures exact { (periods : ℕ) (commands : List Command)
-        → ReadsAs text.items periods commands
-        → MatchResult result
-        (λ day. IsDayText periods commands day.items)
-        (IsCommandsFault plan periods commands) }
 {
     let journal = read_journal(alloc, text.as_slice())?;
     drop(text);

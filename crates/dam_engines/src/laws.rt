@@ -1,10 +1,19 @@
-//! The law of the clearing engine, the contract of a function that does nothing but cite the laws
-//! that it rests on.
-ghost use Rattle.std.specs.Prelude.{◌≡◌, ℕ, List};
-ghost use Rattle.dam_book.specs.Book.{BookState};
-ghost use Rattle.dam_engines.specs.Clear.{IsClearedAs};
+//! The laws of the engines, each the contract of a function that does nothing but cite the laws that it rests on.
+ghost use Rattle.std.specs.Prelude.{◌≡◌, ℕ, List, Option, Result};
+ghost use Rattle.dam_book.specs.Book.{BookState, run};
+ghost use Rattle.dam_book.specs.declared.command.Command.{Command};
+ghost use Rattle.dam_search.specs.Plan.{PlanTerms};
+ghost use Rattle.dam_results.specs.Journal.{ReadsAs};
+ghost use Rattle.dam_results.specs.Replies.{AreReplies};
+ghost use Rattle.dam_engines.specs.declared.fault.RunFault.{RunFault};
+ghost use Rattle.dam_engines.specs.declared.fault.RunFault.TheVariants.{Memory};
+ghost use Rattle.dam_engines.specs.Engine.{Ends, IsTextFault};
+ghost use Rattle.dam_engines.specs.Replay.{AreRepliesTo};
+ghost use Rattle.dam_engines.specs.Clear.{AreResultsTo, IsBookFault, IsClearTextFault, IsClearedAs};
+ghost use Rattle.dam_engines.specs.Day.{IsCommandsFault, IsDayText, IsDayTextFault, IsDayTextTo};
 
 use dam_blocks::laws::uniqueness;
+use dam_results::laws::{fault_is_no_journal, text_is_one_journal};
 use dam_results::publishing_laws::selections_are_published_alike;
 
 /// A closed book has one results text at most.
@@ -14,4 +23,42 @@ pub fn cleared_text_is_one()
 {
     uniqueness();
     selections_are_published_alike();
+}
+
+/// If the text is a journal, a replay ends with the replies to its commands, or memory runs out.
+pub fn replay_is_exact()
+    ensures { (text : List ℕ) (periods : ℕ) (commands : List Command)
+        (old new : Option (List ℕ)) (result : Result (Unit {0}) RunFault)
+        → ReadsAs text periods commands
+        → Ends (AreRepliesTo text) (IsTextFault text) old new result
+        → Ends (AreReplies periods commands) (λ fault. fault ≡ Memory) old new result }
+{
+    text_is_one_journal();
+    fault_is_no_journal();
+}
+
+/// If the text is a journal, a clearing ends with the results of the book that its commands make, or with a fault of that book.
+pub fn clearing_is_exact()
+    ensures { (plan : PlanTerms) (text : List ℕ) (periods : ℕ) (commands : List Command)
+        (old new : Option (List ℕ)) (result : Result (Unit {0}) RunFault)
+        → ReadsAs text periods commands
+        → Ends (AreResultsTo text) (IsClearTextFault plan text) old new result
+        → Ends (IsClearedAs (run periods commands)) (IsBookFault plan (run periods commands))
+        old new result }
+{
+    text_is_one_journal();
+    fault_is_no_journal();
+}
+
+/// If the text is a journal, a day ends with the text of a day of its commands, or with a fault of these.
+pub fn day_is_exact()
+    ensures { (plan : PlanTerms) (text : List ℕ) (periods : ℕ) (commands : List Command)
+        (old new : Option (List ℕ)) (result : Result (Unit {0}) RunFault)
+        → ReadsAs text periods commands
+        → Ends (IsDayTextTo text) (IsDayTextFault plan text) old new result
+        → Ends (IsDayText periods commands) (IsCommandsFault plan periods commands)
+        old new result }
+{
+    text_is_one_journal();
+    fault_is_no_journal();
 }

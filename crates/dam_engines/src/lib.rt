@@ -16,8 +16,9 @@
 //! ```
 //!
 //! A contract sees a reader as the bytes that it has left, and a writer as those that it took, if they tell them: standard
-//! input and output don't. What is printed for which bytes, and the text of each fault, stand in `specs/`. A closed book has
-//! one results text at most ([`laws::cleared_text_is_one`]).
+//! input and output don't. How a run ends ([`run_clear`], clause `ends`), what is printed for which bytes, and the text of each
+//! fault, stand in `specs/`. If the bytes are a journal, what is printed is for that journal and no other
+//! ([`laws::clearing_is_exact`] and the like), and a closed book has one results text at most ([`laws::cleared_text_is_one`]).
 //!
 //! A reader comes as a [`Source`] and a writer as a [`Sink`], which keep whether they failed, how often they were asked, and
 //! whether the writer was flushed after all that it took. So the contracts say, of any reader and writer, that an engine

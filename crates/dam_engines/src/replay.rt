@@ -1,10 +1,6 @@
-ghost use Rattle.std.specs.Prelude.{◌≡◌, ◌≢◌, ◌≤◌, ◌+◌, ℕ, List, IfOk, IfErr, IfSome, OnOk, MatchResult};
-ghost use Rattle.std.specs.Io.KnownBytes.{Appends};
-ghost use Rattle.dam_book.specs.declared.command.Command.{Command};
-ghost use Rattle.dam_results.specs.Journal.{ReadsAs};
+ghost use Rattle.std.specs.Prelude.{◌≡◌, ◌≢◌, ◌≤◌, ◌+◌, ℕ, IfOk, IfErr, IfSome, MatchResult};
 ghost use Rattle.dam_engines.specs.Device.{HaveFailed, HaveServed};
-ghost use Rattle.dam_engines.specs.Engine.{CutsOff, IsFaultOn, IsMachineFault, IsTextFault, Writes, most_read};
-ghost use Rattle.dam_results.specs.Replies.{replies_to};
+ghost use Rattle.dam_engines.specs.Engine.{Ends, IsTextFault, most_read};
 ghost use Rattle.dam_engines.specs.Replay.{AreRepliesTo};
 
 use crate::device::{Sink, Source};
@@ -31,18 +27,11 @@ pub fn run_replay<R: Read, W: Write>(
     reader: &mut Source<R>,
     writer: &mut Sink<W>,
 ) -> Result<(), RunFault>
-    ensures done { OnOk result (IfSome reader.old.given (λ given.
-        Writes writer.old.taken writer.new.taken (AreRepliesTo given))) }
-    ensures fault { IfErr result (λ fault.
-        IfSome reader.old.given (λ given. IsFaultOn given fault)) }
+    ensures ends { IfSome reader.old.given (λ given.
+        Ends (AreRepliesTo given) (IsTextFault given)
+        writer.old.taken writer.new.taken result) }
     ensures unwritten { IfErr result (λ fault.
         ((written : ℕ) → fault ≢ RunFault.Write written) → writer.new ≡ writer.old) }
-    ensures cut { IfErr result (λ fault. IfSome reader.old.given (λ given.
-        CutsOff writer.old.taken writer.new.taken (AreRepliesTo given) fault)) }
-    ensures exact { (periods : ℕ) (commands : List Command) → IfSome reader.old.given
-        (λ given. ReadsAs given periods commands → MatchResult result
-        (λ _. Appends writer.old.taken writer.new.taken (replies_to periods commands))
-        IsMachineFault) }
     ensures devices { MatchResult result
         (λ _. HaveServed reader.old reader.new writer.old writer.new)
         (HaveFailed reader.old reader.new writer.old writer.new) }
@@ -57,10 +46,6 @@ pub fn run_replay<R: Read, W: Write>(
 fn replies_of(alloc: Global, seed: Seed, text: &[u8]) -> Result<Vec<u8>, RunFault>
     ensures done { IfOk result (λ replies. AreRepliesTo text.now replies.items) }
     ensures fault { IfErr result (IsTextFault text.now) }
-    ensures exact { (periods : ℕ) (commands : List Command) → ReadsAs text.now periods commands
-        → MatchResult result
-        (λ replies. replies.items ≡ replies_to periods commands)
-        (λ fault. fault ≡ RunFault.Memory) }
 {
     Ok(replay_text(alloc, seed, text)?)
 }

@@ -8,7 +8,6 @@ use Rattle.dam_book.specs.declared.command.Reply.TheVariants.{Refused}
 use Rattle.dam_book.specs.Book.{BookState, empty_book, carried_out, reply_of, refusal, book_after, reply_to, run, run_from, commands_of, IsLegalFrom}
 use Rattle.dam_book.specs.Limits.{most_entries}
 use Rattle.dam_gate.specs.Journal.{JournalState, IsHistory, IsJournal, FoundRoom, next_entry, journal_after, is_full}
-use Rattle.dam_gate.specs.Gate.{EndsHistory}
 use Rattle.std.proofs.lemmas.Bool.{leb-false}
 
 carried_out-periods : (b : BookState) (c : Command) → (carried_out b c).periods ≡ b.periods
@@ -66,10 +65,6 @@ journal_after_is j c is room =
       history = subst (λ (n : ℕ). IsHistory n all) (sym same) (history-after j c is room);
       book_is = sym after ∙ ap (λ (n : ℕ). run n (commands_of all)) (sym same);
     }
-
-pub ends_history : (j : JournalState) (c : Command) → IsJournal j → is_full (length j.entries) c ≡ false → EndsHistory (next_entry j c)
-ends_history j c is room =
-    record { periods = j.book.periods; before = j.entries; history = history-after j c is room; number = sym (length-append j.entries (next_entry j c ∷ [])) }
 
 -- a command that is refused leaves the book
 stays : (o : Option Reason) (b d : BookState) (r : Reason) → reply_of o ≡ Refused r → (if is_some o then b else d) ≡ b

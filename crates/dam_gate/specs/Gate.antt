@@ -29,28 +29,17 @@ abbrev pub gate_fault_of : KeeperFault → GateFault
 gate_fault_of (KeeperFull n) = JournalFull n
 gate_fault_of KeeperMemory = Memory
 
--- what a gate that holds so many entries may answer to the command of a pass in place of its entry, each fault where those before it are none
-abbrev pub IsFaultAt : ℕ → PassState → Command → GateFault → Type 0
-IsFaultAt held p c NotYours = is_own p.holder c ≡ false
-IsFaultAt held p c (JournalFull n) = (is_own p.holder c ≡ true) × (n ≡ held) × (is_full held c ≡ true)
-IsFaultAt held p c Memory = (is_own p.holder c ≡ true) × (is_full held c ≡ false)
-IsFaultAt held p c NoVersion = (is_own p.holder c ≡ true) × (is_full held c ≡ false)
-
--- what a gate may answer, whose number of entries nobody but itself knows
+-- what a gate may answer to the command of a pass in place of its entry: that the pass may not give it; or, if it may, that a
+-- journal of as many entries is full for it, that memory ran out, or that no version could be shown
 abbrev pub IsGateFault : PassState → Command → GateFault → Type 0
-IsGateFault p c fault = (held : ℕ) × (held ≤ most_entries) × IsFaultAt held p c fault
+IsGateFault p c NotYours = is_own p.holder c ≡ false
+IsGateFault p c (JournalFull held) = (is_own p.holder c ≡ true) × (held ≤ most_entries) × (is_full held c ≡ true)
+IsGateFault p c Memory = is_own p.holder c ≡ true
+IsGateFault p c NoVersion = is_own p.holder c ≡ true
 
--- the entry is the last of a history that a journal of some day may hold
-pub record EndsHistory (e : Entry) : Type 0 where
-  pub periods : ℕ
-  pub before : List Entry
-  pub history : IsHistory periods (before ++ e ∷ [])
-  pub number : e.number ≡ length (before ++ e ∷ [])
-
--- the history is one that a journal of some day may hold, it ends with the entry, and before that it begins with all that
--- the pass had seen and had been told of
-pub record IsAnswered (k : Knowledge) (history : List Entry) (e : Entry) : Type 0 where
-  pub periods : ℕ
+-- the history is one that a journal of a day of so many periods may hold, it ends with the entry, and before that it begins
+-- with all that the pass had seen and had been told of
+pub record IsAnswered (periods : ℕ) (k : Knowledge) (history : List Entry) (e : Entry) : Type 0 where
   pub before : List Entry
   pub legal : IsHistory periods history
   pub last : history ≡ before ++ e ∷ []
@@ -58,9 +47,8 @@ pub record IsAnswered (k : Knowledge) (history : List Entry) (e : Entry) : Type 
   pub seen : IsPrefix k.history before
   pub told : IsPrefix k.told before
 
--- the history is one that a journal of some day may hold, and its run shows what was looked for
-pub record IsLook (history : List Entry) (key : Key) (look : Look) : Type 0 where
-  pub periods : ℕ
+-- the history is one that a journal of a day of so many periods may hold, and its run shows what was looked for
+pub record IsLook (periods : ℕ) (history : List Entry) (key : Key) (look : Look) : Type 0 where
   pub legal : IsHistory periods history
   pub seen : look.seen ≡ length history
   pub closed : look.closed ≡ (run periods (commands_of history)).closed

@@ -2,6 +2,7 @@ pub mod Limits
 pub mod Journal
 pub mod Keeper
 pub mod Pass
+pub mod Opening
 pub mod Gate
 pub mod Settled
 pub mod Headline

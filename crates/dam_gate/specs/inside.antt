@@ -2,5 +2,6 @@
 pub mod Desk
 pub mod History
 pub mod Books
+pub mod Shown
 pub mod Tally
 pub mod Entering

@@ -327,12 +327,12 @@ fn enter_day<J: Naming + Send + Sync, R: Threads + Wait + Sync, D: Doorkeeper + 
     Ok(accounts)
 }
 
-/// Whether the journal is of such a day and ends with a close.
-fn is_closed_day(journal: &Journal, periods: u8) -> bool
-    ensures { result ≡ true → IsClosedDay periods journal.now }
+/// Whether the journal's last command is a close.
+fn ends_with_a_close(journal: &Journal) -> bool
+    ensures { result ≡ true → IsClosedDay journal.now }
 {
     match journal.entries() {
-        [.., last] => { journal.periods() == periods && matches!(last.command, Command::Close) }
+        [.., last] => matches!(last.command, Command::Close),
         [] => false,
     }
 }
@@ -342,25 +342,25 @@ fn run_day<J: Naming + Send + Sync, R: Threads + Wait + Sync, D: Doorkeeper + Sy
     rt: &R,
     alloc: Global,
     opening: Opening,
-    periods: u8,
     seed: Seed,
     doorkeeper: &D,
     participants: &[Participant],
     commands: &[Command],
 ) -> Result<SettledDay, DayFault>
-    requires name { opening ≡ J.book }
-    requires day { is_day periods ≡ true }
+    requires name { opening ≡ J.opening }
+    requires day { is_day opening.periods ≡ true }
     requires givers { AreGivers participants.now commands.now }
     requires few { length participants.now ≤ most_participants }
-    ensures periods { IfOk result (λ day. day.settled.book.periods ≡ periods) }
+    ensures periods { IfOk result (λ day. day.settled.book.periods ≡ opening.periods) }
     ensures journal { IfOk result (λ day. IsJournal day.settled) }
-    ensures day { IfOk result (λ day. IsDayRun periods commands.now day.settled.entries) }
+    ensures day { IfOk result (λ day.
+        IsDayRun opening.periods commands.now day.settled.entries) }
     ensures settled { IfOk result (λ day. IsSettled day.settled day.passes.items) }
     ensures passes { IfOk result (λ day.
         holders day.passes.items ≡ map (λ who. Some who) participants.now ++ None ∷ []) }
     ensures err { IfErr result IsLateFault }
 {
-    let gate = match Gate::<J, &R>::begin_seeded(rt, alloc, opening, periods, seed) {
+    let gate = match Gate::<J, &R>::begin_seeded(rt, alloc, opening, seed) {
         Ok(gate) => gate,
         Err(BeginFault::Memory) => return Err(DayFault::Memory),
         Err(BeginFault::BadDay) => unreachable!(),
@@ -370,7 +370,7 @@ fn run_day<J: Naming + Send + Sync, R: Threads + Wait + Sync, D: Doorkeeper + Sy
     passes.push(operator)?;
     let journal = gate.finish();
     let settled = settle_day(alloc, journal, &passes)?;
-    if !is_closed_day(settled.journal(), periods) {
+    if !ends_with_a_close(settled.journal()) {
         return Err(DayFault::NotSettled(Mismatch::StillOpen));
     }
     Ok(SettledDay { settled, passes })
@@ -378,6 +378,7 @@ fn run_day<J: Naming + Send + Sync, R: Threads + Wait + Sync, D: Doorkeeper + Sy
 
 /// The journal settled with the passes.
 fn settle_day(alloc: Global, journal: Journal, passes: &[Account]) -> Result<Settled, DayFault>
+    ensures journal { IfOk result (λ settled. settled ≡ journal) }
     ensures settled { IfOk result (λ settled. IsSettled settled passes.now) }
     ensures err { IfErr result IsLateFault }
 {
@@ -416,12 +417,11 @@ pub fn run_commands<R: Threads + Wait + Sync, D: Doorkeeper + Sync>(
         return Err(DayFault::TooManyCommands);
     }
     let participants = givers(alloc, commands)?;
-    let opening = Opening::new();
+    let opening = Opening::new(periods);
     let day = run_day::<Brand, R, D>(
         rt,
         alloc,
         opening,
-        periods,
         seed,
         doorkeeper,
         &participants,

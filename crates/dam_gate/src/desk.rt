@@ -1,4 +1,4 @@
-ghost use Rattle.std.specs.Prelude.{◌≡◌, ◌⊎◌, ◌<◌, ◌+◌, ◌∷◌, ◌++◌, [], true, false, length, IfOk, IfErr, OnOk, OnErr};
+ghost use Rattle.std.specs.Prelude.{◌≡◌, ◌⊎◌, ◌<◌, ◌+◌, ◌^◌, ◌∷◌, ◌++◌, [], true, false, length, IfOk, IfErr, OnOk, OnErr};
 ghost use mathlib.Core.List.{IsPrefix};
 ghost use Rattle.dam_book.specs.Book.{is_day};
 ghost use Rattle.dam_gate.specs.Journal.{IsJournal, empty_journal, is_full, journal_after, next_entry};
@@ -6,6 +6,8 @@ ghost use Rattle.dam_gate.specs.Limits.{most_passes};
 ghost use Rattle.dam_gate.specs.Pass.{knowing_nothing};
 ghost use Rattle.dam_gate.specs.Gate.{IsBeginFault};
 ghost use Rattle.dam_gate.specs.inside.Desk.{IsPassFault};
+ghost use Rattle.dam_gate.specs.inside.Shown.{IsAtMostNext, IsNext};
+ghost use Rattle.left_right.specs.Handles.{pending, published};
 
 use crate::gate::{GateFault, PassFault};
 use crate::history::{Front, Head, Naming, Opening};
@@ -21,12 +23,13 @@ use std::sync::{Arc, OnceLock, Wait};
 
 /// What lies under the lock: the keeper, and what publishes its versions.
 ///
-/// A contract sees the journal, and how many passes were given. The history of the name `J` that it has is just the
-/// journal's entries.
+/// A contract sees the journal, and how many passes were given. Whenever the lock is free, the history of the name `J` that it
+/// has is just the journal's entries, the day is that of the name, and the version that is shown has as many entries as the
+/// journal.
 #[derive(Drop)]
 pub(crate) struct Desk<J: Naming, R: Wait + Drop>
 where
-    Shown<J>: Absorb<Change<J>, State = ()>,
+    Shown<J>: Absorb<Change<J>, State = u32>,
 {
     alloc: Global,
     pub(crate) keeper: Keeper,
@@ -35,6 +38,8 @@ where
     start: Front<J>,
     front: Front<J>,
     writer: WriteHandle<Shown<J>, Change<J>, R>,
+    // the place in the change that a refused call left at the writer
+    next: Option<Place<J>>,
     // how many passes were given
     passes: u8,
     ghost starts: { start ≡ [] },
@@ -42,22 +47,31 @@ where
 
 impl<J: Naming, R: Wait + Drop> Model for Desk<J, R>
 where
-    Shown<J>: Absorb<Change<J>, State = ()>,
+    Shown<J>: Absorb<Change<J>, State = u32>,
 {
-    ghost use Rattle.std.specs.Prelude.{◌≡◌};
+    ghost use Rattle.std.specs.Prelude.{◌≡◌, length};
+    ghost use Rattle.left_right.specs.Handles.{pending, published};
     ghost use Rattle.dam_gate.specs.inside.Desk.{DeskState};
+    ghost use Rattle.dam_gate.specs.inside.Shown.{IsAtMostNext};
 
     ghost Value = { DeskState };
 
     ghost view = { λ d. record { journal = d.keeper.journal; passes = d.passes } };
 
-    ghost invariant = { λ d. d.front ≡ d.keeper.journal.entries };
+    ghost invariant = { λ d. (d.front ≡ d.keeper.journal.entries)
+        × (d.keeper.journal.book.periods ≡ J.opening.periods)
+        × ((published d.writer).held ≡ length d.keeper.journal.entries)
+        × IsAtMostNext (length d.keeper.journal.entries) d.next (pending d.writer) };
 }
 
 /// A place where the version stands.
-fn shown<J: Naming>(alloc: Global, version: Version<J>) -> Result<Shown<J>, AllocError> {
+fn shown<J: Naming>(alloc: Global, version: Version<J>) -> Result<Shown<J>, AllocError>
+    ensures { IfOk result (λ shown. shown.held ≡ length version.entries) }
+{
+    let held = version.front().len();
     Ok(Shown {
         place: Arc::new(alloc, OnceLock::from(version))?,
+        held,
     })
 }
 
@@ -68,28 +82,47 @@ fn writer_from<J: Naming, R: Wait + Drop>(
     keeper: &Keeper,
     front: &Front<J>,
 ) -> Result<WriteHandle<Shown<J>, Change<J>, R>, AllocError>
-    requires { front.now ≡ keeper.now.journal.entries }
+    requires front { front.now ≡ keeper.now.journal.entries }
+    requires day { keeper.now.journal.book.periods ≡ J.opening.periods }
+    ensures shown { IfOk result (λ writer. (published writer).held ≡ length front.now) }
+    ensures waiting { IfOk result (λ writer. pending writer ≡ []) }
 {
     let first = shown(alloc, Version::new(keeper.share()?, front.again()))?;
     let second = Shown {
         place: Arc::try_clone(&first.place)?,
+        held: first.held,
     };
     WriteHandle::new(alloc, rt, first, second, MOST_PASSES as usize)
 }
 
-/// A place for the next version, with none in it yet. The writer is to show it.
+/// A place for the next version, with none in it yet: the one that a refused call left at the writer, or else a new one. It is
+/// what the writer shows next.
 fn next_place<J: Naming, R: Wait + Drop>(
     alloc: Global,
     writer: &mut WriteHandle<Shown<J>, Change<J>, R>,
-) -> Result<Place<J>, AllocError> {
+    next: &mut Option<Place<J>>,
+    held: u32,
+) -> Result<Place<J>, AllocError>
+    requires few { held < 2 ^ 31 }
+    requires waiting { IsAtMostNext held next.old (pending writer.old) }
+    ensures published { published writer.new ≡ published writer.old }
+    ensures waiting { IsAtMostNext held next.new (pending writer.new) }
+    ensures ok { OnOk result (IsNext held (pending writer.new)) }
+{
+    if let Some(place) = &*next {
+        return Arc::try_clone(place);
+    }
     let place = Arc::new(alloc, OnceLock::new())?;
+    let kept = Arc::try_clone(&place)?;
     let change = Change {
         place: Arc::try_clone(&place)?,
+        held: held + 1,
     };
-    match writer.append(change) {
-        Ok(()) => Ok(place),
-        Err(_) => Err(AllocError),
+    if writer.append(change).is_err() {
+        return Err(AllocError);
     }
+    *next = Some(kept);
+    Ok(place)
 }
 
 /// The history after the step, whose version then stands at the place.
@@ -101,8 +134,9 @@ fn go_on<J: Naming>(
     ready: &Ready,
     place: &Place<J>,
 ) -> Result<Front<J>, GateFault>
-    requires { IsJournal
+    requires journal { IsJournal
         (record { entries = front.now ++ ready.now.entry ∷ []; book = ready.now.book }) }
+    requires day { ready.now.book.periods ≡ J.opening.periods }
     ensures history { IfOk result (λ after. after ≡ front.now ++ ready.now.entry ∷ []) }
     ensures seen { OnOk result (IsPrefix seen.now front.now) }
     ensures told { OnOk result (IsPrefix told.now front.now) }
@@ -125,15 +159,14 @@ impl<J: Naming, R: Wait + Drop> Desk<J, R> {
         rt: R,
         alloc: Global,
         opening: Opening,
-        periods: u8,
         seed: Seed,
     ) -> Result<Desk<J, R>, BeginFault>
-        requires { opening ≡ J.book }
-        ensures ok { IfOk result (λ desk. (is_day periods ≡ true)
-            × (desk ≡ record { journal = empty_journal periods; passes = 0 })) }
-        ensures fault { IfErr result (IsBeginFault periods) }
+        requires { opening ≡ J.opening }
+        ensures ok { IfOk result (λ desk. (is_day opening.periods ≡ true)
+            × (desk ≡ record { journal = empty_journal opening.periods; passes = 0 })) }
+        ensures fault { IfErr result (IsBeginFault opening.periods) }
     {
-        let keeper = Keeper::begin_seeded(alloc, periods, seed)?;
+        let keeper = Keeper::begin_seeded(alloc, opening.periods(), seed)?;
         let (head, front) = opening.named::<J>();
         let writer = writer_from(rt, alloc, &keeper, &front)?;
         Ok(Desk {
@@ -143,6 +176,7 @@ impl<J: Naming, R: Wait + Drop> Desk<J, R> {
             start: front.again(),
             front,
             writer,
+            next: None,
             passes: 0,
         })
     }
@@ -151,6 +185,7 @@ impl<J: Naming, R: Wait + Drop> Desk<J, R> {
     pub(crate) fn len(&self) -> u32
         ensures value { result ≡ length self.now.journal.entries }
         ensures valid { IsJournal self.now.journal }
+        ensures day { self.now.journal.book.periods ≡ J.opening.periods }
     {
         self.keeper.len()
     }
@@ -166,6 +201,7 @@ impl<J: Naming, R: Wait + Drop> Desk<J, R> {
     pub(crate) fn into_journal(self) -> Journal
         ensures value { result ≡ self.journal }
         ensures valid { IsJournal result }
+        ensures day { result.book.periods ≡ J.opening.periods }
     {
         let Desk { keeper, .. } = self;
         keeper.into_journal()
@@ -193,7 +229,7 @@ impl<J: Naming, R: Wait + Drop> Desk<J, R> {
 
     /// Journals the command, and shows the version after it. It answers the entry and the history that it ends.
     ///
-    /// All that may be refused comes first.
+    /// All that may be refused comes first. What a refused call has left at the writer the next one takes.
     pub(crate) fn enter(
         &mut self,
         seen: &Front<J>,
@@ -212,15 +248,17 @@ impl<J: Naming, R: Wait + Drop> Desk<J, R> {
         ensures fault { IfErr result (λ fault.
             (fault ≡ GateFault.Memory) ⊎ (fault ≡ GateFault.NoVersion)) }
     {
-        // Its contract tells that these are the entries of a journal.
-        let _journal = self.keeper.len();
+        // Its contract also says, for the proof, that these are the entries of a journal.
+        let held = self.keeper.len();
         let ready = self.keeper.ready(command)?;
-        let place = next_place(self.alloc, &mut self.writer)?;
+        let place = next_place(self.alloc, &mut self.writer, &mut self.next, held)?;
         let front = go_on(&self.head, &self.front, seen, told, &ready, &place)?;
+        if self.writer.publish().is_err() {
+            return Err(GateFault::NoVersion);
+        }
+        self.next = None;
         let entry = self.keeper.put(ready);
         self.front = front.again();
-        // It can't be refused: the places are shares, of which there can't be too many.
-        let _published = self.writer.publish();
         Ok((entry, front))
     }
 }

@@ -2,7 +2,7 @@ ghost use Rattle.std.specs.Prelude.{◌≡◌, ◌<◌, true, Some, None, IfOk, 
 ghost use Rattle.dam_book.specs.Book.{is_day};
 ghost use Rattle.dam_gate.specs.Journal.{IsJournal};
 ghost use Rattle.dam_gate.specs.Pass.{after_call, is_own, knowing_nothing};
-ghost use Rattle.dam_gate.specs.Gate.{EndsHistory, IsAnswered, IsBeginFault, IsGateFault};
+ghost use Rattle.dam_gate.specs.Gate.{IsAnswered, IsBeginFault, IsGateFault};
 
 use crate::desk::Desk;
 use crate::history::{Naming, Opening};
@@ -95,25 +95,20 @@ impl From<AllocError> for PassFault {
 #[derive(Drop)]
 pub struct Gate<J: Naming, R: Wait + Drop>
 where
-    Shown<J>: Absorb<Change<J>, State = ()>,
+    Shown<J>: Absorb<Change<J>, State = u32>,
 {
     desk: Mutex<Desk<J, R>>,
 }
 
 impl<J: Naming, R: Wait + Drop> Gate<J, R> {
-    /// The gate of a day of 23, 24, 25, 92, 96 or 100 periods, with an empty journal, on the fixed seed
-    /// that everybody knows.
-    pub fn begin(
-        rt: R,
-        alloc: Global,
-        opening: Opening,
-        periods: u8,
-    ) -> Result<Gate<J, R>, BeginFault>
-        requires { opening ≡ J.book }
-        ensures ok { OnOk result (is_day periods ≡ true) }
-        ensures fault { IfErr result (IsBeginFault periods) }
+    /// The gate of the opening's day, of 23, 24, 25, 92, 96 or 100 periods, with an empty journal, on the fixed seed that
+    /// everybody knows.
+    pub fn begin(rt: R, alloc: Global, opening: Opening) -> Result<Gate<J, R>, BeginFault>
+        requires { opening ≡ J.opening }
+        ensures ok { OnOk result (is_day opening.periods ≡ true) }
+        ensures fault { IfErr result (IsBeginFault opening.periods) }
     {
-        Gate::begin_seeded(rt, alloc, opening, periods, Seed::fixed())
+        Gate::begin_seeded(rt, alloc, opening, Seed::fixed())
     }
 
     /// The gate that `begin` gives, whose book hashes names with the seed. With a secret one nobody can choose names that collide
@@ -122,15 +117,14 @@ impl<J: Naming, R: Wait + Drop> Gate<J, R> {
         rt: R,
         alloc: Global,
         opening: Opening,
-        periods: u8,
         seed: Seed,
     ) -> Result<Gate<J, R>, BeginFault>
-        requires { opening ≡ J.book }
-        ensures ok { OnOk result (is_day periods ≡ true) }
-        ensures fault { IfErr result (IsBeginFault periods) }
+        requires { opening ≡ J.opening }
+        ensures ok { OnOk result (is_day opening.periods ≡ true) }
+        ensures fault { IfErr result (IsBeginFault opening.periods) }
     {
         Ok(Gate {
-            desk: Mutex::new(Desk::begin(rt, alloc, opening, periods, seed)?),
+            desk: Mutex::new(Desk::begin(rt, alloc, opening, seed)?),
         })
     }
 
@@ -159,11 +153,11 @@ impl<J: Naming, R: Wait + Drop> Gate<J, R> {
         command: Command,
     ) -> Result<Entry, GateFault>
         ensures command { IfOk result (λ entry. entry.command ≡ command) }
-        ensures reply { IfOk result EndsHistory }
         ensures later { IfOk result (λ entry. pass.old.account.seen < entry.number) }
         ensures receipt { IfOk result (λ entry.
             pass.new ≡ after_call pass.old pass.new.history entry) }
-        ensures history { IfOk result (IsAnswered pass.old pass.new.history) }
+        ensures history { IfOk result
+            (IsAnswered J.opening.periods pass.old pass.new.history) }
         ensures own { OnOk result (is_own pass.old.account.holder command ≡ true) }
         ensures err { OnErr result (pass.new ≡ pass.old) }
         ensures fault { IfErr result (IsGateFault pass.old.account command) }
@@ -179,11 +173,11 @@ impl<J: Naming, R: Wait + Drop> Gate<J, R> {
         command: &Command,
     ) -> Result<Entry, GateFault>
         ensures command { IfOk result (λ entry. entry.command ≡ command.now) }
-        ensures reply { IfOk result EndsHistory }
         ensures later { IfOk result (λ entry. pass.old.account.seen < entry.number) }
         ensures receipt { IfOk result (λ entry.
             pass.new ≡ after_call pass.old pass.new.history entry) }
-        ensures history { IfOk result (IsAnswered pass.old pass.new.history) }
+        ensures history { IfOk result
+            (IsAnswered J.opening.periods pass.old pass.new.history) }
         ensures own { OnOk result (is_own pass.old.account.holder command.now ≡ true) }
         ensures err { OnErr result (pass.new ≡ pass.old) }
         ensures fault { IfErr result (IsGateFault pass.old.account command.now) }
@@ -201,7 +195,8 @@ impl<J: Naming, R: Wait + Drop> Gate<J, R> {
 
     /// The journal, once nobody uses the gate any more. From then on looks find no version.
     pub fn finish(self) -> Journal
-        ensures { IsJournal result }
+        ensures journal { IsJournal result }
+        ensures day { result.book.periods ≡ J.opening.periods }
     {
         self.desk.into_inner().into_journal()
     }

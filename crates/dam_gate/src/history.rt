@@ -53,20 +53,24 @@ impl Plain<Entry, Entry, u64> for Add {
     ghost state = { λ entry. None };
 }
 
-/// Which gate it is. Each call of a program picks it.
+/// Which gate it is: its history and its day. Each call of a program picks it.
 pub trait Naming {
-    ghost use Rattle.logbook.specs.Pages.{Book};
+    ghost use Rattle.dam_gate.specs.Opening.{OpeningState};
 
-    ghost book: { Book };
+    ghost opening: { OpeningState };
 }
 
 impl Naming for Brand {
-    ghost book = { record { number = 0; log_name = 0; cells_name = 0 } };
+    ghost opening = { record {
+      history = record { number = 0; log_name = 0; cells_name = 0 };
+      periods = 0;
+    } };
 }
 
-/// An empty history, which has no name yet.
+/// What a gate begins with: an empty history, which has no name yet, and the length of the day.
 #[derive(Drop)]
 pub struct Opening {
+    periods: u8,
     word: Word<Entry, u64, Law>,
     seen: Seen<Entry, u64, Law>,
     ghost empty: { seen.log ≡ [] },
@@ -74,28 +78,39 @@ pub struct Opening {
 }
 
 impl Model for Opening {
-    ghost use Rattle.logbook.specs.Pages.{Book};
+    ghost use Rattle.dam_gate.specs.Opening.{OpeningState};
 
-    ghost Value = { Book };
+    ghost Value = { OpeningState };
 
-    ghost view = { λ o. o.seen.book };
+    ghost view = { λ o. record { history = o.seen.book; periods = o.periods } };
 }
 
 impl Opening {
-    pub fn new() -> Opening {
+    /// The opening of a day of as many periods. If no day has as many, no gate begins with it.
+    pub fn new(periods: u8) -> Opening
+        ensures { result.periods ≡ periods }
+    {
         let (seen, mut first, _second) = Seen::open(Start::alone(), 0, 0);
         Opening {
+            periods,
             word: Word::tracked(0, &mut first),
             seen,
         }
     }
 
+    /// How many periods the day is to have.
+    pub(crate) fn periods(&self) -> u8
+        ensures { result ≡ self.now.periods }
+    {
+        self.periods
+    }
+
     /// The word under a name, and the front that has seen nothing.
     pub(crate) fn named<J: Naming>(self) -> (Head<J>, Front<J>)
-        requires { self ≡ J.book }
+        requires { self ≡ J.opening }
         ensures { result.1 ≡ [] }
     {
-        let Opening { word, seen } = self;
+        let Opening { word, seen, .. } = self;
         (
             Head {
                 word,
@@ -115,7 +130,7 @@ impl Opening {
 pub(crate) struct Head<J: Naming> {
     word: Word<Entry, u64, Law>,
     of: PhantomData<J>,
-    ghost head_is: { word ≡ head_of J.book },
+    ghost head_is: { word ≡ head_of J.opening.history },
 }
 
 /// A beginning of the history that was seen. Contracts see it as its entries.
@@ -134,7 +149,7 @@ impl<J: Naming> Model for Front<J> {
 
     ghost view = { λ f. f.seen.log };
 
-    ghost invariant = { λ f. (f.held ≡ length f.seen.log) × (f.seen.book ≡ J.book) };
+    ghost invariant = { λ f. (f.held ≡ length f.seen.log) × (f.seen.book ≡ J.opening.history) };
 }
 
 impl<J: Naming> Front<J> {

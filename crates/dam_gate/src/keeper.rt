@@ -229,6 +229,7 @@ impl<A: Allocator + Copy> Keeper<A> {
         requires { IsReadyFor self.old ready.entry.command ready }
         ensures entry { result ≡ ready.entry }
         ensures step { self.new.journal ≡ journal_after self.old.journal ready.entry.command }
+        ensures day { self.new.journal.book.periods ≡ self.old.journal.book.periods }
     {
         let Ready { entry, book } = ready;
         let held = self.len();

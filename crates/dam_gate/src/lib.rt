@@ -3,7 +3,7 @@
 //!
 //! ```
 //! // in a function that is generic in the gate's name `J`, with `opening: Opening` among its arguments
-//! let gate = Gate::<J, &R>::begin(rt, alloc, opening, 24)?;
+//! let gate = Gate::<J, &R>::begin(rt, alloc, opening)?;
 //! let mut pass = gate.pass(rt, who)?; // one a participant; each may go to a thread of its own
 //! let entry = gate.call(rt, &mut pass, submit)?;
 //! let look = pass.look(who, name); // takes no lock, and waits for nobody
@@ -23,11 +23,12 @@
 //! has seen, and its receipts; the history that it has seen, the longest that it was told of, and the one that its last
 //! call made. What these words mean stands in `specs/`. What two passes have seen is one history ([`laws::one_history`]).
 //!
-//! Of what lies under the lock a contract sees only what is true of any gate.
-//! So only tested is that a gate begins with its day and no entry, that a call journals at this gate and just once,
-//! or, refused, not at all, that each entry's version is shown, that calls are refused and looks are `None`
-//! only where they should be, that `finish` hands over the journal of these calls, and that a gate gives nine
-//! passes; besides, that memory isn't said to have run out where it hasn't.
+//! Of what lies under the lock a contract sees only what is true of any gate whenever the lock is free: the journal is a legal
+//! one of the day of the gate's name, and as many entries are shown as it has.
+//! So only tested is that a gate begins with no entry, that a call journals at this gate and just once, or, refused, not at
+//! all, that the place that is shown isn't empty, that calls are refused and looks are `None` only if they should be, that
+//! `finish` hands over the journal of these calls, and that a gate gives nine passes; besides, that memory isn't said to have
+//! run out if it hasn't.
 //!
 //! The crate knows nothing of texts, of prices that clear, and of how the best selection is found.
 #![tactic(auto)]

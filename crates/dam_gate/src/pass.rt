@@ -4,7 +4,8 @@ ghost use mathlib.Core.List.{IsPrefix};
 ghost use Rattle.dam_book.specs.Limits.{most_entries};
 ghost use Rattle.dam_gate.specs.Journal.{journal_after, next_entry};
 ghost use Rattle.dam_gate.specs.Pass.{IsKnowledge, after_call, after_learning, after_look, is_own, knowing_nothing};
-ghost use Rattle.dam_gate.specs.Gate.{BeginsWithAll, IsAnswered, IsFaultAt, IsLook};
+ghost use Rattle.dam_gate.specs.Gate.{BeginsWithAll, IsAnswered, IsLook};
+ghost use Rattle.dam_gate.specs.inside.Desk.{IsFaultAt};
 
 use crate::account::{Account, copy_of, owns};
 use crate::desk::Desk;
@@ -145,7 +146,8 @@ impl<J: Naming> Pass<J> {
     ///
     /// `None` once the gate was finished.
     pub fn look(&mut self, who: &Participant, name: &Name) -> Option<Look>
-        ensures look { IfSome result (IsLook self.new.history (who.now, name.now)) }
+        ensures look { IfSome result
+            (IsLook J.opening.periods self.new.history (who.now, name.now)) }
         ensures begins { OnSome result (BeginsWithAll self.old self.new.history) }
         ensures pass { OnSome result (self.new ≡ after_look self.old self.new.history) }
         ensures none { IfNone result (self.new ≡ self.old) }
@@ -210,7 +212,8 @@ impl<J: Naming> Pass<J> {
         ensures journal { OnOk result
             (desk.new.journal ≡ journal_after desk.old.journal command.now) }
         ensures passes { desk.new.passes ≡ desk.old.passes }
-        ensures answered { IfOk result (IsAnswered self.old self.new.history) }
+        ensures answered { IfOk result
+            (IsAnswered J.opening.periods self.old self.new.history) }
         ensures later { IfOk result (λ entry. self.old.account.seen < entry.number) }
         ensures pass { IfOk result (λ entry.
             self.new ≡ after_call self.old self.new.history entry) }

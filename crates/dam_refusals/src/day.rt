@@ -1,7 +1,7 @@
 //! The day, from the first pass to the settlement.
 ghost use Rattle.std.specs.Prelude.{◌≡◌};
 
-use dam_book::{Command, Participant};
+use dam_book::{Command, Name, Participant};
 use dam_gate::{
     Account, Gate, GateFault, Journal, Keeper, MOST_PASSES, Mismatch, Naming, Opening, Pass,
     PassFault, Settled, settle,
@@ -73,27 +73,36 @@ impl<J: Naming> Round<J> {
         Err(Stop::Wrong)
     }
 
-    /// Has the gate take the command, and looks whether a refused call has left the pass as it was.
+    /// Has the gate take the command after `earlier` others. A refused call has to leave the pass as it was, and a look after each
+    /// call has to show just the entries so far.
     fn enter<H: Wait + Drop>(
         &mut self,
         rt: &impl Wait,
         gate: &Gate<J, H>,
         command: &Command,
+        earlier: u32,
     ) -> Result<(), Stop> {
         let place = self.place_of(rt, gate, &giver(command))?;
         let pass = self.passes.get_mut(place).ok_or(Stop::Wrong)?;
-        let (seen, receipts, noted) = (pass.seen(), pass.receipts().len(), pass.note().is_some());
+        let (mut seen, receipts) = (pass.seen(), pass.receipts().len());
+        let noted = pass.note().is_some();
         for _ in 0..TRIES {
             match gate.call(rt, pass, command.copy()) {
                 Ok(entry) => {
                     let is_last = pass.receipts().last() == Some(&entry);
-                    return if is_last { Ok(()) } else { Err(Stop::Wrong) };
+                    let is_shown = entries_shown(pass) == Some(entry.number);
+                    return if is_last && is_shown {
+                        Ok(())
+                    } else {
+                        Err(Stop::Wrong)
+                    };
                 }
                 Err(GateFault::Memory) => {
                     let now = (pass.seen(), pass.receipts().len(), pass.note().is_some());
-                    if now != (seen, receipts, noted) {
+                    if now != (seen, receipts, noted) || entries_shown(pass) != Some(earlier) {
                         return Err(Stop::Wrong);
                     }
+                    seen = earlier;
                     self.refused = self.refused.wrapping_add(1);
                 }
                 Err(_) => return Err(Stop::Wrong),
@@ -101,6 +110,12 @@ impl<J: Naming> Round<J> {
         }
         Err(Stop::Wrong)
     }
+}
+
+/// How many entries the version has that a look finds. It makes that what the pass has seen.
+fn entries_shown<J: Naming>(pass: &mut Pass<J>) -> Option<u32> {
+    let look = pass.look(&Participant::new(b"A")?, &Name::new(b"A")?)?;
+    Some(look.seen)
 }
 
 /// Who gives the command; a close is nobody's.
@@ -141,17 +156,16 @@ fn hold_named<J: Naming, R: Wait>(
     opening: Opening,
     keeper: &Keeper,
 ) -> Result<Day, Stop>
-    requires { opening ≡ J.book }
+    requires { opening ≡ J.opening }
 {
     let mut accounts = Vec::with_capacity(alloc, MOST_PASSES as usize)?;
     let mut round = Round::<J> {
         passes: Vec::with_capacity(alloc, MOST_PASSES as usize)?,
         refused: 0,
     };
-    let periods = keeper.book().periods();
-    let gate = Gate::<J, &R>::begin(rt, alloc, opening, periods).map_err(|_| Stop::Memory)?;
+    let gate = Gate::<J, &R>::begin(rt, alloc, opening).map_err(|_| Stop::Memory)?;
     for entry in keeper.entries() {
-        round.enter(rt, &gate, &entry.command)?;
+        round.enter(rt, &gate, &entry.command, entry.number.wrapping_sub(1))?;
     }
     let journal = gate.finish();
     let Round { passes, refused } = round;
@@ -182,5 +196,5 @@ pub fn hold_day<R: Wait>(
         keeper.apply(command.copy()).map_err(|_| Stop::Memory)?;
     }
     keeper.apply(Command::Close).map_err(|_| Stop::Memory)?;
-    hold_named::<Brand, R>(rt, alloc, Opening::new(), &keeper)
+    hold_named::<Brand, R>(rt, alloc, Opening::new(periods), &keeper)
 }

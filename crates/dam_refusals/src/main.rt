@@ -2,7 +2,7 @@
 //!
 //! It enters the commands of a journal, which has no close and stands on standard input, closes, and settles. It prints how many entries
 //! the day has and how many calls were refused; or `memory` if memory was refused to what comes before the gate; or `wrong` if a call was
-//! answered what it shouldn't be, or one that was refused changed something.
+//! answered what it shouldn't be, one that was refused changed something, or a look after a call shows another number of entries.
 #![tactic(auto)]
 
 mod day;

@@ -1,9 +1,13 @@
--- What lies under the lock, and why it gives no pass.
-use Rattle.std.specs.Prelude.{ℕ, ◌<◌, ◌≤◌}
+-- What lies under the lock, and why it gives no pass and takes no command.
+use Rattle.std.specs.Prelude.{◌≡◌, ℕ, ◌<◌, ◌≤◌, true, false}
+use Rattle.dam_book.specs.declared.command.Command.{Command}
+use Rattle.dam_gate.specs.declared.gate.GateFault.{GateFault}
+use Rattle.dam_gate.specs.declared.gate.GateFault.TheVariants.{NotYours, JournalFull, Memory as NoMemory, NoVersion}
 use Rattle.dam_gate.specs.declared.gate.PassFault.{PassFault}
 use Rattle.dam_gate.specs.declared.gate.PassFault.TheVariants.{PassesUsed, NoPlace, Memory}
-use Rattle.dam_gate.specs.Journal.{JournalState}
+use Rattle.dam_gate.specs.Journal.{JournalState, is_full}
 use Rattle.dam_gate.specs.Limits.{most_passes}
+use Rattle.dam_gate.specs.Pass.{PassState, is_own}
 
 -- the journal, and how many passes were given
 pub record DeskState : Type 0 where
@@ -15,3 +19,11 @@ abbrev pub IsPassFault : ℕ → PassFault → Type 0
 IsPassFault given PassesUsed = most_passes ≤ given
 IsPassFault given NoPlace = given < most_passes
 IsPassFault given Memory = given < most_passes
+
+-- what is answered to the command of a pass in place of its entry if the journal has so many, each fault if those before it are
+-- none
+abbrev pub IsFaultAt : ℕ → PassState → Command → GateFault → Type 0
+IsFaultAt held p c NotYours = is_own p.holder c ≡ false
+IsFaultAt held p c (JournalFull n) = (is_own p.holder c ≡ true) × (n ≡ held) × (is_full held c ≡ true)
+IsFaultAt held p c NoMemory = (is_own p.holder c ≡ true) × (is_full held c ≡ false)
+IsFaultAt held p c NoVersion = (is_own p.holder c ≡ true) × (is_full held c ≡ false)

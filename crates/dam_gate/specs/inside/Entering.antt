@@ -61,9 +61,8 @@ pub record HasAll (given : List Command) (p : PassState) : Type 0 where
   pub pass : IsPass p
   pub as_many : length p.receipts ≡ length (own_commands p.holder given)
 
--- a journal of this day whose last command is a close
-pub record IsClosedDay (periods : ℕ) (j : JournalState) : Type 0 where
-  pub periods_are : j.book.periods ≡ periods
+-- a journal whose last command is a close
+pub record IsClosedDay (j : JournalState) : Type 0 where
   pub journal : IsJournal j
   pub before : List Command
   pub last : commands_of j.entries ≡ before ++ Close ∷ []

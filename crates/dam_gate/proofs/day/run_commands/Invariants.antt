@@ -2,4 +2,4 @@
 use Rattle.dam_gate.proofs.day.run_commands.Given as goal
 
 abbrev pub ghosts-run_day : goal.ghosts-run_day
-ghosts-run_day g a = record { book = a.opening }
+ghosts-run_day g a = record { opening = a.opening }

@@ -1,7 +1,8 @@
-use Rattle.std.proofs.Common.{◌++◌, ◌∷◌, [], ℕ, List, Option, ap, ap₂, subst, ◌∙◌}
+use Rattle.std.proofs.Common.{◌≡◌, ◌++◌, ◌∷◌, [], ℕ, List, Option, ap, ap₂, subst, sym, ◌∙◌}
 use Rattle.std.proofs.lemmas.List.{map-append}
 use Rattle.dam_book.specs.Book.{IsLegalHistory}
-use Rattle.dam_gate.specs.Journal.{IsJournal}
+use Rattle.dam_gate.specs.Journal.{IsJournal, JournalState}
+use Rattle.dam_gate.specs.Opening.{OpeningState}
 use Rattle.dam_gate.specs.Pass.{PassState, holders}
 use Rattle.dam_gate.specs.Settled.{AreReceipts, IsSettled, receipts_of}
 use Rattle.dam_gate.specs.inside.Entering.{IsClosedDay}
@@ -11,14 +12,17 @@ use Rattle.dam_gate.proofs.day.run_day.Goals as goal
 pub returns-clause-day : goal.returns-clause-day
 returns-clause-day g c =
     let es = c.in_ok-settled.settled.entries in
-    let closed = subst (IsClosedDay c.args.periods) c.journal.ensures.value (c.is_closed_day.ensures c.if-not-is_closed_day.false) in
-    day_run c.args.periods c.args.commands.now c.args.participants.now es c.in_ok-passes.passes.items c.in_ok-operator.operator closed.before
-    (subst (λ (n : ℕ). IsLegalHistory n es) closed.periods_are closed.journal.history.legal)
+    let closed = subst IsClosedDay c.journal.ensures.value (c.ends_with_a_close.ensures c.if-not-ends_with_a_close.false) in
+    let periods : c.in_ok-settled.settled.book.periods ≡ c.args.opening.periods =
+    ap (λ (j : JournalState). j.book.periods) c.in_ok-settled.ensures.journal
+    ∙ (c.finish-journal.ensures.day ∙ sym (ap (λ (o : OpeningState). o.periods) c.requires.name)) in
+    day_run c.args.opening.periods c.args.commands.now c.args.participants.now es c.in_ok-passes.passes.items c.in_ok-operator.operator closed.before
+    (subst (λ (n : ℕ). IsLegalHistory n es) periods closed.journal.history.legal)
     (subst (λ (ps : List PassState). AreReceipts es (receipts_of ps)) (c.deref.ensures.value ∙ c.in_ok-push.ensures.items) c.in_ok-settled.ensures.settled.received)
     c.requires.givers c.in_ok-passes.ensures.ok c.in_ok-operator.ensures.ok c.in_ok-operator.ensures.pass closed.last
 
 pub returns-clause-journal : goal.returns-clause-journal
-returns-clause-journal g c = subst IsJournal c.journal.ensures.value (c.is_closed_day.ensures c.if-not-is_closed_day.false).journal
+returns-clause-journal g c = subst IsJournal c.journal.ensures.value (c.ends_with_a_close.ensures c.if-not-ends_with_a_close.false).journal
 
 pub returns-clause-settled : goal.returns-clause-settled
 returns-clause-settled g c = subst (λ (ps : List PassState). IsSettled c.in_ok-settled.settled ps) c.deref.ensures.value c.in_ok-settled.ensures.settled

@@ -1,13 +1,13 @@
 use Rattle.std.proofs.Common.{◌≡◌, ℕ, false, length, Result, Ok, Err, OnErr, sym, ap, ap₂, ◌∙◌}
-use Rattle.dam_book.specs.Book.{book_after}
+use Rattle.dam_book.specs.Book.{BookState, book_after}
 use Rattle.dam_book.specs.declared.command.Entry.{Entry}
 use Rattle.dam_gate.specs.Journal.{JournalState, is_full, journal_after, next_entry}
 use Rattle.dam_gate.specs.inside.Desk.{DeskState}
-use Rattle.dam_gate.proofs.Histories.{journal_after_is}
+use Rattle.dam_gate.proofs.Histories.{book_after-periods, journal_after_is}
 use Rattle.dam_gate.proofs.desk.Desk.enter.Goals as goal
 
-pub go_on-requires : goal.go_on-requires
-go_on-requires g c =
+pub go_on-requires-clause-journal : goal.go_on-requires-clause-journal
+go_on-requires-clause-journal g c =
     let j : JournalState = c.self.inside.keeper.journal in
     let command = c.args.command.now in
     let ready = c.in_ok-ready.ensures.ready in
@@ -15,7 +15,15 @@ go_on-requires g c =
     let entry : c.in_ok-ready.ready.entry ≡ next_entry j command = ready.entry ∙ ap (λ (x : JournalState). next_entry x command) same in
     let book : c.in_ok-ready.ready.book ≡ book_after j.book command = ready.book ∙ ap (λ (x : JournalState). book_after x.book command) same in
     let left : is_full (length j.entries) command ≡ false = ap (λ (x : JournalState). is_full (length x.entries) command) (sym same) ∙ ready.left in
-    rw (c.self.invariant, entry, book) (journal_after_is j command c.len-journal.ensures.valid left)
+    rw (c.self.invariant.0, entry, book) (journal_after_is j command c.len-held.ensures.valid left)
+
+pub go_on-requires-clause-day : goal.go_on-requires-clause-day
+go_on-requires-clause-day g c =
+    let j : JournalState = c.self.inside.keeper.journal in
+    let command = c.args.command.now in
+    let book : c.in_ok-ready.ready.book ≡ book_after j.book command =
+    c.in_ok-ready.ensures.ready.book ∙ ap (λ (x : JournalState). book_after x.book command) c.ready.ensures.journal in
+    ap (λ (b : BookState). b.periods) book ∙ (book_after-periods j.book command ∙ c.self.invariant.1)
 
 pub returns-clause-entry : goal.returns-clause-entry
 returns-clause-entry g c =
@@ -23,7 +31,7 @@ returns-clause-entry g c =
     ∙ (c.in_ok-ready.ensures.ready.entry ∙ ap (λ (x : JournalState). next_entry x c.args.command.now) (c.ready.ensures.journal ∙ ap (λ (d : DeskState). d.journal) c.self.view_is))
 
 pub returns-clause-history : goal.returns-clause-history
-returns-clause-history g c = rw (← c.self.view_is, c.put-entry.ensures.entry, c.in_ok-front.ensures.history, c.self.invariant)
+returns-clause-history g c = rw (← c.self.view_is, c.put-entry.ensures.entry, c.in_ok-front.ensures.history, c.self.invariant.0)
 
 pub returns-clause-journal : goal.returns-clause-journal
 returns-clause-journal g c =
@@ -50,4 +58,4 @@ returns-in_err-front-clause-err g c =
     when_refused c.from_residual-in_err-front.result (ap (with_journal c.self.inside.passes) c.ready.ensures.journal ∙ c.self.view_is)
 
 pub invariant_of-self : goal.invariant_of-self
-invariant_of-self g c = c.self.invariant ∙ sym (ap (λ (x : JournalState). x.entries) c.ready.ensures.journal)
+invariant_of-self g c = rw c.ready.ensures.journal c.self.invariant

@@ -1,7 +1,7 @@
 use Rattle.std.proofs.Common.{◌≡◌, false, length, sym, ap, ◌∙◌}
 use Rattle.dam_gate.specs.Journal.{JournalState, is_full, next_entry}
 use Rattle.dam_gate.specs.Keeper.{KeeperState, ReadyState}
-use Rattle.dam_gate.proofs.Histories.{journal_after_is}
+use Rattle.dam_gate.proofs.Histories.{book_after-periods, journal_after_is}
 use Rattle.dam_gate.proofs.keeper.Keeper.put.Goals as goal
 
 pub invariant_of-self : goal.invariant_of-self
@@ -17,3 +17,11 @@ invariant_of-self g c =
       rw (c.push_reserved.ensures.items, c.copy.ensures, c.follow.ensures.book, entry) (journal_after_is j command c.self.invariant.0 left),
       rw (c.push_reserved.ensures.items, c.copy.ensures) (c.follow.ensures.steps c.self.inside.entries.items held c.self.invariant.1),
     )
+
+pub returns-clause-day : goal.returns-clause-day
+returns-clause-day g c =
+    let j : JournalState = record { entries = c.self.inside.entries.items; book = c.self.inside.books.book } in
+    let command = c.args.ready.entry.command in
+    let entry : c.ready.inside.entry ≡ next_entry j command =
+    ap (λ (r : ReadyState). r.entry) c.ready.view_is ∙ (c.requires.entry ∙ ap (λ (k : KeeperState). next_entry k.journal command) (sym c.self.view_is)) in
+    rw (c.follow.ensures.book, entry) (book_after-periods j.book command ∙ ap (λ (k : KeeperState). k.journal.book.periods) c.self.view_is)

@@ -43,10 +43,10 @@ returns-clause-answered g c =
     let left : is_full (length j.entries) c.args.command.now ≡ false =
     ap (λ (n : ℕ). is_full n c.args.command.now) (sym c.len-held.ensures.value) ∙ (sym c.is_full.ensures ∙ c.if-is_full.false) in
     record {
-      periods = j.book.periods;
       before = j.entries;
-      legal = subst (IsHistory j.book.periods) (sym (c.in_ok-entry.ensures.history ∙ ap (λ (x : Entry). j.entries ++ x ∷ []) c.in_ok-entry.ensures.entry))
-          (history-after j c.args.command.now c.len-held.ensures.valid left);
+      legal = subst (λ (n : ℕ). IsHistory n c.in_ok-entry.front) c.len-held.ensures.day
+          (subst (IsHistory j.book.periods) (sym (c.in_ok-entry.ensures.history ∙ ap (λ (x : Entry). j.entries ++ x ∷ []) c.in_ok-entry.ensures.entry))
+          (history-after j c.args.command.now c.len-held.ensures.valid left));
       last = c.in_ok-entry.ensures.history;
       number = omega (arith, number, ap length c.in_ok-entry.ensures.history, length-append j.entries (e ∷ []));
       seen = subst (λ (k : Knowledge). IsPrefix k.history j.entries) c.self.view_is c.in_ok-entry.ensures.seen;

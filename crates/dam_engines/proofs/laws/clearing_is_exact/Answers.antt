@@ -1,0 +1,6 @@
+-- The laws of what a text reads as.
+use Rattle.dam_engines.proofs.Exact.{clearing-exact}
+use Rattle.dam_engines.proofs.laws.clearing_is_exact.Goals as goal
+
+pub returns : goal.returns
+returns c = clearing-exact (record { one = c.text_is_one_journal.ensures; sound = c.fault_is_no_journal.ensures })
