@@ -16,6 +16,10 @@ import shutil
 import subprocess
 from pathlib import Path
 
+# In the tree that this module is part of, `lib` lies next to it; where it is installed, inside it.
+if not Path(__file__).with_name("lib").is_dir():
+    __path__.append(str(Path(__file__).resolve().parents[1]))
+
 from .lib import book, command, journal, order_table, shapes, tables
 from .lib.command import Day
 from .lib.journal import Journal

@@ -100,9 +100,9 @@ class Module(unittest.TestCase):
 
     def test_the_project_file_names_the_packages(self):
         text = (TOP / "pyproject.toml").read_text()
-        for name in ("dam_tools", "dam_tools.lib"):
-            self.assertIn(f'"{name}"', text)
-            self.assertTrue(Path(TOP, "tools", *name.split(".")).is_dir())
+        for name, folder in (("dam_tools", "tools/dam_tools"), ("dam_tools.lib", "tools/lib")):
+            self.assertIn(f'"{name}" = "{folder}"', text)
+            self.assertTrue(Path(TOP, folder, "__init__.py").is_file())
         version = next(line for line in (TOP / "CHANGELOG.md").read_text().splitlines() if line.startswith("## "))
         self.assertIn(f'version = "{version[3:]}"', text)
 
