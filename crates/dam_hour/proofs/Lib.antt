@@ -9,6 +9,7 @@ pub mod VolumesInTurn
 pub mod Supporting
 pub mod Edges
 pub mod Rungs
+pub mod Leaving
 pub mod Existence
 pub mod Enumeration
 pub mod Midpoint

@@ -1,4 +1,5 @@
-ghost use Rattle.std.specs.Prelude.{◌≡◌, ◌≤◌, ◌-◌, ◌+◌, ◌*◌, ◌-ℤ◌, take, pos, ◌*ℤ◌, ◌+ℤ◌, ℕ, List, length, slice_get, IfOk, IfSome, IfNone, MatchOption, IsTrue, ◌↔◌, [], None};
+ghost use Rattle.std.specs.Prelude.{◌≡◌, ◌≤◌, ◌<◌, ◌-◌, ◌+◌, ◌*◌, ◌-ℤ◌, take, pos, ◌*ℤ◌, ◌+ℤ◌, ℕ, List, length, slice_get, IfOk, IfSome, IfNone, MatchOption, IsTrue, ◌↔◌, [], None};
+ghost use Rattle.std.specs.List.{remove};
 ghost use Rattle.std.specs.Option.{option_map};
 ghost use Rattle.dam_book.specs.declared.order.Side.TheVariants.{Buy, Sell};
 ghost use Rattle.dam_book.specs.Limits.{greatest_volume};
@@ -158,6 +159,26 @@ impl<A: Allocator + Copy> Hour<A> {
         }
         let buys = Ladder::of(alloc, kept.as_slice(), Side::Buy)?;
         let sells = Ladder::of(alloc, kept.as_slice(), Side::Sell)?;
+        Ok(Hour {
+            steps: kept,
+            buys,
+            sells,
+        })
+    }
+
+    /// The hour without the step at a place, counted from 0 in book order. The error is out of memory.
+    ///
+    /// It is made from this one in one pass over its steps, with nothing to sort.
+    pub fn without(&self, alloc: A, place: usize) -> Result<Hour<A>, AllocError>
+        requires { place < length self.now }
+        ensures { IfOk result (λ hour. hour ≡ remove self.now place) }
+    {
+        let steps = &self.steps;
+        let mut kept = Vec::with_capacity(alloc, steps.len() - 1)?;
+        kept.extend_from_slice(&steps[..place])?;
+        kept.extend_from_slice(&steps[place + 1..])?;
+        let buys = self.buys.without(alloc, place as u64)?;
+        let sells = self.sells.without(alloc, place as u64)?;
         Ok(Hour {
             steps: kept,
             buys,

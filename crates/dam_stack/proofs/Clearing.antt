@@ -11,7 +11,8 @@ use Rattle.dam_hour.specs.Execution.{AreInRange, IsExecution, executed_volume, o
 use Rattle.dam_hour.specs.Best.{welfare_of, surplus_at, greatest_welfare}
 use Rattle.dam_hour.specs.Price.{Supports, IsSupporting, AreEnds}
 use Rattle.dam_stack.specs.declared.row.Row.{Row}
-use Rattle.dam_stack.specs.inside.Supply.{height_of, all_units, units_under, units_up_to, gain_at, worth_of, Reaches, Holds, IsCostOf, AreUnitsAt, IsLow, IsHigh}
+use Rattle.dam_stack.specs.Supply.{height_of, all_units, units_under, units_up_to, gain_at, AreUnitsAt}
+use Rattle.dam_stack.specs.inside.Supply.{worth_of, Reaches, Holds, IsCostOf, IsLow, IsHigh}
 use Rattle.dam_stack.proofs.Parts.{under_none, up_to_full, up_to_under, part_most, times_net}
 use Rattle.dam_stack.proofs.Supplying.{taken, spent, height_is, taken_total, all_offered, supported_reaches, supported_spent, reached_execution, welfare_spent}
 
@@ -23,7 +24,7 @@ up_to_below h k (s ∷ ss) l =
     let rest = up_to_below h k ss l in
     omega (arith, here, rest)
 
-none_at_zero : (ss : List Step) → (units_under 0 ss ≡ 0) × (gain_at 0 ss ≡ 0)
+pub none_at_zero : (ss : List Step) → (units_under 0 ss ≡ 0) × (gain_at 0 ss ≡ 0)
 none_at_zero [] = (refl, refl)
 none_at_zero (s ∷ ss) =
     let rest = none_at_zero ss in
@@ -37,7 +38,7 @@ under_all h [] = omega arith
 under_all h (s ∷ ss) =
     let here = part_most (h - height_of s.price) s.qty in let rest = under_all h ss in omega (arith, here, rest)
 
-height_most : (p : ℤ) → IsPrice p → height_of p ≤ price_span
+pub height_most : (p : ℤ) → IsPrice p → height_of p ≤ price_span
 height_most p r = let a = r.at_least in let b = r.at_most in omega (arith, ints, a, b)
 
 all_up_to : (ss : List Step) → AreInRange ss → all_units ss ≤ units_up_to price_span ss
@@ -98,7 +99,7 @@ cost_of_none ss =
       cost_is = omega (arith, none.1);
     }
 
-row_cost : (c g h b x : ℕ) → b ≤ x → c + g ≡ h * b → (c + h * (x - b)) + g ≡ h * x
+pub row_cost : (c g h b x : ℕ) → b ≤ x → c + g ≡ h * b → (c + h * (x - b)) + g ≡ h * x
 row_cost c g h b x l e =
     let s : b + (x - b) ≡ x = omega (arith, l) in
     let m = ap (λ n. h * n) s in

@@ -8,7 +8,7 @@ use Rattle.dam_book.specs.declared.order.Side.TheVariants.{Buy, Sell}
 use Rattle.dam_hour.specs.Execution.{volume_on}
 use Rattle.dam_hour.specs.Price.{IsBetter, IsWorse}
 use Rattle.dam_hour.specs.Best.{signed}
-use Rattle.dam_stack.specs.inside.Supply.{if_any}
+use Rattle.dam_stack.specs.Supply.{if_any}
 
 -- ---- the volume of a step, where it stands under a height or up to it
 any_full : (g q : ℕ) → 0 < g → if_any g q ≡ q
@@ -123,7 +123,7 @@ minus_times a b x =
     omega (arith, ints, m)
 
 -- a limit times a volume, by the limit's height
-limit_times : (limit c : ℤ) (a x : ℕ) → limit ≡ c +ℤ pos a → limit *ℤ pos x ≡ c *ℤ pos x +ℤ pos (a * x)
+pub limit_times : (limit c : ℤ) (a x : ℕ) → limit ≡ c +ℤ pos a → limit *ℤ pos x ≡ c *ℤ pos x +ℤ pos (a * x)
 limit_times limit c a x e =
     let d : limit -ℤ c ≡ pos a = omega (arith, ints) in
     let t = ap (λ (z : ℤ). z *ℤ pos x) d in

@@ -3,10 +3,11 @@ use Rattle.std.proofs.Common.{◌≡◌, ℕ, zero, suc, ◌+◌, ◌-◌, ◌*�
 use Rattle.std.specs.List.Sorted.{IsPermutation, IsNonDecreasingBy}
 use Rattle.std.specs.List.{sum_by}
 use Rattle.std.proofs.lemmas.List.Sums.{sum_by-cons}
-use Rattle.std.proofs.lemmas.List.Sorted.{sum_by-IsPermutation, length_permutation}
+use Rattle.std.proofs.lemmas.List.Sorted.{sum_by-IsPermutation}
 use Rattle.dam_hour.specs.declared.step.Step.{Step}
 use Rattle.dam_stack.specs.declared.row.Row.{Row}
-use Rattle.dam_stack.specs.inside.Supply.{height_of, if_any, total_of, all_units, units_under, units_up_to, gain_at, rows_from, AreRowsOf, Holds}
+use Rattle.dam_stack.specs.Supply.{height_of, if_any, total_of, all_units, units_under, units_up_to, gain_at, rows_from, AreAlike, AreRowsOf}
+use Rattle.dam_stack.specs.inside.Supply.{Holds}
 use Rattle.dam_book.specs.Price.{IsPrice}
 use Rattle.dam_stack.proofs.Parts.{under_none, up_to_full, part_most}
 
@@ -49,7 +50,7 @@ no_gain m h (s ∷ ss) a l =
     omega (arith, here, rest)
 
 -- ---- the rows, one by one
-rows_length : (b c : ℕ) (ss : List Step) → length (rows_from b c ss) ≡ suc (length ss)
+pub rows_length : (b c : ℕ) (ss : List Step) → length (rows_from b c ss) ≡ suc (length ss)
 rows_length b c [] = refl
 rows_length b c (s ∷ ss) = ap suc (rows_length (b + s.qty) (c + height_of s.price * s.qty) ss)
 
@@ -117,8 +118,15 @@ total_is : (f : Step → ℕ) (ss : List Step) → total_of f ss ≡ sum_by f ss
 total_is f [] = refl
 total_is f (s ∷ ss) = ap (λ n. f s + n) (total_is f ss) ∙ sym (sum_by-cons f s ss)
 
-same_total : (f : Step → ℕ) (ss ts : List Step) → IsPermutation ss ts → total_of f ts ≡ total_of f ss
+pub same_total : (f : Step → ℕ) (ss ts : List Step) → IsPermutation ss ts → total_of f ts ≡ total_of f ss
 same_total f ss ts e = total_is f ts ∙ sum_by-IsPermutation f ss ts e ∙ sym (total_is f ss)
+
+count_is : (ss : List Step) → total_of (λ s. 1) ss ≡ length ss
+count_is [] = refl
+count_is (s ∷ ss) = let rest = count_is ss in omega (arith, rest)
+
+pub same_length : (ss ts : List Step) → AreAlike ss ts → length ts ≡ length ss
+same_length ss ts same = sym (count_is ts) ∙ same (λ h q. 1) ∙ count_is ss
 
 record IsRowOf (ss : List Step) (row next : Row) : Type 0 where
   pub under : units_under (height_of row.price) ss ≤ row.before
@@ -127,7 +135,7 @@ record IsRowOf (ss : List Step) (row next : Row) : Type 0 where
 
 pub rows_are_more : (ss : List Step) (rows : List Row) → AreRowsOf ss rows → length rows ≡ suc (length ss)
 rows_are_more ss rows a =
-    ap length a.rows_are ∙ rows_length 0 0 a.rising ∙ ap suc (length_permutation ss a.rising a.same)
+    ap length a.rows_are ∙ rows_length 0 0 a.rising ∙ ap suc (same_length ss a.rising a.same)
 
 first_row : (ss : List Step) (rows : List Row) → AreRowsOf ss rows → (d : Row) → (get_or rows 0 d).before ≡ 0
 first_row ss rows a d = ap (λ rs. (get_or rs 0 d).before) a.rows_are ∙ first_before 0 0 a.rising d
@@ -135,25 +143,30 @@ first_row ss rows a d = ap (λ rs. (get_or rs 0 d).before) a.rows_are ∙ first_
 pub last_row : (ss : List Step) (rows : List Row) → AreRowsOf ss rows → (d : Row) → (get_or rows (length rows - 1) d).before ≡ all_units ss
 last_row ss rows a d =
     let more = rows_are_more ss rows a in
-    let same = length_permutation ss a.rising a.same in
+    let same = same_length ss a.rising a.same in
     let at : length rows - 1 ≡ length a.rising = omega (arith, more, same) in
     ap (λ n. (get_or rows n d).before) at
     ∙ ap (λ rs. (get_or rs (length a.rising) d).before) a.rows_are
     ∙ last_before 0 0 a.rising d
     ∙ (let z : 0 + all_units a.rising ≡ all_units a.rising = omega arith in z)
-    ∙ same_total (λ s. s.qty) ss a.rising a.same
+    ∙ a.same (λ k q. q)
 
 row_found : (ss : List Step) (rows : List Row) → AreRowsOf ss rows → (i : ℕ) (d : Row) → i < length ss → IsRowOf ss (get_or rows i d) (get_or rows (suc i) d)
 row_found ss rows a i d l =
     subst (λ rs. IsRowOf ss (get_or rs i d) (get_or rs (suc i) d)) (sym a.rows_are)
-    (let same = length_permutation ss a.rising a.same in
+    (let same = same_length ss a.rising a.same in
     let is = row_is 0 0 a.rising i d (rises_from a.rising a.rises) (omega (arith, same, l)) in
     let h = height_of (get_or (rows_from 0 0 a.rising) i d).price in
-    let u = same_total (λ s. if_any (h - height_of s.price) s.qty) ss a.rising a.same in
-    let v = same_total (λ s. if_any (suc h - height_of s.price) s.qty) ss a.rising a.same in
-    let g = same_total (λ s. (h - height_of s.price) * s.qty) ss a.rising a.same in
+    let u = a.same (λ k q. if_any (h - k) q) in
+    let v = a.same (λ k q. if_any (suc h - k) q) in
+    let g = a.same (λ k q. (h - k) * q) in
     let under = is.under in let up_to = is.up_to in let cost = is.cost_is in
     record { under = omega (arith, u, under); up_to = omega (arith, v, up_to); cost_is = omega (arith, g, cost) })
+
+pub rising_rows : (ss rising : List Step) (rows : List Row) → IsPermutation ss rising → IsNonDecreasingBy (λ s. height_of s.price) rising → rows ≡ rows_from 0 0 rising
+    → AreRowsOf ss rows
+rising_rows ss rising rows same rises is =
+    record { rising = rising; same = λ f. same_total (λ s. f (height_of s.price) s.qty) ss rising same; rises = rises; rows_are = is }
 
 -- where there is a unit, there is a step
 some_step : (ss : List Step) → 1 ≤ all_units ss → 1 ≤ length ss

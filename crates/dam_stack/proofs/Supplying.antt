@@ -10,7 +10,8 @@ use Rattle.dam_hour.specs.declared.step.Step.{Step}
 use Rattle.dam_hour.specs.Execution.{AreInRange, IsExecution, executed_volume, offered_volume, volume_on}
 use Rattle.dam_hour.specs.Best.{welfare_of}
 use Rattle.dam_hour.specs.Price.{Supports}
-use Rattle.dam_stack.specs.inside.Supply.{height_of, if_any, all_units, units_under, units_up_to, gain_at, worth_of, Reaches}
+use Rattle.dam_stack.specs.Supply.{height_of, if_any, all_units, units_under, units_up_to, gain_at}
+use Rattle.dam_stack.specs.inside.Supply.{worth_of, Reaches}
 use Rattle.dam_stack.proofs.Parts.{under_up_to, under_full, up_to_none, part_most, taken_of, taken_back, taken_fits, taken_full, taken_none, better_full, worse_none, part_within, part_cost, part_welfare}
 
 -- the units that an execution takes of the supply: what it sells, and what of the buys isn't served

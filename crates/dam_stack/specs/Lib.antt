@@ -1,2 +1,5 @@
 pub mod Small
+pub mod Supply
+pub mod Taken
+pub mod Rows
 pub mod inside

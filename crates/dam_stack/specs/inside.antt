@@ -1,1 +1,4 @@
+-- What only contracts inside this crate cite.
 pub mod Supply
+pub mod Rows
+pub mod Taken

@@ -17,7 +17,12 @@
 //! The crate knows nothing of blocks, books and the other periods.
 #![tactic(auto)]
 
+mod demand;
 mod row;
 mod stack;
+mod stacks;
+mod taken;
 
 pub use stack::{Reached, Stack};
+pub use stacks::{Span, Stacks};
+pub use taken::{Cut, Taken};

@@ -3,7 +3,7 @@ ghost use Rattle.dam_book.specs.Limits.{lowest_price, highest_price};
 ghost use Rattle.dam_hour.specs.Limits.{most_steps, price_span};
 ghost use Rattle.dam_hour.specs.declared.step.Step.{Step};
 ghost use Rattle.dam_stack.specs.declared.row.Row.{Row};
-ghost use Rattle.dam_stack.specs.inside.Supply.{height_of, rows_from};
+ghost use Rattle.dam_stack.specs.Supply.{height_of, rows_from};
 
 use dam_book::{HIGHEST_PRICE, LOWEST_PRICE, Price};
 use dam_hour::Step;

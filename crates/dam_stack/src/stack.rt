@@ -7,56 +7,15 @@ ghost use Rattle.dam_hour.specs.Execution.{IsHour, IsNetVolume, IsUnbalanced};
 ghost use Rattle.dam_hour.specs.Price.{AreEnds};
 ghost use Rattle.dam_hour.specs.Best.{greatest_welfare};
 ghost use Rattle.dam_stack.specs.Small.{IsSmall};
-ghost use Rattle.dam_stack.specs.inside.Supply.{height_of, all_units, AreRowsOf, AreUnitsAt, Holds, IsCostOf, IsLow, IsHigh, IsDemand, IsDemandOfStep};
+ghost use Rattle.dam_stack.specs.Supply.{height_of, all_units, AreRowsOf, AreUnitsAt};
+ghost use Rattle.dam_stack.specs.inside.Supply.{Holds, IsCostOf, IsLow, IsHigh};
 
+use crate::demand::Demand;
 use crate::row::{Row, height, highest, lowest, place_of, rows_of};
-use dam_book::{LOWEST_PRICE, Price, Side};
+use dam_book::{LOWEST_PRICE, Price};
 use dam_hour::{Hour, Step, laws};
 use std::alloc::{AllocError, Allocator, Global};
 use std::marker::Model;
-
-/// What the buys of a period ask for.
-#[derive(Clone, Copy)]
-struct Demand {
-    /// Their volume, in tenths of a MW.
-    volume: u64,
-    /// The sum over them of volume times cents above the least price.
-    worth: u64,
-}
-
-impl Demand {
-    fn of(steps: &[Step]) -> Demand
-        requires { length steps.now ≤ most_steps }
-        ensures { IsDemand steps.now result.volume result.worth }
-    {
-        let mut demand = Demand {
-            volume: 0,
-            worth: 0,
-        };
-        for step in steps {
-            let own = Demand::of_step(*step);
-            demand.volume += own.volume;
-            demand.worth += own.worth;
-        }
-        demand
-    }
-
-    fn of_step(step: Step) -> Demand
-        ensures { IsDemandOfStep step result.volume result.worth }
-    {
-        if step.side == Side::Sell {
-            return Demand {
-                volume: 0,
-                worth: 0,
-            };
-        }
-        let volume = u64::from(step.qty.get());
-        Demand {
-            volume,
-            worth: u64::from(height(step.price)) * volume,
-        }
-    }
-}
 
 /// The steps by rising price.
 fn rising<A: Allocator>(alloc: A, steps: &[Step]) -> Result<Vec<Step, A>, AllocError>
@@ -71,7 +30,10 @@ fn rising<A: Allocator>(alloc: A, steps: &[Step]) -> Result<Vec<Step, A>, AllocE
 }
 
 /// The rows of the steps by rising price.
-fn stacked<A: Allocator + Copy>(alloc: A, steps: &[Step]) -> Result<Vec<Row, A>, AllocError>
+pub(crate) fn stacked<A: Allocator + Copy>(
+    alloc: A,
+    steps: &[Step],
+) -> Result<Vec<Row, A>, AllocError>
     requires { length steps.now ≤ most_steps }
     ensures { IfOk result (λ rows. AreRowsOf steps.now rows.items) }
 {
@@ -111,7 +73,7 @@ pub struct Reached {
 }
 
 /// The worth of the buys less the cost of what is taken, with both counted from price 0.
-fn welfare_of(worth: u64, cost: u64, net: i64) -> i64
+pub(crate) fn welfare_of(worth: u64, cost: u64, net: i64) -> i64
     requires worth { worth ≤ most_steps * (price_span * greatest_volume) }
     requires cost { cost ≤ price_span * 2 ^ 32 }
     requires net { IsNetVolume net }

@@ -1,7 +1,7 @@
 use Rattle.std.proofs.Common.{◌≡◌, ◌*◌, ◌≤◌, ◌++◌, drop}
 use Rattle.dam_book.specs.Limits.{greatest_volume}
 use Rattle.dam_hour.specs.Limits.{price_span}
-use Rattle.dam_stack.specs.inside.Supply.{rows_from}
+use Rattle.dam_stack.specs.Supply.{rows_from}
 use Rattle.dam_stack.proofs.row.rows_of.Given as goal
 
 abbrev pub invariant-loop-step : goal.invariant-loop-step

@@ -1,6 +1,6 @@
 use Rattle.std.proofs.Common.{rules}
 use Rattle.std.proofs.lemmas.List.Sorted.{IsNonDecreasingBy-from_sort_by_key}
-use Rattle.dam_stack.specs.inside.Supply.{height_of}
+use Rattle.dam_stack.specs.Supply.{height_of}
 use Rattle.dam_stack.proofs.stack.rising.Goals as goal
 
 pub returns-clause-rises : goal.returns-clause-rises

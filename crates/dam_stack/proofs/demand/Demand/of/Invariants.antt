@@ -4,7 +4,7 @@ use Rattle.dam_book.specs.declared.order.Side.TheVariants.{Buy}
 use Rattle.dam_hour.specs.Limits.{price_span}
 use Rattle.dam_hour.specs.Execution.{offered_volume}
 use Rattle.dam_stack.specs.inside.Supply.{worth_of}
-use Rattle.dam_stack.proofs.stack.Demand.of.Given as goal
+use Rattle.dam_stack.proofs.demand.Demand.of.Given as goal
 
 abbrev pub invariant-loop-step : goal.invariant-loop-step
 invariant-loop-step l = record {

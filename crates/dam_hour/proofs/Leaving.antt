@@ -1,0 +1,314 @@
+-- A step that leaves a period: its ladder without it, and the steps that stay on each side.
+use Rattle.std.proofs.Common.{◌≡◌, ℕ, zero, suc, ◌+◌, ◌-◌, ◌*◌, ◌==◌, ◌<◌, ◌≤◌, ℤ, pos, neg_ℤ, ◌+ℤ◌, ◌*ℤ◌, ◌≤ℤ◌, Bool, true, false, cond, not, nat_lt, lt-ltb, le-ltb, inl, inr, List, [], ◌∷◌, ◌++◌, length, drop, get_or, map, ap, ap₂, ◌∙◌, sym, subst, refl, arith}
+use Rattle.std.specs.List.{remove, filter}
+use Rattle.std.specs.List.Sorted.{IsNonDecreasingBy}
+use Rattle.std.proofs.lemmas.Bool.{cases_lt, eq-eqb, ne_eqb}
+use Rattle.std.proofs.lemmas.Int.{ints}
+use Rattle.std.proofs.lemmas.List.{get_or-map, length-map, drop_more, drop_all, append_assoc, append-nil}
+use Rattle.std.proofs.lemmas.List.Edits.{length-remove}
+use Rattle.std.proofs.lemmas.List.Kept.{IsNonDecreasingBy-filter}
+use Rattle.std.proofs.lemmas.Nat.{mod-mul-add}
+use Rattle.dam_book.specs.declared.order.Side.{Side}
+use Rattle.dam_book.specs.declared.order.Side.TheVariants.{Buy, Sell}
+use Rattle.dam_hour.specs.declared.step.Step.{Step}
+use Rattle.dam_hour.specs.declared.ladder.Placed.{Placed}
+use Rattle.dam_hour.specs.declared.ladder.Row.{Row}
+use Rattle.dam_book.specs.Limits.{greatest_volume}
+use Rattle.dam_hour.specs.Limits.{most_steps, greatest_value}
+use Rattle.dam_hour.specs.Execution.{AreInRange, volume_on}
+use Rattle.dam_hour.specs.inside.Ladder.{rank_of, order_of, place_of, moved_up, without_place, total, value_of, rows_from, placed_of, IsLadder, side_total, AreOfSide, AreKept}
+use Rattle.dam_hour.proofs.Ladders.{placed_back}
+
+-- ---- places
+abbrev order_up : ℕ → ℕ → ℕ
+order_up gone order = cond (nat_lt gone (place_of order)) (order - 1) order
+
+place_is : (r n : ℕ) → n < most_steps → place_of (r * most_steps + n) ≡ n
+place_is r n l = mod-mul-add r most_steps n l
+
+order_behind : (gone order : ℕ) → gone < place_of order → order_up gone order ≡ order - 1
+order_behind gone order l = ap (λ (b : Bool). cond b (order - 1) order) (lt-ltb gone (place_of order) l)
+
+order_front : (gone order : ℕ) → place_of order ≤ gone → order_up gone order ≡ order
+order_front gone order l = ap (λ (b : Bool). cond b (order - 1) order) (le-ltb gone (place_of order) l)
+
+-- none moves by more than one, so the order stays
+up_near : (gone order : ℕ) → (order_up gone order ≤ order) × (order ≤ order_up gone order + 1)
+up_near gone order = elim (cases_lt gone (place_of order)) [
+  | inl less ↦ (let e = order_behind gone order less in (omega (arith, e), omega (arith, e)))
+  | inr more ↦ (let e = order_front gone order more in (omega (arith, e), omega (arith, e)))
+]
+
+up_rises : (gone a b : ℕ) → a ≤ b → order_up gone a ≤ order_up gone b
+up_rises gone a b l = elim (cases_lt a b) [
+  | inl less ↦ (let m = up_near gone a in let n = up_near gone b in omega (arith, less, m.0, n.1))
+  | inr more ↦ (let same : a ≡ b = omega (arith, l, more) in let e = ap (order_up gone) same in omega (arith, e))
+]
+
+-- ---- the ladder stays sorted
+abbrev stays : ℕ → Placed → Bool
+stays gone p = not (place_of p.order == gone)
+
+without_is : (gone : ℕ) (ps : List Placed) → without_place gone ps ≡ map (moved_up gone) (filter (stays gone) ps)
+without_is gone [] = refl
+without_is gone (p ∷ ps) =
+    elim (place_of p.order == gone) as (λ b. cond b (without_place gone ps) (moved_up gone p ∷ without_place gone ps) ≡ map (moved_up gone)
+    (cond (not b) (p ∷ filter (stays gone) ps) (filter (stays gone) ps))) [
+      | true ↦ without_is gone ps
+      | false ↦ ap (λ (qs : List Placed). moved_up gone p ∷ qs) (without_is gone ps)
+    ]
+
+sorted_up : (gone : ℕ) (ps : List Placed) → IsNonDecreasingBy (λ (p : Placed). p.order) ps
+    → IsNonDecreasingBy (λ (p : Placed). p.order) (map (moved_up gone) ps)
+sorted_up gone ps h i j d l m =
+    let long = length-map ps (moved_up gone) in
+    let a = ap (λ (p : Placed). p.order) (get_or-map (moved_up gone) ps i d d (omega (arith, l, m, long))) in
+    let b = ap (λ (p : Placed). p.order) (get_or-map (moved_up gone) ps j d d (omega (arith, m, long))) in
+    let rises = up_rises gone (get_or ps i d).order (get_or ps j d).order (h i j d l (omega (arith, m, long))) in
+    omega (arith, a, b, rises)
+
+pub sorted_without : (gone : ℕ) (ps : List Placed) → IsNonDecreasingBy (λ (p : Placed). p.order) ps
+    → IsNonDecreasingBy (λ (p : Placed). p.order) (without_place gone ps)
+sorted_without gone ps h =
+    subst (λ (qs : List Placed). IsNonDecreasingBy (λ (p : Placed). p.order) qs) (sym (without_is gone ps))
+    (sorted_up gone (filter (stays gone) ps) (IsNonDecreasingBy-filter (λ (p : Placed). p.order) (stays gone) ps h))
+
+pub few_without : (gone : ℕ) (ps : List Placed) → length (without_place gone ps) ≤ length ps
+few_without gone [] = omega arith
+few_without gone (p ∷ ps) =
+    let rest = few_without gone ps in
+    elim (place_of p.order == gone) as (λ b. length (cond b (without_place gone ps) (moved_up gone p ∷ without_place gone ps)) ≤ suc
+    (length ps)) [
+      | true ↦ omega (arith, rest)
+      | false ↦ omega (arith, rest)
+    ]
+
+-- ---- the steps that stay, whatever is added up
+abbrev part : ℕ → (ℕ → Step → ℕ) → ℕ → Step → ℕ
+part gone f order s = cond (place_of order == gone) 0 (f (order_up gone order) s)
+
+total_without : (gone : ℕ) (f : ℕ → Step → ℕ) (ps : List Placed)
+    → total (λ p. f p.order p.step) (without_place gone ps) ≡ total (λ p. part gone f p.order p.step) ps
+total_without gone f [] = refl
+total_without gone f (p ∷ ps) =
+    let rest = total_without gone f ps in
+    elim (place_of p.order == gone) as (λ b. total (λ q. f q.order q.step)
+    (cond b (without_place gone ps) (moved_up gone p ∷ without_place gone ps)) ≡ cond b 0
+    (f (order_up gone p.order) p.step) + total (λ q. part gone f q.order q.step) ps) [
+      | true ↦ omega (arith, rest)
+      | false ↦ omega (arith, rest)
+    ]
+
+part_at : (gone r : ℕ) (f : ℕ → Step → ℕ) (s : Step) → gone < most_steps → part gone f (r * most_steps + gone) s ≡ 0
+part_at gone r f s l = ap (λ (b : Bool). cond b 0 (f (order_up gone (r * most_steps + gone)) s))
+    (eq-eqb (place_of (r * most_steps + gone)) gone (place_is r gone l))
+
+part_front : (gone r n : ℕ) (f : ℕ → Step → ℕ) (s : Step) → n < gone → n < most_steps
+    → part gone f (r * most_steps + n) s ≡ f (r * most_steps + n) s
+part_front gone r n f s l few =
+    let place = place_is r n few in
+    ap (λ (b : Bool). cond b 0 (f (order_up gone (r * most_steps + n)) s))
+    (ne_eqb (place_of (r * most_steps + n)) gone (λ e. let same = sym place ∙ e in absurd (omega (arith, same, l))))
+    ∙ ap (λ (order : ℕ). f order s) (order_front gone (r * most_steps + n) (subst (λ (k : ℕ). k ≤ gone) (sym place) (omega (arith, l))))
+
+part_behind : (gone r n : ℕ) (f : ℕ → Step → ℕ) (s : Step) → gone ≤ n → suc n < most_steps
+    → part gone f (r * most_steps + suc n) s ≡ f (r * most_steps + n) s
+part_behind gone r n f s l few =
+    let place = place_is r (suc n) few in
+    ap (λ (b : Bool). cond b 0 (f (order_up gone (r * most_steps + suc n)) s))
+    (ne_eqb (place_of (r * most_steps + suc n)) gone (λ e. let same = sym place ∙ e in absurd (omega (arith, same, l))))
+    ∙ ap (λ (order : ℕ). f order s) (order_behind gone (r * most_steps + suc n) (subst (λ (k : ℕ). gone < k) (sym place) (omega (arith, l)))
+    ∙ (let one : (r * most_steps + suc n) - 1 ≡ r * most_steps + n = omega arith in one))
+
+side_behind : (side : Side) (f : ℕ → Step → ℕ) (gone n : ℕ) (ss : List Step) → gone ≤ n → suc n + length ss ≤ most_steps
+    → side_total side (part gone f) (suc n) ss ≡ side_total side f n ss
+side_behind side f gone n [] l few = refl
+side_behind side f gone n (s ∷ ss) l few =
+    let here = part_behind gone (rank_of side s.price) n f s l (omega (arith, few)) in
+    let rest = side_behind side f gone (suc n) ss (omega (arith, l)) (omega (arith, few)) in
+    ap (λ (x : ℕ). volume_on side s.side x + side_total side (part gone f) (suc (suc n)) ss) here
+    ∙ ap (λ (x : ℕ). volume_on side s.side (f (order_of side s.price n) s) + x) rest
+
+none_on : (side own : Side) → volume_on side own 0 ≡ 0
+none_on Buy Buy = refl
+none_on Sell Sell = refl
+none_on Buy Sell = refl
+none_on Sell Buy = refl
+
+side_without : (side : Side) (f : ℕ → Step → ℕ) (gone n k : ℕ) (ss : List Step) → n + k ≡ gone → k < length ss → n + length ss ≤ most_steps
+    → side_total side (part gone f) n ss ≡ side_total side f n (remove ss k)
+side_without side f gone n k [] e l few = absurd (omega (arith, l))
+side_without side f gone n zero (s ∷ ss) e l few =
+    let same : n ≡ gone = omega (arith, e) in
+    let here = subst (λ (m : ℕ). part gone f (rank_of side s.price * most_steps + m) s ≡ 0) (sym same)
+    (part_at gone (rank_of side s.price) f s (omega (arith, same, few))) in
+    let rest = side_behind side f gone n ss (omega (arith, same)) (omega (arith, few)) in
+    let none = none_on side s.side in
+    ap (λ (x : ℕ). volume_on side s.side x + side_total side (part gone f) (suc n) ss) here ∙ (omega (arith, none, rest))
+side_without side f gone n (suc k) (s ∷ ss) e l few =
+    let here = part_front gone (rank_of side s.price) n f s (omega (arith, e)) (omega (arith, few)) in
+    let rest = side_without side f gone (suc n) k ss (omega (arith, e)) (omega (arith, l)) (omega (arith, few)) in
+    ap (λ (x : ℕ). volume_on side s.side x + side_total side (part gone f) (suc n) ss) here
+    ∙ ap (λ (x : ℕ). volume_on side s.side (f (order_of side s.price n) s) + x) rest
+
+of_side_without : (side : Side) (ps : List Placed) (ss : List Step) (gone : ℕ) → AreOfSide side ps ss → length ss ≤ most_steps
+    → gone < length ss → AreOfSide side (without_place gone ps) (remove ss gone)
+of_side_without side ps ss gone same few l = record {
+  sums = λ f. total_without gone f ps ∙ same.sums (part gone f) ∙ side_without side f gone 0 gone ss (omega arith) l (omega (arith, few));
+}
+
+in_range_without : (ss : List Step) (k : ℕ) → AreInRange ss → k < length ss → AreInRange (remove ss k)
+in_range_without [] k r l = absurd (omega (arith, l))
+in_range_without (s ∷ ss) zero r l = r.2
+in_range_without (s ∷ ss) (suc k) r l = (r.0, r.1, in_range_without ss k r.2 (omega (arith, l)))
+
+pub kept_without : (ss kept : List Step) (buys sells buys' sells' : List Placed) (gone : ℕ) → AreKept ss buys sells → gone < length ss
+    → kept ≡ remove ss gone → buys' ≡ without_place gone buys → sells' ≡ without_place gone sells → AreKept kept buys' sells'
+kept_without ss kept buys sells buys' sells' gone a l same same_buys same_sells =
+    let hour = a.hour in
+    let few = hour.few in
+    let fewer = length-remove ss gone l in
+    let long = ap (λ (ts : List Step). length ts) same in
+    record {
+      hour = record {
+        few = omega (arith, few, fewer, long);
+        in_range = subst (λ (ts : List Step). AreInRange ts) (sym same) (in_range_without ss gone hour.in_range l);
+      };
+      buys_are = subst (λ (ts : List Step). AreOfSide Buy buys' ts) (sym same)
+          (subst (λ (ps : List Placed). AreOfSide Buy ps (remove ss gone)) (sym same_buys)
+          (of_side_without Buy buys ss gone a.buys_are few l));
+      sells_are = subst (λ (ts : List Step). AreOfSide Sell sells' ts) (sym same)
+          (subst (λ (ps : List Placed). AreOfSide Sell ps (remove ss gone)) (sym same_sells)
+          (of_side_without Sell sells ss gone a.sells_are few l));
+    }
+
+-- ---- the rows, one after another
+abbrev pub still : ℕ → ℕ → List Row → List Placed
+still gone i rows = without_place gone (placed_of (drop i rows))
+
+opened : (i : ℕ) (rows : List Row) (row : Row) → i < length rows → row ≡ get_or rows i row → drop i rows ≡ row ∷ drop (i + 1) rows
+opened i rows row within is = drop_more rows i row within ∙ ap (λ (r : Row). r ∷ drop (i + 1) rows) (sym is)
+
+still_more : (gone i : ℕ) (rows : List Row) (row : Row) → i < length rows → row ≡ get_or rows i row → ¬ (place_of row.placed.order ≡ gone)
+    → still gone i rows ≡ moved_up gone row.placed ∷ still gone (i + 1) rows
+still_more gone i rows row within is other =
+    ap (λ (rs : List Row). without_place gone (placed_of rs)) (opened i rows row within is)
+    ∙ ap (λ (b : Bool). cond b (still gone (i + 1) rows) (moved_up gone row.placed ∷ still gone (i + 1) rows))
+    (ne_eqb (place_of row.placed.order) gone other)
+
+still_gone : (gone i : ℕ) (rows : List Row) (row : Row) → i < length rows → row ≡ get_or rows i row → place_of row.placed.order ≡ gone
+    → still gone i rows ≡ still gone (i + 1) rows
+still_gone gone i rows row within is same =
+    ap (λ (rs : List Row). without_place gone (placed_of rs)) (opened i rows row within is)
+    ∙ ap (λ (b : Bool). cond b (still gone (i + 1) rows) (moved_up gone row.placed ∷ still gone (i + 1) rows))
+    (eq-eqb (place_of row.placed.order) gone same)
+
+row_pushed : (p : Placed) (ps qs : List Placed) (rows pushed all : List Row) (v v' : ℕ) (w w' : ℤ) → ps ≡ p ∷ qs
+    → pushed ≡ rows ++ record { placed = p; before = record { volume = v; value = w } } ∷ [] → v' ≡ v + p.step.qty
+    → w' ≡ w +ℤ p.step.price *ℤ pos p.step.qty
+    → rows ++ rows_from v w ps ≡ all → pushed ++ rows_from v' w' qs ≡ all
+row_pushed p ps qs rows pushed all v v' w w' opened push volume value so_far =
+    let row : Row = record { placed = p; before = record { volume = v; value = w } } in
+    ap (λ (rs : List Row). rs ++ rows_from v' w' qs) push
+    ∙ append_assoc rows (row ∷ []) (rows_from v' w' qs)
+    ∙ ap₂ (λ (n : ℕ) (z : ℤ). rows ++ row ∷ rows_from n z qs) volume value
+    ∙ sym (ap (λ (ts : List Placed). rows ++ rows_from v w ts) opened)
+    ∙ so_far
+
+-- what is made of the first so many rows
+pub record AreUpTo (gone i : ℕ) (old rows : List Row) (v : ℕ) (w : ℤ) : Type 0 where
+  pub rows_are : rows ++ rows_from v w (still gone i old) ≡ rows_from 0 (pos 0) (without_place gone (placed_of old))
+  pub volume_is : v + total (λ p. p.step.qty) (still gone i old) ≡ total (λ p. p.step.qty) (without_place gone (placed_of old))
+  pub value_is : w +ℤ value_of (still gone i old) ≡ value_of (without_place gone (placed_of old))
+  pub volume_small : v ≤ i * greatest_volume
+  pub value_at_least : neg_ℤ (pos (i * greatest_value)) ≤ℤ w
+  pub value_at_most : w ≤ℤ pos (i * greatest_value)
+
+pub up_to_none : (gone : ℕ) (old rows : List Row) → rows ≡ [] → AreUpTo gone 0 old rows 0 (pos 0)
+up_to_none gone old rows none = record {
+  rows_are = ap (λ (rs : List Row). rs ++ rows_from 0 (pos 0) (still gone 0 old)) none
+      ∙ ap (λ (rs : List Row). rows_from 0 (pos 0) (without_place gone (placed_of rs))) (drop_none old);
+  volume_is = ap (λ (rs : List Row). 0 + total (λ p. p.step.qty) (without_place gone (placed_of rs))) (drop_none old) ∙ (omega arith);
+  value_is = let e = ap (λ (rs : List Row). value_of (without_place gone (placed_of rs))) (drop_none old) in omega (arith, ints, e);
+  volume_small = omega arith;
+  value_at_least = omega (arith, ints);
+  value_at_most = omega (arith, ints);
+}
+  where
+    drop_none : (rs : List Row) → drop 0 rs ≡ rs
+    drop_none [] = refl
+    drop_none (r ∷ rs) = refl
+
+pub up_to_kept : (gone i : ℕ) (old rows pushed : List Row) (row : Row) (p : Placed) (v v' q : ℕ) (w w' z : ℤ) → AreUpTo gone i old rows v w
+    → i < length old → row ≡ get_or old i row
+    → ¬ (place_of row.placed.order ≡ gone) → p ≡ moved_up gone row.placed
+    → pushed ≡ rows ++ record { placed = p; before = record { volume = v; value = w } } ∷ []
+    → q ≡ row.placed.step.qty → q ≤ greatest_volume → v' ≡ v + q
+    → z ≡ row.placed.step.price *ℤ pos row.placed.step.qty → neg_ℤ (pos greatest_value) ≤ℤ z → z ≤ℤ pos greatest_value → w' ≡ w +ℤ z
+    → AreUpTo gone (i + 1) old pushed v' w'
+up_to_kept gone i old rows pushed row p v v' q w w' z a within is other made push own small sum own_value least most value_sum =
+    let push' = push ∙ ap (λ (m : Placed). rows ++ record { placed = m; before = record { volume = v; value = w } } ∷ []) made in
+    let volume = sum ∙ ap (λ (n : ℕ). v + n) own in
+    let value = value_sum ∙ ap (λ (y : ℤ). w +ℤ y) own_value in
+    let stays = still_more gone i old row within is other in
+    let total_at = ap (λ (ps : List Placed). total (λ p. p.step.qty) ps) stays in
+    let value_at = ap (λ (ps : List Placed). value_of ps) stays in
+    let total_was = a.volume_is in let value_was = a.value_is in
+    let small_was = a.volume_small in let least_was = a.value_at_least in let most_was = a.value_at_most in
+    record {
+      rows_are = row_pushed (moved_up gone row.placed) (still gone i old) (still gone (i + 1) old) rows pushed
+          (rows_from 0 (pos 0) (without_place gone (placed_of old))) v v' w w' stays push' volume value a.rows_are;
+      volume_is = omega (arith, volume, total_at, total_was);
+      value_is = omega (arith, ints, value, value_at, value_was);
+      volume_small = omega (arith, sum, small, small_was);
+      value_at_least = omega (arith, ints, value_sum, least, least_was);
+      value_at_most = omega (arith, ints, value_sum, most, most_was);
+    }
+
+pub up_to_gone : (gone i : ℕ) (old rows : List Row) (row : Row) (v : ℕ) (w : ℤ) → AreUpTo gone i old rows v w → i < length old
+    → row ≡ get_or old i row
+    → place_of row.placed.order ≡ gone → AreUpTo gone (i + 1) old rows v w
+up_to_gone gone i old rows row v w a within is same =
+    let leaves = still_gone gone i old row within is same in
+    let total_at = ap (λ (ps : List Placed). total (λ p. p.step.qty) ps) leaves in
+    let value_at = ap (λ (ps : List Placed). value_of ps) leaves in
+    let total_was = a.volume_is in let value_was = a.value_is in
+    let small_was = a.volume_small in let least_was = a.value_at_least in let most_was = a.value_at_most in
+    record {
+      rows_are = ap (λ (ps : List Placed). rows ++ rows_from v w ps) (sym leaves) ∙ a.rows_are;
+      volume_is = omega (arith, total_at, total_was);
+      value_is = omega (arith, ints, value_at, value_was);
+      volume_small = omega (arith, small_was);
+      value_at_least = omega (arith, ints, least_was);
+      value_at_most = omega (arith, ints, most_was);
+    }
+
+-- when all rows were gone through
+pub up_to_all : (gone i : ℕ) (old rows : List Row) (v : ℕ) (w : ℤ) → AreUpTo gone i old rows v w → length old ≤ i
+    → IsNonDecreasingBy (λ (p : Placed). p.order) (placed_of old) → length old ≤ most_steps
+    → IsLadder rows (record { volume = v; value = w }) × (placed_of rows ≡ without_place gone (placed_of old))
+up_to_all gone i old rows v w a done sorted few =
+    let ps = without_place gone (placed_of old) in
+    let none : still gone i old ≡ [] = ap (λ (rs : List Row). without_place gone (placed_of rs)) (drop_all i old done) in
+    let whole : rows ≡ rows_from 0 (pos 0) ps = sym (append-nil rows) ∙ sym (ap (λ (qs : List Placed). rows ++ rows_from v w qs) none)
+    ∙ a.rows_are in
+    let placed : placed_of rows ≡ ps = ap placed_of whole ∙ placed_back 0 (pos 0) ps in
+    let long = length-map rows (λ (r : Row). r.placed) in
+    let was = length-map old (λ (r : Row). r.placed) in
+    let same = ap (λ (qs : List Placed). length qs) placed in
+    let fewer = few_without gone (placed_of old) in
+    let volume = a.volume_is in let value = a.value_is in
+    let no_volume = ap (λ (qs : List Placed). total (λ p. p.step.qty) qs) none in
+    let no_value = ap (λ (qs : List Placed). value_of qs) none in
+    let volume_of = ap (λ (qs : List Placed). total (λ p. p.step.qty) qs) placed in
+    let value_of' = ap (λ (qs : List Placed). value_of qs) placed in (
+      record {
+        few = omega (arith, few, long, was, same, fewer);
+        sorted = subst (λ (qs : List Placed). IsNonDecreasingBy (λ (p : Placed). p.order) qs) (sym placed)
+            (sorted_without gone (placed_of old) sorted);
+        cumulated = whole ∙ sym (ap (λ (qs : List Placed). rows_from 0 (pos 0) qs) placed);
+        volume = omega (arith, volume, no_volume, volume_of);
+        value = omega (arith, ints, value, no_value, value_of');
+      },
+      placed,
+    )
