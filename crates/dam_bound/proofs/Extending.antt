@@ -1,5 +1,5 @@
 -- A prefix with one more decision, period by period.
-use Rattle.std.proofs.Common.{◌≡◌, ℕ, zero, suc, ◌+◌, ℤ, pos, neg_ℤ, ◌+ℤ◌, ◌*ℤ◌, Bool, true, false, not, Some, List, [], ◌∷◌, ◌++◌, length, length-append, drop, slice_set, ap, ◌∙◌, sym, refl, arith}
+use Rattle.std.proofs.Common.{◌≡◌, ℕ, zero, suc, ◌+◌, ℤ, pos, neg_ℤ, ◌+ℤ◌, ◌*ℤ◌, Bool, true, false, not, Some, List, [], ◌∷◌, ◌++◌, length, length-append, drop, slice_set, ap, ◌∙◌, sym, subst, refl, arith}
 use Rattle.std.specs.List.{slice_get}
 use Rattle.std.proofs.lemmas.Int.{ints}
 use Rattle.std.proofs.lemmas.List.{length-set}
@@ -7,12 +7,13 @@ use Rattle.dam_book.specs.declared.order.Side.{Side}
 use Rattle.dam_book.specs.declared.order.Side.TheVariants.{Buy, Sell}
 use Rattle.dam_book.specs.Terms.{BlockTerms}
 use Rattle.dam_hour.specs.declared.step.Step.{Step}
-use Rattle.dam_hour.specs.Best.{signed, greatest_welfare}
+use Rattle.dam_hour.specs.Best.{signed}
 use Rattle.dam_blocks.specs.declared.problem.Block.{Block}
 use Rattle.dam_blocks.specs.Selection.{volume_in, over_accepted, net_volume_of, value_of, net_volume, block_value}
-use Rattle.dam_bound.specs.declared.day.DayPeriod.{DayPeriod}
+use Rattle.dam_stack.specs.declared.taken.Taken.{Taken}
+use Rattle.dam_stack.specs.Taken.{IsTakenAt}
 use Rattle.dam_bound.specs.declared.day.Change.{Change}
-use Rattle.dam_bound.specs.declared.day.Change.TheVariants.{Kept, Added, Removed}
+use Rattle.dam_bound.specs.declared.day.Change.TheVariants.{Decide, Turn}
 use Rattle.dam_bound.specs.Relaxed.{as_steps}
 use Rattle.dam_bound.specs.Day.{IsPeriodOfDay}
 use Rattle.dam_bound.specs.inside.Change.{by, IsChange}
@@ -61,54 +62,53 @@ pub same_steps : (blocks : List Block) (t depth : ℕ) (b : Block) → slice_get
 same_steps blocks t depth b at none = ap (as_steps t) (drop_at blocks depth b at) ∙ no_step t b (drop (depth + 1) blocks) none
 
 -- a change in a period in which the block has no volume
-pub no_change : (change : Change) (x y z : ℤ) → x ≡ y +ℤ by change z → z ≡ pos 0 → x ≡ y
-no_change Kept x y z e f = omega (arith, ints, e)
-no_change Added x y z e f = omega (arith, ints, e, f)
-no_change Removed x y z e f = omega (arith, ints, e, f)
+pub no_change : (change : Change) (accept : Bool) (x y z : ℤ) → x ≡ y +ℤ by change accept z → z ≡ pos 0 → x ≡ y
+no_change Decide true x y z e f = omega (arith, ints, e, f)
+no_change Decide false x y z e f = omega (arith, ints, e)
+no_change Turn true x y z e f = omega (arith, ints, e, f)
+no_change Turn false x y z e f = omega (arith, ints, e, f)
 
-pub same_net : (blocks : List Block) (place depth : ℕ) (change : Change) (before after : List Bool) (t : ℕ) (b : Block) → IsChange blocks place change depth before after
-    → slice_get blocks place ≡ Some b → volume_in b.order.volumes t ≡ 0 → net_volume blocks after t ≡ net_volume blocks before t
-same_net blocks place depth change before after t b is at none = no_change change _ _ (net_volume_of t b.order) (is.net t b at) (no_net t b.order none)
+pub same_net : (blocks : List Block) (place depth : ℕ) (change : Change) (accept : Bool) (before after : List Bool) (t : ℕ) (b : Block)
+    → IsChange blocks place change accept depth before after → slice_get blocks place ≡ Some b → volume_in b.order.volumes t ≡ 0
+    → net_volume blocks after t ≡ net_volume blocks before t
+same_net blocks place depth change accept before after t b is at none =
+    no_change change accept _ _ (net_volume_of t b.order) (is.net t b at) (no_net t b.order none)
 
-pub same_value : (blocks : List Block) (place depth : ℕ) (change : Change) (before after : List Bool) (t : ℕ) (b : Block) → IsChange blocks place change depth before after
-    → slice_get blocks place ≡ Some b → volume_in b.order.volumes t ≡ 0 → block_value blocks after t ≡ block_value blocks before t
-same_value blocks place depth change before after t b is at none = no_change change _ _ (value_of t b.order) (is.value t b at) (no_value t b.order none)
+pub same_value : (blocks : List Block) (place depth : ℕ) (change : Change) (accept : Bool) (before after : List Bool) (t : ℕ) (b : Block)
+    → IsChange blocks place change accept depth before after → slice_get blocks place ≡ Some b → volume_in b.order.volumes t ≡ 0
+    → block_value blocks after t ≡ block_value blocks before t
+same_value blocks place depth change accept before after t b is at none =
+    no_change change accept _ _ (value_of t b.order) (is.value t b at) (no_value t b.order none)
 
-pub same_period : (blocks : List Block) (place depth : ℕ) (change : Change) (before after : List Bool) (t : ℕ) (b : Block) (ss : List Step) (own : DayPeriod)
-    → IsChange blocks place change depth before after → slice_get blocks place ≡ Some b → volume_in b.order.volumes t ≡ 0
+pub same_period : (blocks : List Block) (place depth : ℕ) (change : Change) (accept : Bool) (before after : List Bool) (t : ℕ) (b : Block) (ss : List Step)
+    (own : Taken) → IsChange blocks place change accept depth before after → slice_get blocks place ≡ Some b → volume_in b.order.volumes t ≡ 0
     → IsPeriodOfDay blocks before t (ss ++ as_steps t (drop (length before) blocks)) own
-    → IsPeriodOfDay blocks after t (ss ++ as_steps t (drop depth blocks)) own
-same_period blocks place depth change before after t b ss own is at none period = record {
-  net_is = period.net_is ∙ sym (same_net blocks place depth change before after t b is at none);
-  welfare_is = ap (λ (ts : List Step). greatest_welfare (ss ++ ts) own.net) (ap (λ (n : ℕ). as_steps t (drop n blocks)) (sym is.long) ∙ sym (is.steps t b at none)) ∙ period.welfare_is;
-  small = period.small;
-}
+    → IsPeriodOfDay blocks after t (ss ++ as_steps t (drop (length after) blocks)) own
+same_period blocks place depth change accept before after t b ss own is at none period =
+    subst (λ (ts : List Step). IsTakenAt (ss ++ ts) (net_volume blocks after t) own) (is.steps t b at none)
+    (subst (λ (net : ℤ). IsTakenAt (ss ++ as_steps t (drop (length before) blocks)) net own)
+    (sym (same_net blocks place depth change accept before after t b is at none)) period)
 
 -- ---- the decision on the next block, and one turned round
-abbrev pub if_kept : Bool → Change
-if_kept true = Added
-if_kept false = Kept
-
-by_decision : (accept : Bool) (z : ℤ) → if_accepted accept z ≡ by (if_kept accept) z
+by_decision : (accept : Bool) (z : ℤ) → if_accepted accept z ≡ by Decide accept z
 by_decision true z = refl
 by_decision false z = refl
 
 pub decision : SumLaws → (blocks : List Block) (prefix : List Bool) (accept : Bool) (depth : ℕ) → length prefix ≡ depth
-    → IsChange blocks depth (if_kept accept) (depth + 1) prefix (prefix ++ accept ∷ [])
+    → IsChange blocks depth Decide accept (depth + 1) prefix (prefix ++ accept ∷ [])
 decision laws blocks prefix accept depth is = record {
+  kind = (is, refl);
   long = length-append prefix (accept ∷ []) ∙ ap (λ (n : ℕ). n + 1) is;
-  net = λ t b at. decided_over laws (net_volume_of t) blocks prefix accept depth b at is ∙ ap (λ (z : ℤ). net_volume blocks prefix t +ℤ z) (by_decision accept (net_volume_of t b.order));
-  value = λ t b at. decided_over laws (value_of t) blocks prefix accept depth b at is ∙ ap (λ (z : ℤ). block_value blocks prefix t +ℤ z) (by_decision accept (value_of t b.order));
+  net = λ t b at. decided_over laws (net_volume_of t) blocks prefix accept depth b at is
+      ∙ ap (λ (z : ℤ). net_volume blocks prefix t +ℤ z) (by_decision accept (net_volume_of t b.order));
+  value = λ t b at. decided_over laws (value_of t) blocks prefix accept depth b at is
+      ∙ ap (λ (z : ℤ). block_value blocks prefix t +ℤ z) (by_decision accept (value_of t b.order));
   steps = λ t b at none. ap (λ (n : ℕ). as_steps t (drop n blocks)) is ∙ same_steps blocks t depth b at none
       ∙ ap (λ (n : ℕ). as_steps t (drop n blocks)) (sym (length-append prefix (accept ∷ []) ∙ ap (λ (n : ℕ). n + 1) is));
 }
 
-abbrev pub if_turned : Bool → Change
-if_turned true = Added
-if_turned false = Removed
-
 turned_over : (f : BlockTerms → ℤ) (blocks : List Block) (prefix : List Bool) (place : ℕ) (accept : Bool) (b : Block) → slice_get blocks place ≡ Some b → slice_get prefix place ≡ Some (not accept)
-    → over_accepted f blocks (slice_set prefix place accept) ≡ over_accepted f blocks prefix +ℤ by (if_turned accept) (f b.order)
+    → over_accepted f blocks (slice_set prefix place accept) ≡ over_accepted f blocks prefix +ℤ by Turn accept (f b.order)
 turned_over f [] prefix place accept b at is = absurd (cc)
 turned_over f (c ∷ blocks) [] place accept b at is = absurd (cc)
 turned_over f (c ∷ blocks) (true ∷ prefix) zero true b at is = absurd (cc)
@@ -118,9 +118,10 @@ turned_over f (c ∷ blocks) (false ∷ prefix) zero false b at is = absurd (cc)
 turned_over f (c ∷ blocks) (true ∷ prefix) (suc place) accept b at is = let more = turned_over f blocks prefix place accept b at is in omega (arith, ints, more)
 turned_over f (c ∷ blocks) (false ∷ prefix) (suc place) accept b at is = turned_over f blocks prefix place accept b at is
 
-pub turning : (blocks : List Block) (prefix : List Bool) (place : ℕ) (accept : Bool) (depth : ℕ) → length prefix ≡ depth → slice_get prefix place ≡ Some (not accept)
-    → IsChange blocks place (if_turned accept) depth prefix (slice_set prefix place accept)
-turning blocks prefix place accept depth long is = record {
+pub turning : (blocks : List Block) (prefix : List Bool) (place : ℕ) (accept : Bool) → length prefix ≡ length blocks
+    → slice_get prefix place ≡ Some (not accept) → IsChange blocks place Turn accept (length blocks) prefix (slice_set prefix place accept)
+turning blocks prefix place accept long is = record {
+  kind = (long, refl);
   long = length-set prefix place accept ∙ long;
   net = λ t b at. turned_over (net_volume_of t) blocks prefix place accept b at is;
   value = λ t b at. turned_over (value_of t) blocks prefix place accept b at is;

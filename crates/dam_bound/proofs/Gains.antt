@@ -10,7 +10,7 @@ use Rattle.dam_book.specs.declared.order.Side.TheVariants.{Buy, Sell}
 use Rattle.dam_hour.specs.declared.step.Step.{Step}
 use Rattle.dam_hour.specs.Price.{AreEnds, price_between}
 use Rattle.dam_hour.specs.Best.{signed, welfare_of, greatest_welfare}
-use Rattle.dam_hour.specs.Execution.{AreInRange, IsExecution, Balances, IsUnbalanced, IsWithinOffers}
+use Rattle.dam_hour.specs.Execution.{AreInRange, IsExecution, Balances, IsWithinOffers}
 use Rattle.dam_blocks.specs.declared.problem.Block.{Block}
 use Rattle.dam_blocks.specs.Problem.{AreHours}
 use Rattle.dam_blocks.specs.Selection.{volume_in, net_volume, block_value}
@@ -30,9 +30,6 @@ price_is law ss there net here low high price e f ends is =
     let own = subst (λ (hs : List Step). AreEnds hs net low high) e (subst (λ (z : ℤ). AreEnds there z low high) f ends) in
     let same = law ss net low high is.low is.high own is.ends in
     ap₂ price_between same.0 same.1 ∙ sym is.between
-
-pub no_price : (ss : List Step) (net price : ℤ) → IsUnbalanced ss net → IsClearingPrice ss net price → ⊥
-no_price ss net price none is = let support = is.ends.low_supports in none support.volumes support.execution support.balance
 
 -- the price of a period of the day
 pub price_at : (blocks : List Block) (sel : List Bool) (t i : ℕ) (hours : List (List Step)) (prices : List ℤ) (ss : List Step) → ArePrices blocks sel t hours prices → slice_get hours i ≡ Some ss

@@ -1,9 +1,10 @@
 -- The levels of a period, block by block.
-use Rattle.std.proofs.Common.{◌≡◌, ℕ, zero, suc, ◌+◌, ◌-◌, ◌≤◌, ◌==◌, cond, true, Some, List, [], ◌∷◌, ◌++◌, length, drop, length-append, ap, ◌∙◌, sym, inl, inr, subst, refl, arith}
-use Rattle.std.specs.List.{slice_get}
+use Rattle.std.proofs.Common.{◌≡◌, ℕ, zero, suc, ◌+◌, ◌-◌, ◌<◌, ◌≤◌, ◌==◌, cond, true, false, Some, List, [], ◌∷◌, ◌++◌, length, drop, length-append, ap, ◌∙◌, sym, inl, inr, subst, refl, arith}
+use Rattle.std.specs.List.{slice_get, remove}
 use Rattle.std.proofs.lemmas.Bool.{cases_lt}
 use Rattle.std.proofs.lemmas.Bool.Decides.{nat_tests}
 use Rattle.std.proofs.lemmas.List.{drop_all, append-nil}
+use Rattle.std.proofs.lemmas.List.Edits.{remove-append_right}
 use Rattle.std.proofs.lemmas.Option.{get_or_from_slice_get}
 use Rattle.dam_hour.specs.declared.step.Step.{Step}
 use Rattle.dam_blocks.specs.declared.problem.Block.{Block}
@@ -37,6 +38,27 @@ pub no_step : (t : ℕ) (b : Block) (bs : List Block) → volume_in b.order.volu
 no_step t b bs e =
     let none : (volume_in b.order.volumes t == 0) ≡ true = grind (arith, nat_tests) in
     ap (λ (c : _). cond c (as_steps t bs) (step_of t b.order ∷ as_steps t bs)) none
+
+pub some_step : (t : ℕ) (b : Block) (bs : List Block) → 0 < volume_in b.order.volumes t → as_steps t (b ∷ bs) ≡ step_of t b.order ∷ as_steps t bs
+some_step t b bs l =
+    let some : (volume_in b.order.volumes t == 0) ≡ false = grind (arith, nat_tests) in
+    ap (λ (c : _). cond c (as_steps t bs) (step_of t b.order ∷ as_steps t bs)) some
+
+-- behind the hourly orders stands a block with a volume in the period, and without it the blocks that come after it
+pub level_below : (t : ℕ) (ss : List Step) (blocks : List Block) (count : ℕ) (b : Block) (above : List Step) → slice_get blocks count ≡ Some b
+    → 0 < volume_in b.order.volumes t → above ≡ ss ++ as_steps t (drop count blocks)
+    → (length ss < length above) × (remove above (length ss) ≡ ss ++ as_steps t (drop (count + 1) blocks))
+level_below t ss blocks count b above at some is =
+    let left = as_steps t (drop (count + 1) blocks) in
+    let steps = is ∙ ap (λ (bs : List Block). ss ++ as_steps t bs) (drop_at blocks count b at)
+    ∙ ap (λ (ts : List Step). ss ++ ts) (some_step t b (drop (count + 1) blocks) some) in
+    let long = ap length steps in let both = length-append ss (step_of t b.order ∷ left) in
+    let first : length ss - length ss ≡ 0 = omega arith in (
+      omega (arith, long, both),
+      ap (λ (ts : List Step). remove ts (length ss)) steps
+          ∙ remove-append_right ss (step_of t b.order ∷ left) (length ss) (length ss) refl (omega arith)
+          ∙ ap (λ (n : ℕ). ss ++ remove (step_of t b.order ∷ left) n) first,
+    )
 
 -- ---- the levels so far
 pub record AreLevelsSoFar (t : ℕ) (ss : List Step) (blocks : List Block) (count : ℕ) (hours : List (List Step)) (places : List ℕ) : Type 0 where

@@ -10,6 +10,8 @@ pub mod Days
 pub mod Sizes
 pub mod Worth
 pub mod Volumes
+pub mod Tabling
 pub mod Deciding
+pub mod Touching
 pub mod Gains
 pub mod Members

@@ -1,5 +1,5 @@
 -- The levels of the day, period by period.
-use Rattle.std.proofs.Common.{◌≡◌, ℕ, zero, suc, ◌+◌, ◌≤◌, ◌⊎◌, inl, inr, true, Some, Result, Ok, Err, IfOk, List, [], ◌∷◌, ◌++◌, length, map, length-append, ap, ap₂, ◌∙◌, sym, subst, refl, arith}
+use Rattle.std.proofs.Common.{◌≡◌, ℕ, zero, suc, ◌+◌, ◌<◌, ◌≤◌, ◌⊎◌, inl, inr, true, Some, Result, Ok, Err, IfOk, List, [], ◌∷◌, ◌++◌, length, map, length-append, ap, ap₂, ◌∙◌, sym, subst, refl, arith}
 use Rattle.std.specs.List.{slice_get}
 use Rattle.std.specs.Option.{option_map}
 use Rattle.std.proofs.lemmas.Bool.Decides.{nat_tests}
@@ -12,7 +12,7 @@ use Rattle.dam_blocks.specs.Problem.{ProblemState, IsProblem, AreBlocks, hourly_
 use Rattle.dam_bound.specs.inside.Levels.{LevelsState, AreLevels, AreLevelsAt, last_steps, AreDayLevels}
 
 -- an element of a list with one more at its end
-of_pushed : {X : Type 0} (xs : List X) (y : X) (i : ℕ) (x : X) → slice_get (xs ++ y ∷ []) i ≡ Some x → (slice_get xs i ≡ Some x) ⊎ ((i ≡ length xs) × (y ≡ x))
+pub of_pushed : {X : Type 0} (xs : List X) (y : X) (i : ℕ) (x : X) → slice_get (xs ++ y ∷ []) i ≡ Some x → (slice_get xs i ≡ Some x) ⊎ ((i ≡ length xs) × (y ≡ x))
 of_pushed [] y zero x e = inr (refl, cc)
 of_pushed [] y (suc i) x e = absurd (cc)
 of_pushed (z ∷ xs) y zero x e = inl e
@@ -91,3 +91,9 @@ all_blocks problem count periods is all so_far = subst (λ (n : ℕ). AreBlocks 
 -- the steps of a period of the day
 pub hour_of : (periods : List LevelsState) (i : ℕ) (levels : LevelsState) → slice_get periods i ≡ Some levels → slice_get (map last_steps periods) i ≡ Some (last_steps levels)
 hour_of periods i levels e = slice_get-map last_steps periods i ∙ ap (option_map last_steps) e
+
+-- a list has an element at each of its places
+pub one_at : {X : Type 0} (xs : List X) (i : ℕ) → i < length xs → (x : X) × (slice_get xs i ≡ Some x)
+one_at [] i l = absurd (omega (arith, l))
+one_at (x ∷ xs) zero l = (x, refl)
+one_at (x ∷ xs) (suc i) l = one_at xs i (omega (arith, l))

@@ -1,5 +1,5 @@
 -- The blocks as steps are in range, and no more than the blocks; and how large a relaxed welfare is.
-use Rattle.std.proofs.Common.{◌≡◌, ℕ, suc, ◌+◌, ◌*◌, ◌≤◌, ◌==◌, cond, ◌||◌, ◌⊎◌, inl, inr, ℤ, pos, Bool, true, false, Some, List, [], ◌∷◌, ◌++◌, length, drop, length-append, ap, ◌∙◌, refl, arith}
+use Rattle.std.proofs.Common.{◌≡◌, ℕ, suc, ◌+◌, ◌*◌, ◌≤◌, ◌==◌, cond, ℤ, pos, Bool, true, false, Some, List, [], ◌∷◌, ◌++◌, length, drop, length-append, ap, ◌∙◌, refl, arith}
 use Rattle.std.proofs.lemmas.Int.{ints}
 use Rattle.std.proofs.lemmas.Bool.Decides.{nat_tests}
 use Rattle.dam_book.specs.Book.{is_day}

@@ -1,31 +1,16 @@
--- How large the net volume and the value of accepted blocks are in a period.
-use Rattle.std.proofs.Common.{ℕ, ◌*◌, ◌≤◌, ◌==◌, cond, ℤ, pos, neg_ℤ, ◌≤ℤ◌, Bool, true, false, List, [], ◌∷◌, length, arith}
-use Rattle.std.proofs.lemmas.Int.{ints}
-use Rattle.dam_book.specs.Limits.{greatest_volume, most_blocks}
+-- How large the value of accepted blocks is in a period, and a sum as the code has it.
+use Rattle.std.proofs.Common.{◌≡◌, ◌+ℤ◌, ap, ap₂, ◌∙◌, sym, subst, ℕ, ◌*◌, ◌≤◌, ℤ, Bool, true, false, List, [], ◌∷◌, length, arith}
+use Rattle.std.proofs.lemmas.Int.{ints, to_z-of_z}
+use mir.Syntax.{w64}
+use mir.Val.{to_z, of_z, SFits}
+use Rattle.dam_book.specs.Limits.{most_blocks}
 use Rattle.dam_book.specs.Terms.{BlockTerms, IsBlockOrder}
-use Rattle.dam_book.specs.Volumes.{Pair, ArePairs}
-use Rattle.dam_book.specs.declared.order.Side.{Side}
-use Rattle.dam_book.specs.declared.order.Side.TheVariants.{Buy, Sell}
 use Rattle.dam_hour.specs.Limits.{greatest_value}
-use Rattle.dam_hour.specs.Best.{signed}
-use Rattle.dam_hour.specs.Execution.{IsNetVolume}
 use Rattle.dam_blocks.specs.declared.problem.Block.{Block}
 use Rattle.dam_blocks.specs.Problem.{AreBlocks}
-use Rattle.dam_blocks.specs.Selection.{volume_in, over_accepted, net_volume_of, value_of, net_volume, block_value}
+use Rattle.dam_blocks.specs.Selection.{over_accepted, value_of, block_value}
 use Rattle.dam_blocks.specs.Magnitude.{IsWithin}
 use Rattle.dam_blocks.proofs.Magnitudes.{value_within}
-
-volume_small : (ps : List Pair) (t : ℕ) → ArePairs ps → volume_in ps t ≤ greatest_volume
-volume_small [] t are = omega arith
-volume_small (p ∷ ps) t are =
-    elim (p.0 == t) as (λ b. cond b p.1 (volume_in ps t) ≤ greatest_volume) [ true ↦ are.1.at_most | false ↦ volume_small ps t are.2 ]
-
-signed_small : (side : Side) (n most : ℕ) → n ≤ most → IsWithin most (neg_ℤ (signed side (pos n)))
-signed_small Buy n most h = record { at_least = omega (arith, ints, h); at_most = omega (arith, ints, h) }
-signed_small Sell n most h = record { at_least = omega (arith, ints, h); at_most = omega (arith, ints, h) }
-
-net_within : (t : ℕ) (o : BlockTerms) → IsBlockOrder o → IsWithin greatest_volume (net_volume_of t o)
-net_within t o is = signed_small o.side (volume_in o.volumes t) greatest_volume (volume_small o.volumes t is.volumes.ranges)
 
 over_within : (f : BlockTerms → ℤ) (most periods : ℕ) → ((o : BlockTerms) → IsBlockOrder o → IsWithin most (f o)) → (bs : List Block) (sel : List Bool) → AreBlocks periods bs
     → IsWithin (length bs * most) (over_accepted f bs sel)
@@ -39,12 +24,17 @@ over_within f most periods each (b ∷ bs) (false ∷ sel) are =
     let rest = over_within f most periods each bs sel are.1 in let l = rest.at_least in let h = rest.at_most in
     record { at_least = omega (arith, ints, l); at_most = omega (arith, ints, h) }
 
-pub net_small : (periods t : ℕ) (bs : List Block) (sel : List Bool) → AreBlocks periods bs → length bs ≤ most_blocks → IsNetVolume (net_volume bs sel t)
-net_small periods t bs sel are few =
-    let w = over_within (net_volume_of t) greatest_volume periods (net_within t) bs sel are in let l = w.at_least in let h = w.at_most in
-    record { at_least = omega (arith, ints, l, few); at_most = omega (arith, ints, h, few) }
-
 pub value_small : (periods t : ℕ) (bs : List Block) (sel : List Bool) → AreBlocks periods bs → length bs ≤ most_blocks → IsWithin (most_blocks * greatest_value) (block_value bs sel t)
 value_small periods t bs sel are few =
     let w = over_within (value_of t) greatest_value periods (value_within t) bs sel are in let l = w.at_least in let h = w.at_most in
     record { at_least = omega (arith, ints, l, few); at_most = omega (arith, ints, h, few) }
+
+-- a sum as the code has it
+pub added_up : (x y : ℤ) → SFits w64 x → SFits w64 y → SFits w64 (x +ℤ y)
+    → SFits w64 (to_z w64 (of_z w64 x) +ℤ to_z w64 (of_z w64 y))
+    × (to_z w64 (of_z w64 (to_z w64 (of_z w64 x) +ℤ to_z w64 (of_z w64 y))) ≡ x +ℤ y)
+added_up x y a b all =
+    let same = ap₂ (λ (u v : ℤ). u +ℤ v) (to_z-of_z w64 x a) (to_z-of_z w64 y b) in (
+      subst (SFits w64) (sym same) all,
+      ap (λ (z : ℤ). to_z w64 (of_z w64 z)) same ∙ to_z-of_z w64 (x +ℤ y) all,
+    )

@@ -1,110 +1,118 @@
 -- The total of a day, as the sum of what its periods are worth.
-use Rattle.std.proofs.Common.{◌≡◌, ◌≢◌, ℕ, zero, suc, ◌+◌, ◌*◌, ◌<◌, ◌≤◌, ℤ, pos, ◌+ℤ◌, ◌-ℤ◌, ◌≤ℤ◌, Bool, Option, Some, None, List, [], ◌∷◌, ◌++◌, length, get_or, slice_set, ap, ap₂, ◌∙◌, sym, subst, refl, arith}
+use Rattle.std.proofs.Common.{◌≡◌, ◌≢◌, ℕ, zero, suc, ◌+◌, ◌-◌, ◌*◌, ◌<◌, ◌≤◌, ℤ, pos, ◌+ℤ◌, ◌-ℤ◌, ◌≤ℤ◌, Bool, Option, Some, None, List, [], ◌∷◌, ◌++◌, length, drop, get_or, inl, inr, ap, ap₂, ◌∙◌, sym, subst, refl, arith}
 use Rattle.std.specs.List.{slice_get}
+use Rattle.std.proofs.lemmas.Bool.{cases_lt}
 use Rattle.std.proofs.lemmas.Int.{ints}
+use Rattle.std.proofs.lemmas.Option.{get_or_from_slice_get}
+use Rattle.dam_stack.specs.declared.taken.Taken.{Taken}
 use Rattle.dam_hour.specs.declared.step.Step.{Step}
 use Rattle.dam_blocks.specs.declared.problem.Block.{Block}
-use Rattle.dam_blocks.specs.Selection.{block_value}
+use Rattle.dam_blocks.specs.Selection.{net_volume, block_value}
 use Rattle.dam_blocks.specs.Eligible.{added, period_welfare, welfare_from}
 use Rattle.dam_blocks.specs.Magnitude.{IsWithin}
-use Rattle.dam_bound.specs.declared.day.DayPeriod.{DayPeriod}
 use Rattle.dam_bound.specs.Relaxed.{as_steps, relaxed_hours}
 use Rattle.dam_bound.specs.Day.{IsPeriodOfDay}
 use Rattle.dam_bound.proofs.Bounding.{cleared_period}
 use Rattle.dam_bound.proofs.Covering.{added_some}
 
--- what so many periods from the number t on add, where the accepted blocks are worth f of its number in each
-abbrev pub worth_by : (ℕ → ℤ) → ℕ → ℕ → List DayPeriod → ℤ
-worth_by f t zero ps = pos 0
-worth_by f t (suc n) [] = pos 0
-worth_by f t (suc n) (p ∷ ps) = (p.welfare +ℤ f t) +ℤ worth_by f (suc t) n ps
+-- ---- what a period is worth
+-- the welfare, if there is one
+abbrev pub worth : Option ℤ → ℤ
+worth None = pos 0
+worth (Some w) = w
 
--- what a period is worth
-pub worth_is : (blocks : List Block) (prefix : List Bool) (t : ℕ) (ss : List Step) (own : DayPeriod) → IsPeriodOfDay blocks prefix t ss own
-    → Some (own.welfare +ℤ block_value blocks prefix t) ≡ period_welfare blocks prefix t ss
+-- what a period is worth under a prefix, with the undecided blocks as steps
+abbrev pub part : List Block → List (List Step) → List Bool → ℕ → ℤ
+part blocks hours prefix t = worth (period_welfare blocks prefix t (get_or hours (t - 1) [] ++ as_steps t (drop (length prefix) blocks)))
+
+-- the period at a place has its steps
+steps_at : (blocks : List Block) (hours : List (List Step)) (prefix : List Bool) (i t : ℕ) (ss : List Step) → slice_get hours i ≡ Some ss → t ≡ i + 1
+    → period_welfare blocks prefix t (get_or hours (t - 1) [] ++ as_steps t (drop (length prefix) blocks))
+    ≡ period_welfare blocks prefix t (ss ++ as_steps t (drop (length prefix) blocks))
+steps_at blocks hours prefix i t ss at e =
+    let place : t - 1 ≡ i = omega (arith, e) in
+    ap (λ (hs : List Step). period_welfare blocks prefix t (hs ++ as_steps t (drop (length prefix) blocks)))
+    (ap (λ (n : ℕ). get_or hours n []) place ∙ get_or_from_slice_get hours i ss [] at)
+
+pub part_some : (blocks : List Block) (hours : List (List Step)) (prefix : List Bool) (i t : ℕ) (ss : List Step) (w : ℤ) → slice_get hours i ≡ Some ss
+    → t ≡ i + 1 → Some w ≡ period_welfare blocks prefix t (ss ++ as_steps t (drop (length prefix) blocks)) → part blocks hours prefix t ≡ w
+part_some blocks hours prefix i t ss w at e is = ap worth (steps_at blocks hours prefix i t ss at e ∙ sym is)
+
+pub worth_is : (blocks : List Block) (prefix : List Bool) (t : ℕ) (ss : List Step) (own : Taken) (p : IsPeriodOfDay blocks prefix t ss own)
+    → Some (p.welfare +ℤ block_value blocks prefix t) ≡ period_welfare blocks prefix t ss
 worth_is blocks prefix t ss own p =
-    cleared_period blocks prefix t ss ss own.net own.welfare (block_value blocks prefix t) (own.welfare +ℤ block_value blocks prefix t) refl p.net_is p.welfare_is refl refl
+    cleared_period blocks prefix t ss ss (net_volume blocks prefix t) p.welfare (block_value blocks prefix t) (p.welfare +ℤ block_value blocks prefix t)
+    refl refl p.welfare_is refl refl
 
--- ---- other values
-pub same_worth : (f g : ℕ → ℤ) (t n : ℕ) (ps : List DayPeriod) → ((u : ℕ) → t ≤ u → u < t + n → f u ≡ g u) → worth_by f t n ps ≡ worth_by g t n ps
-same_worth f g t zero ps e = refl
-same_worth f g t (suc n) [] e = refl
-same_worth f g t (suc n) (p ∷ ps) e =
-    ap₂ (λ (a b : ℤ). (p.welfare +ℤ a) +ℤ b) (e t (omega arith) (omega arith)) (same_worth f g (suc t) n ps (λ u l m. e u (omega (arith, l)) (omega (arith, m))))
+pub part_is : (blocks : List Block) (hours : List (List Step)) (prefix : List Bool) (i t : ℕ) (ss : List Step) (own : Taken) → slice_get hours i ≡ Some ss
+    → t ≡ i + 1 → (p : IsPeriodOfDay blocks prefix t (ss ++ as_steps t (drop (length prefix) blocks)) own)
+    → part blocks hours prefix t ≡ p.welfare +ℤ block_value blocks prefix t
+part_is blocks hours prefix i t ss own at e p =
+    part_some blocks hours prefix i t ss (p.welfare +ℤ block_value blocks prefix t) at e
+    (worth_is blocks prefix t (ss ++ as_steps t (drop (length prefix) blocks)) own p)
 
--- one period is replaced
-pub worth_set : (f g : ℕ → ℤ) (t n place : ℕ) (ps : List DayPeriod) (own d : DayPeriod) → place < length ps → place < n → ((u : ℕ) → u ≢ t + place → f u ≡ g u)
-    → worth_by g t n (slice_set ps place own) ≡ worth_by f t n ps +ℤ ((own.welfare +ℤ g (t + place)) -ℤ ((get_or ps place d).welfare +ℤ f (t + place)))
-worth_set f g t zero place ps own d l m e = absurd (omega (arith, m))
-worth_set f g t (suc n) place [] own d l m e = absurd (omega (arith, l))
-worth_set f g t (suc n) zero (p ∷ ps) own d l m e =
-    let number : t + zero ≡ t = omega arith in
-    let a = ap f number in let b = ap g number in
-    let rest = same_worth f g (suc t) n ps (λ u k h. e u (λ same. absurd (omega (arith, k, same)))) in
-    omega (arith, ints, a, b, rest)
-worth_set f g t (suc n) (suc place) (p ∷ ps) own d l m e =
-    let number : suc t + place ≡ t + suc place = omega arith in
-    let a = ap f number in let b = ap g number in
-    let here = e t (λ same. absurd (omega (arith, same))) in
-    let more = worth_set f g (suc t) n place ps own d (omega (arith, l)) (omega (arith, m)) (λ u apart. e u (λ same. apart (omega (arith, same)))) in
-    omega (arith, ints, a, b, here, more)
+-- ---- a sum over the periods
+-- f of each of so many numbers from t on, added up
+abbrev pub sum_from : (ℕ → ℤ) → ℕ → ℕ → ℤ
+sum_from f t zero = pos 0
+sum_from f t (suc n) = f t +ℤ sum_from f (suc t) n
+
+pub same_sum : (f g : ℕ → ℤ) (t n : ℕ) → ((u : ℕ) → t ≤ u → u < t + n → f u ≡ g u) → sum_from f t n ≡ sum_from g t n
+same_sum f g t zero e = refl
+same_sum f g t (suc n) e =
+    ap₂ (λ (a b : ℤ). a +ℤ b) (e t (omega arith) (omega arith)) (same_sum f g (suc t) n (λ u l m. e u (omega (arith, l)) (omega (arith, m))))
+
+-- one of them is another one
+pub sum_set : (f g : ℕ → ℤ) (t n at : ℕ) → t ≤ at → at < t + n → ((u : ℕ) → u ≢ at → f u ≡ g u) → sum_from g t n ≡ sum_from f t n +ℤ (g at -ℤ f at)
+sum_set f g t zero at l m e = absurd (omega (arith, l, m))
+sum_set f g t (suc n) at l m e = elim (cases_lt t at) [
+  | inl less ↦
+      (let here = e t (λ same. absurd (omega (arith, same, less))) in
+      let more = sum_set f g (suc t) n at less (omega (arith, m)) e in
+      omega (arith, ints, here, more))
+  | inr most ↦
+      (let same : t ≡ at = omega (arith, l, most) in
+      let a = ap f same in let b = ap g same in
+      let rest = same_sum f g (suc t) n (λ u k h. e u (λ equal. absurd (omega (arith, k, same, equal)))) in
+      omega (arith, ints, a, b, rest))
+]
 
 -- how large the sum can be
-pub worth_within : (f : ℕ → ℤ) (t n most : ℕ) (ps : List DayPeriod) → n ≤ length ps → ((i : ℕ) (d : DayPeriod) → i < n → IsWithin most ((get_or ps i d).welfare +ℤ f (t + i)))
-    → IsWithin (n * most) (worth_by f t n ps)
-worth_within f t zero most ps long each = record { at_least = omega (arith, ints); at_most = omega (arith, ints) }
-worth_within f t (suc n) most [] long each = absurd (omega (arith, long))
-worth_within f t (suc n) most (p ∷ ps) long each =
-    let number : t + zero ≡ t = omega arith in
-    let here = subst (λ (u : ℕ). IsWithin most (p.welfare +ℤ f u)) number (each zero p (omega arith)) in
-    let more = worth_within f (suc t) n most ps (omega (arith, long))
-    (λ i d l. (let next : t + suc i ≡ suc t + i = omega arith in subst (λ (u : ℕ). IsWithin most ((get_or ps i d).welfare +ℤ f u)) next (each (suc i) d (omega (arith, l))))) in
+pub sum_within : (f : ℕ → ℤ) (t n most : ℕ) → ((u : ℕ) → t ≤ u → u < t + n → IsWithin most (f u)) → IsWithin (n * most) (sum_from f t n)
+sum_within f t zero most each = record { at_least = omega (arith, ints); at_most = omega (arith, ints) }
+sum_within f t (suc n) most each =
+    let here = each t (omega arith) (omega arith) in
+    let more = sum_within f (suc t) n most (λ u l m. each u (omega (arith, l)) (omega (arith, m))) in
     let a = here.at_least in let b = here.at_most in let c = more.at_least in let e = more.at_most in
     record { at_least = omega (arith, ints, a, c); at_most = omega (arith, ints, b, e) }
 
--- the sum is the relaxed welfare, where each period is that of the prefix
-worth_from : (f : ℕ → ℤ) (blocks left : List Block) (prefix : List Bool) (t : ℕ) (hours : List (List Step)) (ps : List DayPeriod) → length hours ≤ length ps
-    → ((i : ℕ) (ss : List Step) (d : DayPeriod) → slice_get hours i ≡ Some ss → Some ((get_or ps i d).welfare +ℤ f (t + i)) ≡ period_welfare blocks prefix (t + i) (ss ++ as_steps (t + i) left))
-    → Some (worth_by f t (length hours) ps) ≡ welfare_from blocks prefix t (relaxed_hours left t hours)
-worth_from f blocks left prefix t [] ps long each = refl
-worth_from f blocks left prefix t (ss ∷ hours) [] long each = absurd (omega (arith, long))
-worth_from f blocks left prefix t (ss ∷ hours) (p ∷ ps) long each =
+-- the sum is the relaxed welfare, if each is what its period is worth
+pub sum_is_welfare : (f : ℕ → ℤ) (blocks left : List Block) (prefix : List Bool) (t : ℕ) (hours : List (List Step))
+    → ((i : ℕ) (ss : List Step) → slice_get hours i ≡ Some ss → Some (f (t + i)) ≡ period_welfare blocks prefix (t + i) (ss ++ as_steps (t + i) left))
+    → Some (sum_from f t (length hours)) ≡ welfare_from blocks prefix t (relaxed_hours left t hours)
+sum_is_welfare f blocks left prefix t [] each = refl
+sum_is_welfare f blocks left prefix t (ss ∷ hours) each =
     let number : t + zero ≡ t = omega arith in
-    let here = subst (λ (u : ℕ). Some (p.welfare +ℤ f u) ≡ period_welfare blocks prefix u (ss ++ as_steps u left)) number (each zero ss p refl) in
-    let more = worth_from f blocks left prefix (suc t) hours ps (omega (arith, long))
-    (λ i other d at. (let next : t + suc i ≡ suc t + i = omega arith in
-    subst (λ (u : ℕ). Some ((get_or ps i d).welfare +ℤ f u) ≡ period_welfare blocks prefix u (other ++ as_steps u left)) next (each (suc i) other d at))) in
+    let here = subst (λ (u : ℕ). Some (f u) ≡ period_welfare blocks prefix u (ss ++ as_steps u left)) number (each zero ss refl) in
+    let more = sum_is_welfare f blocks left prefix (suc t) hours
+    (λ i other at. (let next : t + suc i ≡ suc t + i = omega arith in
+    subst (λ (u : ℕ). Some (f u) ≡ period_welfare blocks prefix u (other ++ as_steps u left)) next (each (suc i) other at))) in
     ap₂ added here more
 
-pub worth_is_welfare : (f : ℕ → ℤ) (blocks left : List Block) (prefix : List Bool) (hours : List (List Step)) (ps : List DayPeriod) → length hours ≤ length ps
-    → ((i : ℕ) (ss : List Step) (d : DayPeriod) → slice_get hours i ≡ Some ss → IsPeriodOfDay blocks prefix (i + 1) (ss ++ as_steps (i + 1) left) (get_or ps i d))
-    → ((i : ℕ) → i < length hours → f (i + 1) ≡ block_value blocks prefix (i + 1))
-    → Some (worth_by f 1 (length hours) ps) ≡ welfare_from blocks prefix 1 (relaxed_hours left 1 hours)
-worth_is_welfare f blocks left prefix hours ps long each values =
-    worth_from f blocks left prefix 1 hours ps long
-    (λ i ss d at. (let same : i + 1 ≡ 1 + i = omega arith in
-    subst (λ (u : ℕ). Some ((get_or ps i d).welfare +ℤ f u) ≡ period_welfare blocks prefix u (ss ++ as_steps u left)) same
-    (ap (λ (z : ℤ). Some ((get_or ps i d).welfare +ℤ z)) (values i (inside hours i ss at)) ∙ worth_is blocks prefix (i + 1) (ss ++ as_steps (i + 1) left) (get_or ps i d) (each i ss d at))))
-  where
-    inside : (hs : List (List Step)) (i : ℕ) (ss : List Step) → slice_get hs i ≡ Some ss → i < length hs
-    inside [] i ss at = absurd (cc)
-    inside (h ∷ hs) zero ss at = omega arith
-    inside (h ∷ hs) (suc i) ss at = let more = inside hs i ss at in omega (arith, more)
-
--- the sum is no less than the relaxed welfare, where no period is worth less
-pub worth_at_least : (f : ℕ → ℤ) (blocks left : List Block) (prefix : List Bool) (t : ℕ) (hours : List (List Step)) (ps : List DayPeriod) (w : ℤ) → length hours ≤ length ps
-    → ((i : ℕ) (ss : List Step) (d : DayPeriod) (u : ℤ) → slice_get hours i ≡ Some ss → period_welfare blocks prefix (t + i) (ss ++ as_steps (t + i) left) ≡ Some u
-    → u ≤ℤ ((get_or ps i d).welfare +ℤ f (t + i)))
-    → welfare_from blocks prefix t (relaxed_hours left t hours) ≡ Some w → w ≤ℤ worth_by f t (length hours) ps
-worth_at_least f blocks left prefix t [] ps w long each e = let same : pos 0 ≡ w = cc in omega (arith, ints, same)
-worth_at_least f blocks left prefix t (ss ∷ hours) [] w long each e = absurd (omega (arith, long))
-worth_at_least f blocks left prefix t (ss ∷ hours) (p ∷ ps) w long each e =
+-- the sum is no less than the relaxed welfare, if no period is worth more
+pub sum_at_least : (f : ℕ → ℤ) (blocks left : List Block) (prefix : List Bool) (t : ℕ) (hours : List (List Step)) (w : ℤ)
+    → ((i : ℕ) (ss : List Step) (u : ℤ) → slice_get hours i ≡ Some ss → period_welfare blocks prefix (t + i) (ss ++ as_steps (t + i) left) ≡ Some u
+    → u ≤ℤ f (t + i))
+    → welfare_from blocks prefix t (relaxed_hours left t hours) ≡ Some w → w ≤ℤ sum_from f t (length hours)
+sum_at_least f blocks left prefix t [] w each e = let same : pos 0 ≡ w = cc in omega (arith, ints, same)
+sum_at_least f blocks left prefix t (ss ∷ hours) w each e =
     let parts = added_some (period_welfare blocks prefix t (ss ++ as_steps t left)) (welfare_from blocks prefix (suc t) (relaxed_hours left (suc t) hours)) w e in
     let number : t + zero ≡ t = omega arith in
-    let here = subst (λ (u : ℕ). period_welfare blocks prefix u (ss ++ as_steps u left) ≡ Some parts.0 → parts.0 ≤ℤ (p.welfare +ℤ f u)) number (λ is. each zero ss p parts.0 refl is) parts.2 in
-    let more = worth_at_least f blocks left prefix (suc t) hours ps parts.1 (omega (arith, long))
-    (λ i other d u at. (let next : t + suc i ≡ suc t + i = omega arith in
-    subst (λ (v : ℕ). period_welfare blocks prefix v (other ++ as_steps v left) ≡ Some u → u ≤ℤ ((get_or ps i d).welfare +ℤ f v)) next (λ is. each (suc i) other d u at is))) parts.3 in
+    let here = subst (λ (u : ℕ). period_welfare blocks prefix u (ss ++ as_steps u left) ≡ Some parts.0 → parts.0 ≤ℤ f u) number
+    (λ is. each zero ss parts.0 refl is) parts.2 in
+    let more = sum_at_least f blocks left prefix (suc t) hours parts.1
+    (λ i other u at. (let next : t + suc i ≡ suc t + i = omega arith in
+    subst (λ (v : ℕ). period_welfare blocks prefix v (other ++ as_steps v left) ≡ Some u → u ≤ℤ f v) next (λ is. each (suc i) other u at is))) parts.3 in
     let sum = parts.4 in omega (arith, ints, here, more, sum)
 
 -- ---- a period that doesn't balance

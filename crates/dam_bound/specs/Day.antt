@@ -1,27 +1,23 @@
 -- What a prefix makes of each period of the day, as it is carried from a prefix to its extensions.
-use Rattle.std.specs.Prelude.{◌≡◌, ℕ, ◌+◌, ◌*◌, Bool, ℤ, pos, ◌<ℤ◌, Option, Some, None, List, ◌++◌, length, drop, slice_get, slice_index_or}
+use Rattle.std.specs.Prelude.{◌≡◌, ℕ, ◌+◌, Bool, ℤ, pos, ◌<ℤ◌, Some, List, ◌++◌, length, drop, slice_get, slice_index_or}
 use Rattle.dam_book.specs.Limits.{last_period}
-use Rattle.dam_hour.specs.Limits.{most_steps, greatest_value}
 use Rattle.dam_hour.specs.declared.step.Step.{Step}
-use Rattle.dam_hour.specs.Best.{greatest_welfare}
+use Rattle.dam_stack.specs.declared.taken.Taken.{Taken}
+use Rattle.dam_stack.specs.Taken.{IsTakenAt}
 use Rattle.dam_blocks.specs.declared.problem.Block.{Block}
 use Rattle.dam_blocks.specs.Problem.{ProblemState}
 use Rattle.dam_blocks.specs.Selection.{net_volume}
-use Rattle.dam_blocks.specs.Magnitude.{IsWithin}
 use Rattle.dam_bound.specs.Relaxed.{as_steps, relaxed_welfare}
-use Rattle.dam_bound.specs.declared.day.DayPeriod.{DayPeriod}
 use Rattle.dam_bound.specs.declared.day.Day.{Day}
 
--- the net volume of the prefix's accepted blocks in the period, and the greatest welfare of these steps with it
-pub record IsPeriodOfDay (blocks : List Block) (prefix : List Bool) (t : ℕ) (ss : List Step) (own : DayPeriod) : Type 0 where
-  pub net_is : own.net ≡ net_volume blocks prefix t
-  pub welfare_is : greatest_welfare ss own.net ≡ Some own.welfare
-  pub small : IsWithin (most_steps * greatest_value) own.welfare
+-- what is taken of the supply of these steps at the net volume of the prefix's accepted blocks in the period
+abbrev pub IsPeriodOfDay : List Block → List Bool → ℕ → List Step → Taken → Type 0
+IsPeriodOfDay blocks prefix t ss own = IsTakenAt ss (net_volume blocks prefix t) own
 
 -- the day of the prefix: each of the problem's periods with the undecided blocks as steps, and the relaxed welfare
 pub record IsDay (problem : ProblemState) (prefix : List Bool) (day : Day) : Type 0 where
   pub long : length day.periods ≡ last_period
-  pub each : (i : ℕ) (ss : List Step) (d : DayPeriod) → slice_get problem.hours i ≡ Some ss
+  pub each : (i : ℕ) (ss : List Step) (d : Taken) → slice_get problem.hours i ≡ Some ss
       → IsPeriodOfDay problem.blocks prefix (i + 1) (ss ++ as_steps (i + 1) (drop (length prefix) problem.blocks)) (slice_index_or day.periods i d)
   pub total_is : Some day.total ≡ relaxed_welfare problem prefix
 

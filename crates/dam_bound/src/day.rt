@@ -1,54 +1,46 @@
-ghost use Rattle.std.specs.Prelude.{◌≡◌, ◌*◌, false, ◌<◌, ◌≤◌, pos, neg_ℤ, ◌+ℤ◌, ◌-ℤ◌, ◌*ℤ◌, ◌≤ℤ◌, ◌<ℤ◌, ◌↔◌, ℕ, List, Bool, [], ◌++◌, length, drop, slice_index_or, IsTrue, IfSome, MatchBool, MatchOption, Some, None, option_map};
-ghost use Rattle.dam_book.specs.Limits.{greatest_volume, last_period};
-ghost use Rattle.dam_hour.specs.Limits.{most_steps, greatest_price, greatest_value};
-ghost use Rattle.dam_hour.specs.Best.{signed, greatest_welfare};
-ghost use Rattle.dam_hour.specs.Execution.{IsNetVolume};
+ghost use Rattle.std.specs.Prelude.{◌≡◌, ◌*◌, false, ◌<◌, ◌≤◌, pos, ◌<ℤ◌, ◌↔◌, ℕ, List, Bool, [], length, map, slice_index_or, IsTrue, MatchBool, MatchOption};
+ghost use Rattle.dam_book.specs.Limits.{last_period};
+ghost use Rattle.dam_hour.specs.Execution.{IsUnbalanced};
 ghost use Rattle.dam_hour.specs.declared.step.Step.{Step};
-ghost use Rattle.dam_blocks.specs.Problem.{AreBlocks};
-ghost use Rattle.dam_blocks.specs.Magnitude.{IsWithin};
-ghost use Rattle.dam_bound.specs.Relaxed.{relaxed_welfare};
+ghost use Rattle.dam_stack.specs.declared.taken.Taken.{Taken};
+ghost use Rattle.dam_stack.specs.declared.stacks.Span.{Span};
+ghost use Rattle.dam_stack.specs.Taken.{IsMoved, falls};
+ghost use Rattle.dam_blocks.specs.declared.problem.Block.{Block};
+ghost use Rattle.dam_blocks.specs.Problem.{ProblemState};
+ghost use Rattle.dam_blocks.specs.Selection.{net_volume, value_of};
 ghost use Rattle.dam_bound.specs.Day.{IsDay};
-ghost use Rattle.dam_bound.specs.inside.Change.{by, IsChange, IsGivenUp};
-ghost use Rattle.dam_bound.specs.inside.Levels.{greatest_period_bound, IsAtDepth, AreDayLevels, problem_kept};
-ghost use Rattle.dam_bound.specs.declared.day.DayPeriod.{DayPeriod};
+ghost use Rattle.dam_bound.specs.inside.Change.{by, IsChange, IsGivenUp, Move, IsMove, steps_before, steps_after};
+ghost use Rattle.dam_bound.specs.inside.Levels.{last_steps, AreDayLevels, problem_kept};
+ghost use Rattle.dam_bound.specs.inside.Tables.{AreSpans, AreTables};
 
 use crate::levels::Levels;
-use dam_blocks::{Block, MOST_PERIODS};
-use dam_book::{BlockOrder, Qty, Side};
+use crate::tables::{Tables, Touch};
+use dam_blocks::MOST_PERIODS;
+use dam_book::Side;
+use dam_hour::laws;
+use dam_stack::{Span, Stacks, Taken};
 use std::alloc::Allocator;
-
-/// What a prefix makes of one period.
-#[derive(Clone, Copy)]
-pub(crate) struct DayPeriod {
-    /// The greatest welfare of the hourly orders and the undecided blocks, in cents per MWh times
-    /// tenths of a MW.
-    pub(crate) welfare: i64,
-    /// The net volume of the accepted blocks, in tenths of a MW.
-    pub(crate) net: i32,
-    /// The row of the stack that the welfare was found at.
-    pub(crate) near: u32,
-}
 
 /// A day: what a prefix makes of each period, and its relaxed welfare.
 ///
 /// It is carried from a prefix to its extensions, in which only the periods of the next block are
-/// looked at anew.
+/// looked at again.
 #[derive(Clone, Copy)]
 pub struct Day {
-    pub(crate) periods: [DayPeriod; MOST_PERIODS],
+    /// What is taken of each period's supply.
+    pub(crate) periods: [Taken; MOST_PERIODS],
     /// The relaxed welfare, in cents per MWh times tenths of a MW.
     pub total: i64,
 }
 
 impl Day {
-    /// A day of zeros, to be written over; nothing is promised of it.
-    pub fn empty() -> Day {
+    /// A day with no supply taken, to be written over; it need not be the day of any prefix.
+    pub fn empty() -> Day
+        ensures long { length result.periods ≡ last_period }
+        ensures total { result.total ≡ pos 0 }
+    {
         Day {
-            periods: [DayPeriod {
-                welfare: 0,
-                net: 0,
-                near: 0,
-            }; MOST_PERIODS],
+            periods: [Taken::none(); MOST_PERIODS],
             total: 0,
         }
     }
@@ -58,7 +50,7 @@ impl Day {
 /// day of so many periods.
 pub(crate) fn copy_periods(from: &Day, to: &mut Day, count: usize)
     requires { count ≤ last_period }
-    ensures periods { (i : ℕ) (own : DayPeriod) → i < count
+    ensures periods { (i : ℕ) (own : Taken) → i < count
         → slice_index_or to.new.periods i own ≡ slice_index_or from.now.periods i own }
     ensures total { to.new.total ≡ from.now.total }
     ensures long { length to.new.periods ≡ last_period }
@@ -70,101 +62,31 @@ pub(crate) fn copy_periods(from: &Day, to: &mut Day, count: usize)
 /// What becomes of a block on a day.
 #[derive(Clone, Copy)]
 pub(crate) enum Change {
-    /// It stays out.
-    Kept,
-    /// It is accepted.
-    Added,
-    /// It was accepted, and is no more.
-    Removed,
+    /// It is decided.
+    Decide,
+    /// The decision on it is turned round.
+    Turn,
 }
 
-/// Cents per MWh times tenths of a MW.
-fn times(cents: i32, volume: u32) -> i64
-    requires at_least { neg_ℤ (pos greatest_price) ≤ℤ cents }
-    requires at_most { cents ≤ℤ pos greatest_price }
-    requires volume { volume ≤ greatest_volume }
-    ensures value { result ≡ cents *ℤ pos volume }
-    ensures size { IsWithin greatest_value result }
+/// The day with no block decided.
+pub(crate) fn root_of<A: Allocator>(
+    stacks: &Stacks<A>,
+    spans: &[Span],
+    periods: &[Levels<A>],
+) -> Day
+    requires { (blocks : List Block) × AreDayLevels blocks periods.now
+        × AreSpans (map last_steps periods.now) blocks stacks.now 0 spans.now }
+    ensures { (blocks : List Block) → AreDayLevels blocks periods.now
+        → AreSpans (map last_steps periods.now) blocks stacks.now 0 spans.now
+        → IsDay (problem_kept periods.now blocks) [] result }
 {
-    i64::from(cents) * i64::from(volume)
-}
-
-/// The net volume and the value of a block in a period in which it has this volume.
-fn effect(order: &BlockOrder, qty: Qty) -> (i32, i64)
-    ensures net { result.0 ≡ neg_ℤ (signed order.now.side (pos qty)) }
-    ensures value { result.1 ≡ signed order.now.side (order.now.price *ℤ pos qty) }
-    ensures net_size { IsWithin greatest_volume result.0 }
-    ensures value_size { IsWithin greatest_value result.1 }
-{
-    let volume = qty.get();
-    let value = times(order.price().get(), volume);
-    match order.side() {
-        Side::Buy => (-(volume as i32), value),
-        Side::Sell => (volume as i32, -value),
-    }
-}
-
-/// What the change adds to the net volume and the value of a period in which the block has this volume.
-fn difference(order: &BlockOrder, qty: Qty, change: Change) -> (i32, i64)
-    ensures net { result.0 ≡ by change (neg_ℤ (signed order.now.side (pos qty))) }
-    ensures value { result.1
-        ≡ by change (signed order.now.side (order.now.price *ℤ pos qty)) }
-    ensures net_size { IsWithin greatest_volume result.0 }
-    ensures value_size { IsWithin greatest_value result.1 }
-{
-    let (net, value) = effect(order, qty);
-    match change {
-        Change::Kept => (0, 0),
-        Change::Added => (net, value),
-        Change::Removed => (-net, -value),
-    }
-}
-
-/// A period with this net volume, so many blocks being decided; looked for from a row near by. `None`
-/// where no execution balances.
-fn period_at<A: Allocator>(
-    levels: &Levels<A>,
-    depth: usize,
-    net: i32,
-    near: u32,
-) -> Option<DayPeriod>
-    requires depth { (steps : List Step) × IsAtDepth levels.now depth steps }
-    requires net { IsNetVolume net }
-    ensures welfare { (steps : List Step) → IsAtDepth levels.now depth steps
-        → greatest_welfare steps net ≡ option_map (λ p. p.welfare) result }
-    ensures net { IfSome result (λ p. p.net ≡ net) }
-    ensures small { IfSome result (λ p. IsWithin (most_steps * greatest_value) p.welfare) }
-{
-    let reached = levels.stack(depth).welfare(i64::from(net), near as usize)?;
-    Some(DayPeriod {
-        welfare: reached.welfare,
-        net,
-        near: reached.place.min(u32::MAX as usize) as u32,
-    })
-}
-
-/// The day with no block decided; `None` where some period has no execution that balances.
-pub(crate) fn root_of<A: Allocator>(periods: &[Levels<A>], blocks: &[Block]) -> Option<Day>
-    requires { AreDayLevels blocks.now periods.now }
-    ensures { MatchOption result (relaxed_welfare (problem_kept periods.now blocks.now) []
-        ≡ None)
-        (IsDay (problem_kept periods.now blocks.now) []) }
-{
-    let mut first = [DayPeriod {
-        welfare: 0,
-        net: 0,
-        near: 0,
-    }; MOST_PERIODS];
-    let mut total = 0;
+    let mut day = Day::empty();
     for (place, levels) in periods.iter().enumerate() {
-        let next = period_at(levels, 0, 0, 0)?;
-        first[place] = next;
-        total += next.welfare;
+        let (taken, welfare) = stacks.opened(spans[place], levels.hour(0));
+        day.periods[place] = taken;
+        day.total += welfare;
     }
-    Some(Day {
-        periods: first,
-        total,
-    })
+    day
 }
 
 /// Whether the total is less than what is asked for, if anything is.
@@ -177,66 +99,83 @@ fn is_under(total: i64, least: Option<u64>) -> bool
     }
 }
 
-/// By how much a period's welfare rises.
-fn rise(own: i64, next: i64) -> i64
-    requires own { IsWithin (most_steps * greatest_value) own }
-    requires next { IsWithin (most_steps * greatest_value) next }
-    ensures value { result ≡ next -ℤ own }
-    ensures size { IsWithin (2 * (most_steps * greatest_value)) result }
+/// Whether the supply is left with what a block of the side asks for: a sell that is accepted is served,
+/// and a buy that is rejected takes nothing.
+fn is_served(side: Side, accept: bool) -> bool
+    ensures { result ≡ falls side accept }
 {
-    next - own
+    match side {
+        Side::Buy => !accept,
+        Side::Sell => accept,
+    }
 }
 
-/// The total after a period's welfare became another one and its accepted blocks' value rose by this.
-fn total_with(total: i64, own: i64, next: i64, value: i64) -> i64
-    requires total { IsWithin (last_period * greatest_period_bound) total }
-    requires own { IsWithin (most_steps * greatest_value) own }
-    requires next { IsWithin (most_steps * greatest_value) next }
-    requires value { IsWithin greatest_value value }
-    ensures { result ≡ total +ℤ ((next -ℤ own) +ℤ value) }
+/// What the change makes of one of the block's periods, as the stacks have it.
+fn moved<A: Allocator>(
+    stacks: &Stacks<A>,
+    end: Span,
+    touch: Touch,
+    own: Taken,
+    change: Change,
+    is_served: bool,
+) -> Option<(Taken, i64)>
+    requires { (m : Move) × IsMove stacks.now end touch change own m }
+    ensures { (m : Move) → IsMove stacks.now end touch change own m
+        → is_served ≡ falls m.block.order.side m.accept → MatchOption result
+        (IsUnbalanced (steps_after m) (net_volume m.blocks m.after m.period))
+        (λ d. IsMoved (steps_before m) (net_volume m.blocks m.before m.period) (steps_after m)
+        (net_volume m.blocks m.after m.period)
+        (by change m.accept (value_of m.period m.block.order)) d.0 d.1) }
 {
-    let more = rise(own, next);
-    total + (more + value)
+    match change {
+        Change::Decide => stacks.decided(own, touch.cut, is_served),
+        Change::Turn => stacks.turned(end, own, touch.cut, is_served),
+    }
 }
 
-/// Makes the change in each period in which the block at the place has a volume; so many blocks are
-/// decided after it. Whether every period balances, and the total is at no time under `least`: the
-/// day is of no use otherwise.
+/// Makes the change in each period of the block at the place, which is then accepted or rejected. Whether
+/// every period balances, and the total is at no time under `least`: if not, the day is of no use.
 pub(crate) fn change_day<A: Allocator>(
-    periods: &[Levels<A>],
-    blocks: &[Block],
+    tables: &Tables<A>,
     day: &mut Day,
     place: usize,
-    depth: usize,
     change: Change,
+    accept: bool,
     least: Option<u64>,
 ) -> bool
-    requires levels { AreDayLevels blocks.now periods.now }
-    requires blocks { AreBlocks (length periods.now) blocks.now }
-    requires place { place < length blocks.now }
-    requires depth { depth ≤ length blocks.now }
-    requires day { (before : List Bool) × (after : List Bool)
-        × IsChange blocks.now place change depth before after
-        × IsDay (problem_kept periods.now blocks.now) before day.old }
-    ensures { (before after : List Bool) → IsChange blocks.now place change depth before after
-        → IsDay (problem_kept periods.now blocks.now) before day.old
-        → MatchBool result (IsDay (problem_kept periods.now blocks.now) after day.new)
-        (IsGivenUp (problem_kept periods.now blocks.now) least before after) }
+    requires { (problem : ProblemState) × (depth : ℕ) × (before : List Bool) × (after : List Bool)
+        × AreTables problem.hours problem.blocks tables.now.stacks
+        tables.now.ends.items tables.now.lots.items
+        × (place < length problem.blocks)
+        × IsChange problem.blocks place change accept depth before after
+        × IsDay problem before day.old }
+    ensures { (problem : ProblemState) (depth : ℕ) (before after : List Bool)
+        → AreTables problem.hours problem.blocks tables.now.stacks
+        tables.now.ends.items tables.now.lots.items
+        → place < length problem.blocks
+        → IsChange problem.blocks place change accept depth before after
+        → IsDay problem before day.old
+        → MatchBool result (IsDay problem after day.new) (IsGivenUp problem least before after) }
 {
-    let order = &blocks[place].order;
-    let pairs = order.volumes().pairs();
-    for (period, qty) in pairs {
-        let at = usize::from(period.get()) - 1;
-        if at >= periods.len() {
-            continue;
-        }
+    laws::welfare();
+    let lot = &tables.lots[place];
+    let is_served = is_served(lot.side(), accept);
+    for touch in lot.touches() {
+        let at = touch.at as usize;
         let own = day.periods[at];
-        let (net, value) = difference(order, *qty, change);
-        let Some(next) = period_at(&periods[at], depth, own.net + net, own.near) else {
+        let next = moved(
+            &tables.stacks,
+            tables.ends[at],
+            *touch,
+            own,
+            change,
+            is_served,
+        );
+        let Some((next, gained)) = next else {
             return false;
         };
         day.periods[at] = next;
-        day.total = total_with(day.total, own.welfare, next.welfare, value);
+        day.total += gained;
         if is_under(day.total, least) {
             return false;
         }

@@ -3,50 +3,57 @@
 ghost use Rattle.std.specs.Prelude.{◌≡◌, ◌*◌, ◌<◌, ◌-ℤ◌, ◌*ℤ◌, pos, ℕ, ℤ, List, Bool, ◌&&◌, length, map};
 ghost use Rattle.dam_book.specs.Limits.{most_blocks};
 ghost use Rattle.dam_hour.specs.Best.{signed};
-ghost use Rattle.dam_hour.specs.Execution.{IsNetVolume};
-ghost use Rattle.dam_blocks.specs.Problem.{AreBlocks};
+ghost use Rattle.dam_hour.specs.declared.step.Step.{Step};
+ghost use Rattle.dam_stack.specs.Rows.{IsStackAt};
+ghost use Rattle.dam_stack.specs.Taken.{IsTakenAt};
 ghost use Rattle.dam_blocks.specs.Selection.{accepts, padded, over_accepted};
 ghost use Rattle.dam_blocks.specs.Eligible.{IsClearingPrice, ArePrices, surplus_of, surplus_at, gain_at};
 ghost use Rattle.dam_blocks.specs.Magnitude.{IsWithin, greatest_gain, greatest_surplus};
 ghost use Rattle.dam_bound.specs.Day.{IsDay};
 ghost use Rattle.dam_bound.specs.inside.Families.{AreFamilies};
-ghost use Rattle.dam_bound.specs.inside.Levels.{IsAtDepth, last_steps, AreDayLevels, problem_kept};
+ghost use Rattle.dam_bound.specs.inside.Tables.{AreTables};
+ghost use Rattle.dam_bound.specs.inside.Levels.{last_steps, problem_kept};
 
-use crate::day::{Day, DayPeriod};
+use crate::day::Day;
 use crate::levels::Levels;
+use crate::tables::Tables;
 use dam_blocks::{Block, Selection, laws, surplus_at_price};
 use dam_book::{BlockOrder, Qty};
 use dam_hour::price_between;
+use dam_stack::{Span, Stacks, Taken};
 use std::alloc::Allocator;
 
-/// What a block gains in a period where it has this volume, at the price of the period with every
-/// block decided; 0 where no execution balances.
+/// What a block gains in a period in which it has this volume, at the price of the period with every
+/// block decided.
 fn gain_in<A: Allocator>(
-    levels: &Levels<A>,
-    depth: usize,
-    own: DayPeriod,
+    stacks: &Stacks<A>,
+    end: Span,
+    own: Taken,
     order: &BlockOrder,
     qty: Qty,
 ) -> i64
-    requires levels { IsAtDepth levels.now depth (last_steps levels.now) }
-    requires net { IsNetVolume own.net }
-    ensures value { (price : ℤ) → IsClearingPrice (last_steps levels.now) own.net price
+    requires { (ss : List Step) × (net : ℤ) × IsStackAt stacks.now end ss × IsTakenAt ss net own }
+    ensures value { (ss : List Step) (net price : ℤ) → IsStackAt stacks.now end ss
+        → IsTakenAt ss net own → IsClearingPrice ss net price
         → result ≡ signed order.now.side ((order.now.price -ℤ price) *ℤ pos qty) }
     ensures size { IsWithin greatest_gain result }
 {
     dam_hour::laws::uniqueness();
-    let near = own.near as usize;
-    match levels.stack(depth).ends(i64::from(own.net), near) {
-        Some((low, high)) => surplus_at_price(order, price_between(low, high), qty.get()),
-        None => 0,
-    }
+    let (low, high) = stacks.ends(end, own);
+    surplus_at_price(order, price_between(low, high), qty.get())
 }
 
 /// What the block at the place gains by itself at the prices of the day, on which every block is
 /// decided. Only the prices of its own periods are asked for.
-fn surplus_of<A: Allocator>(periods: &[Levels<A>], blocks: &[Block], day: &Day, place: usize) -> i64
-    requires levels { AreDayLevels blocks.now periods.now }
-    requires blocks { AreBlocks (length periods.now) blocks.now }
+fn surplus_of<A: Allocator>(
+    periods: &[Levels<A>],
+    blocks: &[Block],
+    tables: &Tables<A>,
+    day: &Day,
+    place: usize,
+) -> i64
+    requires tables { AreTables (map last_steps periods.now) blocks.now
+        tables.now.stacks tables.now.ends.items tables.now.lots.items }
     requires day { (prefix : List Bool) × (length prefix ≡ length blocks.now)
         × IsDay (problem_kept periods.now blocks.now) prefix day.now }
     requires place { place < length blocks.now }
@@ -65,7 +72,13 @@ fn surplus_of<A: Allocator>(periods: &[Levels<A>], blocks: &[Block], day: &Day, 
         if at >= periods.len() {
             continue;
         }
-        total += gain_in(&periods[at], blocks.len(), day.periods[at], order, *qty);
+        total += gain_in(
+            &tables.stacks,
+            tables.ends[at],
+            day.periods[at],
+            order,
+            *qty,
+        );
     }
     total
 }
@@ -74,12 +87,13 @@ fn surplus_of<A: Allocator>(periods: &[Levels<A>], blocks: &[Block], day: &Day, 
 fn surplus_of_family<A: Allocator>(
     periods: &[Levels<A>],
     blocks: &[Block],
+    tables: &Tables<A>,
     day: &Day,
     selection: Selection,
     family: Selection,
 ) -> i64
-    requires levels { AreDayLevels blocks.now periods.now }
-    requires blocks { AreBlocks (length periods.now) blocks.now }
+    requires tables { AreTables (map last_steps periods.now) blocks.now
+        tables.now.stacks tables.now.ends.items tables.now.lots.items }
     requires day { (prefix : List Bool) × (length prefix ≡ length blocks.now)
         × IsDay (problem_kept periods.now blocks.now) prefix day.now }
     ensures value { (prefix members : List Bool) (prices : List ℤ)
@@ -94,7 +108,7 @@ fn surplus_of_family<A: Allocator>(
     let mut total = 0;
     for place in 0..blocks.len() {
         if selection.has(place) && family.has(place) {
-            total += surplus_of(periods, blocks, day, place);
+            total += surplus_of(periods, blocks, tables, day, place);
         }
     }
     total
@@ -109,13 +123,14 @@ pub(crate) fn gain_of<A: Allocator>(
     periods: &[Levels<A>],
     blocks: &[Block],
     families: &[Option<Selection>],
+    tables: &Tables<A>,
     day: &Day,
     selection: Selection,
     place: usize,
 ) -> i64
-    requires levels { AreDayLevels blocks.now periods.now }
+    requires tables { AreTables (map last_steps periods.now) blocks.now
+        tables.now.stacks tables.now.ends.items tables.now.lots.items }
     requires families { AreFamilies blocks.now families.now }
-    requires blocks { AreBlocks (length periods.now) blocks.now }
     requires day { (prefix : List Bool) × (length prefix ≡ length blocks.now)
         × IsDay (problem_kept periods.now blocks.now) prefix day.now }
     requires place { place < length blocks.now }
@@ -125,10 +140,10 @@ pub(crate) fn gain_of<A: Allocator>(
         → result ≡ gain_at blocks.now selection prices place }
 {
     laws::descendants();
-    let own = surplus_of(periods, blocks, day, place);
+    let own = surplus_of(periods, blocks, tables, day, place);
     let family = families[place];
     match family {
-        Some(family) => own + surplus_of_family(periods, blocks, day, selection, family),
+        Some(family) => own + surplus_of_family(periods, blocks, tables, day, selection, family),
         None => own,
     }
 }

@@ -9,7 +9,6 @@ ghost use Rattle.dam_bound.specs.inside.Levels.{IsAtDepth, AreLevels, last_steps
 use dam_blocks::{Block, volume_in};
 use dam_book::{BlockOrder, Period, Qty};
 use dam_hour::{Hour, Step};
-use dam_stack::Stack;
 use std::alloc::{AllocError, Allocator};
 use std::marker::Model;
 
@@ -45,19 +44,19 @@ fn relaxed_steps<A: Allocator>(
     Ok(relaxed)
 }
 
-/// The stack of the steps, and behind them of the blocks as steps of the period.
-fn relaxed_stack<A: Allocator + Copy>(
+/// The hour of the steps, and after them of the blocks as steps of the period.
+fn relaxed_hour<A: Allocator + Copy>(
     alloc: A,
     steps: &[Step],
     blocks: &[Block],
     period: Period,
-) -> Result<Stack<A>, AllocError>
+) -> Result<Hour<A>, AllocError>
     requires steps { length steps.now ≤ most_hourly }
     requires blocks { length blocks.now ≤ most_blocks }
-    ensures { IfOk result (λ stack. stack ≡ steps.now ++ as_steps period blocks.now) }
+    ensures { IfOk result (λ hour. hour ≡ steps.now ++ as_steps period blocks.now) }
 {
     let relaxed = relaxed_steps(alloc, steps, blocks, period)?;
-    Stack::of(alloc, Hour::build(alloc, &relaxed)?)
+    Hour::build(alloc, &relaxed)
 }
 
 /// A period with its undecided blocks as steps, at each depth: so many of the first blocks are
@@ -66,9 +65,9 @@ fn relaxed_stack<A: Allocator + Copy>(
 /// Depths between which no block has a volume in the period share an hour.
 #[derive(Drop)]
 pub(crate) struct Levels<A: Allocator> {
-    /// The stacks with their hours, by falling number of undecided blocks.
-    hours: Vec<Stack<A>, A>,
-    /// For each depth the place of its stack.
+    /// By falling number of undecided blocks, each made from the one before it.
+    hours: Vec<Hour<A>, A>,
+    /// For each depth the place of its hour.
     places: Vec<usize, A>,
 }
 
@@ -95,11 +94,13 @@ impl<A: Allocator + Copy> Levels<A> {
     {
         let mut hours = Vec::new(alloc);
         let mut places = Vec::with_capacity(alloc, blocks.len() + 1)?;
-        hours.push(relaxed_stack(alloc, steps, blocks, period)?)?;
+        hours.push(relaxed_hour(alloc, steps, blocks, period)?)?;
         places.push(0)?;
-        for (place, block) in blocks.iter().enumerate() {
+        for block in blocks {
             if volume_in(block.order.volumes(), period) > 0 {
-                hours.push(relaxed_stack(alloc, steps, &blocks[place + 1..], period)?)?;
+                let above = &hours[hours.len() - 1];
+                let hour = above.without(alloc, steps.len())?;
+                hours.push(hour)?;
             }
             places.push(hours.len() - 1)?;
         }
@@ -108,12 +109,13 @@ impl<A: Allocator + Copy> Levels<A> {
 }
 
 impl<A: Allocator> Levels<A> {
-    /// The stack at a depth.
-    pub(crate) fn stack(&self, depth: usize) -> &Stack<A>
-        requires { (steps : List Step) × IsAtDepth self.now depth steps }
-        ensures { (steps : List Step) → IsAtDepth self.now depth steps → result.now ≡ steps }
-    {
-        &self.hours[self.places[depth]]
+    /// How many rows the stacks of all its hours have: one for each step, and a last one.
+    pub(crate) fn row_count(&self) -> usize {
+        let mut rows = 0usize;
+        for hour in &self.hours {
+            rows = rows.saturating_add(hour.len() + 1);
+        }
+        rows
     }
 
     /// The hour at a depth.
@@ -123,8 +125,8 @@ impl<A: Allocator> Levels<A> {
             → result.now ≡ steps }
         ensures steps { IsHour result.now }
     {
-        let hour = self.stack(depth).hour();
-        let _few = hour.len();
+        let hour = &self.hours[self.places[depth]];
+        let _few = hour.len(); // for the proof: the steps are few
         hour
     }
 }

@@ -8,7 +8,7 @@
 //!
 //! A walk down the tree of prefixes carries the [`Day`] of each (`root`), and makes of a copy (`copy_day`) the
 //! day of the prefix with one more decision (`extend`): the same welfare, with only the periods of the last
-//! block looked up anew, and no further than until it is seen to be less than what is asked for. Of the
+//! block changed, and no further than until it is seen to be less than what is asked for. Of the
 //! day of a prefix that decides every block, `turn` makes that with one decision turned round, and
 //! `gain` tells what an accepted block gains with its accepted descendants.
 //!
@@ -26,6 +26,7 @@ mod gain;
 pub mod laws;
 mod levels;
 mod relaxed;
+mod tables;
 
 pub use day::Day;
 pub use relaxed::Relaxed;

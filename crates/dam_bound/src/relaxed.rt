@@ -9,10 +9,11 @@ ghost use Rattle.dam_bound.specs.Day.{IsDay, IsUnder};
 ghost use Rattle.dam_bound.specs.inside.Levels.{AreLevels, AreLevelsAt, last_steps, AreDayLevels};
 ghost use Rattle.dam_bound.specs.inside.Levels.{greatest_period_bound};
 
-use crate::day::{Change, Day, change_day, copy_periods, root_of};
+use crate::day::{Change, Day, change_day, copy_periods};
 use crate::families::families_of;
 use crate::gain::gain_of;
 use crate::levels::Levels;
+use crate::tables::Tables;
 use dam_blocks::{Block, Problem, Selection, block_value, laws, net_volume};
 use dam_book::Period;
 use std::alloc::{AllocError, Allocator, Global};
@@ -28,13 +29,17 @@ pub struct Relaxed<A: Allocator = Global> {
     blocks: Vec<Block, A>,
     /// For each block those that descend from it.
     families: Vec<Option<Selection>, A>,
+    /// What the walk reads.
+    tables: Tables<A>,
 }
 
 impl<A: Allocator> Model for Relaxed<A> {
-    ghost use Rattle.std.specs.Prelude.{length};
+    ghost use Rattle.std.specs.Prelude.{length, map, []};
     ghost use Rattle.dam_blocks.specs.Problem.{ProblemState, AreBlocks};
-    ghost use Rattle.dam_bound.specs.inside.Levels.{AreDayLevels, problem_kept};
+    ghost use Rattle.dam_bound.specs.Day.{IsDay};
+    ghost use Rattle.dam_bound.specs.inside.Levels.{AreDayLevels, last_steps, problem_kept};
     ghost use Rattle.dam_bound.specs.inside.Families.{AreFamilies};
+    ghost use Rattle.dam_bound.specs.inside.Tables.{AreTables};
 
     ghost Value = { ProblemState };
 
@@ -42,7 +47,10 @@ impl<A: Allocator> Model for Relaxed<A> {
 
     ghost invariant = { λ r. AreDayLevels r.blocks.items r.periods.items
         × AreBlocks (length r.periods.items) r.blocks.items
-        × AreFamilies r.blocks.items r.families.items };
+        × AreFamilies r.blocks.items r.families.items
+        × AreTables (map last_steps r.periods.items) r.blocks.items
+        r.tables.stacks r.tables.ends.items r.tables.lots.items
+        × IsDay (problem_kept r.periods.items r.blocks.items) [] r.tables.root };
 }
 
 fn copies_of<A: Allocator>(alloc: A, blocks: &[Block]) -> Result<Vec<Block, A>, AllocError>
@@ -89,14 +97,19 @@ fn periods_of<A: Allocator + Copy, B: Allocator>(
 }
 
 impl<A: Allocator + Copy> Relaxed<A> {
-    /// The levels of a problem. The error is want of memory.
+    /// The levels and the tables of a problem. The error is want of memory.
     pub fn build<B: Allocator>(alloc: A, problem: &Problem<B>) -> Result<Relaxed<A>, AllocError>
         ensures { IfOk result (λ relaxed. relaxed ≡ without_rows problem.now) }
     {
+        let periods = periods_of(alloc, problem)?;
+        let blocks = copies_of(alloc, problem.blocks())?;
+        let families = families_of(alloc, problem.blocks())?;
+        let tables = Tables::of(alloc, &periods, &blocks)?;
         Ok(Relaxed {
-            periods: periods_of(alloc, problem)?,
-            blocks: copies_of(alloc, problem.blocks())?,
-            families: families_of(alloc, problem.blocks())?,
+            periods,
+            blocks,
+            families,
+            tables,
         })
     }
 }
@@ -153,7 +166,7 @@ impl<A: Allocator> Relaxed<A> {
     pub fn root(&self) -> Option<Day>
         ensures { MatchOption result (relaxed_welfare self.now [] ≡ None) (IsDay self.now []) }
     {
-        root_of(&self.periods, &self.blocks)
+        Some(self.tables.root)
     }
 
     /// Extends the day of a prefix by the decision on the block at the depth; whether it did. `false`
@@ -174,14 +187,12 @@ impl<A: Allocator> Relaxed<A> {
         dam_hour::laws::welfare();
         dam_hour::laws::magnitude();
         laws::sums();
-        let change = if accept { Change::Added } else { Change::Kept };
         change_day(
-            &self.periods,
-            &self.blocks,
+            &self.tables,
             day,
             depth,
-            depth + 1,
-            change,
+            Change::Decide,
+            accept,
             Some(least),
         )
     }
@@ -209,21 +220,15 @@ impl<A: Allocator> Relaxed<A> {
             → MatchBool result (IsDay self.now (slice_set prefix place accept) day.new)
             (relaxed_welfare self.now (slice_set prefix place accept) ≡ None) }
     {
-        let change = if accept {
-            Change::Added
-        } else {
-            Change::Removed
-        };
-        let count = self.blocks.len();
-        change_day(&self.periods, &self.blocks, day, place, count, change, None)
+        change_day(&self.tables, day, place, Change::Turn, accept, None)
     }
 
     /// What the block at a place gains at the prices of a day on which every block is decided, with
     /// those blocks of the selection that descend from it; in cents per MWh times tenths of a MW, and
     /// below 0 where they lose together. The selection is the day's.
     ///
-    /// Only the prices of these blocks' own periods are asked for, each from the row at which the day
-    /// has its welfare. Takes no memory.
+    /// Only the prices of these blocks' own periods are asked for, each from a row near the last unit
+    /// that the day takes. Takes no memory.
     pub fn gain(&self, day: &Day, selection: Selection, place: usize) -> i64
         requires place { place < length self.now.blocks }
         requires day { (prefix : List Bool) × (length prefix ≡ length self.now.blocks)
@@ -238,6 +243,7 @@ impl<A: Allocator> Relaxed<A> {
             &self.periods,
             &self.blocks,
             &self.families,
+            &self.tables,
             day,
             selection,
             place,

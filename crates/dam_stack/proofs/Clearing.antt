@@ -7,14 +7,14 @@ use Rattle.dam_book.specs.Price.{IsPrice}
 use Rattle.dam_book.specs.declared.order.Side.TheVariants.{Buy, Sell}
 use Rattle.dam_hour.specs.declared.step.Step.{Step}
 use Rattle.dam_hour.specs.Limits.{price_span}
-use Rattle.dam_hour.specs.Execution.{AreInRange, IsExecution, executed_volume, offered_volume, Balances, IsBalanced, IsWithinOffers}
+use Rattle.dam_hour.specs.Execution.{AreInRange, IsExecution, executed_volume, offered_volume, Balances, IsBalanced}
 use Rattle.dam_hour.specs.Best.{welfare_of, surplus_at, greatest_welfare}
 use Rattle.dam_hour.specs.Price.{Supports, IsSupporting, AreEnds}
 use Rattle.dam_stack.specs.declared.row.Row.{Row}
 use Rattle.dam_stack.specs.Supply.{height_of, all_units, units_under, units_up_to, gain_at, AreUnitsAt}
 use Rattle.dam_stack.specs.inside.Supply.{worth_of, Reaches, Holds, IsCostOf, IsLow, IsHigh}
 use Rattle.dam_stack.proofs.Parts.{under_none, up_to_full, up_to_under, part_most, times_net}
-use Rattle.dam_stack.proofs.Supplying.{taken, spent, height_is, taken_total, all_offered, supported_reaches, supported_spent, reached_execution, welfare_spent}
+use Rattle.dam_stack.proofs.Supplying.{taken, spent, height_is, taken_total, supported_reaches, supported_spent, reached_execution, welfare_spent}
 
 -- ---- one height and a greater one
 pub up_to_below : (h k : ℕ) (ss : List Step) → h < k → units_up_to h ss ≤ units_under k ss
@@ -89,43 +89,16 @@ high_of_row ss units row h =
       greatest = λ k l m. (let below = up_to_below (height_of row.price) k ss l in omega (arith, below, up_to));
     }
 
-pub cost_of_none : (ss : List Step) → IsCostOf ss 0 0
-cost_of_none ss =
-    let none = none_at_zero ss in
-    record {
-      price = lowest_price;
-      in_range = lowest_in_range;
-      reaches = record { under = omega (arith, none.0); up_to = omega arith };
-      cost_is = omega (arith, none.1);
-    }
-
 pub row_cost : (c g h b x : ℕ) → b ≤ x → c + g ≡ h * b → (c + h * (x - b)) + g ≡ h * x
 row_cost c g h b x l e =
     let s : b + (x - b) ≡ x = omega (arith, l) in
     let m = ap (λ n. h * n) s in
     omega (arith, m, e)
 
-pub cost_of_row : (ss : List Step) (units : ℕ) (row : Row) (cost : ℕ) → Holds ss units row → cost ≡ row.cost + height_of row.price * (units - row.before) → IsCostOf ss units cost
-cost_of_row ss units row cost h e =
-    let before = h.before in let under = h.under in
-    let sum = row_cost row.cost (gain_at (height_of row.price) ss) (height_of row.price) row.before units (omega (arith, before)) h.cost_is in
-    record {
-      price = row.price;
-      in_range = h.in_range;
-      reaches = record { under = omega (arith, before, under); up_to = h.up_to };
-      cost_is = omega (arith, e, sum);
-    }
-
 pub row_cost_small : (ss : List Step) (units : ℕ) (row : Row) → Holds ss units row → row.cost ≤ price_span * row.before
 row_cost_small ss units row h =
     let e = h.cost_is in
     let m = mul-le (height_of row.price) row.before price_span row.before (height_most row.price h.in_range) (omega arith) in
-    omega (arith, e, m)
-
-pub cost_small : (ss : List Step) (units cost : ℕ) → IsCostOf ss units cost → cost ≤ price_span * units
-cost_small ss units cost h =
-    let e = h.cost_is in
-    let m = mul-le (height_of h.price) units price_span units (height_most h.price h.in_range) (omega arith) in
     omega (arith, e, m)
 
 -- ---- the net volume
@@ -220,12 +193,3 @@ welfare_is laws ss net x cost a u c =
     let sum = welfare_sum net (welfare_of ss s.volumes) (executed_volume Sell ss s.volumes) (executed_volume Buy ss s.volumes) (spent ss s.volumes) (worth_of ss) cost
     (welfare_spent ss s.volumes a s.execution) s.balance k in
     supporting_welfare laws ss net c.price s ∙ ap (λ (z : ℤ). Some z) sum
-
--- ---- where so many units cannot be taken, nothing balances
-pub too_few : (ss : List Step) (net units : ℤ) (volume : ℕ) → volume ≡ offered_volume Buy ss → units ≡ pos volume -ℤ net → units <ℤ pos 0 → IsWithinOffers ss net → ⊥
-too_few ss net units volume v e l w =
-    let most = w.at_most in let no : 0 < 0 = omega (arith, ints, v, e, l, most) in omega (arith, no)
-
-pub too_many : (ss : List Step) (net units : ℤ) (volume all : ℕ) → volume ≡ offered_volume Buy ss → all ≡ all_units ss → units ≡ pos volume -ℤ net → pos all <ℤ units → IsWithinOffers ss net → ⊥
-too_many ss net units volume all v f e l w =
-    let both = all_offered ss in let least = w.at_least in let no : 0 < 0 = omega (arith, ints, v, f, e, l, both, least) in omega (arith, no)

@@ -18,10 +18,12 @@ use Rattle.dam_stack.proofs.Clearing.{none_at_zero, height_most, row_cost}
 use Rattle.dam_stack.proofs.Leaving.{total_middle}
 
 -- ---- a step among the others
-under_middle : (h : ℕ) (us vs : List Step) (s : Step) → units_under h (us ++ s ∷ vs) ≡ if_any (h - height_of s.price) s.qty + units_under h (us ++ vs)
+under_middle : (h : ℕ) (us vs : List Step) (s : Step)
+    → units_under h (us ++ s ∷ vs) ≡ if_any (h - height_of s.price) s.qty + units_under h (us ++ vs)
 under_middle h us vs s = total_middle (λ t. if_any (h - height_of t.price) t.qty) us vs s
 
-up_to_middle : (h : ℕ) (us vs : List Step) (s : Step) → units_up_to h (us ++ s ∷ vs) ≡ if_any (suc h - height_of s.price) s.qty + units_up_to h (us ++ vs)
+up_to_middle : (h : ℕ) (us vs : List Step) (s : Step)
+    → units_up_to h (us ++ s ∷ vs) ≡ if_any (suc h - height_of s.price) s.qty + units_up_to h (us ++ vs)
 up_to_middle h us vs s = total_middle (λ t. if_any (suc h - height_of t.price) t.qty) us vs s
 
 gain_middle : (h : ℕ) (us vs : List Step) (s : Step) → gain_at h (us ++ s ∷ vs) ≡ (h - height_of s.price) * s.qty + gain_at h (us ++ vs)
@@ -96,7 +98,8 @@ freed us vs s cut t held of f k =
     let full = up_to_full a h q f.not_over in
     let over = f.not_over in
     let less : (q ≤ t.units) × (units_under h (us ++ vs) + held ≤ t.units - q) = elim (cases_lt a h) [
-      | inl m ↦ (let all = under_full a h q m in let e = f.lower m in (omega (arith, part_under, all, under), omega (arith, part_under, all, under, e)))
+      | inl m ↦ (let all = under_full a h q m in let e = f.lower
+          m in (omega (arith, part_under, all, under), omega (arith, part_under, all, under, e)))
       | inr m ↦
           (let equal : a ≡ h = omega (arith, over, m) in
           let none = under_none a h q m in let e = f.same equal in
@@ -105,7 +108,8 @@ freed us vs s cut t held of f k =
     let gain = gain_most h (us ++ vs) in
     let bound = times_most h (units_under h (us ++ vs)) (t.units - q) (let l = less.1 in omega (arith, l)) in
     let sum = k.cost_is in
-    let costs = within_cost h a q t.units (gain_at h (us ++ vs)) t.cost over less.0 (omega (arith, sum, part_gain)) (omega (arith, gain, bound)) in
+    let costs = within_cost h a q t.units (gain_at h (us ++ vs)) t.cost over less.0 (omega (arith, sum, part_gain))
+    (omega (arith, gain, bound)) in
     let volume = less.0 in
     record {
       volume = less.0;
@@ -119,7 +123,8 @@ freed us vs s cut t held of f k =
     }
 
 -- ---- they stay out
-pub stayed : (us vs : List Step) (s : Step) (cut : Cut) (t : Taken) (free : ℕ) → IsCutOf s cut → IsFree t cut free → IsTaken (us ++ s ∷ vs) t
+pub stayed : (us vs : List Step) (s : Step) (cut : Cut) (t : Taken) (free : ℕ) → IsCutOf s cut → IsFree t cut free
+    → IsTaken (us ++ s ∷ vs) t
     → IsTaken (us ++ vs) (record { units = t.units; height = t.height; held = t.held; free = free; near = t.near; cost = t.cost })
 stayed us vs s cut t free of f k =
     let h = t.height in let a = cut.height in let q = cut.volume in
@@ -170,7 +175,8 @@ pub row_taken : (ss : List Step) (units next near cost : ℕ) (row : Row) → Ho
     → IsTaken ss (record { units = units; height = height_of row.price; held = units - row.before; free = next - units; near = near; cost = cost })
 row_taken ss units next near cost row h n l e =
     let before = h.before in let under = h.under in let up_to = n.up_to in
-    let sum = row_cost row.cost (gain_at (height_of row.price) ss) (height_of row.price) row.before units (omega (arith, before)) h.cost_is in
+    let sum = row_cost row.cost (gain_at (height_of row.price) ss) (height_of row.price) row.before units (omega (arith, before))
+    h.cost_is in
     record {
       in_range = height_most row.price h.in_range;
       under = omega (arith, before, under);

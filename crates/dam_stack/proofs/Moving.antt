@@ -106,7 +106,8 @@ decided_moved all us vs s cut served accept net t left change of at e l =
           (taken_cost (us ++ s ∷ vs) t at.taken_is) found less refl within (taken_cost (us ++ vs) left l.taken_is) in
           let whole = after.sum in
           after.after_is ∙ ap (λ (z : ℤ). Some z)
-          (let same : after.after ≡ (w +ℤ change) -ℤ value_by s.side accept s.price s.qty = omega (arith, ints, whole, sum, fallen_cost) in same));
+          (let same : after.after ≡ (w +ℤ change) -ℤ value_by s.side accept s.price s.qty = omega
+          (arith, ints, whole, sum, fallen_cost) in same));
       at_least = omega (arith, ints, sum, was, now, own);
       at_most = omega (arith, ints, sum, was, now, own);
     }
@@ -116,7 +117,8 @@ pub decided_none : HourLaws → (us vs : List Step) (s : Step) (cut : Cut) (serv
     → IsUnbalanced (us ++ vs) (net +ℤ net_by s.side accept s.qty)
 decided_none all us vs s cut served accept net t of at e (inl few) xs f b =
     let both = fallen_is s cut served accept of e in
-    decided_few us vs s accept net (net +ℤ net_by s.side accept s.qty) t.units at.units_are refl (omega (arith, both.0, few)) (all.within _ _ xs f b)
+    decided_few us vs s accept net (net +ℤ net_by s.side accept s.qty) t.units at.units_are refl (omega (arith, both.0, few))
+    (all.within _ _ xs f b)
 decided_none all us vs s cut served accept net t of at e (inr many) xs f b =
     let both = fallen_is s cut served accept of e in
     decided_many us vs s accept net (net +ℤ net_by s.side accept s.qty) t.units (t.units - cond served cut.volume 0) at.units_are
@@ -144,7 +146,8 @@ turned_moved all ss s cut net next value change t other of at k u e l h = record
       (let was = welfare_is all.laws ss net t.units t.cost at.is_hour.in_range at.units_are (taken_cost ss t at.taken_is) in
       let now = welfare_is all.laws ss next other.units other.cost at.is_hour.in_range u (taken_cost ss other k) in
       let before = some_is w _ (sym found ∙ was) in
-      now ∙ ap (λ (z : ℤ). Some z) (let same : (pos (worth_of ss) -ℤ pos other.cost) +ℤ lowest_price *ℤ next ≡ (w +ℤ change) -ℤ value = omega (arith, ints, before, e) in same));
+      now ∙ ap (λ (z : ℤ). Some z) (let same : (pos (worth_of ss) -ℤ pos
+      other.cost) +ℤ lowest_price *ℤ next ≡ (w +ℤ change) -ℤ value = omega (arith, ints, before, e) in same));
   at_least = l;
   at_most = h;
 }
@@ -192,8 +195,10 @@ more_moved all ss s cut accept net t other change of at e l =
     (omega (arith, ints, worth, product, value, sum)) (omega (arith, ints, sum, was, now, own)) (omega (arith, ints, sum, was, now, own))
 
 -- where so many can't be taken, nothing balances
-pub fewer_none : HourLaws → (ss : List Step) (s : Step) (cut : Cut) (accept : Bool) (net : ℤ) (t : Taken) → IsCutOf s cut → IsTakenAt ss net t
-    → falls s.side accept ≡ true → IsTooMuch ss t.units cut.volume → IsUnbalanced ss (net +ℤ turned_by accept (neg_ℤ (signed s.side (pos s.qty))))
+pub fewer_none : HourLaws → (ss : List Step) (s : Step) (cut : Cut) (accept : Bool) (net : ℤ) (t : Taken) → IsCutOf s cut
+    → IsTakenAt ss net t
+    → falls s.side accept ≡ true → IsTooMuch ss t.units cut.volume
+    → IsUnbalanced ss (net +ℤ turned_by accept (neg_ℤ (signed s.side (pos s.qty))))
 fewer_none all ss s cut accept net t of at e too xs f b =
     let parts = turned_parts s.side accept s.qty (pos 0) in
     let more = parts.0 ∙ ap (λ (x : Bool). cond x (pos s.qty) (neg_ℤ (pos s.qty))) e in
@@ -204,8 +209,10 @@ fewer_none all ss s cut accept net t of at e too xs f b =
       | inr many ↦ (let no : 0 < 0 = omega (arith, fits, many) in omega (arith, no))
     ]
 
-pub more_none : HourLaws → (ss : List Step) (s : Step) (cut : Cut) (accept : Bool) (net : ℤ) (t : Taken) → IsCutOf s cut → IsTakenAt ss net t
-    → falls s.side accept ≡ false → all_units ss < t.units + cut.volume → IsUnbalanced ss (net +ℤ turned_by accept (neg_ℤ (signed s.side (pos s.qty))))
+pub more_none : HourLaws → (ss : List Step) (s : Step) (cut : Cut) (accept : Bool) (net : ℤ) (t : Taken) → IsCutOf s cut
+    → IsTakenAt ss net t
+    → falls s.side accept ≡ false → all_units ss < t.units + cut.volume
+    → IsUnbalanced ss (net +ℤ turned_by accept (neg_ℤ (signed s.side (pos s.qty))))
 more_none all ss s cut accept net t of at e many xs f b =
     let parts = turned_parts s.side accept s.qty (pos 0) in
     let less = parts.0 ∙ ap (λ (x : Bool). cond x (pos s.qty) (neg_ℤ (pos s.qty))) e in
@@ -220,27 +227,33 @@ opened_units ss units volume e f =
     let both = all_offered ss in record { balance = omega (arith, ints, e, f); within = omega (arith, e, f, both) }
 
 -- ---- the answers
-pub decided_answer : HourLaws → (us vs : List Step) (s : Step) (cut : Cut) (served b accept : Bool) (net : ℤ) (t : Taken) (answer : Option (Taken × ℤ))
+pub decided_answer : HourLaws
+    → (us vs : List Step) (s : Step) (cut : Cut) (served b accept : Bool) (net : ℤ) (t : Taken) (answer : Option (Taken × ℤ))
     → IsCutOf s cut → IsTakenAt (us ++ s ∷ vs) net t → served ≡ falls s.side accept → served ≡ b
     → MatchOption answer (IsTooMuch (us ++ vs) t.units (cond b cut.volume 0))
     (λ d. IsLeft (us ++ vs) t (cond b cut.volume 0) (cond b (cut.height * cut.volume) 0) d.0 d.1)
     → MatchOption answer (IsUnbalanced (us ++ vs) (net +ℤ net_by s.side accept s.qty))
     (λ d. IsMoved (us ++ s ∷ vs) net (us ++ vs) (net +ℤ net_by s.side accept s.qty) (value_by s.side accept s.price s.qty) d.0 d.1)
 decided_answer all us vs s cut served b accept net t None of at e f m = decided_none all us vs s cut b accept net t of at (sym f ∙ e) m
-decided_answer all us vs s cut served b accept net t (Some d) of at e f m = decided_moved all us vs s cut b accept net t d.0 d.1 of at (sym f ∙ e) m
+decided_answer all us vs s cut served b accept net t (Some d) of at e f m = decided_moved all us vs s cut b accept net t d.0 d.1 of at
+    (sym f ∙ e) m
 
-pub fewer_answer : HourLaws → (ss : List Step) (s : Step) (cut : Cut) (accept : Bool) (net : ℤ) (t : Taken) (answer : Option (Taken × ℤ)) → IsCutOf s cut
+pub fewer_answer : HourLaws → (ss : List Step) (s : Step) (cut : Cut) (accept : Bool) (net : ℤ) (t : Taken) (answer : Option (Taken × ℤ))
+    → IsCutOf s cut
     → IsTakenAt ss net t → falls s.side accept ≡ true
     → MatchOption answer (IsTooMuch ss t.units cut.volume) (λ d. IsLeft ss t cut.volume (cut.height * cut.volume) d.0 d.1)
     → MatchOption answer (IsUnbalanced ss (net +ℤ turned_by accept (neg_ℤ (signed s.side (pos s.qty)))))
-    (λ d. IsMoved ss net ss (net +ℤ turned_by accept (neg_ℤ (signed s.side (pos s.qty)))) (turned_by accept (signed s.side (s.price *ℤ pos s.qty))) d.0 d.1)
+    (λ d. IsMoved ss net ss (net +ℤ turned_by accept (neg_ℤ (signed s.side (pos s.qty))))
+    (turned_by accept (signed s.side (s.price *ℤ pos s.qty))) d.0 d.1)
 fewer_answer all ss s cut accept net t None of at e m = fewer_none all ss s cut accept net t of at e m
 fewer_answer all ss s cut accept net t (Some d) of at e m = fewer_moved all ss s cut accept net t d.0 d.1 of at e m
 
-pub more_answer : HourLaws → (ss : List Step) (s : Step) (cut : Cut) (accept : Bool) (net : ℤ) (t : Taken) (answer : Option (Taken × ℤ)) → IsCutOf s cut
+pub more_answer : HourLaws → (ss : List Step) (s : Step) (cut : Cut) (accept : Bool) (net : ℤ) (t : Taken) (answer : Option (Taken × ℤ))
+    → IsCutOf s cut
     → IsTakenAt ss net t → falls s.side accept ≡ false
     → MatchOption answer (all_units ss < t.units + cut.volume) (λ d. IsMore ss t cut.volume (cut.height * cut.volume) d.0 d.1)
     → MatchOption answer (IsUnbalanced ss (net +ℤ turned_by accept (neg_ℤ (signed s.side (pos s.qty)))))
-    (λ d. IsMoved ss net ss (net +ℤ turned_by accept (neg_ℤ (signed s.side (pos s.qty)))) (turned_by accept (signed s.side (s.price *ℤ pos s.qty))) d.0 d.1)
+    (λ d. IsMoved ss net ss (net +ℤ turned_by accept (neg_ℤ (signed s.side (pos s.qty))))
+    (turned_by accept (signed s.side (s.price *ℤ pos s.qty))) d.0 d.1)
 more_answer all ss s cut accept net t None of at e m = more_none all ss s cut accept net t of at e m
 more_answer all ss s cut accept net t (Some d) of at e m = more_moved all ss s cut accept net t d.0 d.1 of at e m

@@ -1,28 +1,29 @@
-//! One period of the auction as a stack of supply, from which the greatest welfare and the ends of the
-//! price are read at one net volume after another.
+//! The periods of the auction as stacks of supply, from which the greatest welfare and the ends of the price are read after one
+//! decision after another.
 //!
-//! The sells stand in it with their volumes, and the buys with what of them isn't served, each at its
-//! limit, by rising price. What balances takes all buys less the net volume, from the bottom.
+//! The sells of a period stand in its stack with their volumes, and the buys with what of them isn't served, each at its limit, by
+//! rising price. What balances takes all buys less the net volume, from the bottom.
 //!
 //! ```
-//! let stack = Stack::of(alloc, hour)?;
-//! let reached = stack.welfare(net, 0)?; // the greatest welfare at this net volume, and the row that it ends in
-//! let next = stack.welfare(net + 10, reached.place)?; // found from that row on
+//! let mut stacks = Stacks::new(alloc);
+//! let span = stacks.add(alloc, &hour)?; // by one sort
+//! let cut = stacks.without(span, step)?; // the stack without one of the hour's steps, as a copy
+//! let (taken, welfare) = stacks.opened(span, &hour); // at a net volume of 0
+//! let accepted = stacks.decided(taken, cut, true)?; // a sell, accepted whole: what is taken then, and what is gained
+//! let (low, high) = stacks.ends(cut.span(), accepted.0);
 //! ```
 //!
-//! A contract sees a stack as the steps of its hour: the welfare is that of `Hour::clear` at the same net
-//! volume, and the ends those of the prices that support it, wherever the look begins. Only tested is that
-//! memory isn't said to have run out where it hasn't.
+//! A contract sees the rows of all stacks, and asks of a span of them whose steps' stack it is. The welfare is that of `Hour::clear`
+//! at the same net volume, and the ends those of the prices that support it. Only tested is that memory isn't said to have run out
+//! where it hasn't.
 //!
 //! The crate knows nothing of blocks, books and the other periods.
 #![tactic(auto)]
 
 mod demand;
 mod row;
-mod stack;
 mod stacks;
 mod taken;
 
-pub use stack::{Reached, Stack};
 pub use stacks::{Span, Stacks};
 pub use taken::{Cut, Taken};

@@ -1,9 +1,10 @@
 ghost use Rattle.std.specs.Prelude.{◌≡◌, ℕ, ◌+◌, ◌-◌, ◌*◌, ◌≤◌, ◌<◌, List, length, slice_index_or, IfOk};
+ghost use Rattle.std.specs.List.Sorted.{IsPermutation, IsNonDecreasingBy};
 ghost use Rattle.dam_book.specs.Limits.{lowest_price, highest_price};
 ghost use Rattle.dam_hour.specs.Limits.{most_steps, price_span};
 ghost use Rattle.dam_hour.specs.declared.step.Step.{Step};
 ghost use Rattle.dam_stack.specs.declared.row.Row.{Row};
-ghost use Rattle.dam_stack.specs.Supply.{height_of, rows_from};
+ghost use Rattle.dam_stack.specs.Supply.{height_of, rows_from, AreRowsOf};
 
 use dam_book::{HIGHEST_PRICE, LOWEST_PRICE, Price};
 use dam_hour::Step;
@@ -53,7 +54,7 @@ impl Row {
 }
 
 /// The rows of steps that stand by rising price, and a last one with all volume under it.
-pub(crate) fn rows_of<A: Allocator>(alloc: A, steps: &[Step]) -> Result<Vec<Row, A>, AllocError>
+fn rows_of<A: Allocator>(alloc: A, steps: &[Step]) -> Result<Vec<Row, A>, AllocError>
     requires { length steps.now ≤ most_steps }
     ensures { IfOk result (λ rows. rows.items ≡ rows_from 0 0 steps.now) }
 {
@@ -77,6 +78,30 @@ pub(crate) fn rows_of<A: Allocator>(alloc: A, steps: &[Step]) -> Result<Vec<Row,
         cost,
     })?;
     Ok(rows)
+}
+
+/// The steps by rising price.
+fn rising<A: Allocator>(alloc: A, steps: &[Step]) -> Result<Vec<Step, A>, AllocError>
+    ensures moved { IfOk result (λ rising. IsPermutation steps.now rising.items) }
+    ensures rises { IfOk result (λ rising.
+        IsNonDecreasingBy (λ s. height_of s.price) rising.items) }
+{
+    let mut rising = Vec::with_capacity(alloc, steps.len())?;
+    rising.extend_from_slice(steps)?;
+    rising.sort_unstable_by_key(|step| height(step.price));
+    Ok(rising)
+}
+
+/// The rows of the steps by rising price.
+pub(crate) fn stacked<A: Allocator + Copy>(
+    alloc: A,
+    steps: &[Step],
+) -> Result<Vec<Row, A>, AllocError>
+    requires { length steps.now ≤ most_steps }
+    ensures { IfOk result (λ rows. AreRowsOf steps.now rows.items) }
+{
+    let rising = rising(alloc, steps)?;
+    rows_of(alloc, &rising)
 }
 
 /// The nearest row at or under a place that has less than `unit` units under it.

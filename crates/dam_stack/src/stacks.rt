@@ -13,8 +13,7 @@ ghost use Rattle.dam_stack.specs.inside.Taken.{IsLeft, IsTooMuch, IsMore};
 ghost use Rattle.dam_stack.specs.inside.Rows.{IsRowOf, StandOn, lowered, without_row};
 
 use crate::demand::Demand;
-use crate::row::{Row, height, highest, lowest, place_of};
-use crate::stack::{stacked, welfare_of};
+use crate::row::{Row, height, highest, lowest, place_of, stacked};
 use crate::taken::{Cut, Taken};
 use dam_book::{Price, Side};
 use dam_hour::{Hour, Step, laws};
@@ -319,7 +318,7 @@ impl<A: Allocator> Stacks<A> {
         let _few = hour.len(); // for the proof: the steps are few
         let demand = Demand::of(hour.steps());
         let taken = self.taken(span, demand.volume as u32, 0).unwrap();
-        (taken, welfare_of(demand.worth, taken.cost, 0))
+        (taken, saved(demand.worth, taken.cost))
     }
 
     /// So many units less as the step has, of a stack; with it, what they cost less than before, less the

@@ -5,10 +5,9 @@ use Rattle.dam_book.specs.Price.{IsPrice}
 use Rattle.dam_book.specs.declared.order.Side.TheVariants.{Buy}
 use Rattle.dam_hour.specs.declared.step.Step.{Step}
 use Rattle.dam_hour.specs.Limits.{most_steps, price_span}
-use Rattle.dam_hour.specs.Execution.{IsHour, volume_on, offered_volume}
+use Rattle.dam_hour.specs.Execution.{volume_on, offered_volume}
 use Rattle.dam_stack.specs.declared.row.Row.{Row}
-use Rattle.dam_stack.specs.declared.demand.Demand.{Demand}
-use Rattle.dam_stack.specs.Supply.{height_of, units_under, units_up_to, gain_at, AreRowsOf}
+use Rattle.dam_stack.specs.Supply.{height_of, units_under, units_up_to, gain_at}
 
 -- the heights of the buys, each times its volume
 abbrev pub worth_of : List Step → ℕ
@@ -53,12 +52,6 @@ pub record IsDemand (ss : List Step) (volume worth : ℕ) : Type 0 where
   pub worth_is : worth ≡ worth_of ss
   pub volume_small : volume ≤ most_steps * greatest_volume
   pub worth_small : worth ≤ most_steps * (price_span * greatest_volume)
-
--- the rows of an hour's steps, and their demand
-pub record IsStack (ss : List Step) (rows : List Row) (demand : Demand) : Type 0 where
-  pub is_hour : IsHour ss
-  pub rows_are : AreRowsOf ss rows
-  pub demand_is : IsDemand ss demand.volume demand.worth
 
 -- a step's part of the demand
 pub record IsDemandOfStep (s : Step) (volume worth : ℕ) : Type 0 where

@@ -1,264 +1,214 @@
--- A period more, and all of them.
-use Rattle.std.proofs.Common.{◌≡◌, ℕ, ◌+◌, ◌-◌, ◌<◌, ℤ, pos, ◌+ℤ◌, Some, List, ◌++◌, length, drop, map, slice_index_or, slice_set, ◌≤ℤ◌, ap, ◌∙◌, sym, subst, refl, rules, arith}
-use Rattle.std.proofs.lemmas.Int.{ints}
-use Rattle.std.proofs.lemmas.List.{length-map, length-set, drop_all}
-use Rattle.std.proofs.lemmas.Option.{slice_get_read}
-use Rattle.std.proofs.lemmas.Int.{to_z-of_z}
+-- A touch more, and all of them.
+use Rattle.std.proofs.Common.{◌+◌, ℤ, ◌+ℤ◌, ◌≤ℤ◌, List, length, drop, get_or, slice_set, ap, ◌∙◌, sym, subst, refl, arith}
+use Rattle.std.proofs.lemmas.Int.{ints, to_z-of_z}
+use Rattle.std.proofs.lemmas.List.{length-set, drop_all}
 use mir.Syntax.{w64}
-use mir.Val.{to_z, of_z, SFits}
-use Rattle.dam_book.specs.Volumes.{is_increasing, ArePairs}
-use Rattle.dam_blocks.specs.declared.problem.Block.{Block}
-use Rattle.dam_blocks.specs.Selection.{net_volume}
-use Rattle.dam_blocks.specs.Eligible.{welfare_from}
-use Rattle.dam_hour.specs.Best.{greatest_welfare}
-use Rattle.dam_bound.specs.Relaxed.{as_steps, relaxed_hours}
-use Rattle.dam_bound.specs.inside.Levels.{IsAtDepth, last_steps, problem_kept}
-use Rattle.dam_bound.proofs.Periods.{hour_of}
-use Rattle.dam_bound.proofs.Bounding.{unbalanced_period}
-use Rattle.dam_bound.proofs.Volumes.{pair_quantity}
-use Rattle.dam_bound.proofs.Worth.{no_welfare}
-use Rattle.dam_bound.proofs.Deciding.{nothing_changed, period_past, period_changed, all_changed, total_within, total_at_least, still_own, still_own_past, a_step, given_up, under, sum_of, IsChangedSoFar}
+use mir.Val.{to_z, of_z}
+use Rattle.dam_bound.specs.declared.tables.Touch.{Touch}
+use Rattle.dam_bound.proofs.Periods.{one_at}
+use Rattle.dam_bound.proofs.Sizes.{added_up}
+use Rattle.dam_bound.proofs.Deciding.{IsChangedSoFar, nothing_changed, all_changed, total_within, total_at_least, still_own, given_up, under}
+use Rattle.dam_bound.proofs.Touching.{no_touch_there, nothing_taken, lot_at, touched_now, serves, is_move_at, touch_changed, touch_unbalanced}
 use Rattle.dam_bound.proofs.day.change_day.Goals as goal
 
-pub loop-period-init : goal.loop-period-init
-loop-period-init g c =
-    let at = slice_get_read _ _ _ _ (search rules) c.requires.place c.index-blocks-place.is ∙ ap (λ (b : Block). Some b) c.index-blocks-place.is in
-    let volumes = c.pairs-pairs.ensures.value ∙ c.volumes.ensures in
-    let hours = length-map c.args.periods.now last_steps in let few = c.requires.levels.few_periods in
-    record {
-      long = c.requires.day.3.long;
-      ahead = λ i d m. refl;
-      so_far = λ before after is of.
-          nothing_changed (problem_kept c.args.periods.now c.args.blocks.now) c.args.place c.args.depth c.args.change before after _
-          c.args.day.now c.pairs-pairs.result.now at volumes (omega (arith, hours, few)) is of;
-    }
+pub index-lot-requires : goal.index-lot-requires
+index-lot-requires g c =
+    let ok = c.args.tables.now.lots.ok.0 in let many = c.requires.4.lots_are.as_many in let inside = c.requires.5 in
+    omega (arith, ok, many, inside)
 
-pub loop-period-preserved-then-at-periods : goal.loop-period-preserved-then-at-periods
-loop-period-preserved-then-at-periods g c =
-    let pair = slice_get_read _ _ c.loop-period.period-index _ (search rules) c.loop-period-test.true c.loop-period-item.is in
-    let rising = ap (is_increasing 0) c.pairs-pairs.ensures.value ∙ c.pairs-pairs.ensures.valid.increasing in
-    let number = c.get.ensures.value in let from = c.from-at.ensures in let past = c.if-at-periods.true in
-    record {
-      long = c.loop-period.invariant.long;
-      ahead = still_own_past c.pairs-pairs.result.now c.loop-period.period-index c.loop-period-item.result c.args.day.now.periods c.loop-period.day.periods rising pair c.loop-period.invariant.ahead;
-      so_far = λ before after is of.
-          period_past c.args.blocks.now (drop c.args.depth c.args.blocks.now) (map last_steps c.args.periods.now) c.pairs-pairs.result.now c.loop-period.period-index
-          (length c.args.periods.now) c.loop-period-item.result before after c.loop-period.day.periods _ pair (length-map c.args.periods.now last_steps) (omega (arith, number, from, past)) (c.loop-period.invariant.so_far before after is of);
-    }
+pub loop-touch-init : goal.loop-touch-init
+loop-touch-init g c = record {
+  long = c.requires.7.long;
+  so_far = λ problem depth before after b are at is of. (
+    λ i d some. refl,
+    nothing_changed problem c.args.place depth c.args.change c.args.accept before after b c.args.day.now b.order.volumes at refl is of,
+  );
+}
 
-pub overflow_add-own : goal.overflow_add-own
-overflow_add-own g c =
-    let block = slice_get_read _ _ _ _ (search rules) c.requires.place c.index-blocks-place.is ∙ ap (λ (b : Block). Some b) c.index-blocks-place.is in
-    let volumes = c.pairs-pairs.ensures.value ∙ c.volumes.ensures in
-    let pair = slice_get_read _ _ c.loop-period.period-index _ (search rules) c.loop-period-test.true c.loop-period-item.is in
-    let rising = ap (is_increasing 0) c.pairs-pairs.ensures.value ∙ c.pairs-pairs.ensures.valid.increasing in
-    let some = (pair_quantity c.pairs-pairs.result.now c.loop-period.period-index c.loop-period-item.result (subst ArePairs (sym c.pairs-pairs.ensures.value) c.pairs-pairs.ensures.valid.ranges) pair).at_least in
-    let at = slice_get_read _ _ (c.from-at.result - 1) _ (search rules) c.if-at-periods.false c.index-periods-at.is in
-    let there = hour_of c.args.periods.now (c.from-at.result - 1) c.index-periods-at.result at in
-    let period = c.get.ensures.value in let from = c.from-at.ensures in let first = c.get.ensures.range.at_least in
-    let number : c.loop-period-item.result.0 ≡ (c.from-at.result - 1) + 1 = omega (arith, period, from, first) in
-    let problem = problem_kept c.args.periods.now c.args.blocks.now in
-    let s = a_step problem c.args.place c.args.depth (length c.args.periods.now) (c.from-at.result - 1) c.args.change c.requires.day.0 c.requires.day.1 _ c.args.day.now c.pairs-pairs.result.now c.loop-period.period-index c.loop-period-item.result
-    c.loop-period.day.periods (last_steps c.index-periods-at.result) (record { welfare = pos 0; net = pos 0; near = 0 }) _ _ c.requires.blocks c.requires.levels.few_blocks
-    block volumes rising pair some number there c.difference-net.ensures.net c.difference-net.ensures.value c.loop-period.invariant.ahead c.requires.day.2 c.requires.day.3 in
-    let a = s.own_net.at_least in let b = s.own_net.at_most in let d = c.difference-net.ensures.net_size.at_least in let e = c.difference-net.ensures.net_size.at_most in
-    omega (arith, ints, a, b, d, e)
+pub bounds-day-at : goal.bounds-day-at
+bounds-day-at g c =
+    let block = one_at c.requires.0.blocks c.args.place c.requires.5 in
+    let so_far = c.loop-touch.invariant.so_far c.requires.0 c.requires.1 c.requires.2 c.requires.3 block.0 c.requires.4 block.1 c.requires.6
+    c.requires.7 in
+    let touch = get_or c.touches-touch-items.result.now c.loop-touch.touch-index no_touch_there in
+    let t = touched_now c.requires.0 c.args.tables.now.stacks c.args.tables.now.ends.items c.args.tables.now.lots.items
+    c.index-lot.result.now c.touches-touch-items.result.now c.args.place c.requires.1 c.args.change c.args.accept c.requires.2 c.requires.3
+    block.0
+    c.args.day.now c.loop-touch.day.periods c.loop-touch.touch-index c.requires.4 block.1 c.index-lot.ensures c.touches-touch-items.ensures
+    c.loop-touch-test.true c.requires.6 c.requires.7 so_far.0 in
+    let inside = t.inside in let few = c.requires.4.few_periods in
+    omega (arith, inside, few)
 
-pub period_at-requires-clause-depth : goal.period_at-requires-clause-depth
-period_at-requires-clause-depth g c =
-    let at = slice_get_read _ _ (c.from-at.result - 1) _ (search rules) c.if-at-periods.false c.index-periods-at.is in
-    (_, c.requires.levels.each (c.from-at.result - 1) _ at c.args.depth c.requires.depth)
+pub bounds-day-at-in-loop-touch : goal.bounds-day-at-in-loop-touch
+bounds-day-at-in-loop-touch g c =
+    let block = one_at c.requires.0.blocks c.args.place c.requires.5 in
+    let so_far = c.loop-touch.invariant.so_far c.requires.0 c.requires.1 c.requires.2 c.requires.3 block.0 c.requires.4 block.1 c.requires.6
+    c.requires.7 in
+    let touch = get_or c.touches-touch-items.result.now c.loop-touch.touch-index no_touch_there in
+    let t = touched_now c.requires.0 c.args.tables.now.stacks c.args.tables.now.ends.items c.args.tables.now.lots.items
+    c.index-lot.result.now c.touches-touch-items.result.now c.args.place c.requires.1 c.args.change c.args.accept c.requires.2 c.requires.3
+    block.0
+    c.args.day.now c.loop-touch.day.periods c.loop-touch.touch-index c.requires.4 block.1 c.index-lot.ensures c.touches-touch-items.ensures
+    c.loop-touch-test.true c.requires.6 c.requires.7 so_far.0 in
+    let inside = t.inside in let few = c.requires.4.few_periods in
+    omega (arith, inside, few)
 
-pub period_at-requires-clause-net : goal.period_at-requires-clause-net
-period_at-requires-clause-net g c =
-    let block = slice_get_read _ _ _ _ (search rules) c.requires.place c.index-blocks-place.is ∙ ap (λ (b : Block). Some b) c.index-blocks-place.is in
-    let volumes = c.pairs-pairs.ensures.value ∙ c.volumes.ensures in
-    let pair = slice_get_read _ _ c.loop-period.period-index _ (search rules) c.loop-period-test.true c.loop-period-item.is in
-    let rising = ap (is_increasing 0) c.pairs-pairs.ensures.value ∙ c.pairs-pairs.ensures.valid.increasing in
-    let some = (pair_quantity c.pairs-pairs.result.now c.loop-period.period-index c.loop-period-item.result (subst ArePairs (sym c.pairs-pairs.ensures.value) c.pairs-pairs.ensures.valid.ranges) pair).at_least in
-    let at = slice_get_read _ _ (c.from-at.result - 1) _ (search rules) c.if-at-periods.false c.index-periods-at.is in
-    let there = hour_of c.args.periods.now (c.from-at.result - 1) c.index-periods-at.result at in
-    let period = c.get.ensures.value in let from = c.from-at.ensures in let first = c.get.ensures.range.at_least in
-    let number : c.loop-period-item.result.0 ≡ (c.from-at.result - 1) + 1 = omega (arith, period, from, first) in
-    let problem = problem_kept c.args.periods.now c.args.blocks.now in
-    let s = a_step problem c.args.place c.args.depth (length c.args.periods.now) (c.from-at.result - 1) c.args.change c.requires.day.0 c.requires.day.1 _ c.args.day.now c.pairs-pairs.result.now c.loop-period.period-index c.loop-period-item.result
-    c.loop-period.day.periods (last_steps c.index-periods-at.result) (record { welfare = pos 0; net = pos 0; near = 0 }) _ _ c.requires.blocks c.requires.levels.few_blocks
-    block volumes rising pair some number there c.difference-net.ensures.net c.difference-net.ensures.value c.loop-period.invariant.ahead c.requires.day.2 c.requires.day.3 in
-    let a = s.own_net.at_least in let b = s.own_net.at_most in let d = c.difference-net.ensures.net_size.at_least in let e = c.difference-net.ensures.net_size.at_most in
-    let l = s.next_net.at_least in let m = s.next_net.at_most in
-    record { at_least = omega (arith, ints, a, b, d, e, l); at_most = omega (arith, ints, a, b, d, e, m) }
+pub index-requires : goal.index-requires
+index-requires g c =
+    let block = one_at c.requires.0.blocks c.args.place c.requires.5 in
+    let so_far = c.loop-touch.invariant.so_far c.requires.0 c.requires.1 c.requires.2 c.requires.3 block.0 c.requires.4 block.1 c.requires.6
+    c.requires.7 in
+    let touch = get_or c.touches-touch-items.result.now c.loop-touch.touch-index no_touch_there in
+    let t = touched_now c.requires.0 c.args.tables.now.stacks c.args.tables.now.ends.items c.args.tables.now.lots.items
+    c.index-lot.result.now c.touches-touch-items.result.now c.args.place c.requires.1 c.args.change c.args.accept c.requires.2 c.requires.3
+    block.0
+    c.args.day.now c.loop-touch.day.periods c.loop-touch.touch-index c.requires.4 block.1 c.index-lot.ensures c.touches-touch-items.ensures
+    c.loop-touch-test.true c.requires.6 c.requires.7 so_far.0 in
+    let inside = t.inside in let many = c.requires.4.ends_are.as_many in let ok = c.args.tables.now.ends.ok.0 in
+    omega (arith, inside, many, ok)
+
+pub moved-next-requires : goal.moved-next-requires
+moved-next-requires g c =
+    let block = one_at c.requires.0.blocks c.args.place c.requires.5 in
+    let so_far = c.loop-touch.invariant.so_far c.requires.0 c.requires.1 c.requires.2 c.requires.3 block.0 c.requires.4 block.1 c.requires.6
+    c.requires.7 in
+    let touch = get_or c.touches-touch-items.result.now c.loop-touch.touch-index no_touch_there in
+    let t = touched_now c.requires.0 c.args.tables.now.stacks c.args.tables.now.ends.items c.args.tables.now.lots.items
+    c.index-lot.result.now c.touches-touch-items.result.now c.args.place c.requires.1 c.args.change c.args.accept c.requires.2 c.requires.3
+    block.0
+    c.args.day.now c.loop-touch.day.periods c.loop-touch.touch-index c.requires.4 block.1 c.index-lot.ensures c.touches-touch-items.ensures
+    c.loop-touch-test.true c.requires.6 c.requires.7 so_far.0 in (
+      t.move,
+      is_move_at c.requires.0 c.args.tables.now.stacks c.args.tables.now.ends.items c.args.place c.requires.1 c.args.change c.args.accept
+          c.requires.2 c.requires.3 block.0 c.loop-touch.day.periods c.loop-touch.touch-index touch c.index.result.now t c.index.ensures,
+    )
 
 pub returns-in_default : goal.returns-in_default
-returns-in_default g c before after is of =
-    let block = slice_get_read _ _ _ _ (search rules) c.requires.place c.index-blocks-place.is ∙ ap (λ (b : Block). Some b) c.index-blocks-place.is in
-    let volumes = c.pairs-pairs.ensures.value ∙ c.volumes.ensures in
-    let pair = slice_get_read _ _ c.loop-period.period-index _ (search rules) c.loop-period-test.true c.loop-period-item.is in
-    let rising = ap (is_increasing 0) c.pairs-pairs.ensures.value ∙ c.pairs-pairs.ensures.valid.increasing in
-    let some = (pair_quantity c.pairs-pairs.result.now c.loop-period.period-index c.loop-period-item.result (subst ArePairs (sym c.pairs-pairs.ensures.value) c.pairs-pairs.ensures.valid.ranges) pair).at_least in
-    let at = slice_get_read _ _ (c.from-at.result - 1) _ (search rules) c.if-at-periods.false c.index-periods-at.is in
-    let there = hour_of c.args.periods.now (c.from-at.result - 1) c.index-periods-at.result at in
-    let period = c.get.ensures.value in let from = c.from-at.ensures in let first = c.get.ensures.range.at_least in
-    let number : c.loop-period-item.result.0 ≡ (c.from-at.result - 1) + 1 = omega (arith, period, from, first) in
-    let problem = problem_kept c.args.periods.now c.args.blocks.now in
-    let deep = subst (λ (n : ℕ). IsAtDepth c.index-periods-at.result c.args.depth (last_steps c.index-periods-at.result ++ as_steps n (drop c.args.depth c.args.blocks.now))) (sym number)
-    (c.requires.levels.each (c.from-at.result - 1) _ at c.args.depth c.requires.depth) in
-    let s = a_step problem c.args.place c.args.depth (length c.args.periods.now) (c.from-at.result - 1) c.args.change before after _ c.args.day.now c.pairs-pairs.result.now c.loop-period.period-index c.loop-period-item.result
-    c.loop-period.day.periods (last_steps c.index-periods-at.result) (record { welfare = pos 0; net = pos 0; near = 0 }) _ _ c.requires.blocks c.requires.levels.few_blocks
-    block volumes rising pair some number there c.difference-net.ensures.net c.difference-net.ensures.value c.loop-period.invariant.ahead is of in
-    let a = s.own_net.at_least in let b = s.own_net.at_most in let d = c.difference-net.ensures.net_size.at_least in let e = c.difference-net.ensures.net_size.at_most in
-    let whole : _ ≡ net_volume c.args.blocks.now after c.loop-period-item.result.0 = (let sum = s.net_is in omega (arith, ints, a, b, d, e, sum)) in
+returns-in_default g c problem depth before after are inside is of =
+    let block = one_at problem.blocks c.args.place inside in
+    let so_far = c.loop-touch.invariant.so_far problem depth before after block.0 are block.1 is of in
+    let touch = get_or c.touches-touch-items.result.now c.loop-touch.touch-index no_touch_there in
+    let t = touched_now problem c.args.tables.now.stacks c.args.tables.now.ends.items c.args.tables.now.lots.items c.index-lot.result.now
+    c.touches-touch-items.result.now c.args.place depth c.args.change c.args.accept before after block.0
+    c.args.day.now c.loop-touch.day.periods c.loop-touch.touch-index are block.1 c.index-lot.ensures c.touches-touch-items.ensures
+    c.loop-touch-test.true is of so_far.0 in
+    let move = is_move_at problem c.args.tables.now.stacks c.args.tables.now.ends.items c.args.place depth c.args.change c.args.accept
+    before after block.0 c.loop-touch.day.periods c.loop-touch.touch-index touch
+    c.index.result.now t c.index.ensures in
+    let served = serves problem c.args.tables.now.stacks c.args.tables.now.ends.items c.args.tables.now.lots.items c.index-lot.result.now
+    c.args.place depth c.args.change c.args.accept before after block.0 c.loop-touch.day.periods c.loop-touch.touch-index touch
+    c.side.result c.is_served-is_served.result are block.1 c.index-lot.ensures c.is_served-is_served.ensures c.side.ensures t in
     given_up problem c.args.least before after
-    (ap (λ (bs : List Block). welfare_from c.args.blocks.now after 1 (relaxed_hours bs 1 (map last_steps c.args.periods.now))) (ap (λ (n : ℕ). drop n c.args.blocks.now) is.long)
-    ∙ no_welfare c.args.blocks.now (drop c.args.depth c.args.blocks.now) after (map last_steps c.args.periods.now) (c.from-at.result - 1) c.loop-period-item.result.0 (last_steps c.index-periods-at.result) there number
-    (sym (unbalanced_period c.args.blocks.now after c.loop-period-item.result.0 _ _ _ refl whole (c.in_default.ensures.welfare _ deep))))
+    (touch_unbalanced problem c.args.tables.now.stacks c.args.tables.now.ends.items c.args.place depth c.args.change c.args.accept before
+    after block.0 c.loop-touch.day.periods c.loop-touch.touch-index touch
+    (λ ss net none. (c.welfare.ensures.none ss net).1 none) t (c.in_default.ensures t.move move served))
 
-pub total_with-day-requires-clause-total : goal.total_with-day-requires-clause-total
-total_with-day-requires-clause-total g c =
-    let block = slice_get_read _ _ _ _ (search rules) c.requires.place c.index-blocks-place.is ∙ ap (λ (b : Block). Some b) c.index-blocks-place.is in
-    let volumes = c.pairs-pairs.ensures.value ∙ c.volumes.ensures in
-    let pair = slice_get_read _ _ c.loop-period.period-index _ (search rules) c.loop-period-test.true c.loop-period-item.is in
-    let rising = ap (is_increasing 0) c.pairs-pairs.ensures.value ∙ c.pairs-pairs.ensures.valid.increasing in
-    let some = (pair_quantity c.pairs-pairs.result.now c.loop-period.period-index c.loop-period-item.result (subst ArePairs (sym c.pairs-pairs.ensures.value) c.pairs-pairs.ensures.valid.ranges) pair).at_least in
-    let at = slice_get_read _ _ (c.from-at.result - 1) _ (search rules) c.if-at-periods.false c.index-periods-at.is in
-    let there = hour_of c.args.periods.now (c.from-at.result - 1) c.index-periods-at.result at in
-    let period = c.get.ensures.value in let from = c.from-at.ensures in let first = c.get.ensures.range.at_least in
-    let number : c.loop-period-item.result.0 ≡ (c.from-at.result - 1) + 1 = omega (arith, period, from, first) in
-    let problem = problem_kept c.args.periods.now c.args.blocks.now in
-    let s = a_step problem c.args.place c.args.depth (length c.args.periods.now) (c.from-at.result - 1) c.args.change c.requires.day.0 c.requires.day.1 _ c.args.day.now c.pairs-pairs.result.now c.loop-period.period-index c.loop-period-item.result
-    c.loop-period.day.periods (last_steps c.index-periods-at.result) (record { welfare = pos 0; net = pos 0; near = 0 }) _ _ c.requires.blocks c.requires.levels.few_blocks
-    block volumes rising pair some number there c.difference-net.ensures.net c.difference-net.ensures.value c.loop-period.invariant.ahead c.requires.day.2 c.requires.day.3 in
-    let a = c.in-Some.ensures.small.at_least in let b = c.in-Some.ensures.small.at_most in let d = s.own_is.small.at_least in let e = s.own_is.small.at_most in
-    let u = c.difference-net.ensures.value_size.at_least in let v = c.difference-net.ensures.value_size.at_most in
-    let hours = length-map c.args.periods.now last_steps in let few = c.requires.levels.few_periods in
-    let size = total_within problem (drop c.args.depth c.args.blocks.now) (drop c.loop-period.period-index c.pairs-pairs.result.now) c.requires.day.0 c.requires.day.1 c.args.day.now c.loop-period.day.periods
-    c.loop-period.day.total (length c.args.periods.now) c.requires.blocks c.requires.levels.few_blocks (omega (arith, hours, few)) c.loop-period.invariant.long c.requires.day.3 c.loop-period.invariant.ahead
-    (c.loop-period.invariant.so_far c.requires.day.0 c.requires.day.1 c.requires.day.2 c.requires.day.3) in
-    let low = size.at_least in let high = size.at_most in
-    record { at_least = omega (arith, ints, low, high); at_most = omega (arith, ints, low, high) }
+pub overflow_add-day : goal.overflow_add-day
+overflow_add-day g c =
+    let block = one_at c.requires.0.blocks c.args.place c.requires.5 in
+    let so_far = c.loop-touch.invariant.so_far c.requires.0 c.requires.1 c.requires.2 c.requires.3 block.0 c.requires.4 block.1 c.requires.6
+    c.requires.7 in
+    let touch = get_or c.touches-touch-items.result.now c.loop-touch.touch-index no_touch_there in
+    let t = touched_now c.requires.0 c.args.tables.now.stacks c.args.tables.now.ends.items c.args.tables.now.lots.items
+    c.index-lot.result.now c.touches-touch-items.result.now c.args.place c.requires.1 c.args.change c.args.accept c.requires.2 c.requires.3
+    block.0
+    c.args.day.now c.loop-touch.day.periods c.loop-touch.touch-index c.requires.4 block.1 c.index-lot.ensures c.touches-touch-items.ensures
+    c.loop-touch-test.true c.requires.6 c.requires.7 so_far.0 in
+    let move = is_move_at c.requires.0 c.args.tables.now.stacks c.args.tables.now.ends.items c.args.place c.requires.1 c.args.change
+    c.args.accept c.requires.2 c.requires.3 block.0 c.loop-touch.day.periods c.loop-touch.touch-index touch
+    c.index.result.now t c.index.ensures in
+    let served = serves c.requires.0 c.args.tables.now.stacks c.args.tables.now.ends.items c.args.tables.now.lots.items
+    c.index-lot.result.now c.args.place c.requires.1 c.args.change c.args.accept c.requires.2 c.requires.3 block.0 c.loop-touch.day.periods
+    c.loop-touch.touch-index touch
+    c.side.result c.is_served-is_served.result c.requires.4 block.1 c.index-lot.ensures c.is_served-is_served.ensures c.side.ensures t in
+    let m = c.in-Some.ensures t.move move served in
+    let size = total_within c.requires.0 (drop c.loop-touch.touch-index block.0.order.volumes) c.requires.2 c.requires.3 c.args.day.now
+    c.loop-touch.day.periods c.loop-touch.day.total
+    (length c.requires.0.hours) c.requires.4.blocks_are c.requires.4.few_blocks c.requires.4.few_periods c.requires.7 so_far.1 in
+    let low = size.at_least in let high = size.at_most in let least = m.at_least in let most = m.at_most in
+    let sum = added_up c.loop-touch.day.total c.in-Some.gained (omega (arith, ints, low, high)) (omega (arith, ints, least, most))
+    (omega (arith, ints, low, high, least, most)) in
+    sum.0
 
-pub total_with-day-requires-clause-own : goal.total_with-day-requires-clause-own
-total_with-day-requires-clause-own g c =
-    let block = slice_get_read _ _ _ _ (search rules) c.requires.place c.index-blocks-place.is ∙ ap (λ (b : Block). Some b) c.index-blocks-place.is in
-    let volumes = c.pairs-pairs.ensures.value ∙ c.volumes.ensures in
-    let pair = slice_get_read _ _ c.loop-period.period-index _ (search rules) c.loop-period-test.true c.loop-period-item.is in
-    let rising = ap (is_increasing 0) c.pairs-pairs.ensures.value ∙ c.pairs-pairs.ensures.valid.increasing in
-    let some = (pair_quantity c.pairs-pairs.result.now c.loop-period.period-index c.loop-period-item.result (subst ArePairs (sym c.pairs-pairs.ensures.value) c.pairs-pairs.ensures.valid.ranges) pair).at_least in
-    let at = slice_get_read _ _ (c.from-at.result - 1) _ (search rules) c.if-at-periods.false c.index-periods-at.is in
-    let there = hour_of c.args.periods.now (c.from-at.result - 1) c.index-periods-at.result at in
-    let period = c.get.ensures.value in let from = c.from-at.ensures in let first = c.get.ensures.range.at_least in
-    let number : c.loop-period-item.result.0 ≡ (c.from-at.result - 1) + 1 = omega (arith, period, from, first) in
-    let problem = problem_kept c.args.periods.now c.args.blocks.now in
-    let s = a_step problem c.args.place c.args.depth (length c.args.periods.now) (c.from-at.result - 1) c.args.change c.requires.day.0 c.requires.day.1 _ c.args.day.now c.pairs-pairs.result.now c.loop-period.period-index c.loop-period-item.result
-    c.loop-period.day.periods (last_steps c.index-periods-at.result) (record { welfare = pos 0; net = pos 0; near = 0 }) _ _ c.requires.blocks c.requires.levels.few_blocks
-    block volumes rising pair some number there c.difference-net.ensures.net c.difference-net.ensures.value c.loop-period.invariant.ahead c.requires.day.2 c.requires.day.3 in
-    let a = c.in-Some.ensures.small.at_least in let b = c.in-Some.ensures.small.at_most in let d = s.own_is.small.at_least in let e = s.own_is.small.at_most in
-    record { at_least = omega (arith, ints, d, e); at_most = omega (arith, ints, d, e) }
+pub loop-touch-preserved : goal.loop-touch-preserved
+loop-touch-preserved g c = record {
+  long = length-set c.loop-touch.day.periods _ c.in-Some.next ∙ c.loop-touch.invariant.long;
+  so_far = λ problem depth before after b are at is of.
+      (let so_far = c.loop-touch.invariant.so_far problem depth before after b are at is of in
+      let touch = get_or c.touches-touch-items.result.now c.loop-touch.touch-index no_touch_there in
+      let t = touched_now problem c.args.tables.now.stacks c.args.tables.now.ends.items c.args.tables.now.lots.items
+      c.index-lot.result.now c.touches-touch-items.result.now c.args.place depth c.args.change c.args.accept before after b
+      c.args.day.now c.loop-touch.day.periods c.loop-touch.touch-index are at c.index-lot.ensures c.touches-touch-items.ensures
+      c.loop-touch-test.true is of so_far.0 in
+      let move = is_move_at problem c.args.tables.now.stacks c.args.tables.now.ends.items c.args.place depth c.args.change c.args.accept
+      before after b c.loop-touch.day.periods c.loop-touch.touch-index touch
+      c.index.result.now t c.index.ensures in
+      let served = serves problem c.args.tables.now.stacks c.args.tables.now.ends.items c.args.tables.now.lots.items
+      c.index-lot.result.now c.args.place depth c.args.change c.args.accept before after b c.loop-touch.day.periods
+      c.loop-touch.touch-index touch
+      c.side.result c.is_served-is_served.result are at c.index-lot.ensures c.is_served-is_served.ensures c.side.ensures t in
+      let m = c.in-Some.ensures t.move move served in
+      let size = total_within problem (drop c.loop-touch.touch-index b.order.volumes) before after c.args.day.now
+      c.loop-touch.day.periods c.loop-touch.day.total
+      (length problem.hours) are.blocks_are are.few_blocks are.few_periods of so_far.1 in
+      let low = size.at_least in let high = size.at_most in let least = m.at_least in let most = m.at_most in
+      let sum = added_up c.loop-touch.day.total c.in-Some.gained (omega (arith, ints, low, high)) (omega (arith, ints, least, most))
+      (omega (arith, ints, low, high, least, most)) in
+      let in_day = t.inside in let few = are.few_periods in let long = c.loop-touch.invariant.long in
+      let changed = touch_changed problem c.args.tables.now.stacks c.args.tables.now.ends.items c.args.place depth c.args.change
+      c.args.accept before after b c.loop-touch.day.periods c.loop-touch.touch-index touch
+      nothing_taken c.in-Some.next c.loop-touch.day.total c.in-Some.gained c.index.result.now t (omega (arith, in_day, few, long)) m
+      so_far.1 in (
+        still_own b.order.volumes c.loop-touch.touch-index touch.at t.pair c.args.day.now.periods c.loop-touch.day.periods
+            c.in-Some.next t.rising t.pair_is t.some t.number so_far.0,
+        subst (IsChangedSoFar problem.blocks problem.hours (drop (c.loop-touch.touch-index + 1) b.order.volumes) before after
+            (slice_set c.loop-touch.day.periods touch.at c.in-Some.next))
+            (sym sum.1) changed,
+      ));
+}
 
 pub returns-then-is_under : goal.returns-then-is_under
-returns-then-is_under g c before after is of =
-    let block = slice_get_read _ _ _ _ (search rules) c.requires.place c.index-blocks-place.is ∙ ap (λ (b : Block). Some b) c.index-blocks-place.is in
-    let volumes = c.pairs-pairs.ensures.value ∙ c.volumes.ensures in
-    let pair = slice_get_read _ _ c.loop-period.period-index _ (search rules) c.loop-period-test.true c.loop-period-item.is in
-    let rising = ap (is_increasing 0) c.pairs-pairs.ensures.value ∙ c.pairs-pairs.ensures.valid.increasing in
-    let some = (pair_quantity c.pairs-pairs.result.now c.loop-period.period-index c.loop-period-item.result (subst ArePairs (sym c.pairs-pairs.ensures.value) c.pairs-pairs.ensures.valid.ranges) pair).at_least in
-    let at = slice_get_read _ _ (c.from-at.result - 1) _ (search rules) c.if-at-periods.false c.index-periods-at.is in
-    let there = hour_of c.args.periods.now (c.from-at.result - 1) c.index-periods-at.result at in
-    let period = c.get.ensures.value in let from = c.from-at.ensures in let first = c.get.ensures.range.at_least in
-    let number : c.loop-period-item.result.0 ≡ (c.from-at.result - 1) + 1 = omega (arith, period, from, first) in
-    let problem = problem_kept c.args.periods.now c.args.blocks.now in
-    let deep = subst (λ (n : ℕ). IsAtDepth c.index-periods-at.result c.args.depth (last_steps c.index-periods-at.result ++ as_steps n (drop c.args.depth c.args.blocks.now))) (sym number)
-    (c.requires.levels.each (c.from-at.result - 1) _ at c.args.depth c.requires.depth) in
-    let s = a_step problem c.args.place c.args.depth (length c.args.periods.now) (c.from-at.result - 1) c.args.change c.requires.day.0 c.requires.day.1 _ c.args.day.now c.pairs-pairs.result.now c.loop-period.period-index c.loop-period-item.result
-    c.loop-period.day.periods (last_steps c.index-periods-at.result) (record { welfare = pos 0; net = pos 0; near = 0 }) _ _ c.requires.blocks c.requires.levels.few_blocks
-    block volumes rising pair some number there c.difference-net.ensures.net c.difference-net.ensures.value c.loop-period.invariant.ahead c.requires.day.2 c.requires.day.3 in
-    let a = c.in-Some.ensures.small.at_least in let b = c.in-Some.ensures.small.at_most in let d = s.own_is.small.at_least in let e = s.own_is.small.at_most in
-    let u = c.difference-net.ensures.value_size.at_least in let v = c.difference-net.ensures.value_size.at_most in
-    let hours = length-map c.args.periods.now last_steps in let few = c.requires.levels.few_periods in
-    let size = total_within problem (drop c.args.depth c.args.blocks.now) (drop c.loop-period.period-index c.pairs-pairs.result.now) c.requires.day.0 c.requires.day.1 c.args.day.now c.loop-period.day.periods
-    c.loop-period.day.total (length c.args.periods.now) c.requires.blocks c.requires.levels.few_blocks (omega (arith, hours, few)) c.loop-period.invariant.long c.requires.day.3 c.loop-period.invariant.ahead
-    (c.loop-period.invariant.so_far c.requires.day.0 c.requires.day.1 c.requires.day.2 c.requires.day.3) in
-    let low = size.at_least in let high = size.at_most in
-    let inside = c.if-at-periods.false in let long = c.loop-period.invariant.long in
-    let within : c.from-at.result - 1 < length c.loop-period.day.periods = omega (arith, few, inside, long) in
-    let x = s.own_net.at_least in let y = s.own_net.at_most in let z = c.difference-net.ensures.net_size.at_least in let w = c.difference-net.ensures.net_size.at_most in
-    let same : c.in-Some.next.net ≡ (slice_index_or c.loop-period.day.periods (c.from-at.result - 1) (record { welfare = pos 0; net = pos 0; near = 0 })).net +ℤ c.difference-net.result.0 =
-    (let net = c.in-Some.ensures.net in omega (arith, ints, x, y, z, w, net)) in
-    let welfare = c.in-Some.ensures.welfare _ deep in
-    let t = a_step problem c.args.place c.args.depth (length c.args.periods.now) (c.from-at.result - 1) c.args.change before after _ c.args.day.now c.pairs-pairs.result.now c.loop-period.period-index c.loop-period-item.result
-    c.loop-period.day.periods (last_steps c.index-periods-at.result) (record { welfare = pos 0; net = pos 0; near = 0 }) _ _ c.requires.blocks c.requires.levels.few_blocks
-    block volumes rising pair some number there c.difference-net.ensures.net c.difference-net.ensures.value c.loop-period.invariant.ahead is of in
-    let changed = period_changed c.args.blocks.now (drop c.args.depth c.args.blocks.now) (map last_steps c.args.periods.now) c.pairs-pairs.result.now c.loop-period.period-index (c.from-at.result - 1)
-    c.loop-period-item.result before after c.loop-period.day.periods (last_steps c.index-periods-at.result) c.in-Some.next (record { welfare = pos 0; net = pos 0; near = 0 }) c.loop-period.day.total c.difference-net.result.1 c.total_with-day.result
-    rising pair some number there within record {
-      net_is = same ∙ t.net_is;
-      welfare_is = ap (greatest_welfare (last_steps c.index-periods-at.result ++ as_steps c.loop-period-item.result.0 (drop c.args.depth c.args.blocks.now))) c.in-Some.ensures.net ∙ welfare;
-      small = c.in-Some.ensures.small;
-    }
-    t.value_is (sum_of c.total_with-day.result c.loop-period.day.total (to_z w64 (of_z w64 c.loop-period.day.total)) c.in-Some.next.welfare (to_z w64 (of_z w64 c.in-Some.next.welfare))
-    (slice_index_or c.loop-period.day.periods (c.from-at.result - 1) (record { welfare = pos 0; net = pos 0; near = 0 })).welfare (to_z w64 (of_z w64 (slice_index_or c.loop-period.day.periods (c.from-at.result - 1) (record { welfare = pos 0; net = pos 0; near = 0 })).welfare)) c.difference-net.result.1 (to_z w64 (of_z w64 c.difference-net.result.1))
-    c.total_with-day.ensures (omega (arith, ints, low, high)) (omega (arith, ints, a, b)) (omega (arith, ints, d, e)) (omega (arith, ints, u, v))) (c.loop-period.invariant.so_far before after is of) in
-    let fits : SFits w64 c.total_with-day.result = search rules in
-    let one = to_z-of_z w64 c.total_with-day.result fits in
+returns-then-is_under g c problem depth before after are inside is of =
+    let block = one_at problem.blocks c.args.place inside in
+    let so_far = c.loop-touch.invariant.so_far problem depth before after block.0 are block.1 is of in
+    let touch = get_or c.touches-touch-items.result.now c.loop-touch.touch-index no_touch_there in
+    let t = touched_now problem c.args.tables.now.stacks c.args.tables.now.ends.items c.args.tables.now.lots.items c.index-lot.result.now
+    c.touches-touch-items.result.now c.args.place depth c.args.change c.args.accept before after block.0
+    c.args.day.now c.loop-touch.day.periods c.loop-touch.touch-index are block.1 c.index-lot.ensures c.touches-touch-items.ensures
+    c.loop-touch-test.true is of so_far.0 in
+    let move = is_move_at problem c.args.tables.now.stacks c.args.tables.now.ends.items c.args.place depth c.args.change c.args.accept
+    before after block.0 c.loop-touch.day.periods c.loop-touch.touch-index touch
+    c.index.result.now t c.index.ensures in
+    let served = serves problem c.args.tables.now.stacks c.args.tables.now.ends.items c.args.tables.now.lots.items c.index-lot.result.now
+    c.args.place depth c.args.change c.args.accept before after block.0 c.loop-touch.day.periods c.loop-touch.touch-index touch
+    c.side.result c.is_served-is_served.result are block.1 c.index-lot.ensures c.is_served-is_served.ensures c.side.ensures t in
+    let m = c.in-Some.ensures t.move move served in
+    let size = total_within problem (drop c.loop-touch.touch-index block.0.order.volumes) before after c.args.day.now
+    c.loop-touch.day.periods c.loop-touch.day.total
+    (length problem.hours) are.blocks_are are.few_blocks are.few_periods of so_far.1 in
+    let low = size.at_least in let high = size.at_most in let least = m.at_least in let most = m.at_most in
+    let sum = added_up c.loop-touch.day.total c.in-Some.gained (omega (arith, ints, low, high)) (omega (arith, ints, least, most))
+    (omega (arith, ints, low, high, least, most)) in
+    let in_day = t.inside in let few = are.few_periods in let long = c.loop-touch.invariant.long in
+    let changed = touch_changed problem c.args.tables.now.stacks c.args.tables.now.ends.items c.args.place depth c.args.change c.args.accept
+    before after block.0 c.loop-touch.day.periods c.loop-touch.touch-index touch
+    nothing_taken c.in-Some.next c.loop-touch.day.total c.in-Some.gained c.index.result.now t (omega (arith, in_day, few, long)) m
+    so_far.1 in
     under problem c.args.least before after _ c.is_under.result c.if-is_under.true c.is_under.ensures
-    (λ never w e. subst (λ (z : ℤ). w ≤ℤ z) (sym (ap (λ (z : ℤ). to_z w64 (of_z w64 z)) one ∙ one)) (total_at_least problem c.args.depth (drop (c.loop-period.period-index + 1) c.pairs-pairs.result.now) before after c.args.day.now _ c.total_with-day.result w (omega (arith, hours, few))
-    (length-set c.loop-period.day.periods (c.from-at.result - 1) c.in-Some.next ∙ long) is.long of (still_own c.pairs-pairs.result.now c.loop-period.period-index (c.from-at.result - 1) c.loop-period-item.result c.args.day.now.periods c.loop-period.day.periods c.in-Some.next rising pair some number c.loop-period.invariant.ahead) changed never e))
-
-pub loop-period-preserved : goal.loop-period-preserved
-loop-period-preserved g c =
-    let block = slice_get_read _ _ _ _ (search rules) c.requires.place c.index-blocks-place.is ∙ ap (λ (b : Block). Some b) c.index-blocks-place.is in
-    let volumes = c.pairs-pairs.ensures.value ∙ c.volumes.ensures in
-    let pair = slice_get_read _ _ c.loop-period.period-index _ (search rules) c.loop-period-test.true c.loop-period-item.is in
-    let rising = ap (is_increasing 0) c.pairs-pairs.ensures.value ∙ c.pairs-pairs.ensures.valid.increasing in
-    let some = (pair_quantity c.pairs-pairs.result.now c.loop-period.period-index c.loop-period-item.result (subst ArePairs (sym c.pairs-pairs.ensures.value) c.pairs-pairs.ensures.valid.ranges) pair).at_least in
-    let at = slice_get_read _ _ (c.from-at.result - 1) _ (search rules) c.if-at-periods.false c.index-periods-at.is in
-    let there = hour_of c.args.periods.now (c.from-at.result - 1) c.index-periods-at.result at in
-    let period = c.get.ensures.value in let from = c.from-at.ensures in let first = c.get.ensures.range.at_least in
-    let number : c.loop-period-item.result.0 ≡ (c.from-at.result - 1) + 1 = omega (arith, period, from, first) in
-    let problem = problem_kept c.args.periods.now c.args.blocks.now in
-    let deep = subst (λ (n : ℕ). IsAtDepth c.index-periods-at.result c.args.depth (last_steps c.index-periods-at.result ++ as_steps n (drop c.args.depth c.args.blocks.now))) (sym number)
-    (c.requires.levels.each (c.from-at.result - 1) _ at c.args.depth c.requires.depth) in
-    let s = a_step problem c.args.place c.args.depth (length c.args.periods.now) (c.from-at.result - 1) c.args.change c.requires.day.0 c.requires.day.1 _ c.args.day.now c.pairs-pairs.result.now c.loop-period.period-index c.loop-period-item.result
-    c.loop-period.day.periods (last_steps c.index-periods-at.result) (record { welfare = pos 0; net = pos 0; near = 0 }) _ _ c.requires.blocks c.requires.levels.few_blocks
-    block volumes rising pair some number there c.difference-net.ensures.net c.difference-net.ensures.value c.loop-period.invariant.ahead c.requires.day.2 c.requires.day.3 in
-    let a = c.in-Some.ensures.small.at_least in let b = c.in-Some.ensures.small.at_most in let d = s.own_is.small.at_least in let e = s.own_is.small.at_most in
-    let u = c.difference-net.ensures.value_size.at_least in let v = c.difference-net.ensures.value_size.at_most in
-    let hours = length-map c.args.periods.now last_steps in let few = c.requires.levels.few_periods in
-    let size = total_within problem (drop c.args.depth c.args.blocks.now) (drop c.loop-period.period-index c.pairs-pairs.result.now) c.requires.day.0 c.requires.day.1 c.args.day.now c.loop-period.day.periods
-    c.loop-period.day.total (length c.args.periods.now) c.requires.blocks c.requires.levels.few_blocks (omega (arith, hours, few)) c.loop-period.invariant.long c.requires.day.3 c.loop-period.invariant.ahead
-    (c.loop-period.invariant.so_far c.requires.day.0 c.requires.day.1 c.requires.day.2 c.requires.day.3) in
-    let low = size.at_least in let high = size.at_most in
-    let inside = c.if-at-periods.false in let long = c.loop-period.invariant.long in
-    let within : c.from-at.result - 1 < length c.loop-period.day.periods = omega (arith, few, inside, long) in
-    let x = s.own_net.at_least in let y = s.own_net.at_most in let z = c.difference-net.ensures.net_size.at_least in let w = c.difference-net.ensures.net_size.at_most in
-    let same : c.in-Some.next.net ≡ (slice_index_or c.loop-period.day.periods (c.from-at.result - 1) (record { welfare = pos 0; net = pos 0; near = 0 })).net +ℤ c.difference-net.result.0 =
-    (let net = c.in-Some.ensures.net in omega (arith, ints, x, y, z, w, net)) in
-    let welfare = c.in-Some.ensures.welfare _ deep in
-    let fits : SFits w64 c.total_with-day.result = search rules in
-    let one = to_z-of_z w64 c.total_with-day.result fits in
-    record {
-      long = length-set c.loop-period.day.periods (c.from-at.result - 1) _ ∙ long;
-      ahead = still_own c.pairs-pairs.result.now c.loop-period.period-index (c.from-at.result - 1) c.loop-period-item.result c.args.day.now.periods c.loop-period.day.periods c.in-Some.next rising pair some number c.loop-period.invariant.ahead;
-      so_far = λ before after is of.
-          (let t = a_step problem c.args.place c.args.depth (length c.args.periods.now) (c.from-at.result - 1) c.args.change before after _ c.args.day.now c.pairs-pairs.result.now c.loop-period.period-index c.loop-period-item.result
-          c.loop-period.day.periods (last_steps c.index-periods-at.result) (record { welfare = pos 0; net = pos 0; near = 0 }) _ _ c.requires.blocks c.requires.levels.few_blocks
-          block volumes rising pair some number there c.difference-net.ensures.net c.difference-net.ensures.value c.loop-period.invariant.ahead is of in
-          subst (λ (z : ℤ). IsChangedSoFar c.args.blocks.now (drop c.args.depth c.args.blocks.now) (map last_steps c.args.periods.now) (drop (c.loop-period.period-index + 1) c.pairs-pairs.result.now) before after
-          (slice_set c.loop-period.day.periods (c.from-at.result - 1) c.in-Some.next) z) (sym one)
-          (period_changed c.args.blocks.now (drop c.args.depth c.args.blocks.now) (map last_steps c.args.periods.now) c.pairs-pairs.result.now c.loop-period.period-index (c.from-at.result - 1)
-          c.loop-period-item.result before after c.loop-period.day.periods (last_steps c.index-periods-at.result) c.in-Some.next (record { welfare = pos 0; net = pos 0; near = 0 }) c.loop-period.day.total c.difference-net.result.1 c.total_with-day.result
-          rising pair some number there within record {
-            net_is = same ∙ t.net_is;
-            welfare_is = ap (greatest_welfare (last_steps c.index-periods-at.result ++ as_steps c.loop-period-item.result.0 (drop c.args.depth c.args.blocks.now))) c.in-Some.ensures.net ∙ welfare;
-            small = c.in-Some.ensures.small;
-          }
-          t.value_is (sum_of c.total_with-day.result c.loop-period.day.total (to_z w64 (of_z w64 c.loop-period.day.total)) c.in-Some.next.welfare (to_z w64 (of_z w64 c.in-Some.next.welfare))
-          (slice_index_or c.loop-period.day.periods (c.from-at.result - 1) (record { welfare = pos 0; net = pos 0; near = 0 })).welfare (to_z w64 (of_z w64 (slice_index_or c.loop-period.day.periods (c.from-at.result - 1) (record { welfare = pos 0; net = pos 0; near = 0 })).welfare)) c.difference-net.result.1 (to_z w64 (of_z w64 c.difference-net.result.1))
-          c.total_with-day.ensures (omega (arith, ints, low, high)) (omega (arith, ints, a, b)) (omega (arith, ints, d, e)) (omega (arith, ints, u, v))) (c.loop-period.invariant.so_far before after is of)));
-    }
+    (λ never w e. subst (λ (z : ℤ). w ≤ℤ z)
+    (sym (ap (λ (z : ℤ). to_z w64 (of_z w64 z)) sum.1 ∙ to_z-of_z w64 (c.loop-touch.day.total +ℤ c.in-Some.gained)
+    (omega (arith, ints, low, high, least, most))))
+    (total_at_least problem (drop (c.loop-touch.touch-index + 1) block.0.order.volumes) before after
+    (slice_set c.loop-touch.day.periods touch.at c.in-Some.next)
+    (c.loop-touch.day.total +ℤ c.in-Some.gained) w changed never e))
 
 pub returns : goal.returns
-returns g c before after is of =
-    let hours = length-map c.args.periods.now last_steps in let few = c.requires.levels.few_periods in
-    all_changed (problem_kept c.args.periods.now c.args.blocks.now) (drop c.args.depth c.args.blocks.now) before after (drop c.loop-period.period-index c.pairs-pairs.result.now) c.loop-period.day
-    (omega (arith, hours, few)) c.loop-period.invariant.long (drop_all c.loop-period.period-index c.pairs-pairs.result.now c.loop-period-test.false)
-    (ap (λ (n : ℕ). drop n c.args.blocks.now) is.long) (c.loop-period.invariant.so_far before after is of)
+returns g c problem depth before after are inside is of =
+    let block = one_at problem.blocks c.args.place inside in
+    let so_far = c.loop-touch.invariant.so_far problem depth before after block.0 are block.1 is of in
+    let lot = (lot_at problem c.args.tables.now.stacks c.args.tables.now.ends.items c.args.tables.now.lots.items c.index-lot.result.now
+    c.args.place block.0 are block.1 c.index-lot.ensures).1 in
+    let many = lot.as_many in let long = ap (λ (ts : List Touch). length ts)
+    c.touches-touch-items.ensures in let past = c.loop-touch-test.false in
+    all_changed problem before after (drop c.loop-touch.touch-index block.0.order.volumes) c.loop-touch.day c.loop-touch.invariant.long
+    (drop_all c.loop-touch.touch-index block.0.order.volumes (omega (arith, many, long, past))) so_far.1

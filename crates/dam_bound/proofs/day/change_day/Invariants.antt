@@ -1,16 +1,22 @@
--- The periods of the pairs so far are those after the change, and the others still those before it.
-use Rattle.std.proofs.Common.{◌≡◌, Bool, List, length, drop, map}
+-- The periods of the touches so far are those after the change, and the others still those before it.
+use Rattle.std.proofs.Common.{◌≡◌, ℕ, Bool, Some, List, length, drop}
+use Rattle.std.specs.List.{slice_get}
 use Rattle.dam_book.specs.Limits.{last_period}
+use Rattle.dam_blocks.specs.declared.problem.Block.{Block}
+use Rattle.dam_blocks.specs.Problem.{ProblemState}
 use Rattle.dam_bound.specs.Day.{IsDay}
 use Rattle.dam_bound.specs.inside.Change.{IsChange}
-use Rattle.dam_bound.specs.inside.Levels.{last_steps, problem_kept}
+use Rattle.dam_bound.specs.inside.Tables.{AreTables}
 use Rattle.dam_bound.proofs.Deciding.{IsChangedSoFar, AreStill}
 use Rattle.dam_bound.proofs.day.change_day.Given as goal
 
-abbrev pub invariant-loop-period : goal.invariant-loop-period
-invariant-loop-period g l = record {
+abbrev pub invariant-loop-touch : goal.invariant-loop-touch
+invariant-loop-touch g l = record {
   long : length l.day.periods ≡ last_period;
-  ahead : AreStill (drop l.period-index l.pairs) l.fn.day.periods l.day.periods;
-  so_far : (before after : List Bool) → IsChange l.blocks l.place l.change l.depth before after → IsDay (problem_kept l.periods l.blocks) before l.fn.day
-      → IsChangedSoFar l.blocks (drop l.depth l.blocks) (map last_steps l.periods) (drop l.period-index l.pairs) before after l.day.periods l.day.total;
+  so_far : (problem : ProblemState) (depth : ℕ) (before after : List Bool) (b : Block)
+      → AreTables problem.hours problem.blocks l.tables.stacks l.tables.ends.items l.tables.lots.items
+      → slice_get problem.blocks l.place ≡ Some b
+      → IsChange problem.blocks l.place l.change l.accept depth before after → IsDay problem before l.fn.day
+      → AreStill (drop l.touch-index b.order.volumes) l.fn.day.periods l.day.periods
+      × IsChangedSoFar problem.blocks problem.hours (drop l.touch-index b.order.volumes) before after l.day.periods l.day.total;
 }

@@ -1,67 +1,80 @@
 -- A period more, and all of them.
-use Rattle.std.proofs.Common.{◌≡◌, ◌+◌, ◌<◌, ℤ, pos, Some, None, List, [], ◌++◌, length, drop, map, ap, ◌∙◌, sym, subst, refl, rules, arith}
-use Rattle.std.proofs.lemmas.Int.{ints, to_z-of_z}
+use Rattle.std.proofs.Common.{get_or, ◌+◌, ℤ, [], drop, map, ◌∙◌, sym, subst, refl, rules, arith}
+use Rattle.std.proofs.lemmas.Int.{ints}
 use Rattle.std.proofs.lemmas.List.{length-map, length-set}
 use Rattle.std.proofs.lemmas.Option.{slice_get_read}
-use mir.Syntax.{w64}
-use mir.Val.{to_z, SFits}
-use Rattle.dam_hour.specs.declared.step.Step.{Step}
-use Rattle.dam_hour.specs.Best.{greatest_welfare}
-use Rattle.dam_blocks.specs.Selection.{net_volume_of}
-use Rattle.dam_bound.specs.Relaxed.{as_steps}
+use Rattle.dam_stack.specs.Rows.{IsStackAt}
 use Rattle.dam_bound.specs.inside.Levels.{last_steps, problem_kept}
-use Rattle.dam_bound.proofs.Bounding.{unbalanced_period}
-use Rattle.dam_bound.proofs.Extending.{nothing_over}
 use Rattle.dam_bound.proofs.Periods.{hour_of}
-use Rattle.dam_bound.proofs.Days.{no_period_yet, one_period_more, day_without, whole_day}
+use Rattle.dam_bound.proofs.Sizes.{added_up}
+use Rattle.dam_bound.proofs.Tabling.{no_span}
+use Rattle.dam_bound.proofs.Days.{IsDaySoFar, no_period_yet, one_period_more, opened_period, whole_day}
 use Rattle.dam_bound.proofs.day.root_of.Goals as goal
 
 pub loop-place-init : goal.loop-place-init
 loop-place-init g c = record {
-  long = refl;
-  inside = omega arith;
-  so_far = no_period_yet _ _ _ _ _;
+  long = c.empty-day.ensures.long;
+  so_far = λ blocks are spans.
+      subst (λ (z : ℤ). IsDaySoFar blocks (drop 0 blocks) (map last_steps c.args.periods.now) 0 [] c.empty-day.result.periods z)
+      (sym c.empty-day.ensures.total)
+      (no_period_yet blocks (drop 0 blocks) (map last_steps c.args.periods.now) [] c.empty-day.result.periods);
 }
 
-pub period_at-requires-clause-depth : goal.period_at-requires-clause-depth
-period_at-requires-clause-depth g c =
+pub hour-requires : goal.hour-requires
+hour-requires g c =
     let at = slice_get_read _ _ c.loop-place.place _ (search rules) c.loop-place-test.true c.index-periods-place.is in
-    (_, c.requires.each c.loop-place.place _ at 0 (omega arith))
+    (_, c.requires.1.each c.loop-place.place _ at 0 (omega arith))
 
-pub returns-in_err-next : goal.returns-in_err-next
-returns-in_err-next g c =
+pub opened-welfare-requires : goal.opened-welfare-requires
+opened-welfare-requires g c =
     let at = slice_get_read _ _ c.loop-place.place _ (search rules) c.loop-place-test.true c.index-periods-place.is in
     let there = hour_of c.args.periods.now c.loop-place.place c.index-periods-place.result at in
-    let none = c.in_err-next.ensures.welfare _ (c.requires.each c.loop-place.place _ at 0 (omega arith)) in
-    rw c.from_residual.ensures
-    (day_without (problem_kept c.args.periods.now c.args.blocks.now) (drop 0 c.args.blocks.now) c.loop-place.place (c.loop-place.place + 1) [] c.loop-place.first _ _ there refl
-    refl (sym (unbalanced_period c.args.blocks.now [] (c.loop-place.place + 1) _ _ (pos 0) refl (sym (nothing_over (net_volume_of (c.loop-place.place + 1)) c.args.blocks.now)) none)) c.loop-place.invariant.so_far)
+    let hour = c.hour.ensures.value _ (c.requires.1.each c.loop-place.place _ at 0 (omega arith)) in
+    subst (IsStackAt c.args.stacks.now (get_or c.args.spans.now c.loop-place.place no_span)) (sym hour)
+    (c.requires.2.each c.loop-place.place _ no_span there)
+
+pub overflow_add-day : goal.overflow_add-day
+overflow_add-day g c =
+    let at = slice_get_read _ _ c.loop-place.place _ (search rules) c.loop-place-test.true c.index-periods-place.is in
+    let there = hour_of c.args.periods.now c.loop-place.place c.index-periods-place.result at in
+    let hour = c.hour.ensures.value _ (c.requires.1.each c.loop-place.place _ at 0 (omega arith)) in
+    let opened = opened_period c.requires.0 (c.loop-place.place + 1) c.hour.result.now _ c.opened-welfare.result.0 c.opened-welfare.result.1
+    hour c.opened-welfare.ensures.taken
+    c.opened-welfare.ensures.welfare in
+    let so_far = c.loop-place.invariant.so_far c.requires.0 c.requires.1 c.requires.2 in
+    let few = c.requires.1.few_periods in let inside = c.loop-place-test.true in let low = so_far.sum.low in let high = so_far.sum.high in
+    let short = opened.2.few in let least = opened.2.at_least in let most = opened.2.at_most in
+    let sum = added_up c.loop-place.day.total c.opened-welfare.result.1 (omega (arith, ints, few, inside, low, high))
+    (omega (arith, ints, short, least, most))
+    (omega (arith, ints, few, inside, low, high, short, least, most)) in
+    sum.0
 
 pub loop-place-preserved : goal.loop-place-preserved
-loop-place-preserved g c =
-    let at = slice_get_read _ _ c.loop-place.place _ (search rules) c.loop-place-test.true c.index-periods-place.is in
-    let there = hour_of c.args.periods.now c.loop-place.place c.index-periods-place.result at in
-    let few = c.requires.few_periods in let inside = c.loop-place-test.true in let long = c.loop-place.invariant.long in
-    let within : c.loop-place.place < length c.loop-place.first = omega (arith, few, inside, long) in
-    let welfare = c.in_ok-next.ensures.welfare _ (c.requires.each c.loop-place.place _ at 0 (omega arith)) in
-    let low = c.loop-place.invariant.so_far.sum.low in let high = c.loop-place.invariant.so_far.sum.high in
-    let least = c.in_ok-next.ensures.small.at_least in let most = c.in_ok-next.ensures.small.at_most in
-    let net = c.in_ok-next.ensures.net in
-    record {
-      long = length-set c.loop-place.first c.loop-place.place _ ∙ long;
-      inside = omega (arith, inside);
-      so_far = one_period_more c.args.blocks.now (drop 0 c.args.blocks.now) (map last_steps c.args.periods.now) c.loop-place.place (c.loop-place.place + 1) c.loop-place.first
-          (last_steps c.index-periods-place.result) c.in_ok-next.next (to_z w64 c.loop-place.total-bits) _ there refl within
-          (record {
-            net_is = net ∙ sym (nothing_over (net_volume_of (c.loop-place.place + 1)) c.args.blocks.now);
-            welfare_is = ap (λ (z : ℤ). greatest_welfare (last_steps c.index-periods-place.result ++ as_steps (c.loop-place.place + 1) (drop 0 c.args.blocks.now)) z) net ∙ welfare;
-            small = c.in_ok-next.ensures.small;
-          })
-          (omega (arith, ints, few, inside, low, high, least, most)) c.loop-place.invariant.so_far;
-    }
+loop-place-preserved g c = record {
+  long = length-set c.loop-place.day.periods c.loop-place.place _ ∙ c.loop-place.invariant.long;
+  so_far = λ blocks are spans.
+      (let at = slice_get_read _ _ c.loop-place.place _ (search rules) c.loop-place-test.true c.index-periods-place.is in
+      let there = hour_of c.args.periods.now c.loop-place.place c.index-periods-place.result at in
+      let hour = c.hour.ensures.value _ (are.each c.loop-place.place _ at 0 (omega arith)) in
+      let opened = opened_period blocks (c.loop-place.place + 1) c.hour.result.now _ c.opened-welfare.result.0 c.opened-welfare.result.1
+      hour c.opened-welfare.ensures.taken
+      c.opened-welfare.ensures.welfare in
+      let so_far = c.loop-place.invariant.so_far blocks are spans in
+      let few = are.few_periods in let inside = c.loop-place-test.true in let low = so_far.sum.low in let high = so_far.sum.high in
+      let short = opened.2.few in let least = opened.2.at_least in let most = opened.2.at_most in
+      let sum = added_up c.loop-place.day.total c.opened-welfare.result.1 (omega (arith, ints, few, inside, low, high))
+      (omega (arith, ints, short, least, most))
+      (omega (arith, ints, few, inside, low, high, short, least, most)) in
+      let long = c.loop-place.invariant.long in
+      one_period_more blocks (drop 0 blocks) (map last_steps c.args.periods.now) c.loop-place.place (c.loop-place.place + 1)
+      c.loop-place.day.periods
+      (last_steps c.index-periods-place.result) c.opened-welfare.result.0 c.opened-welfare.result.1 c.loop-place.day.total _ there refl
+      (omega (arith, few, inside, long))
+      opened.0 opened.1 opened.2 sum.1 so_far);
+}
 
 pub returns : goal.returns
-returns g c =
+returns g c blocks are spans =
     let all = length-map c.args.periods.now last_steps in let past = c.loop-place-test.false in
-    whole_day (problem_kept c.args.periods.now c.args.blocks.now) (drop 0 c.args.blocks.now) c.loop-place.place [] _ (omega (arith, all, past))
-    refl c.loop-place.invariant.long c.loop-place.invariant.so_far
+    whole_day (problem_kept c.args.periods.now blocks) (drop 0 blocks) c.loop-place.place [] _ (omega (arith, all, past))
+    refl c.loop-place.invariant.long (c.loop-place.invariant.so_far blocks are spans)

@@ -14,7 +14,7 @@ use Rattle.dam_bound.proofs.gain.surplus_of_family.Goals.{then-has+then-has-2, e
 pub loop-place-preserved : goal.loop-place-preserved
 loop-place-preserved g c =
     let low = c.loop-place.invariant.low in let high = c.loop-place.invariant.high in
-    let inside = c.loop-place-test.true in let few = c.requires.levels.few_blocks in
+    let inside = c.loop-place-test.true in let few = c.requires.tables.few_blocks in
     elim c.if-has.branch [
       | then-has+then-has-2 w ↦
           (let least = w.surplus_of-total.ensures.size.at_least in let most = w.surplus_of-total.ensures.size.at_most in let is = w.total-is in

@@ -16,7 +16,8 @@ returns-then-is_served g c us s vs accept net cut at e =
       small = c.magnitude.ensures;
       within = c.balance.ensures.within;
     })
-    us vs s c.args.cut c.args.is_served true accept net c.args.taken c.served.result cut.is_of at e c.if-is_served.true (c.served.ensures us s vs cut at.taken_is)
+    us vs s c.args.cut c.args.is_served true accept net c.args.taken c.served.result cut.is_of at e c.if-is_served.true
+    (c.served.ensures us s vs cut at.taken_is)
 
 pub returns-else-is_served : goal.returns-else-is_served
 returns-else-is_served g c us s vs accept net cut at e =
@@ -31,4 +32,5 @@ returns-else-is_served g c us s vs accept net cut at e =
       small = c.magnitude.ensures;
       within = c.balance.ensures.within;
     })
-    us vs s c.args.cut c.args.is_served false accept net c.args.taken c.passed.result cut.is_of at e c.if-is_served.false (c.passed.ensures us s vs cut at.taken_is)
+    us vs s c.args.cut c.args.is_served false accept net c.args.taken c.passed.result cut.is_of at e c.if-is_served.false
+    (c.passed.ensures us s vs cut at.taken_is)

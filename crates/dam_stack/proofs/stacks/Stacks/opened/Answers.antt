@@ -1,17 +1,17 @@
 -- At a net volume of 0 all buys are taken, which are no more than all units.
-use Rattle.std.proofs.Common.{◌≡◌, ◌<◌, ◌≤◌, ℕ, ℤ, pos, ◌-ℤ◌, ◌+ℤ◌, ◌*ℤ◌, Option, Some, None, MatchOption, ap, ◌∙◌, sym, subst, refl, rules, arith}
+use Rattle.std.proofs.Common.{◌≡◌, ◌<◌, ◌≤◌, ℕ, ℤ, pos, ◌-ℤ◌, ◌+ℤ◌, ◌*ℤ◌, Option, Some, None, MatchOption, ap, ◌∙◌, subst, refl, rules, arith}
 use Rattle.std.specs.Option.{IsSome}
-use Rattle.std.proofs.lemmas.Int.{to_z-of_z}
+use Rattle.std.proofs.lemmas.Int.{ints, to_z-of_z}
 use mir.Syntax.{w64}
-use mir.Val.{SFits}
+use mir.Val.{to_z, of_z, SFits}
 use Rattle.dam_book.specs.Limits.{lowest_price}
 use Rattle.dam_stack.specs.declared.taken.Taken.{Taken}
 use Rattle.dam_stack.specs.Supply.{all_units}
 use Rattle.dam_stack.specs.Taken.{IsTaken}
-use Rattle.dam_stack.specs.inside.Supply.{IsDemand}
+use Rattle.dam_stack.specs.inside.Supply.{worth_of, IsDemand}
 use Rattle.dam_stack.proofs.Clearing.{Laws, welfare_is}
 use Rattle.dam_stack.proofs.Costing.{taken_cost}
-use Rattle.dam_stack.proofs.Moving.{taken_at, opened_units}
+use Rattle.dam_stack.proofs.Moving.{hour_cost, taken_at, opened_units}
 use Rattle.dam_stack.proofs.stacks.Stacks.opened.Goals as goal
 
 there_is : (o : Option Taken) (n u : ℕ) (P : Taken → Type 0) → MatchOption o (n < u) P → u ≤ n → IsSome o
@@ -28,13 +28,16 @@ that_has (Some s) u t m e = let same : s ≡ t = cc in subst (λ (r : Taken). r.
 
 pub unwrap-taken-requires : goal.unwrap-taken-requires
 unwrap-taken-requires g c =
-    let demand : IsDemand c.args.hour.now c.of-demand.result.volume c.of-demand.result.worth = rw c.steps.ensures.value at c.of-demand.ensures in
+    let demand : IsDemand c.args.hour.now c.of-demand.result.volume c.of-demand.result.worth = rw c.steps.ensures.value at
+    c.of-demand.ensures in
     let units = opened_units c.args.hour.now c.of-demand.result.volume c.of-demand.result.volume demand.volume_is refl in
-    there_is c.taken.result (all_units c.args.hour.now) c.of-demand.result.volume (IsTaken c.args.hour.now) (c.taken.ensures.taken c.args.hour.now c.requires) units.within
+    there_is c.taken.result (all_units c.args.hour.now) c.of-demand.result.volume (IsTaken c.args.hour.now)
+    (c.taken.ensures.taken c.args.hour.now c.requires) units.within
 
 pub returns-clause-taken : goal.returns-clause-taken
 returns-clause-taken g c =
-    let demand : IsDemand c.args.hour.now c.of-demand.result.volume c.of-demand.result.worth = rw c.steps.ensures.value at c.of-demand.ensures in
+    let demand : IsDemand c.args.hour.now c.of-demand.result.volume c.of-demand.result.worth = rw c.steps.ensures.value at
+    c.of-demand.ensures in
     let has = that_has c.taken.result c.of-demand.result.volume c.unwrap-taken.result c.taken.ensures.units c.unwrap-taken.ensures in
     taken_at (record {
       laws = record {
@@ -54,9 +57,10 @@ returns-clause-taken g c =
 
 pub returns-clause-welfare : goal.returns-clause-welfare
 returns-clause-welfare g c =
-    let fits : SFits w64 c.welfare_of.result = search rules in
+    let fits : SFits w64 c.saved.result = search rules in
     let taken = returns-clause-taken g c in
-    let demand : IsDemand c.args.hour.now c.of-demand.result.volume c.of-demand.result.worth = rw c.steps.ensures.value at c.of-demand.ensures in
+    let demand : IsDemand c.args.hour.now c.of-demand.result.volume c.of-demand.result.worth = rw c.steps.ensures.value at
+    c.of-demand.ensures in
     let laws : Laws = record {
       reached = c.welfare.ensures.reached;
       bound = c.welfare.ensures.bound;
@@ -64,7 +68,21 @@ returns-clause-welfare g c =
       welfare = c.surplus.ensures.welfare;
       greatest = c.surplus.ensures.greatest;
     } in
-    welfare_is laws c.args.hour.now (pos 0) c.unwrap-taken.result.units c.unwrap-taken.result.cost c.requires.is_hour.in_range taken.units_are
+    let same = to_z-of_z w64 c.saved.result fits in let sum = c.saved.ensures in let worth = demand.worth_is in
+    welfare_is laws c.args.hour.now (pos 0) c.unwrap-taken.result.units c.unwrap-taken.result.cost c.requires.is_hour.in_range
+    taken.units_are
     (taken_cost c.args.hour.now c.unwrap-taken.result taken.taken_is)
-    ∙ ap (λ (z : ℤ). Some z) (sym (to_z-of_z w64 c.welfare_of.result fits ∙ c.welfare_of.ensures
-    ∙ ap (λ (n : ℕ). (pos n -ℤ pos c.unwrap-taken.result.cost) +ℤ lowest_price *ℤ pos 0) demand.worth_is))
+    ∙ ap (λ (z : ℤ). Some z)
+    (let equal : (pos (worth_of c.args.hour.now) -ℤ pos c.unwrap-taken.result.cost) +ℤ lowest_price *ℤ pos 0 ≡ to_z w64
+    (of_z w64 c.saved.result) =
+    omega (arith, ints, same, sum, worth) in equal)
+
+pub saved-requires-clause-before : goal.saved-requires-clause-before
+saved-requires-clause-before g c =
+    let small = c.of-demand.ensures.worth_small in omega (arith, small)
+
+pub saved-requires-clause-after : goal.saved-requires-clause-after
+saved-requires-clause-after g c =
+    let t = that_is c.taken.result (all_units c.args.hour.now) c.of-demand.result.volume c.unwrap-taken.result (IsTaken c.args.hour.now)
+    (c.taken.ensures.taken c.args.hour.now c.requires) c.unwrap-taken.ensures in
+    let cost = hour_cost c.args.hour.now c.unwrap-taken.result c.requires.is_hour t in omega (arith, cost)

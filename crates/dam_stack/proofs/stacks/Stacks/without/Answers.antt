@@ -6,7 +6,8 @@ use Rattle.dam_stack.proofs.stacks.Stacks.without.Goals as goal
 
 pub find-place-requires : goal.find-place-requires
 find-place-requires g c =
-    rw (c.stack.ensures, c.height-height.ensures.value, c.get-volume.ensures.value) (step_found c.requires.0 c.requires.1 c.args.step _ c.requires.2.rows_are)
+    rw (c.stack.ensures, c.height-height.ensures.value, c.get-volume.ensures.value)
+    (step_found c.requires.0 c.requires.1 c.args.step _ c.requires.2.rows_are)
 
 pub add_without-requires-clause-units : goal.add_without-requires-clause-units
 add_without-requires-clause-units g c =
@@ -31,9 +32,11 @@ returns-clause-cut g c us vs at =
         volume_is = c.get-volume.ensures.value;
         height_is = c.height-height.ensures.value;
       };
-      stack = stack_without c.args.self.now c.add_without.new.rows.items c.args.span c.in_ok-rest.rest c.find-place.result us vs c.args.step at row
+      stack = stack_without c.args.self.now c.add_without.new.rows.items c.args.span c.in_ok-rest.rest c.find-place.result us vs c.args.step
+          at row
           (record {
-            added = rw (c.self.view_is, c.from.ensures, c.from-2.ensures, c.height-height.ensures.value, c.get-volume.ensures.value) at c.in_ok-rest.ensures.added;
+            added = rw (c.self.view_is, c.from.ensures, c.from-2.ensures, c.height-height.ensures.value, c.get-volume.ensures.value) at
+                c.in_ok-rest.ensures.added;
             first_is = rw c.self.view_is at c.in_ok-rest.ensures.first;
             steps_are = c.in_ok-rest.ensures.steps;
             units_are = rw c.get-volume.ensures.value at c.in_ok-rest.ensures.units;

@@ -2,7 +2,7 @@
 use Rattle.std.proofs.Common.{length, length-append, ap, ◌∙◌, arith}
 use Rattle.dam_bound.specs.Relaxed.{as_steps}
 use Rattle.dam_bound.proofs.Ranges.{few_steps}
-use Rattle.dam_bound.proofs.levels.relaxed_stack.Goals as goal
+use Rattle.dam_bound.proofs.levels.relaxed_hour.Goals as goal
 
 pub build-requires : goal.build-requires
 build-requires g c =

@@ -1,0 +1,11 @@
+-- The lots so far, and the stacks behind them.
+use Rattle.std.proofs.Common.{List, length}
+use Rattle.dam_hour.specs.declared.step.Step.{Step}
+use Rattle.dam_blocks.specs.Problem.{AreBlocks}
+use Rattle.dam_bound.specs.inside.Tables.{AreSpans, AreLots}
+use Rattle.dam_bound.proofs.tables.lots_of.Given as goal
+
+abbrev pub invariant-loop-block : goal.invariant-loop-block
+invariant-loop-block g l = (hours : List (List Step)) → AreBlocks (length hours) l.blocks → AreSpans hours l.blocks l.fn.stacks 0
+    l.fn.spans.items
+    → AreSpans hours l.blocks l.stacks l.block-index l.spans.items × AreLots hours l.blocks l.stacks l.block-index l.lots.items

@@ -1,0 +1,217 @@
+//! What the walk reads: each block in each of its periods, worked out once.
+
+ghost use Rattle.std.specs.Prelude.{◌≡◌, ◌<◌, ◌≤◌, ◌+◌, ◌-◌, ℕ, Some, List, [], ◌∷◌, ◌++◌, length, map, slice_get, slice_set, slice_index_or, IfOk};
+ghost use Rattle.dam_hour.specs.declared.step.Step.{Step};
+ghost use Rattle.dam_blocks.specs.declared.problem.Block.{Block};
+ghost use Rattle.dam_blocks.specs.Problem.{AreBlocks};
+ghost use Rattle.dam_stack.specs.declared.stacks.Span.{Span};
+ghost use Rattle.dam_stack.specs.Rows.{IsStackAt, IsCutOff, Keeps};
+ghost use Rattle.dam_bound.specs.Day.{IsDay};
+ghost use Rattle.dam_bound.specs.inside.Levels.{last_steps, AreDayLevels, problem_kept};
+ghost use Rattle.dam_bound.specs.inside.Tables.{LotState, AreSpans, IsLot, AreLots, AreTables};
+
+use crate::day::{Day, root_of};
+use crate::levels::Levels;
+use dam_blocks::Block;
+use dam_book::{BlockOrder, Period, Qty, Side};
+use dam_hour::Step;
+use dam_stack::{Cut, Span, Stacks};
+use std::alloc::{AllocError, Allocator};
+use std::marker::Model;
+
+/// A block in one of its periods.
+#[derive(Clone, Copy)]
+pub(crate) struct Touch {
+    /// The place of the period.
+    pub(crate) at: u32,
+    /// The block as a step of the period, and the stack without it: with the later blocks undecided.
+    pub(crate) cut: Cut,
+}
+
+/// A block: its side, and what it is in each of its periods.
+#[derive(Drop)]
+pub(crate) struct Lot<A: Allocator> {
+    side: Side,
+    touches: Vec<Touch, A>,
+}
+
+impl<A: Allocator> Model for Lot<A> {
+    ghost use Rattle.dam_bound.specs.inside.Tables.{LotState};
+
+    ghost Value = { LotState };
+
+    ghost view = { λ l. record { side = l.side; touches = l.touches.items } };
+}
+
+impl<A: Allocator> Lot<A> {
+    /// The side of the block.
+    pub(crate) fn side(&self) -> Side
+        ensures { result ≡ self.now.side }
+    {
+        self.side
+    }
+
+    /// The block in each of its periods, in the order of periods.
+    pub(crate) fn touches(&self) -> &[Touch]
+        ensures { result.now ≡ self.now.touches }
+    {
+        self.touches.as_slice()
+    }
+}
+
+/// The stacks of all periods, and what each block is in them.
+#[derive(Drop)]
+pub(crate) struct Tables<A: Allocator> {
+    pub(crate) stacks: Stacks<A>,
+    /// For each period the stack with every block decided.
+    pub(crate) ends: Vec<Span, A>,
+    pub(crate) lots: Vec<Lot<A>, A>,
+    /// The day with no block decided.
+    pub(crate) root: Day,
+}
+
+/// How many rows the stacks of all levels have.
+fn row_count<A: Allocator>(periods: &[Levels<A>]) -> usize {
+    let mut rows = 0usize;
+    for levels in periods {
+        rows = rows.saturating_add(levels.row_count());
+    }
+    rows
+}
+
+/// Adds the stack of each period with no block decided.
+fn first_spans<A: Allocator + Copy>(
+    alloc: A,
+    stacks: &mut Stacks<A>,
+    periods: &[Levels<A>],
+) -> Result<Vec<Span, A>, AllocError>
+    requires { (blocks : List Block) × AreDayLevels blocks periods.now }
+    ensures { (blocks : List Block) → AreDayLevels blocks periods.now → IfOk result
+        (λ spans. AreSpans (map last_steps periods.now) blocks stacks.new 0 spans.items) }
+{
+    let mut spans = Vec::with_capacity(alloc, periods.len())?;
+    for levels in periods {
+        let span = stacks.add(alloc, levels.hour(0))?;
+        spans.push(span)?;
+    }
+    Ok(spans)
+}
+
+/// The touch of the block that is decided next in a period, which then goes on with the stack without it.
+fn touch_of<A: Allocator>(
+    stacks: &mut Stacks<A>,
+    spans: &mut Vec<Span, A>,
+    order: &BlockOrder,
+    period: Period,
+    qty: Qty,
+) -> Result<Touch, AllocError>
+    requires inside { period ≤ length spans.old.items }
+    requires stack { (us : List Step) × (vs : List Step) × (d : Span)
+        × IsStackAt stacks.old (slice_index_or spans.old.items (period - 1) d) (us
+        ++ record { side = order.now.side; price = order.now.price; qty = qty } ∷ vs) }
+    ensures at { IfOk result (λ touch. touch.at + 1 ≡ period) }
+    ensures cut { (us vs : List Step) (d : Span)
+        → IsStackAt stacks.old (slice_index_or spans.old.items (period - 1) d) (us
+        ++ record { side = order.now.side; price = order.now.price; qty = qty } ∷ vs)
+        → IfOk result (λ touch. IsCutOff stacks.new
+        (record { side = order.now.side; price = order.now.price; qty = qty })
+        (us ++ vs) touch.cut) }
+    ensures spans { IfOk result (λ touch.
+        spans.new.items ≡ slice_set spans.old.items (period - 1) touch.cut.span) }
+    ensures kept { Keeps stacks.old stacks.new }
+{
+    let at = usize::from(period.get()) - 1;
+    let step = Step {
+        side: order.side(),
+        price: order.price(),
+        qty,
+    };
+    let cut = stacks.without(spans[at], step)?;
+    spans[at] = cut.span();
+    Ok(Touch { at: at as u32, cut })
+}
+
+/// A block as the walk has it, the blocks before it being decided; after it, it is decided too.
+fn lot_of<A: Allocator + Copy>(
+    alloc: A,
+    stacks: &mut Stacks<A>,
+    spans: &mut Vec<Span, A>,
+    block: &Block,
+) -> Result<Lot<A>, AllocError>
+    requires { (hours : List (List Step)) × (blocks : List Block) × (k : ℕ)
+        × (slice_get blocks k ≡ Some block.now) × AreBlocks (length hours) blocks
+        × AreSpans hours blocks stacks.old k spans.old.items }
+    ensures lot { (hours : List (List Step)) (blocks : List Block) (k : ℕ)
+        → slice_get blocks k ≡ Some block.now → AreBlocks (length hours) blocks
+        → AreSpans hours blocks stacks.old k spans.old.items
+        → IfOk result (IsLot hours blocks stacks.new k block.now) }
+    ensures spans { (hours : List (List Step)) (blocks : List Block) (k : ℕ)
+        → slice_get blocks k ≡ Some block.now → AreBlocks (length hours) blocks
+        → AreSpans hours blocks stacks.old k spans.old.items
+        → IfOk result (λ lot. AreSpans hours blocks stacks.new (k + 1) spans.new.items) }
+    ensures kept { Keeps stacks.old stacks.new }
+{
+    let order = &block.order;
+    let pairs = order.volumes().pairs();
+    let mut touches = Vec::with_capacity(alloc, pairs.len())?;
+    for (period, qty) in pairs {
+        let touch = touch_of(stacks, spans, order, *period, *qty)?;
+        touches.push(touch)?;
+    }
+    Ok(Lot {
+        side: order.side(),
+        touches,
+    })
+}
+
+/// Each block as the walk has it.
+fn lots_of<A: Allocator + Copy>(
+    alloc: A,
+    stacks: &mut Stacks<A>,
+    spans: &mut Vec<Span, A>,
+    blocks: &[Block],
+) -> Result<Vec<Lot<A>, A>, AllocError>
+    requires { (hours : List (List Step)) × AreBlocks (length hours) blocks.now
+        × AreSpans hours blocks.now stacks.old 0 spans.old.items }
+    ensures lots { (hours : List (List Step)) → AreBlocks (length hours) blocks.now
+        → AreSpans hours blocks.now stacks.old 0 spans.old.items
+        → IfOk result (λ lots. AreLots hours blocks.now stacks.new (length blocks.now) lots.items) }
+    ensures ends { (hours : List (List Step)) → AreBlocks (length hours) blocks.now
+        → AreSpans hours blocks.now stacks.old 0 spans.old.items → IfOk result (λ lots.
+        AreSpans hours blocks.now stacks.new (length blocks.now) spans.new.items) }
+{
+    let mut lots = Vec::with_capacity(alloc, blocks.len())?;
+    for block in blocks {
+        let lot = lot_of(alloc, stacks, spans, block)?;
+        lots.push(lot)?;
+    }
+    Ok(lots)
+}
+
+impl<A: Allocator + Copy> Tables<A> {
+    /// The tables of a day with these levels and blocks. The error is out of memory.
+    pub(crate) fn of(
+        alloc: A,
+        periods: &[Levels<A>],
+        blocks: &[Block],
+    ) -> Result<Tables<A>, AllocError>
+        requires levels { AreDayLevels blocks.now periods.now }
+        requires blocks { AreBlocks (length periods.now) blocks.now }
+        ensures tables { IfOk result (λ tables. AreTables (map last_steps periods.now)
+            blocks.now tables.stacks tables.ends.items tables.lots.items) }
+        ensures root { IfOk result (λ tables.
+            IsDay (problem_kept periods.now blocks.now) [] tables.root) }
+    {
+        let mut stacks = Stacks::new(alloc);
+        stacks.reserve(row_count(periods))?;
+        let mut spans = first_spans(alloc, &mut stacks, periods)?;
+        let root = root_of(&stacks, &spans, periods);
+        let lots = lots_of(alloc, &mut stacks, &mut spans, blocks)?;
+        Ok(Tables {
+            stacks,
+            ends: spans,
+            lots,
+            root,
+        })
+    }
+}
