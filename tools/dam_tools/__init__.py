@@ -9,14 +9,14 @@
     frame = dam_tools.frame(day, "orders", long=True)
 
 The tables and their columns are those of tools/table, which docs/TABLES.md describes. Results are checked against the journal as
-they are read: `Day.wrong` lists what isn't as the market rules say, and is empty for every result of the program."""
+they are read: `Day.wrong` lists what breaks the market rules, and is empty for every result of the program."""
 
 import os
 import shutil
 import subprocess
 from pathlib import Path
 
-# In the tree that this module is part of, `lib` lies next to it; where it is installed, inside it.
+# In the tree that this module is part of, `lib` is next to it; if it is installed, inside it.
 if not Path(__file__).with_name("lib").is_dir():
     __path__.append(str(Path(__file__).resolve().parents[1]))
 
@@ -76,7 +76,7 @@ def read_results(source, results):
 def program_of(program):
     found = program or os.environ.get("DAM") or (BUILT if os.access(BUILT, os.X_OK) else shutil.which("dam"))
     if not found:
-        raise Fault("no program was found: build it, name it as `program`, or in the environment variable DAM")
+        raise Fault("no program was found: build it, or name it as `program` or in the environment variable DAM")
     return found
 
 

@@ -1,2 +1,2 @@
-"""What the tools round `dam` share. Nothing here calls the program or trusts it: each module says the rules of docs/RULES.md
-and docs/FORMATS.md once more, plainly."""
+"""What the tools around `dam` share. Nothing here calls the program or trusts it: each module states the rules of docs/RULES.md
+and docs/FORMATS.md again, plainly."""

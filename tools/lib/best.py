@@ -1,7 +1,7 @@
 """Whether a better selection of blocks exists, by trying all of them.
 
-The welfare and the price of a period come from a curve here, made once, and not from `period`; a selection found to be better
-is looked at once more by the rules alone."""
+The welfare and the price of a period come from a curve here, made once, not from `period`; a selection found to be better
+is checked again by the rules alone."""
 
 import itertools
 from bisect import bisect_left, bisect_right
@@ -9,7 +9,7 @@ from typing import NamedTuple
 
 from . import rules, selection
 
-# So many blocks take some ten seconds, and each further one twice the time.
+# This many blocks take some ten seconds, and each further one doubles the time.
 ENUMERABLE = 18
 STEP = 256  # selections from one look at the time to the next
 
@@ -22,8 +22,8 @@ class Found(NamedTuple):
 class Curve:
     """The welfare and the price of a period's hourly orders by net volume.
 
-    Where all buys are executed and no sell, the net volume is the greatest, and the welfare is the value of all buys. Each
-    tenth of a MW less is had from the cheapest order that is left: a sell that is executed, or a buy that no longer is. Of
+    If all buys and no sells are executed, the net volume is the greatest, and the welfare is the value of all buys. Each
+    tenth of a MW less comes from the cheapest order that is left: a sell that is executed, or a buy that no longer is. Of
     these tenths by their limit, the last one taken and the next one have the ends of the supporting prices."""
 
     def __init__(self, orders):
@@ -41,7 +41,7 @@ class Curve:
         self.least = self.most - self.ends[-1]
 
     def welfare(self, net):
-        """None where no execution balances."""
+        """None if no execution balances."""
         taken = self.most - net
         if not 0 <= taken <= self.ends[-1]:
             return None
@@ -50,7 +50,7 @@ class Curve:
         return self.value - self.costs[at] - (part * self.limits[at] if part else 0)
 
     def supporting(self, net):
-        """The ends of the supporting prices, where an execution balances."""
+        """The ends of the supporting prices, if an execution balances."""
         taken = self.most - net
         low = self.limits[bisect_left(self.ends, taken) - 1] if taken else rules.LEAST_PRICE
         high = self.limits[bisect_right(self.ends, taken) - 1] if taken < self.ends[-1] else rules.GREATEST_PRICE
@@ -99,7 +99,7 @@ class Search:
         return net, worth, value
 
     def look(self, accepted, net, worth, value):
-        """Keeps a selection where it is eligible and of greater welfare than those before."""
+        """Keeps a selection if it is eligible and of greater welfare than those before."""
         self.tried += 1
         if self.progress and self.tried % STEP == 1:
             self.progress.step(STEP)
@@ -121,13 +121,13 @@ def enumerate_all(problem, progress=None):
         progress.expect(2 ** len(problem.blocks))
     best = search.run()
     if selection.eligible(problem, best.accepted) != best.welfare:
-        raise AssertionError(f"the selection {sorted(best.accepted)} is not what the search holds it for")
+        raise AssertionError(f"the selection {sorted(best.accepted)} is not eligible with the welfare that the search gave it")
     return best, tried(len(problem.blocks), search.tried)
 
 
 def tried(blocks, admitted, losing=0):
-    """How many selections were tried, and how many of them links and groups admit; and, if none is better, how many would be but
-    for a block that loses."""
+    """How many selections were tried, and how many of them links and groups admit; and, if none is better, how many would be if no
+    block of them lost."""
     if blocks == 0:
         return "there is no block to select"
     whole = f"each of {2**blocks:,} selections was tried"

@@ -1,10 +1,10 @@
-"""How a better selection of blocks is looked for, and what is said of one."""
+"""How a better selection of blocks is looked for, and what is said about one."""
 
 from . import best, command, selection
 
 ENUMERATION, HIGHS = METHODS = ["enumeration", "highs"]
 
-# So many blocks are tried out sooner than numpy is loaded.
+# Trying this many blocks takes less time than loading numpy.
 FEW_BLOCKS = 10
 
 
@@ -17,7 +17,7 @@ def look(problem, said, method, progress, jobs):
 
 
 def enumerate_all(problem, said, progress, jobs, few=FEW_BLOCKS):
-    """By numpy; but few blocks without it, and if it is missing as many as can be tried without it."""
+    """With numpy; without it if the blocks are few, or if it is missing and they aren't too many."""
     count = len(problem.blocks)
     if count <= few or count <= best.ENUMERABLE and not command.has("numpy"):
         try:
@@ -43,7 +43,7 @@ def named(problem, places):
 
 
 def told(problem, said, found):
-    """What is said of a better selection: its blocks and welfare, its prices, and how it differs from the published one."""
+    """What is said about a better selection: its blocks and welfare, its prices, and how it differs from the published one."""
     more = found.welfare - said.welfare
     if more:
         kind = f"a greater welfare, {problem.euros(found.welfare)} EUR, which is {problem.euros(more)} EUR more"

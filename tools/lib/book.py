@@ -15,7 +15,7 @@ class Book:
         self.held = {"hour": 0, "block": 0}
 
     def apply(self, command):
-        """Does what the command says and answers None, or changes nothing and answers the reason."""
+        """Does what the command says and returns None, or changes nothing and returns the reason."""
         reason = self.refusal(command)
         if reason is None:
             self.change(command)
@@ -82,7 +82,7 @@ class Book:
 
 
 def run(journal):
-    """The book after the commands of a journal, and the reason of each refusal (None where a command was done)."""
+    """The book after the commands of a journal, and the reason for each refusal (None if the command was done)."""
     book = Book(journal.periods)
     return book, [book.apply(command) for command in journal.commands]
 

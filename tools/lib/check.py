@@ -1,10 +1,10 @@
-"""What a results text says otherwise than the rules do."""
+"""Where a results text differs from the rules."""
 
 from . import results, selection
 
 
 def better_word(row, price):
-    """How an hourly order stands to the price."""
+    """How an hourly order's limit compares with the price."""
     if row.order.price == price:
         return "its limit is the price"
     better = row.order.price > price if row.order.side == "buy" else row.order.price < price
@@ -12,8 +12,8 @@ def better_word(row, price):
 
 
 def differences(problem, data):
-    """The results that a text is (None where it is none), and each thing in which they differ from what follows from their own
-    selection of blocks, as a line with its place."""
+    """The results of a text (None if it has none), and each difference from what follows from their own selection of blocks, as a
+    line with its place."""
     said, wrong = results.read_results(problem, data)
     if said is None:
         return None, wrong

@@ -1,4 +1,4 @@
-"""Clock times of a delivery day: when its periods begin, on the days too on which the clocks change."""
+"""Clock times of a delivery day: when its periods begin, also on the days on which the clocks change."""
 
 from . import rules
 
@@ -8,7 +8,7 @@ SPRING, AUTUMN = 2 * 60, 3 * 60
 
 
 def minutes(periods, number):
-    """When a period begins on a day of so many, in minutes of the clock; that behind the last one begins where the day ends."""
+    """When a period begins on a day of `periods` of them, in minutes of the clock; the one after the last begins at the day's end."""
     passed = int((number - 1) * rules.DAYS[periods] * 60)
     gained = int(periods * rules.DAYS[periods] * 60) - USUAL
     if gained < 0 and passed >= SPRING or gained > 0 and passed >= AUTUMN:
@@ -17,7 +17,7 @@ def minutes(periods, number):
 
 
 def begins(periods, number):
-    """The same as a text, as `17:45`; a day ends at `24:00`."""
+    """The same as a text, such as `17:45`; a day ends at `24:00`."""
     hours, rest = divmod(minutes(periods, number), 60)
     return f"{hours:02}:{rest:02}"
 

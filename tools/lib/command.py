@@ -1,4 +1,4 @@
-"""What the tools' command lines share: reading files, telling faults, and finding packages that aren't in the standard
+"""What the tools' command lines share: reading files, reporting faults, and finding packages that aren't in the standard
 library."""
 
 import importlib.util
@@ -58,7 +58,7 @@ def read_bytes(path):
 
 
 def write_bytes(path, data):
-    """Writes a file, or standard output where the path is `-`."""
+    """Writes a file, or standard output if the path is `-`."""
     try:
         if path == "-":
             sys.stdout.buffer.write(data)
@@ -72,13 +72,13 @@ def write_bytes(path, data):
 
 
 def read_texts(path, results_path):
-    """The bytes of a journal and of results: of two files, or of one with the text of a day."""
+    """The bytes of a journal and of results: from two files, or from one with the text of a day."""
     data = read_bytes(path)
     if results_path is not None:
         return data, read_bytes(results_path)
     texts = results.split_day(data)
     if texts is None:
-        raise Stop(f"{shown(path)} has no line 'results': name the results' file after the journal's")
+        raise Stop(f"{shown(path)} has no line 'results': give the results file after the journal")
     return texts
 
 
@@ -86,11 +86,11 @@ def parse_journal(path, data):
     try:
         return journal.read_journal(data)
     except journal.Fault as fault:
-        raise Stop(f"{shown(path)} is no journal: {fault}{lint.in_few_words(data)}") from None
+        raise Stop(f"{shown(path)} isn't a journal: {fault}{lint.in_few_words(data)}") from None
 
 
 class Day:
-    """A journal with its results, whose form is right. `wrong` has what of the results isn't as the rules say."""
+    """A journal with its results, whose form is right. `wrong` lists where the results break the rules."""
 
     def __init__(self, path, results_path):
         journal_data, results_data = read_texts(path, results_path)
@@ -98,7 +98,7 @@ class Day:
 
     @classmethod
     def of(cls, read, results_data):
-        """The same of a journal that was read, and of the bytes of its results."""
+        """The same from a journal that was read, and from the bytes of its results."""
         day = cls.__new__(cls)
         day.read(read, results_data, "the journal", "the text")
         return day
@@ -109,7 +109,7 @@ class Day:
         self.journal = read
         self.book, self.reasons = book.run(read)
         if not self.book.closed:
-            raise Stop(f"no command of {shown(path)} closes the book, so that it has no results")
+            raise Stop(f"no command of {shown(path)} closes the book, so it has no results")
         self.problem = selection.Problem(self.book)
         self.said, self.wrong = check.differences(self.problem, results_data)
         if self.said is None:
@@ -127,7 +127,7 @@ def is_debians():
 
 
 def elsewhere(module):
-    """Whether Debian's Python is another one than this and has a module."""
+    """Whether Debian's Python is a different one and has a module."""
     if is_debians():
         return False
     try:
@@ -137,7 +137,7 @@ def elsewhere(module):
 
 
 def python_with(module):
-    """Starts the tool anew by Debian's Python, where this one lacks a module that that one has."""
+    """Starts the tool again with Debian's Python, if this one lacks a module that Debian's has."""
     if not has(module) and elsewhere(module):
         os.execv(DEBIAN_PYTHON, [DEBIAN_PYTHON, *sys.argv])
 
@@ -152,13 +152,13 @@ def has_zone(name):
 
 
 def need_zone(name):
-    """Ends the tool where a time zone is missing."""
+    """Ends the tool if a time zone is missing."""
     if not has_zone(name):
         raise Stop("it needs the world's time zones, which Debian has in the package tzdata: apt-get install tzdata", NO_PACKAGE)
 
 
 def need(module):
-    """Ends the tool where a module is missing."""
+    """Ends the tool if a module is missing."""
     python_with(module)
     if not has(module):
         package = PACKAGES[module]

@@ -1,7 +1,7 @@
-"""What decided each block of a result: accepted, rejected, or paradoxically rejected, and why.
+"""The decision on each block of a result: accepted, rejected, or paradoxically rejected, and why.
 
-A rejected block is judged with the best family that it stands in (see `families`): what that gains at the prices, and what would
-be if it were accepted, in place of the accepted blocks of its groups."""
+A rejected block is judged with the best family that it belongs to (see `families`): what that gains at the prices, and what would
+happen if it were accepted instead of the accepted blocks of its groups."""
 
 from typing import NamedTuple
 
@@ -89,7 +89,7 @@ class Judge:
         return why + (f"; its parent {self.name(parent)} is rejected" if rejected else "")
 
     def selection_with(self, family):
-        """What would be if a family were accepted."""
+        """What would happen if a family were accepted."""
         accepted = self.accepted - family.removed | family.members
         then = selection.outcome(self.problem, accepted)
         unbalanced = next((number for number, found in then.cleared.items() if found is None), None)
@@ -177,6 +177,6 @@ class Judge:
 
 
 def listed(words):
-    """Words in a row, as `A`, `A and B` or `A, B and C`."""
+    """Words in a row, such as `A`, `A and B` or `A, B and C`."""
     words = list(words)
     return " and ".join([", ".join(words[:-1]), words[-1]] if len(words) > 1 else words)

@@ -9,7 +9,7 @@ isn't. If they take none, all buys are executed and no sell; accepted buy blocks
 one table, of the welfare of its hourly orders by the tenths taken, over all that its blocks can reach; and a selection's welfare
 is a sum of one number from each table, and of what its blocks themselves are worth.
 
-Only a selection that ranks above the published one is looked at for a loss. What is found is looked at again by the rules alone.
+Only a selection that ranks above the published one is checked for a loss. What is found is checked again by the rules alone.
 
 All numbers are whole, of 64 bits, which no sum exceeds (`greatest_sum`)."""
 
@@ -257,7 +257,7 @@ class Rows:
         return self.floor
 
     def welfares(self):
-        """The welfare of each selection, a row for each number of high bits; NEVER or so where a period doesn't balance."""
+        """The welfare of each selection, a row for each number of high bits; NEVER or about that if a period doesn't balance."""
         every, rows = self.every, self.highs >> self.every.low_bits
         welfares = every.high_own[rows][:, None] + every.low_own[every.lows][None, :]
         for period in every.periods.values():
@@ -288,7 +288,7 @@ class Rows:
         return numbers[over], welfares[over]
 
     def look(self, numbers, welfares):
-        """Looks at some selections that rank above the floor for a loss. The best one without is the new floor."""
+        """Checks some selections that rank above the floor for a loss. The best one without is the new floor."""
         for first in range(0, len(numbers), BATCH):
             part = slice(first, first + BATCH)
             over = self.floor.under(welfares[part], numbers[part])
@@ -337,5 +337,5 @@ def better(problem, accepted, welfare, progress, jobs=1, low_bits=LOW_BITS):
         return None, how
     found = Found(every.accepted(best.number), best.welfare)
     if selection.eligible(problem, found.accepted) != found.welfare:
-        raise AssertionError(f"the selection {sorted(found.accepted)} is not what the tables hold it for")
+        raise AssertionError(f"the selection {sorted(found.accepted)} is not eligible with the welfare that the tables gave it")
     return found, how

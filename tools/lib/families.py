@@ -1,6 +1,6 @@
 """Which blocks a rejected block would be accepted with: the family that makes most of it at the prices of a result.
 
-A block is accepted only with its ancestors, and what it loses its accepted descendants may make good. So a rejected block is
+A block is accepted only with its ancestors, and its accepted descendants may make up for what it loses. So a rejected block is
 judged with those of its ancestors that are rejected, and with the rejected descendants that add most."""
 
 import itertools
@@ -30,7 +30,7 @@ def ancestors(problem, place):
 
 
 def group_of(problem, place):
-    """The exclusive group of a block as `Problem.groups` has it; None of a block without one."""
+    """The exclusive group of a block as `Problem.groups` has it; None for a block without one."""
     block = problem.blocks[place]
     return (block.who, block.order.group) if block.order.group else None
 
@@ -66,8 +66,8 @@ def rivals(problem, accepted, places):
 
 
 def admitted(problem, tree, path, staying):
-    """The sets of blocks of a tree that groups admit besides the needed ones: in turn each of the choices of one block of each
-    group of which the tree has several."""
+    """The sets of blocks of a tree that groups admit in addition to the needed ones: in turn each of the choices of one block of
+    each group of which the tree has several."""
     taken = {group_of(problem, place) for place in [*path, *staying]}
     free = [place for place in tree if place not in path and group_of(problem, place) not in taken - {None}]
     groups = {}
@@ -93,7 +93,7 @@ def grown(problem, surpluses, tree, path, allowed):
 
 
 def best_family(problem, accepted, surpluses, place):
-    """The best family that a rejected block stands in: one in which nobody loses at the prices before any other, then the one
+    """The best family that a rejected block belongs to: one in which nobody loses at the prices before any other, then the one
     that gains most, then the smallest. None if a needed block has no surplus, since a period of it has no price."""
     path = needed(problem, accepted, place)
     if any(surpluses[member] is None for member in path):

@@ -1,7 +1,7 @@
 """The fields of a journal's record, read one by one: what is wrong with each in words, and what it is taken for, so that one
-fault isn't told of as many.
+fault isn't reported as several.
 
-A reader takes the text of a field and answers a value, or None if it has none, and what is wrong with the text: what is allowed
+A reader takes the text of a field and returns a value, or None if it has none, and what is wrong with the text: what is allowed
 and what to write instead."""
 
 import re
@@ -83,9 +83,9 @@ def read_pair(pair):
     """A period and a volume of a text `period:volume`, and what is wrong with it."""
     number, colon, volume = (part.strip() for part in pair.partition(":"))
     if not colon:
-        return None, f"'{pair}' should be period:volume, as 8:450"
+        return None, f"'{pair}' should be period:volume, such as 8:450"
     if re.fullmatch(r"[0-9]+-[0-9]+", number):
-        return None, f"'{pair}' has a range of periods: write a pair for each, as 8:450;9:450"
+        return None, f"'{pair}' has a range of periods: write a pair for each, such as 8:450;9:450"
     if text.number(number.encode(), 1, rules.GREATEST_PERIOD) is None:
         return None, f"'{number}' in '{pair}' should be a period from 1 to {rules.GREATEST_PERIOD}"
     if volume.isascii() and text.volume(volume.encode()) is not None:
@@ -101,7 +101,7 @@ def read_volumes(found):
     if found.isascii() and text.volumes(found.encode()) is not None:
         return text.volumes(found.encode()), None
     if not found:
-        return None, "it should be period:volume, as 8:450, or several, as 8:450;9:450"
+        return None, "it should be period:volume, such as 8:450, or several, such as 8:450;9:450"
     pairs, wrong = [], []
     for part in found.split(";"):
         pair, fault = read_pair(part) if part.strip() else (None, "a pair between `;` is missing, or there is one `;` too many")
@@ -110,7 +110,7 @@ def read_volumes(found):
     numbers = [pair[0] for pair in pairs if pair]
     for one, other in zip(numbers, numbers[1:]):
         if one == other:
-            wrong.append(f"period {one} is there twice")
+            wrong.append(f"period {one} appears twice")
         elif one > other:
             wrong.append(f"period {other} stands after {one}: write the pairs by increasing period")
     whole = tuple(sorted(pairs)) if None not in pairs and len(set(numbers)) == len(pairs) else None
@@ -130,10 +130,10 @@ READERS = {
 
 
 def read(name, found):
-    """A field without the spaces round it: its value, and what is wrong."""
+    """A field without the spaces around it: its value, and what is wrong."""
     bare = found.strip(" \t\u00a0")
     value, wrong = READERS[name](bare)
     if bare != found:
-        spaces = f"there is a space round it: write {bare}"
+        spaces = f"there is a space around it: write {bare}"
         wrong = f"{spaces}; {wrong}" if wrong else spaces
     return value, wrong

@@ -42,7 +42,7 @@ class Journal(NamedTuple):
 
 
 class Fault(Exception):
-    """The text is no journal: the line of docs/FORMATS.md that says why."""
+    """The text isn't a journal: the line of docs/FORMATS.md that says why."""
 
 
 class BadField(Exception):
@@ -94,7 +94,7 @@ def one_volume(field):
 
 
 def take(fields, *readers):
-    """What the readers make of the fields after the first, one each; an empty field behind the last reader's. The first
+    """What the readers make of the fields after the first, one each; an empty field after the last reader's. The first
     that breaks its rule is the record's fault."""
     values = []
     for at in range(1, 9):
@@ -114,7 +114,7 @@ def read_day(fields):
 def read_command(fields):
     kind = fields[0]
     if kind == b"submit":
-        # The fields up to the fourth say how the ones behind it are read.
+        # The fields up to the fourth say how the ones after it are read.
         hourly = fields[3] == b"hour"
         behind = (one_volume, empty, empty) if hourly else (text.volumes, optional_name, optional_name)
         who, name, *order = take(

@@ -1,4 +1,4 @@
-"""Which of the texts that `dam` reads and prints a text looks like, to say so if it was named in another's place."""
+"""Which of the texts that `dam` reads and prints a text looks like, to say so if it was given instead of another."""
 
 import re
 
@@ -8,7 +8,7 @@ REPLY = re.compile(rb"\d+,(?:done|refused,)")
 
 
 def kind_of(data):
-    """The kind of text that these bytes look like by their first lines; None of any other."""
+    """The kind of text that these bytes look like by their first lines; None for any other."""
     first, second = (data.split(b"\n", 2) + [b"", b""])[:2]
     if not first.startswith(b"day,"):
         return None

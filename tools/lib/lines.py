@@ -9,8 +9,8 @@ def shown(line):
 
 
 def matched(wanted, found):
-    """The places of the lines that are wanted and of those found, in their order, as pairs; None for the other place of a line that
-    is missing, or that is found and not wanted. Lines are given by what they are about, so that a stray line is one pair."""
+    """The places of the lines that are wanted and of those found, in their order, as pairs; None stands for the other place of a
+    line that is missing, or that is found and not wanted. Lines are given by what they are about, so that a stray line is one pair."""
     if wanted == found:  # the usual case, and far quicker to see
         return [(at, at) for at in range(len(wanted))]
     near = found[: 2 * len(wanted)]

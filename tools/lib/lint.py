@@ -1,7 +1,7 @@
-"""Every fault of a journal at once, in words: with its line, the field, what stands there, what is allowed and what to do.
+"""Every fault of a journal at once, in words: its line, the field, what it holds, what is allowed and what to do.
 
-What the format doesn't allow is told of each record, and then the record is taken for what it was probably meant to be, so that
-the commands after it are judged as well: those too that the book would refuse."""
+What the format doesn't allow is reported for each record, and then the record is taken for what it was probably meant to be, so
+that the commands after it are judged as well, also those that the book would refuse."""
 
 import re
 from typing import NamedTuple
@@ -12,7 +12,7 @@ DAY = "day,24,,,,,,,"
 CLOSE = "close,,,,,,,,"
 RESULTS = ([b"results"],)  # the line before the results in what `dam day` prints
 MOST_LINES = 20  # of those with characters that aren't ASCII
-FEW = 5  # faults that other tools tell
+FEW = 5  # faults that other tools report
 BYTE_ORDER_MARKS = {b"\xef\xbb\xbf": "utf-8-sig", b"\xff\xfe": "utf-16", b"\xfe\xff": "utf-16"}
 
 
@@ -52,16 +52,16 @@ class Lint:
                 break
             if record in RESULTS or record[0] == b"welfare":
                 whole = "the results of a day begin here" if record in RESULTS else "these are results"
-                self.tell(line, f"{whole}, which are no part of a journal: tools/audit reads both")
+                self.tell(line, f"{whole}, which aren't part of a journal: tools/audit reads both")
                 break
             self.record(line, [field.decode(errors="replace") for field in record])
         self.end(line, number)
         return sorted(self.found, key=lambda found: found.line)
 
     def readable(self, data):
-        """The text with what concerns all of it put right, and by what its fields are parted."""
+        """The text with what concerns all of it put right, and what separates its fields."""
         if len(data) > rules.MOST_BYTES:
-            self.tell(1, f"the text has {len(data):,} bytes, and a journal at most {rules.MOST_BYTES:,}: split the day")
+            self.tell(1, f"the text has {len(data):,} bytes, but a journal has at most {rules.MOST_BYTES:,}: split the day")
         for mark, encoding in BYTE_ORDER_MARKS.items():
             if data.startswith(mark):
                 name = "a byte order mark" if encoding == "utf-8-sig" else "a byte order mark, and the text is in UTF-16"
@@ -77,7 +77,7 @@ class Lint:
         return data, b","
 
     def characters(self, data):
-        """Tells of the first character of each line that isn't ASCII, and of many such lines how many there are."""
+        """Reports the first character of each line that isn't ASCII, and if there are many such lines, how many."""
         lines, line, behind = {}, 1, 0
         for found in re.finditer(rb"[\x80-\xff]+", data):
             line += len(text.LINE_END.findall(data, behind, found.start()))
@@ -95,7 +95,7 @@ class Lint:
         if self.held is None:
             self.day(line, record, word)
         elif word == "day":
-            self.tell(line, "the day is there twice: a journal has one, as its first line")
+            self.tell(line, "the day appears twice: a journal has one, as its first line")
         elif record[0].lstrip().startswith("#"):
             self.tell(line, "a journal has no comments: remove the line")
         elif not any(field.strip() for field in record):
@@ -110,9 +110,9 @@ class Lint:
         if missing > 0:
             commas = "a comma is missing" if missing == 1 else f"{missing} commas are missing"
             do = f"write {whole}" if whole else "add what is missing at its end"
-            self.tell(line, f"it has {count} field{'s' * (count > 1)} and should have {most}, so that {commas}: {do}")
+            self.tell(line, f"it has {count} field{'s' * (count > 1)} and should have {most}, so {commas}: {do}")
         elif missing < 0:
-            do = "no field has a comma in it, and no number a decimal one"
+            do = "no field has a comma in it, and no number has a decimal comma"
             if not any(record[most:]):
                 do = f"remove {-missing} comma{'s' * (missing < -1)} at its end"
             self.tell(line, f"it has {count} fields and should have {most}: {do}")
@@ -122,12 +122,12 @@ class Lint:
         """The first record, which should be the day."""
         if word != "day":
             if set(map(str.lower, record)) & {*fields.NAMES, "who", "name", "limit", "volume"}:
-                self.tell(line, f"this is a header, and a journal has none: begin with the day, as {DAY}")
+                self.tell(line, f"this is a header, and a journal has none: begin with the day, such as {DAY}")
                 return
             if word.startswith("#"):
-                self.tell(line, f"a journal has no comments: remove the line, and begin with the day, as {DAY}")
+                self.tell(line, f"a journal has no comments: remove the line, and begin with the day, such as {DAY}")
                 return
-            self.tell(line, f"the first line should be the day, as {DAY}, and is '{','.join(record)[:60]}'")
+            self.tell(line, f"the first line should be the day, such as {DAY}, but is '{','.join(record)[:60]}'")
             self.held = book.Book(rules.GREATEST_PERIOD)
             if word in fields.USED:
                 self.record(line, record)
@@ -139,7 +139,7 @@ class Lint:
         if record[0] != "day":
             self.tell(line, f"'{record[0]}' should be day: write {whole}", "command")
         if wrong or record[1] != found:
-            self.tell(line, f"'{record[1]}': {wrong or f'there is a space round it: write {found}'}", "periods")
+            self.tell(line, f"'{record[1]}': {wrong or f'there is a space around it: write {found}'}", "periods")
         for place in range(2, 9):
             if record[place]:
                 self.tell(line, f"'{record[place]}' should be empty: write {whole}", fields.NAMES[place])
@@ -148,7 +148,7 @@ class Lint:
     def entry(self, line, record):
         kind, wrong = fields.read_word(["submit", "amend", "cancel", "close"])(record[0].strip(" \t\u00a0"))
         if wrong or kind != record[0]:
-            self.tell(line, f"'{record[0]}': {wrong or f'there is a space round it: write {kind}'}", "command")
+            self.tell(line, f"'{record[0]}': {wrong or f'there is a space around it: write {kind}'}", "command")
         if kind is None:
             return
         values, is_whole = {}, True
@@ -165,7 +165,7 @@ class Lint:
             else:
                 values[name], wrong = fields.read(name, found)
                 if name == "volumes" and hourly and values[name] and len(values[name]) != 1:
-                    wrong = f"an hourly order has one pair, as 8:450, and not {len(values[name])}" + (f"; {wrong}" if wrong else "")
+                    wrong = f"an hourly order has one pair, such as 8:450, not {len(values[name])}" + (f"; {wrong}" if wrong else "")
                 if wrong:
                     self.tell(line, f"'{found}': {wrong}" if found else f"it is empty: {wrong}", name)
                 is_whole = is_whole and values[name] is not None
@@ -191,7 +191,7 @@ class Lint:
         self.settle(line, kind, values, self.held.apply(command))
 
     def settle(self, line, kind, values, reason):
-        """Keeps what later commands are judged by, or tells why the book refuses the command."""
+        """Keeps what later commands are judged by, or reports why the book refuses the command."""
         who, name = values.get("participant"), values.get("order")
         if reason is None:
             if kind == "submit":
@@ -213,8 +213,8 @@ class Lint:
         parent = values.get("parent")
         if reason == "PeriodOutOfDay":
             late = next(number for number, _ in values["volumes"] if number > self.held.periods)
-            words = f"the day has the periods 1 to {self.held.periods}, and no {late}: correct the period, or the day in the first line"
-            return "volumes", words
+            words = f"the day has periods 1 to {self.held.periods}, so there is no period {late}"
+            return "volumes", f"{words}: correct the period, or the day in the first line"
         if reason == "HasChildren":
             children = [other for (owner, other), order in self.held.rows.items() if (owner, order.parent) == (who, name)]
             line = self.lines[who, children[0]]
@@ -226,29 +226,29 @@ class Lint:
                 f"{who} has an order {name} since line {self.lines.get((who, name))}: amend that one, or take another name",
             ),
             "UnknownOrder": ("order", f"{who} has no order {name} here: it was never entered, was refused, or is cancelled"),
-            "WrongShape": ("volumes", f"the order of line {self.lines.get((who, name))} is hourly: give it one pair, as 8:450"),
+            "WrongShape": ("volumes", f"the order of line {self.lines.get((who, name))} is hourly: give it one pair, such as 8:450"),
             "UnknownParent": ("parent", f"{who} has no order {parent} here: submit the parent first"),
             "ParentNotBlock": (
                 "parent",
                 f"{parent} of line {self.lines.get((who, parent))} is an hourly order: name a block",
             ),
-            "HourlyFull": ("", f"a book holds at most {rules.MOST_HOURLY} hourly orders: cancel others before"),
-            "BlocksFull": ("", f"a book holds at most {rules.MOST_BLOCKS} blocks: cancel others before"),
+            "HourlyFull": ("", f"a book holds at most {rules.MOST_HOURLY} hourly orders: cancel others first"),
+            "BlocksFull": ("", f"a book holds at most {rules.MOST_BLOCKS} blocks: cancel others first"),
         }[reason]
 
     def end(self, line, records):
         if not records:
-            self.tell(1, f"the journal is empty: begin with the day, as {DAY}")
+            self.tell(1, f"the journal is empty: begin with the day, such as {DAY}")
         elif self.held is None:
-            self.tell(line, f"there is no day: begin with it, as {DAY}")
+            self.tell(line, f"there is no day: begin with it, such as {DAY}")
         if self.command == "clear" and self.closed is None and records:
-            self.tell(line, f"no command closes the book, so that there are no results: end with {CLOSE}")
+            self.tell(line, f"no command closes the book, so there are no results: end with {CLOSE}")
         if self.command == "day":
             if records > rules.MOST_DAY_COMMANDS + 1:
                 self.tell(line, f"`dam day` takes at most {rules.MOST_DAY_COMMANDS} commands")
             count = len(self.others - {None})
             if count > rules.MOST_DAY_PARTICIPANTS:
-                self.tell(line, f"`dam day` takes at most {rules.MOST_DAY_PARTICIPANTS} participants, and there are {count}")
+                self.tell(line, f"`dam day` takes at most {rules.MOST_DAY_PARTICIPANTS} participants, but there are {count}")
 
 
 def faults(data, command="clear"):

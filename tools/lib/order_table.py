@@ -1,5 +1,5 @@
-"""From a table of orders, a row each, to a journal: what spreadsheets and scripts have, read with errors that name line and
-column."""
+"""From a table of orders, one row each, to a journal: what spreadsheets and scripts have, read with errors that name the line
+and the column."""
 
 import csv
 import io
@@ -17,7 +17,7 @@ REASONS = {
     "PeriodOutOfDay": "the day doesn't have that period",
     "NameTaken": "the participant has an order of that name in a line above",
     "UnknownParent": "the participant has no order of the parent's name in a line above",
-    "ParentNotBlock": "the parent is no block",
+    "ParentNotBlock": "the parent is not a block",
     "HourlyFull": f"a book holds at most {rules.MOST_HOURLY} hourly orders",
     "BlocksFull": f"a book holds at most {rules.MOST_BLOCKS} blocks",
 }
@@ -32,8 +32,8 @@ class Wrong(Exception):
 
 
 def rows_of(data):
-    """The rows of a table, each with the number of its first line, parted by commas, semicolons or tabs, whichever the header has
-    most of; and whether a comma may be the decimal point."""
+    """The rows of a table, each with the number of its first line, separated by commas, semicolons or tabs, whichever the header
+    has most of; and whether a comma may be the decimal point."""
     try:
         table = data.decode("utf-8-sig")
     except UnicodeDecodeError as fault:
@@ -66,9 +66,9 @@ def columns_of(header):
     for at, cell in enumerate(header, 1):
         name = cell.strip().lower()
         if name not in known:
-            raise Wrong(f"line 1, column {at}: '{cell}' is no column; the columns are {', '.join(ORDER)}")
+            raise Wrong(f"line 1, column {at}: '{cell}' is not a column; the columns are {', '.join(ORDER)}")
         if name in places:
-            raise Wrong(f"line 1, column {at}: the column '{name}' is there twice")
+            raise Wrong(f"line 1, column {at}: the column '{name}' appears twice")
         places[name] = at - 1
     missing = [name for name in ORDER if name not in places and name not in OPTIONAL]
     if missing:
@@ -80,12 +80,12 @@ def scaled(cell, factor, least, greatest, unit):
     """A decimal number times a factor, which must be whole and in a range."""
     found = DECIMAL.fullmatch(cell)
     if not found:
-        raise Wrong(f"'{cell}' should be a number of {unit}, as 92.5")
+        raise Wrong(f"'{cell}' should be a number of {unit}, such as 92.5")
     sign, whole, rest = found.groups()
     value = Fraction(f"{whole}.{rest or 0}") * factor * (-1 if sign else 1)
     digits = len(str(factor)) - 1
     if value.denominator != 1:
-        raise Wrong(f"'{cell}' has more than {digits} digit{'s' * (digits > 1)} behind the point")
+        raise Wrong(f"'{cell}' has more than {digits} digit{'s' * (digits > 1)} after the decimal point")
     if not least <= value <= greatest:
         ends = [text.fixed(Fraction(end) / factor, digits) for end in (least, greatest)]
         raise Wrong(f"'{cell}' should be from {ends[0]} to {ends[1]} {unit}")
@@ -97,9 +97,9 @@ def parts(cell):
 
 
 def read_periods(cell):
-    """Periods and runs of periods by increasing number, as `8`, `8-20` or `1;3;5-7`."""
+    """Periods and runs of periods by increasing number, such as `8`, `8-20` or `1;3;5-7`."""
     if not parts(cell):
-        raise Wrong("it should name a period, as 8, or several, as 8-20 or 1;3;5-7")
+        raise Wrong("it should name a period, such as 8, or several, such as 8-20 or 1;3;5-7")
     try:
         numbers = spans.read(cell, rules.GREATEST_PERIOD)
     except ValueError as fault:
@@ -110,7 +110,7 @@ def read_periods(cell):
 
 
 def read_volumes(cell, numbers, decimal_comma):
-    """One volume for all periods, or one for each, parted by `;`."""
+    """One volume for all periods, or one for each, separated by `;`."""
     shown = cell.replace(",", ".") if decimal_comma else cell
     values = [scaled(part, 10, 1, rules.GREATEST_VOLUME, "MW") for part in parts(shown)]
     if len(values) == 1:
@@ -159,7 +159,7 @@ class Row:
         return self.cells[at].strip() if at is not None and at < len(self.cells) else ""
 
     def read(self, name, reader):
-        """What a reader makes of a cell; None where it is wrong."""
+        """What a reader makes of a cell; None if it is wrong."""
         try:
             return reader(self.cell(name))
         except Wrong as fault:
@@ -173,24 +173,24 @@ class Row:
         return self.read(name, lambda cell: cell and read_name(cell))
 
     def command(self):
-        """The submit that the row is; of no use where something is wrong."""
+        """The submit that the row is; of no use if something is wrong."""
         if len(self.cells) > len(self.places):
-            self.wrong.append(f"it has {len(self.cells)} cells, and the header {len(self.places)}")
+            self.wrong.append(f"it has {len(self.cells)} cells, but the header has {len(self.places)}")
         who, name = self.read("participant", read_participant), self.read("order", read_name)
         kind = self.read("kind", read_word("hour", "block"))
         side = self.read("side", read_word("buy", "sell"))
         decimal = (lambda cell: read_price(cell.replace(",", "."))) if self.decimal_comma else read_price
         price, numbers = self.read("price_eur_mwh", decimal), self.read("periods", read_periods)
         if kind == "hour" and numbers and len(numbers) != 1:
-            self.wrong.append(f"column periods: an hourly order has one period, and not {len(numbers)}")
+            self.wrong.append(f"column periods: an hourly order has one period, not {len(numbers)}")
         volumes = self.read("volume_mw", lambda cell: read_volumes(cell, numbers or [1], self.decimal_comma))
         parent, group = (self.read_link(name, kind) for name in OPTIONAL)
         return journal.Submit(who, name, journal.Order(kind, side, price, volumes, parent, group))
 
 
 def read_orders(data, periods, closing):
-    """The journal of a table of orders for a day of so many periods, with a close or without; else all that is wrong, a line
-    each."""
+    """The journal of a table of orders for a day of `periods` periods, with or without a close; if not, all that is wrong, one
+    line each."""
     rows, decimal_comma = rows_of(data)
     if not rows or not trimmed(rows[0][1]):
         raise Wrong(f"the table is empty: its first line should name the columns {', '.join(ORDER)}")

@@ -1,5 +1,5 @@
-"""A whole day as one page of HTML, with its pictures in it and nothing to fetch. Its form stands in templates/, and is filled in by
-jinja2; here is what it says."""
+"""A whole day as one page of HTML, with its pictures in it and nothing to fetch. Its form is in templates/, and jinja2 fills it
+in; this module has what it says."""
 
 import re
 from fractions import Fraction
@@ -71,7 +71,7 @@ class Section(NamedTuple):
 
 
 def heads(*words):
-    """The heads of a table; those that end with a unit or begin with `#` are over numbers."""
+    """The heads of a table; those that end with a unit or begin with `#` stand over numbers."""
     units = (", MW", ", MWh", ", EUR", "EUR/MWh")
     return [Head(word.lstrip("#"), NUMBER if word[0] == "#" or word.endswith(units) else "") for word in words]
 
@@ -172,7 +172,7 @@ def block_table(day, found):
         row = [f"{block.who} {block.name}", order.side, price(order.price), periods_of(order), total, ", ".join(links)]
         rows.append([*row, mark, euros(day, surplus), decision.why])
     columns = heads("block", "side", "limit, EUR/MWh", "periods", "offered, MWh", "linked by", "decision", "surplus, EUR")
-    caption = "Each block, its surplus at the prices, and what decided; of a rejected block, with the best family that it stands in"
+    caption = "Each block, its surplus at the prices, and the reason; for a rejected block, with the best family that it belongs to"
     return Table(caption, [*columns, Head("what decided", "why")], rows)
 
 
@@ -297,7 +297,7 @@ def page(day, title, curves, date=None):
 
 
 def notable(day):
-    """The periods whose curves are worth a look where none are asked for: the cheapest and the most expensive one with a volume."""
+    """The periods whose curves are worth a look if none are asked for: the cheapest and the most expensive one with a volume."""
     traded = trades.traded(day)
     if not traded:
         return []

@@ -17,7 +17,7 @@ class Cleared(NamedTuple):
 
 
 def volume(orders, side, holds):
-    """The volume of the orders of a side for whose limit price something holds."""
+    """The volume of the orders of a side whose limit price passes a test."""
     return sum(quantity for of, limit, quantity in orders if of == side and holds(limit))
 
 
@@ -34,8 +34,8 @@ def sells_too_much(orders, net, price):
 
 
 def first(least, greatest, holds):
-    """The first number from `least` to `greatest` for which something holds, where it holds from there on; else the one
-    behind `greatest`."""
+    """The first number from `least` to `greatest` for which something holds, if it then holds for all that follow; else the
+    one after `greatest`."""
     greatest += 1
     while least < greatest:
         middle = (least + greatest) // 2
@@ -47,9 +47,9 @@ def first(least, greatest, holds):
 
 
 def supporting(orders, net):
-    """The least and the greatest supporting price; None where no execution balances.
+    """The least and the greatest supporting price; None if no execution balances.
 
-    A price supports a balanced execution exactly where it sells neither too little nor too much, for each volume between
+    A price supports a balanced execution exactly if it sells neither too little nor too much, for each volume between
     what it demands and what it admits can be had. As the price grows it only ever sells more and buys less, so that a price
     is supporting from where it no longer sells too little to where it doesn't sell too much yet."""
     bounds = rules.LEAST_PRICE, rules.GREATEST_PRICE
@@ -98,7 +98,7 @@ def welfare(orders, executed):
 
 @functools.lru_cache(maxsize=1_000)
 def clear(orders, net):
-    """The clearing of a period; None where no execution balances."""
+    """The clearing of a period; None if no execution balances."""
     ends = supporting(orders, net)
     if ends is None:
         return None

@@ -1,7 +1,7 @@
 """Pictures of a day by matplotlib: prices, volumes and blocks over the periods, and the curves of one period.
 
 They are made for black and white: what matters differs in lightness, hatching or line. The colours stand in `COLOURS` by what
-they are for, so that a page can put its own in their place."""
+they are for, so that a page can replace them by its own."""
 
 import io
 import math
@@ -16,7 +16,7 @@ from matplotlib.patches import Patch, Polygon, Rectangle
 
 from . import clock, decisions, selection, spans, tables, text, trades
 
-# No two are equal, so that each can be told from the text of a picture.
+# No two are equal, so that each can be found in the text of a picture.
 COLOURS = {
     "ink": "#1b1c1d",
     "soft": "#6d7073",
@@ -92,7 +92,7 @@ def legend(axes, *entries, columns, below=False):
 
 
 def picture(figure, suffix, words_as_text=False):
-    """The bytes of a figure, as `svg` or `png`."""
+    """The bytes of a figure, in the format `svg` or `png`."""
     out = io.BytesIO()
     with matplotlib.rc_context({"svg.fonttype": "none" if words_as_text else "path", "svg.hashsalt": "dam"}):
         kind = {"metadata": {"Date": None, "Creator": None}} if suffix == "svg" else {"dpi": 150}
@@ -190,7 +190,7 @@ def draw_prices(axes, day):
 
 
 def without_trade(axes, numbers, periods):
-    """Says of each run of periods that nothing is traded in them."""
+    """Marks each run of periods in which nothing is traded."""
     for first, last in spans.runs(numbers):
         upright = (last - first + 1) / periods < 0.07
         place = {"transform": axes.get_xaxis_transform(), "ha": "center", "va": "center"}
@@ -390,7 +390,7 @@ def net_volume(day, number):
 
 
 def draw_curves(axes, day, number):
-    """The hourly orders' demand and supply; the curve of the side that the blocks help begins behind their net volume."""
+    """The hourly orders' demand and supply; the curve of the side that the blocks help begins after their net volume."""
     orders = day.problem.orders[number]
     price = day.said.prices[number - 1]
     sold, bought = net_volume(day, number)

@@ -1,4 +1,4 @@
-"""The time of a long run, and how far it is: a line on standard error while it runs, if that is a terminal."""
+"""The time and the progress of a long run: a line on standard error while it runs, if that is a terminal."""
 
 import sys
 import threading
@@ -6,7 +6,7 @@ import time
 
 
 class Progress:
-    """Counts the steps of a run, of which several threads may tell. It ends the run, at a step, when its time is over or it is
+    """Counts the steps of a run, which several threads may report. It ends the run, at a step, when its time is over or it is
     stopped."""
 
     def __init__(self, tool, seconds, quiet=False):
@@ -24,7 +24,7 @@ class Progress:
             self.steps += steps
 
     def step(self, done=1):
-        """So many of the steps are done. Fails if no time is left."""
+        """This many more steps are done. Fails if no time is left."""
         took = time.monotonic() - self.begun
         if self.stopped or took >= self.seconds:
             self.stopped = True

@@ -49,7 +49,7 @@ def is_peak(periods, number):
 
 
 def mean(prices):
-    """The mean of prices in cents, rounded to one; None of none."""
+    """The mean of prices in cents, rounded to a cent; None if there are none."""
     prices = list(prices)
     return round_half_up(Fraction(sum(prices), len(prices))) if prices else None
 

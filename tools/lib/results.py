@@ -17,11 +17,11 @@ class Results(NamedTuple):
     executed: list  # of the hourly orders in book order
     accepted: set  # places of blocks
     surpluses: list  # of the blocks
-    lines: dict  # from what a line is about, as "period 3" or "block WHO,NAME", to its number
+    lines: dict  # from what a line is about, such as "period 3" or "block WHO,NAME", to its number
 
 
 def split_day(data):
-    """The journal and the results of the text of a day, which the line `results` parts; None where it isn't there."""
+    """The journal and the results of the text of a day, which the line `results` separates; None if there is no such line."""
     line = re.search(rb"^results\r?\n", data, re.MULTILINE)
     return line and (data[: line.start()], data[line.end() :])
 
@@ -32,7 +32,7 @@ def number(field):
 
 def expected_lines(problem):
     """For each line of the results: what it is about, its fields that are known beforehand, and how many numbers or words
-    come behind them."""
+    come after them."""
     yield "the day", ["day", str(problem.periods)], ""
     yield "the welfare", ["welfare"], "n"
     for period in range(1, problem.periods + 1):
@@ -43,8 +43,8 @@ def expected_lines(problem):
 
 
 def line_values(line, known, behind):
-    """The values of a line behind its known fields: numbers, and for an `a` whether the word is `accepted`. None where it
-    isn't such a line."""
+    """The values of a line after its known fields: numbers, and for an `a` whether the word is `accepted`. None if it isn't
+    such a line."""
     fields = line.split(b",")
     if fields[: len(known)] != [field.encode() for field in known] or len(fields) != len(known) + len(behind):
         return None
@@ -67,17 +67,18 @@ def beginning(line):
 
 
 def read_results(problem, data):
-    """The results that a text is for this problem, and what is wrong with its form; results are None where something is."""
+    """The results that a text is for this problem, and what is wrong with its form; results are None if something is."""
     wrong, lines, values = [], {}, []
     if not data.endswith(b"\n"):
-        wrong.append("the last line of the results isn't ended")
+        wrong.append("the last line of the results has no line end")
     found = data.removesuffix(b"\n").split(b"\n")
     expected = list(expected_lines(problem))
     last = 0  # the last line that was found
     wanted = [tuple(field.encode() for field in known) for _, known, _ in expected]
     beginnings = [beginning(line) for line in found]
     if set(wanted).isdisjoint(beginnings):
-        return None, [f"no line of it is one of these results: the first is '{shown(found[0])}'" if data else "the results are empty"]
+        none = f"none of its lines belongs to these results: the first is '{shown(found[0])}'"
+        return None, [none if data else "the results are empty"]
     for at, place in matched(wanted, beginnings):
         last = last if place is None else place + 1
         if at is None:
@@ -85,7 +86,7 @@ def read_results(problem, data):
             continue
         about, known, behind = expected[at]
         if place is None:
-            wrong.append(f"results line {last + 1}: there is no line of {about}")
+            wrong.append(f"results line {last + 1}: there is no line for {about}")
             continue
         read = line_values(found[place], known, behind)
         lines[about] = last

@@ -18,8 +18,8 @@ MOST_DAY_COMMANDS, MOST_DAY_PARTICIPANTS = 9_999, 8  # of what `dam day` reads
 
 
 def rescuers(place, blocks):
-    """The places of the blocks that, where they are accepted, make good what the block at this place loses: those that descend
-    from it, its children and theirs. Each stands behind its parent."""
+    """The places of the blocks that, if they are accepted, make up for what the block at this place loses: those that descend
+    from it, its children and theirs. Each comes after its parent."""
     family = {(blocks[place].who, blocks[place].name)}
     found = []
     for other in range(place + 1, len(blocks)):

@@ -35,7 +35,7 @@ class Problem:
         self.rescuers = [rules.rescuers(place, self.blocks) for place in range(len(self.blocks))]
 
     def place(self, who, name):
-        """Where among the blocks the block of this name stands; None where there is none."""
+        """The place of the block with this name among the blocks; None if there is none."""
         named = [at for at, block in enumerate(self.blocks) if (block.who, block.name) == (who, name)]
         return named[0] if named else None
 
@@ -57,7 +57,7 @@ class Outcome(NamedTuple):
 
     cleared: dict  # by period
     bought: dict  # executed hourly buys and accepted buy blocks, by period
-    surpluses: list  # of each block; None where a period of it has no price
+    surpluses: list  # of each block; None if a period of it has no price
     welfare: object
 
 
@@ -67,7 +67,7 @@ def signed(order):
 
 
 def link_faults(problem, accepted):
-    """Why links and groups forbid to accept these places; nothing where they don't."""
+    """Why links and groups forbid these places to be accepted together; nothing if they don't."""
     for place in sorted(accepted):
         parent = problem.parents[place]
         if parent is not None and parent not in accepted:
@@ -79,7 +79,7 @@ def link_faults(problem, accepted):
 
 
 def surplus(order, prices):
-    """What a block gains at the prices; None where it has a volume in a period without one."""
+    """What a block gains at the prices; None if it has a volume in a period without a price."""
     total = 0
     for number, net in signed(order):
         if prices[number] is None:
@@ -115,24 +115,24 @@ def outcome(problem, accepted):
 
 
 def helping(problem, accepted, place):
-    """The accepted blocks that make good what an accepted block loses."""
+    """The accepted blocks that make up for what an accepted block loses."""
     return [other for other in problem.rescuers[place] if other in accepted]
 
 
 def answers_for(problem, accepted, place, surpluses):
-    """What an accepted block gains, with the accepted blocks that make good what it loses; None where a surplus isn't known."""
+    """What an accepted block gains, with the accepted blocks that make up for what it loses; None if a surplus isn't known."""
     gains = [surpluses[other] for other in [place, *helping(problem, accepted, place)]]
     return None if None in gains else sum(gains)
 
 
 def losing(problem, accepted, surpluses):
-    """The accepted places that lose, each with what it loses, of those of which that is known."""
+    """The accepted places that lose, each with what it loses, as far as that is known."""
     gains = {place: answers_for(problem, accepted, place, surpluses) for place in sorted(accepted)}
     return {place: -gain for place, gain in gains.items() if gain is not None and gain < 0}
 
 
 def eligible(problem, accepted):
-    """The welfare of an eligible selection; None of any other."""
+    """The welfare of an eligible selection; None for any other."""
     if any(link_faults(problem, accepted)):
         return None
     found = outcome(problem, accepted)

@@ -35,21 +35,21 @@ def read_sent(data, who, periods):
     commands = list(read_records(data, periods) if first in KINDS else read_table(data, periods))
     for sent in commands:
         if sent.command.who != who:
-            raise Wrong(f"record {sent.record} is of {sent.command.who}: it should have commands of {who} alone")
+            raise Wrong(f"record {sent.record} is of {sent.command.who}: the file should have commands of {who} alone")
     return commands
 
 
 def read_records(data, periods):
     if not data.isascii():
-        raise Wrong("it has a byte over 127")
+        raise Wrong("it has a byte above 127")
     for number, fields in enumerate(text.records(data), 1):
         if len(fields) != 9:
-            raise Wrong(f"record {number} has {len(fields)} field{'s' * (len(fields) != 1)}, where 9 should be")
+            raise Wrong(f"record {number} has {len(fields)} field{'s' * (len(fields) != 1)} and should have 9")
         try:
             if number == 1 and fields[0] == b"day":
                 day = journal.read_day(fields)
                 if day != periods:
-                    raise Wrong(f"it is of a day of {day} periods, and the journal of one of {periods}")
+                    raise Wrong(f"it is for a day of {day} periods, but the journal is for one of {periods}")
                 continue
             command = journal.read_command(fields)
         except journal.BadField as bad:
@@ -62,7 +62,7 @@ def read_table(data, periods):
     try:
         made = order_table.read_orders(data, periods, False)
     except order_table.Wrong as fault:
-        raise Wrong(f"it has no records of a journal, and is no table of orders: {fault}") from None
+        raise Wrong(f"it has no journal records and isn't a table of orders: {fault}") from None
     return [Sent(number, command) for number, command in enumerate(made.commands, 1)]
 
 
@@ -136,7 +136,7 @@ def missing_line(one):
 
 
 def more_line(other, times):
-    """Of a record that is there besides those that were sent; its command was sent so many times."""
+    """What is said of a record that wasn't sent; its command was sent `count` times."""
     shown = journal.command_line(other.command)
     if not times:
         return f"record {other.record} of the journal was not sent: {shown}"
@@ -151,6 +151,6 @@ def place_of(one, sent, published, pairs):
 
 
 def replies(sent, published):
-    """The reply to each command, where all are published as they were sent."""
+    """The reply to each command, if all are published as they were sent."""
     for one, other in zip(sent, published):
         yield f"sent record {one.record} is record {other.record}: {other.reply}: {journal.command_line(one.command)}"

@@ -1,4 +1,4 @@
-"""What is done to any table: times of a date, some periods alone, typed records, and JSON."""
+"""What can be done to any table: times of a date, only some periods, typed records, and JSON."""
 
 import datetime
 import json
@@ -14,17 +14,17 @@ LISTS = {"periods", "volume_mw"}  # of a table that has both
 
 
 class Wrong(Exception):
-    """A date that the day isn't of, or that is none."""
+    """A text that is no date, or a date that doesn't fit the day."""
 
 
 def date_of(words):
-    """The date of a text, as 2026-11-25."""
+    """The date of a text such as 2026-11-25."""
     try:
         if re.fullmatch(r"[0-9]{4}-[0-9]{2}-[0-9]{2}", words):
             return datetime.date.fromisoformat(words)
     except ValueError:
         pass
-    raise Wrong(f"{words}: it should be a day, as 2026-11-25")
+    raise Wrong(f"{words}: it should be a day, such as 2026-11-25")
 
 
 def begins(date, periods):
@@ -37,7 +37,7 @@ def begins(date, periods):
     if first + periods * length != behind:
         hours = int((behind - first) / datetime.timedelta(hours=1))
         days = " or ".join(str(number) for number, part in rules.DAYS.items() if number * part == hours)
-        raise Wrong(f"{date} has {hours} hours, and so {days} periods, and the day has {periods}")
+        raise Wrong(f"{date} has {hours} hours, so {days} periods, but the day has {periods}")
     return [(first + number * length).astimezone(zone) for number in range(periods + 1)]
 
 
@@ -101,7 +101,7 @@ def typed(kind, name, cell, row):
 
 
 def records(rows):
-    """The rows of a table as dictionaries with numbers, lists and None in place of texts."""
+    """The rows of a table as dictionaries with numbers, lists and None instead of texts."""
     rows = iter(rows)
     heads = next(rows)
     kinds = [column(name, heads)["type"] for name in heads]

@@ -4,8 +4,8 @@ HiGHS is given a program of whole and real numbers of which each eligible select
 supporting price of each period at which no accepted block loses, links and groups. It is asked for a solution of more welfare
 than that at hand; then, for each block that is rejected, for one of as much welfare that accepts this block and is the same on
 the blocks before it. Each selection that it gives is looked at exactly, by the rules and in whole numbers: it is better, or it
-is forbidden and HiGHS is asked again. When HiGHS has no more solution, none is better. That it doesn't miss one is believed of
-HiGHS; that what it finds is better is not."""
+is forbidden and HiGHS is asked again. When HiGHS has no more solution, none is better. That HiGHS misses none is taken on trust;
+that what it finds is better is checked."""
 
 import contextlib
 import itertools
@@ -31,7 +31,7 @@ NO_SOLUTION = 2  # a status of scipy's
 
 @contextlib.contextmanager
 def quiet():
-    """Sends to nowhere what HiGHS prints by itself on standard output."""
+    """Discards what HiGHS itself prints on standard output."""
     sys.stdout.flush()
     kept, nowhere = os.dup(1), os.open(os.devnull, os.O_WRONLY)
     os.dup2(nowhere, 1)
@@ -81,8 +81,8 @@ class Model:
     """The program of a problem.
 
     For each step of a period's curve: how much of it is taken, and at least what it gains at the price. Welfare is the value of
-    all buys less the cost of what is taken; what all steps and accepted blocks gain together is never less, and as much exactly
-    where the prices support the execution, which is the one row over the whole day."""
+    all buys less the cost of what is taken; what all steps and accepted blocks gain together is never less, and equal exactly
+    if the prices support the execution, which is the one row over the whole day."""
 
     def __init__(self, problem):
         self.problem = problem
@@ -133,7 +133,7 @@ class Model:
         return price
 
     def gain(self, place, order):
-        """The column of what a block gains: its surplus where it is accepted, else 0."""
+        """The column of what a block gains: its surplus if it is accepted, else 0."""
         accepted, limit = self.accepted[place], order.price / EUR
         volumes = [(number, volume / MW) for number, volume in selection.signed(order)]
         ends = [
@@ -146,7 +146,7 @@ class Model:
         self.program.row([(gain, 1), (accepted, -least)], lower=0)
         surplus = [(self.prices[number], -net) for number, net in volumes]
         total = sum(net for _, net in volumes)
-        # At least the surplus at the price, where it is accepted.
+        # At least the surplus at the price, if it is accepted.
         self.program.row([(gain, 1), *surplus, (accepted, -most)], lower=-limit * total - most)
         self.welfare.append((accepted, -limit * total))
         self.duality += [(gain, 1), (accepted, limit * total)]
@@ -174,10 +174,10 @@ class Model:
         self.program.row(terms, lower=1 - len(accepted))
 
     def next(self, seconds):
-        """A selection that isn't forbidden; None where there is none. Fails where HiGHS doesn't say.
+        """A selection that isn't forbidden; None if there is none. Fails if HiGHS doesn't say.
 
-        Of books with equal prices HiGHS sometimes says that there is none, by its presolve or without it, and is wrong; where
-        it is asked in both ways that is rare."""
+        For books with equal prices HiGHS sometimes says wrongly that there is none, with its presolve or without; if it is
+        asked in both ways, that is rare."""
         for presolve in (True, False):
             answer = self.program.solve(seconds, presolve)
             if answer.x is not None:
@@ -220,7 +220,7 @@ def questions(accepted, welfare, blocks):
 
 
 def better(problem, accepted, welfare, seconds):
-    """A selection that ranks above this eligible one, or None where HiGHS has none; and how that was found."""
+    """A selection that ranks above this eligible one, or None if HiGHS has none; and how that was found."""
     until = time.monotonic() + seconds
     model = Model(problem)
     model.forbid(accepted)
@@ -230,7 +230,7 @@ def better(problem, accepted, welfare, seconds):
             model.ask(least, fixed, ROOM if offered < TOO_MANY else 1)
             left = until - time.monotonic()
             if left <= 0:
-                raise TimeoutError(f"after {seconds:g} seconds and {looked} selections HiGHS has still others to offer")
+                raise TimeoutError(f"after {seconds:g} seconds and {looked} selections HiGHS still offers others")
             other = model.next(left)
             if other is None:
                 break
@@ -239,4 +239,4 @@ def better(problem, accepted, welfare, seconds):
             if value is not None and selection.ranks_above(len(problem.blocks), value, other, welfare, accepted):
                 return best.Found(other, value), "found by HiGHS"
             model.forbid(other)
-    return None, f"HiGHS offers no other, but for {looked} that aren't eligible or rank below" if looked else "HiGHS offers no other"
+    return None, f"HiGHS offers no other, except {looked} that aren't eligible or rank below" if looked else "HiGHS offers no other"

@@ -14,7 +14,7 @@ def read(words, greatest, separators=";"):
         first, last = (int(found[1]), int(found[2] or found[1])) if found else (0, 0)
         if not found or first > last or last > greatest:
             by = separators[0]
-            raise ValueError(f"periods and runs of them, as 8, 8-20 or 1{by}3{by}5-7, from 1 to {greatest}")
+            raise ValueError(f"periods and runs of them, such as 8, 8-20 or 1{by}3{by}5-7, from 1 to {greatest}")
         numbers += range(first, last + 1)
     return numbers
 

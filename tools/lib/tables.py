@@ -9,7 +9,7 @@ from . import decisions, journal, published, selection, spans, text, trades
 
 # The columns of a table of orders that make a journal: `order_table` reads them.
 ORDER = ["participant", "order", "kind", "side", "price_eur_mwh", "periods", "volume_mw", "parent", "group"]
-# What the table of a result's orders has besides.
+# What the table of a result's orders has in addition.
 RESULT = ["offered_mwh", "executed_mwh", "outcome", "surplus_eur", "amount_eur"]
 
 
@@ -88,7 +88,7 @@ def plain_amount(amount, hours):
 
 
 def blocks(day):
-    """A row for each block: its order, what became of it and why, and if it is rejected what its best family was worth."""
+    """A row for each block: its order, what became of it and why, and, if it is rejected, what its best family was worth."""
     family_heads = ["family", "family_gain_eur", "family_welfare_eur"]
     yield [*ORDER, "offered_mwh", "executed_mwh", "outcome", "surplus_eur", *family_heads, "why"]
     found = decisions.decisions(day.problem, day.said.accepted, day.outcome, plain_amount)
@@ -114,7 +114,7 @@ def participants(day):
 
 
 def command_cells(command):
-    """What a command says: its kind, and the cells of `ORDER`, empty where it says nothing."""
+    """What a command says: its kind, and the cells of `ORDER`, empty if it says nothing."""
     match command:
         case journal.Submit(who, name, order):
             return ["submit", *order_cells(selection.Row(who, name, order))]

@@ -13,7 +13,7 @@ LINE_ENDS = re.compile(rb"[\r\n]*")
 @functools.cache
 def field_of(comma):
     """A field begins with a quote, and then goes to the closing quote (two quotes in a row stand for one) with whatever follows
-    it, or to the end of the text where no quote closes it. Else it goes to the next comma or line end."""
+    it, or to the end of the text if no quote closes it. Else it goes to the next comma or line end."""
     comma = re.escape(comma)
     return re.compile(rb'"([^"]*(?:""[^"]*)*)(?:"([^' + comma + rb"\r\n]*))?|([^" + comma + rb"\r\n]*)")
 
@@ -30,7 +30,7 @@ def records(text):
 
 
 def placed_records(text, comma=b","):
-    """The same, each with its offset in the text; and of a text whose fields are parted by something else than commas."""
+    """The same, each with its offset in the text; also of a text whose fields are separated by something other than commas."""
     field_from = field_of(comma)
     at = LINE_ENDS.match(text).end()
     while at < len(text):
@@ -48,7 +48,7 @@ def placed_records(text, comma=b","):
 
 
 def number(text, least, greatest):
-    """The number that a text is: decimal, without leading zeros, a `-` in front of one under zero. None of any other."""
+    """The number that a text is: decimal, without leading zeros, with a `-` if it is below zero. None for any other text."""
     if not NUMBER.fullmatch(text):
         return None
     value = int(text)
@@ -64,7 +64,7 @@ def volume(text):
 
 
 def volumes(text):
-    """Pairs `period:volume`, parted by `;`, by increasing period. None of any other text."""
+    """Pairs `period:volume`, separated by `;`, by increasing period. None for any other text."""
     pairs = []
     for pair in text.split(b";"):
         period, colon, quantity = pair.partition(b":")
@@ -105,7 +105,7 @@ def tenths(volume, thousands=""):
 
 
 def euros(amount, hours, thousands=","):
-    """An amount in cents per MWh times tenths of a MW, over periods of so many hours, in EUR: with as many digits as it may
+    """An amount in cents per MWh times tenths of a MW, over periods of this many hours, in EUR: with as many digits as it may
     have."""
     return fixed(Fraction(amount) * hours / 1_000, 3 if hours == 1 else 5, thousands)
 
@@ -128,5 +128,5 @@ def amount(value, hours, thousands=NARROW):
 
 
 def energy(tenths, hours, thousands=","):
-    """A sum of tenths of a MW, over periods of so many hours, in MWh: with as many digits as it may have."""
+    """A sum of tenths of a MW, over periods of this many hours, in MWh: with as many digits as it may have."""
     return fixed(Fraction(tenths) * hours / 10, 1 if hours == 1 else 3, thousands)

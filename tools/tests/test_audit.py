@@ -310,7 +310,7 @@ class CommandLine(unittest.TestCase):
         data, text = journal_of("cancel,A,B,,,,,,"), b"day,24\n1,refused,UnknownOrder\n2,done\n"
         self.assertEqual(audit(data, text, "--replies")[0], command.DONE)
         for other, said in (
-            (text[:-1], "the last line of the replies isn't ended"),
+            (text[:-1], "the last line of the replies has no line end"),
             (text + b"3,done\n", "replies line 4: '3,done' doesn't belong there"),
             (b"1,done\n" + text, "replies line 1: '1,done' doesn't belong there"),
             (text.replace(b"1,refused,UnknownOrder\n", b""), "replies line 2: '1,refused,UnknownOrder' is missing"),
@@ -340,12 +340,12 @@ class CommandLine(unittest.TestCase):
         if not command.has("scipy"):
             self.skipTest("scipy is missing (Debian's python3-scipy)")
         status, out, err = audit(AUCTION.read_bytes(), printed(AUCTION), "--best", "--by", "highs", "--seconds", "0")
-        self.assertEqual((status, out, "HiGHS has still others to offer" in err), (command.UNDECIDED, b"", True))
+        self.assertEqual((status, out, "HiGHS still offers others" in err), (command.UNDECIDED, b"", True))
 
     def test_lines_that_end_with_two_bytes(self):
         """One line says it, of results, replies and days; and what else is wrong is said too."""
         returned = printed(AUCTION).replace(b"\n", b"\r\n")
-        said = b"the lines end with CR LF, where LF alone should be\n"
+        said = b"the lines end with CR LF instead of LF alone\n"
         self.assertEqual(audit(AUCTION.read_bytes(), returned), (command.DIFFERS, said, ""))
         status, out, _ = audit(AUCTION.read_bytes(), returned.replace(b"welfare,3", b"welfare,4"))
         self.assertEqual((status, out.startswith(said), out.count(b"\n")), (command.DIFFERS, True, 2))
@@ -359,12 +359,12 @@ class CommandLine(unittest.TestCase):
         journal_data, text = AUCTION.read_bytes(), printed(AUCTION)
         replies, day = b"day,24\n1,done\n", journal_data + b"results\n" + text
         for words, one, other, said in (
-            ([], text, journal_data, "journal has results, where a journal should be"),
-            ([], journal_data, journal_data, "results has a journal, where results should be"),
-            ([], replies, text, "journal has replies, where a journal should be; --replies checks replies"),
-            ([], journal_data, replies, "results has replies, where results should be; --replies checks replies"),
-            ([], journal_data, day, "results has the text of a day, where results should be; name it alone"),
-            (["--replies"], journal_data, text, "results has results, where replies should be"),
+            ([], text, journal_data, "journal has results instead of a journal"),
+            ([], journal_data, journal_data, "results has a journal instead of results"),
+            ([], replies, text, "journal has replies instead of a journal; --replies checks replies"),
+            ([], journal_data, replies, "results has replies instead of results; --replies checks replies"),
+            ([], journal_data, day, "results has the text of a day instead of results; give it as the only file"),
+            (["--replies"], journal_data, text, "results has results instead of replies"),
         ):
             status, out, err = audit(one, other, *words)
             self.assertEqual((status, out), (command.NO_INPUT, b""))
@@ -378,7 +378,7 @@ class CommandLine(unittest.TestCase):
             self.assertEqual(audit(data, stray), (command.DIFFERS, said, ""))
         for at, about in (0, "the day"), (1, "the welfare"), (4, "period 3"), (len(lines) - 1, "block OLD,UNIT-7"):
             missing = b"".join(lines[:at] + lines[at + 1 :])
-            said = f"results line {at + 1}: there is no line of {about}\n".encode()
+            said = f"results line {at + 1}: there is no line for {about}\n".encode()
             self.assertEqual(audit(data, missing), (command.DIFFERS, said, ""))
         twice = b"".join(lines[:5] + lines[4:])
         self.assertEqual(audit(data, twice)[1].count(b"\n"), 1)
@@ -389,7 +389,7 @@ class CommandLine(unittest.TestCase):
         status, out, _ = audit(data, printed(AUCTION) + junk)
         lines = out.decode().splitlines()
         self.assertEqual((status, len(lines), lines[-1]), (command.DIFFERS, 21, "and 480 more"))
-        said = b"no line of it is one of these results: the first is '0'\n"
+        said = b"none of its lines belongs to these results: the first is '0'\n"
         self.assertEqual(audit(data, junk), (command.DIFFERS, said, ""))
         self.assertEqual(audit(data, b""), (command.DIFFERS, b"the results are empty\n", ""))
         self.assertEqual(len(audit(data, b"day,24\n" + junk, "--replies")[1].splitlines()), 21)

@@ -31,7 +31,7 @@ class Hand(unittest.TestCase):
         self.check(GOOD.replace(b"day,24", b'"day","24"'))
 
     def test_the_whole_text(self):
-        self.check(b"", ("line 1", "the journal is empty: begin with the day, as day,24,,,,,,,"))
+        self.check(b"", ("line 1", "the journal is empty: begin with the day, such as day,24,,,,,,,"))
         self.check(b"\xef\xbb\xbf" + GOOD, ("line 1", "begins with a byte order mark: save it as plain CSV"))
         self.check(GOOD.decode().encode("utf-16"), ("line 1", "in UTF-16: save it as plain CSV"))
         semicolons = GOOD.replace(b"8:200;9:200", b'"8:200;9:200"').replace(b",", b";")
@@ -43,7 +43,7 @@ class Hand(unittest.TestCase):
         self.check(GOOD.replace(b"close,,,,,,,,\n", b""), ("line 3", "no command closes the book"))
         self.check(GOOD.replace(b"close,,,,,,,,\n", b""), command="replay")
         self.check(GOOD, ("line 4", "a journal for `dam day` has no close: remove the line"), command="day")
-        self.check(GOOD.replace(b"day,24,,,,,,,\n", b""), ("line 1", "the first line should be the day, as day,24,,,,,,,"))
+        self.check(GOOD.replace(b"day,24,,,,,,,\n", b""), ("line 1", "the first line should be the day, such as day,24,,,,,,,"))
         many = b"day,24,,,,,,,\n" + b"cancel,A,B,,,,,,\n" * 3
         self.check(many, *[("line %d, order" % line, "A has no order B here") for line in (2, 3, 4)], command="replay")
 
@@ -56,26 +56,26 @@ class Hand(unittest.TestCase):
 
     def test_results_are_no_journal(self):
         text = support.printed(AUCTION)
-        self.check(GOOD + b"results\n" + text, ("line 5", "the results of a day begin here, which are no part of a journal"))
+        self.check(GOOD + b"results\n" + text, ("line 5", "the results of a day begin here, which aren't part of a journal"))
         found = told(text)
-        self.assertEqual((len(found), found[1]), (3, "line 2: these are results, which are no part of a journal: tools/audit reads both"))
+        self.assertEqual((len(found), found[1]), (3, "line 2: these are results, which aren't part of a journal: tools/audit reads both"))
 
     def test_records(self):
-        self.check(GOOD.replace(b"day,24,,,,,,,", b"day,24"), ("line 1", "it has 2 fields and should have 9, so that 7 commas are"
+        self.check(GOOD.replace(b"day,24,,,,,,,", b"day,24"), ("line 1", "it has 2 fields and should have 9, so 7 commas are"
                    " missing: write day,24,,,,,,,"))
         self.check(GOOD.replace(b"close,,,,,,,,", b"close"), ("line 4", "8 commas are missing: write close,,,,,,,,"))
-        self.check(GOOD.replace(b"8:450,,", b"8:450,"), ("line 2", "it has 8 fields and should have 9, so that a comma is missing"))
+        self.check(GOOD.replace(b"8:450,,", b"8:450,"), ("line 2", "it has 8 fields and should have 9, so a comma is missing"))
         self.check(GOOD.replace(b"8:450,,", b"8:450,,,"), ("line 2", "it has 10 fields and should have 9: remove 1 comma at its end"))
         self.check(GOOD.replace(b"close", b"# the end\n\n,,,,,,,,\nclose"), ("line 4", "no comments"), ("line 6", "nothing in the"))
-        self.check(GOOD.replace(b"close", b"day,24,,,,,,,\nclose"), ("line 4", "the day is there twice"))
+        self.check(GOOD.replace(b"close", b"day,24,,,,,,,\nclose"), ("line 4", "the day appears twice"))
         self.check(GOOD.replace(b"submit,NORD", b"Submit,NORD"), ("line 2, command", "'Submit': it should be submit, amend, cancel"))
         self.check(GOOD.replace(b"close", b"stop,,,,,,,,\nclose"), ("line 4, command", "'stop': it should be submit, amend, cancel or"))
         self.check(GOOD.replace(b"day,24", b"day,22"), ("line 1, periods", "'22': the number of periods should be 23, 24, 25 (hours)"))
-        self.check(GOOD.replace(b"day,24,", b"day, 24,A"), ("line 1, periods", "a space round it: write 24"), ("line 1, order", "empty"))
+        self.check(GOOD.replace(b"day,24,", b"day, 24,A"), ("line 1, periods", "a space around it: write 24"), ("line 1, order", "empty"))
 
     def test_fields(self):
         for line, old, new, field, part in (
-            (HOUR, b"NORD", b" NORD", "participant", "' NORD': there is a space round it: write NORD"),
+            (HOUR, b"NORD", b" NORD", "participant", "' NORD': there is a space around it: write NORD"),
             (HOUR, b"NORD", b"Nord", "participant", "'Nord': it should be 1 to 8 capitals A to Z: write NORD"),
             (HOUR, b"NORD", b"NORD2", "participant", "'NORD2': it should be 1 to 8 capitals A to Z"),
             (HOUR, b"NORD", b"", "participant", "it is empty: it should be 1 to 8 capitals"),
@@ -90,14 +90,14 @@ class Hand(unittest.TestCase):
             (HOUR, b"1200", b"12 EUR", "price", "'12 EUR': it should be whole cents"),
             (HOUR, b"8:450", b"8:45.5", "volumes", "'45.5' in '8:45.5' should be whole tenths of a MW from 1 to 99999: write 455 for"),
             (HOUR, b"8:450", b"8:0", "volumes", "'0' in '8:0' should be whole tenths of a MW from 1 to 99999"),
-            (HOUR, b"8:450", b"450", "volumes", "'450' should be period:volume, as 8:450"),
+            (HOUR, b"8:450", b"450", "volumes", "'450' should be period:volume, such as 8:450"),
             (HOUR, b"8:450", b"0:450", "volumes", "'0' in '0:450' should be a period from 1 to 100"),
-            (HOUR, b"8:450", b"8:450;9:450", "volumes", "an hourly order has one pair, as 8:450, and not 2"),
+            (HOUR, b"8:450", b"8:450;9:450", "volumes", "an hourly order has one pair, such as 8:450, not 2"),
             (HOUR, b"8:450", b"", "volumes", "it is empty: it should be period:volume"),
             (HOUR, b"8:450,,", b"8:450,K1,", "parent", "'K1' should be empty in an hourly order"),
             (BLOCK, b"8:200;9:200", b"8-9:200", "volumes", "'8-9:200' has a range of periods: write a pair for each"),
             (BLOCK, b"8:200;9:200", b"9:200;8:200", "volumes", "period 8 stands after 9: write the pairs by increasing period"),
-            (BLOCK, b"8:200;9:200", b"8:200;8:100", "volumes", "period 8 is there twice"),
+            (BLOCK, b"8:200;9:200", b"8:200;8:100", "volumes", "period 8 appears twice"),
             (BLOCK, b"8:200;9:200", b"8:200; 9:200", "volumes", "has a space: write 9:200"),
             (BLOCK, b"8:200;9:200", b"8:200;", "volumes", "one `;` too many"),
             (BLOCK, b"9:200,,", b"9:200,,pump", "group", "write PUMP"),
@@ -110,7 +110,7 @@ class Hand(unittest.TestCase):
     def test_what_the_book_refuses(self):
         child = b"submit,GAS,UNIT-2,block,sell,6800,8:200,"
         for line, field, part in (
-            (b"submit,NORD,WIND-9,hour,sell,1200,25:450,,", "volumes", "the day has the periods 1 to 24, and no 25"),
+            (b"submit,NORD,WIND-9,hour,sell,1200,25:450,,", "volumes", "the day has periods 1 to 24, so there is no period 25"),
             (HOUR, "order", "NORD has an order WIND-8 since line 2: amend that one, or take another name"),
             (child + b"UNIT-9,", "parent", "GAS has no order UNIT-9 here: submit the parent first"),
             (b"submit,NORD,K,block,sell,1,8:1,WIND-8,", "parent", "WIND-8 of line 2 is an hourly order: name a block"),
@@ -187,7 +187,8 @@ class CommandLine(unittest.TestCase):
         data = journal_of("submit,NORD,WIND-8,hour,sell,12.50,8:450,,", *["x,,,,,,,,"] * 6)
         status, _, err = tool("table", "--rows", "commands", "-", data=data)
         lines = err.splitlines()
-        self.assertEqual((status, lines[0]), (command.NO_INPUT, "table: standard input is no journal: input: BadField in record 2 field 6"))
+        said = "table: standard input isn't a journal: input: BadField in record 2 field 6"
+        self.assertEqual((status, lines[0]), (command.NO_INPUT, said))
         self.assertIn("  line 2, price: '12.50': it should be whole cents", lines[1])
         self.assertEqual((len(lines), lines[-1]), (7, "  and 2 more: see tools/lint"))
 

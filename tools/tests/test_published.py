@@ -151,10 +151,10 @@ class Times(unittest.TestCase):
         self.assertEqual(rows[0].split(",")[:2], ["period", "begins"])
         self.assertEqual([row.split(",")[1] for row in rows[1:]], [f"2026-11-25T{hour}:00:00+01:00" for hour in ("07", "08", "18")])
         for words, said in (
-            (["--date", "2026-03-29"], "2026-03-29 has 23 hours, and so 23 or 92 periods, and the day has 24"),
-            (["--date", "29.3.2026"], "it should be a day, as 2026-11-25"),
-            (["--date", "20261125"], "it should be a day, as 2026-11-25"),
-            (["--date", "2026-02-29"], "it should be a day, as 2026-11-25"),
+            (["--date", "2026-03-29"], "2026-03-29 has 23 hours, so 23 or 92 periods, but the day has 24"),
+            (["--date", "29.3.2026"], "it should be a day, such as 2026-11-25"),
+            (["--date", "20261125"], "it should be a day, such as 2026-11-25"),
+            (["--date", "2026-02-29"], "it should be a day, such as 2026-11-25"),
             (["--date", "2026-11-25", "--rows", "orders"], "--date has no use with orders"),
             (["--only", "3", "--rows", "orders"], "--only has no use with orders"),
             (["--only", "25"], "from 1 to 24"),

@@ -103,18 +103,18 @@ class Worked(unittest.TestCase):
 
     def test_what_no_participant_sends(self):
         for own, said in (
-            ([OWN[0], "cancel,B,H1,,,,,,"], "record 2 is of B: it should have commands of A alone"),
-            (["day,23,,,,,,,", *OWN], "it is of a day of 23 periods, and the journal of one of 24"),
-            ([OWN[0], "cancel,A,H1"], "record 2 has 3 fields, where 9 should be"),
+            ([OWN[0], "cancel,B,H1,,,,,,"], "record 2 is of B: the file should have commands of A alone"),
+            (["day,23,,,,,,,", *OWN], "it is for a day of 23 periods, but the journal is for one of 24"),
+            ([OWN[0], "cancel,A,H1"], "record 2 has 3 fields and should have 9"),
             ([OWN[0], OWN[1].replace("200", "2.00")], "field 6 of record 2 breaks its rule"),
             ([OWN[0], "day,24,,,,,,,"], "field 1 of record 2 breaks its rule"),
-            (["cancel,A,H\u00e9,,,,,,"], "it has a byte over 127"),
+            (["cancel,A,H\u00e9,,,,,,"], "it has a byte above 127"),
         ):
             self.assertEqual(audit(PUBLISHED, text_of(own)), (command.NO_INPUT, "", f"audit: sent isn't what A sent: {said}\n"))
         for own in (b"welfare,0\n", b"", b"\xff"):
             status, out, err = audit(PUBLISHED, own)
             self.assertEqual((status, out), (command.NO_INPUT, ""))
-            self.assertIn("audit: sent isn't what A sent: it has no records of a journal, and is no table of orders: ", err)
+            self.assertIn("audit: sent isn't what A sent: it has no journal records and isn't a table of orders: ", err)
 
     def test_command_line(self):
         for words in (
@@ -128,7 +128,7 @@ class Worked(unittest.TestCase):
             self.assertEqual(tool("audit", AUCTION, *words)[:2], (command.COMMAND_LINE, b""), words)
         self.assertEqual(tool("audit", "-", "--sent", "-", "--participant", "GAS")[0], command.COMMAND_LINE)
         status, _, err = audit(printed(AUCTION), text_of(OWN))
-        self.assertEqual((status, err), (command.NO_INPUT, "audit: journal has results, where a journal should be\n"))
+        self.assertEqual((status, err), (command.NO_INPUT, "audit: journal has results instead of a journal\n"))
 
 
 class Drawn(unittest.TestCase):

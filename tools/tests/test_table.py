@@ -146,16 +146,16 @@ class Orders(unittest.TestCase):
         self.assertIn("line 3, column order: the participant has an order of that name", self.wrong(HOUR, HOUR))
         line = self.wrong("A,K2,block,buy,1,1,5,K1,", "A,K1,block,buy,1,1,5,,")
         self.assertTrue(line.startswith("line 2, column parent: the participant has no order of the parent's name"), line)
-        self.assertIn("line 3, column parent: the parent is no block", self.wrong(HOUR, "NORD,K,block,buy,1,1,5,WIND-8,"))
+        self.assertIn("line 3, column parent: the parent is not a block", self.wrong(HOUR, "NORD,K,block,buy,1,1,5,WIND-8,"))
         blocks = [f"A,K{number},block,buy,1,1,5,," for number in range(25)]
         self.assertIn("line 26, a book holds at most 24 blocks (BlocksFull)", self.wrong(*blocks))
 
     def test_tables_that_are_none(self):
-        self.assertIn("line 1, column 3: 'typ' is no column", self.wrong(header=HEADER.replace("kind", "typ")))
-        self.assertIn("'side' is there twice", self.wrong(header=HEADER.replace("kind", "side")))
+        self.assertIn("line 1, column 3: 'typ' is not a column", self.wrong(header=HEADER.replace("kind", "typ")))
+        self.assertIn("'side' appears twice", self.wrong(header=HEADER.replace("kind", "side")))
         self.assertIn("there is no column kind", self.wrong(header=HEADER.replace("kind,", "")))
         self.assertIn("the table is empty", self.wrong(header=""))
-        self.assertIn("line 2, it has 10 cells, and the header 9", self.wrong(BLOCK + ",1"))
+        self.assertIn("line 2, it has 10 cells, but the header has 9", self.wrong(BLOCK + ",1"))
         with self.assertRaises(order_table.Wrong) as fault:
             order_table.read_orders(HEADER.encode() + b"\nN\xd8RD", 24, True)
         self.assertIn("line 2: the table isn't in UTF-8", str(fault.exception))
@@ -228,7 +228,7 @@ class CommandLine(unittest.TestCase):
         texts = [AUCTION, AUCTION.with_suffix(".stdout")]
         status, out, err = tool("table", "--journal", "-", data=f"{HEADER}\n{HOUR},x\n".encode())
         self.assertEqual((status, out), (command.NO_INPUT, b""))
-        self.assertEqual(err, "table: standard input: line 2, it has 10 cells, and the header 9\n")
+        self.assertEqual(err, "table: standard input: line 2, it has 10 cells, but the header has 9\n")
         for words in (
             ["--journal", AUCTION, AUCTION],
             ["--journal", AUCTION, "--rows", "orders"],
@@ -248,7 +248,7 @@ class CommandLine(unittest.TestCase):
         status, _, err = tool("table", "-", data=b"day,24,,,,,,,\nresults\nday,24\n")
         self.assertEqual(
             (status, err),
-            (command.NO_INPUT, "table: no command of standard input closes the book, so that it has no results\n"),
+            (command.NO_INPUT, "table: no command of standard input closes the book, so it has no results\n"),
         )
         self.assertEqual(tool("table", AUCTION, AUCTION.with_suffix(".stdout"), "-o", "/nowhere/a.csv")[0], command.NO_INPUT)
 
