@@ -22,6 +22,7 @@ PACKAGES = {
 
 # The statuses of all tools.
 DONE, DIFFERS, COMMAND_LINE, NO_INPUT, UNDECIDED, NO_PACKAGE = range(6)
+INTERRUPTED = 130  # as shells have it for Ctrl-C
 
 
 class Stop(Exception):
@@ -33,12 +34,15 @@ class Stop(Exception):
 
 
 def run(name, main):
-    """Runs a tool's `main`, and ends with its status. A fault is one line on standard error."""
+    """Runs a tool's `main`, and ends with its status. A fault, or Ctrl-C, is one line on standard error."""
     try:
         sys.exit(main())
     except Stop as stop:
         print(f"{name}: {stop}", file=sys.stderr)
         sys.exit(stop.status)
+    except KeyboardInterrupt:
+        print(f"{name}: interrupted", file=sys.stderr)
+        sys.exit(INTERRUPTED)
     except BrokenPipeError:
         os.dup2(os.open(os.devnull, os.O_WRONLY), sys.stdout.fileno())
         sys.exit(NO_INPUT)
