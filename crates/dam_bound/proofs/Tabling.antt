@@ -222,9 +222,6 @@ pub whole_lot : (hours : List (List Step)) (blocks : List Block) (rows : List Ro
 whole_lot hours blocks rows k b count lot side all so_far = record { side_is = side; as_many = so_far.as_many ∙ all; each = so_far.each }
 
 -- ---- the lots so far
-pub no_lot : (hours : List (List Step)) (blocks : List Block) (rows : List Row) → AreLots hours blocks rows 0 []
-no_lot hours blocks rows = record { as_many = refl; each = λ k b lot e f. absurd (cc) }
-
 pub lot_more : (hours : List (List Step)) (blocks : List Block) (old new : List Row) (k : ℕ) (b : Block) (lots lots' : List LotState) (lot : LotState)
     → Keeps old new → slice_get blocks k ≡ Some b → IsLot hours blocks new k b lot → lots' ≡ lots ++ lot ∷ []
     → AreLots hours blocks old k lots → AreLots hours blocks new (k + 1) lots'

@@ -97,7 +97,7 @@ fn periods_of<A: Allocator + Copy, B: Allocator>(
 }
 
 impl<A: Allocator + Copy> Relaxed<A> {
-    /// The levels and the tables of a problem. The error is want of memory.
+    /// The levels and the tables of a problem. The error is out of memory.
     pub fn build<B: Allocator>(alloc: A, problem: &Problem<B>) -> Result<Relaxed<A>, AllocError>
         ensures { IfOk result (λ relaxed. relaxed ≡ without_rows problem.now) }
     {
@@ -173,7 +173,7 @@ impl<A: Allocator> Relaxed<A> {
     /// where the extension has no bound or one under `least`; nothing is then promised of the day.
     /// `true` doesn't say that the bound reaches `least`.
     ///
-    /// Only the periods in which the block has a volume are looked at anew, and no further than until
+    /// Only the periods in which the block has a volume are changed, and no further than until
     /// the bound is seen to be under `least`. Takes no memory.
     pub fn extend(&self, day: &mut Day, depth: usize, accept: bool, least: u64) -> bool
         requires depth { depth < length self.now.blocks }
@@ -210,7 +210,7 @@ impl<A: Allocator> Relaxed<A> {
     /// is decided; whether it did. `false` where some period doesn't balance with the new decision;
     /// nothing is then promised of the day.
     ///
-    /// Only the periods in which the block has a volume are looked at anew. Takes no memory.
+    /// Only the periods in which the block has a volume are changed. Takes no memory.
     pub fn turn(&self, day: &mut Day, place: usize, accept: bool) -> bool
         requires place { place < length self.now.blocks }
         requires day { (prefix : List Bool) × (length prefix ≡ length self.now.blocks)

@@ -93,9 +93,6 @@ kept rows more all e span l =
       ap (λ (ws : List Row). rows_at ws span) e ∙ part_before rows more span.first (span.first + span.steps + 1) (omega arith) (omega (arith, l)),
     )
 
-pub kept_all : (rows all : List Row) → all ≡ rows → Keeps rows all
-kept_all rows all e span l = (subst (λ (ws : List Row). span.first + span.steps < length ws) (sym e) l, ap (λ (ws : List Row). rows_at ws span) e)
-
 pub keeps_on : (rows more all : List Row) → Keeps rows more → Keeps more all → Keeps rows all
 keeps_on rows more all f g span l =
     let one = f span l in let two = g span one.0 in

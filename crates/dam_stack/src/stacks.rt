@@ -110,7 +110,7 @@ fn find(rows: &[Row], height: u32, volume: u32) -> usize
     place
 }
 
-/// The number in less room. If it doesn't fit, so many rows wouldn't either.
+/// The number in 32 bits. If it doesn't fit, there is no memory for that number of rows.
 fn narrow(number: usize) -> Result<u32, AllocError>
     ensures { IfOk result (λ narrow. narrow ≡ number) }
 {
@@ -174,7 +174,7 @@ impl<A: Allocator> Stacks<A> {
         }
     }
 
-    /// Makes room for so many more rows. The error is out of memory.
+    /// Makes room for that number of further rows. The error is out of memory.
     pub fn reserve(&mut self, rows: usize) -> Result<(), AllocError>
         ensures { self.new ≡ self.old }
     {
@@ -228,7 +228,7 @@ impl<A: Allocator> Stacks<A> {
         place_of(self.stack(span), unit, near as usize)
     }
 
-    /// So many units of a stack; `None` exactly if it has fewer.
+    /// The first `units` units of a stack; `None` exactly if it has fewer.
     ///
     /// The look-up goes from the row `near`, which may be any.
     fn taken(&self, span: Span, units: u32, near: u32) -> Option<Taken>
@@ -321,8 +321,8 @@ impl<A: Allocator> Stacks<A> {
         (taken, saved(demand.worth, taken.cost))
     }
 
-    /// So many units less as the step has, of a stack; with it, what they cost less than before, less the
-    /// cost of the step.
+    /// What is taken of a stack, less the units of the step; with it, by how much this costs less than
+    /// before, less the cost of the step.
     fn fewer(&self, span: Span, taken: Taken, cut: Cut) -> Option<(Taken, i64)>
         requires stack { (ss : List Step) × IsStackAt self.now span ss }
         requires taken { (ss : List Step) × IsHour ss × IsTaken ss taken }
@@ -337,8 +337,8 @@ impl<A: Allocator> Stacks<A> {
         Some((left, saved(taken.cost, whole)))
     }
 
-    /// So many units more as the step has, of a stack; with it, what they cost less than before, and the
-    /// cost of the step.
+    /// What is taken of a stack, and the units of the step; with it, by how much this costs less than
+    /// before, plus the cost of the step.
     fn more(&self, span: Span, taken: Taken, cut: Cut) -> Option<(Taken, i64)>
         requires stack { (ss : List Step) × IsStackAt self.now span ss }
         requires taken { (ss : List Step) × IsHour ss × IsTaken ss taken }
