@@ -10,7 +10,7 @@ import subprocess
 import sys
 
 PAGE = "../docs/MEASURED.md"
-PARTS = ["quick", "families", "workers", "looks", "quarters"]
+PARTS = ["quick", "families", "growth", "workers", "looks", "quarters"]
 COLUMNS = ["What", "Figure", "Target", "Holds", "Details"]
 HEAD = """# Measured figures
 
@@ -41,7 +41,7 @@ def state():
     if printed(["git", "status", "--porcelain", "--", "..", f":!{PAGE}"]):
         commit += " with changes"
     machine = f"{os.cpu_count()} processors ({processor()}), load {os.environ.get('LOAD', 'unknown')} before"
-    return f"{datetime.date.today()}, commit {commit}, {machine}, kit `{printed(['rt', 'version'])}`"
+    return f"{datetime.date.today()}, commit {commit}, {machine},\nkit `{printed(['rt', 'version'])}`"
 
 
 def about(part):
@@ -55,11 +55,18 @@ def row(fields):
     return f"| {' | '.join(field.replace('|', '/') for field in fields)} |"
 
 
-def section(part):
+def figures(part):
+    """The part's own tables if it wrote some, and else one with a row for each figure."""
+    if os.path.exists(f"out/{part}.md"):
+        with open(f"out/{part}.md", encoding="utf-8") as text:
+            return text.read()
     with open(f"out/{part}.tsv", encoding="utf-8") as text:
         rows = [line.rstrip("\n").split("\t") for line in text]
-    table = [row(COLUMNS), "|---" * len(COLUMNS) + "|", *map(row, rows)]
-    return f"## `bench/run {part}`\n\n{about(part)}\n\nMeasured: {state()}.\n\n" + "\n".join(table) + "\n"
+    return "\n".join([row(COLUMNS), "|---" * len(COLUMNS) + "|", *map(row, rows)]) + "\n"
+
+
+def section(part):
+    return f"## `bench/run {part}`\n\n{about(part)}\n\nMeasured: {state()}.\n\n{figures(part)}"
 
 
 def sections():

@@ -37,7 +37,7 @@ def journals():
     baseline = [BASELINE, "day"]
     compare("dam day compared with the baseline with threads, 9,999 commands", [DAM, "day"], baseline, DAY, 2)
     what = "dam day compared with the baseline with threads, peak memory"
-    note = "the baseline keeps one book, and a gate that shows versions three; each command and order has room for 100 volumes"
+    note = "the baseline keeps one book, and a gate that shows versions two; each command and order has room for 100 volumes"
     ratio(what, [peak([DAM, "day"], DAY)], [peak(baseline, DAY)], 1.5, shown=MIB, note=note)
     compare("dam day compared with dam replay, 9,999 commands", [DAM, "day"], [DAM, "replay"], DAY, None)
 

@@ -42,7 +42,7 @@ static void take(struct sip *sip, uint64_t word) {
     sip->a ^= word;
 }
 
-/* The folded hash of the participant A, in eight places, and a name, in twelve. */
+/* The folded hash of the participant A, in eight places, a name, in twelve, and four zeros. */
 static uint32_t hash(const char *name) {
     struct sip sip = {0x736f6d6570736575, 0x646f72616e646f6d, 0x6c7967656e657261, 0x7465646279746573};
     uint64_t front = 0, rest = 0;
@@ -52,7 +52,8 @@ static uint32_t hash(const char *name) {
         rest |= (uint64_t)name[at] << 8 * (at - 8);
     take(&sip, 'A');
     take(&sip, front);
-    take(&sip, (uint64_t)(8 + LETTERS) << 56 | rest);
+    take(&sip, rest);
+    take(&sip, (uint64_t)(8 + LETTERS + 4) << 56);
     sip.c ^= 0xff;
     for (int round = 0; round < 3; round++)
         mix(&sip);

@@ -20,7 +20,7 @@ from preload import EVERY, SECONDS, Printed, Program, Refusal
 
 EXAMPLES = Path(__file__).resolve().parents[2] / "examples"
 SHOWN = 10  # differences of a row
-FEW, MANY = 40, 400  # runs of a row, without --all
+FEW, MANY, EACH = 40, 400, 10_000  # runs of a row, without --all; no row has as many calls as EACH
 
 
 class Row(NamedTuple):
@@ -58,29 +58,41 @@ ONE_PARTICIPANT = records("auction-day.csv", lambda record: b",GAS," in record)
 BROKEN = AUCTION + b"amend,NORD\n"
 NOT_ASCII = b"day,24,,,,,,,\n\xff"
 QUOTED = b"".join(b'"%b"\r\n' % record.replace(b",", b'","') for record in AUCTION.splitlines())
-TWO_ORDERS = b"day,24,,,,,,,\nsubmit,A,B1,hour,buy,5000,1:10,,\nsubmit,B,S1,hour,sell,3000,1:10,,\n"
+DAY = b"day,24,,,,,,,\n"
+CLOSE = b"close,,,,,,,,\n"
+TWO_ORDERS = DAY + b"submit,A,B1,hour,buy,5000,1:10,,\nsubmit,B,S1,hour,sell,3000,1:10,,\n"
+TWO_BLOCKS = TWO_ORDERS + b"submit,A,K1,block,sell,4000,1:5,,\nsubmit,A,K2,block,sell,4000,1:5,K1,\n"
+CLOSED_FIRST = (DAY + CLOSE + b"submit,A,B1,hour,buy,5000,1:10,,\namend,A,B1,,,5000,1:10,,\ncancel,A,B1,,,,,,\n" + CLOSE)
+BAD_FIELD = DAY + b"submit,A,B1,hour,buy,50.00,1:10,,\n"
 
 CUTTINGS = [["--workers", "1", "--cut", "0"], ["--workers", "2", "--cut", "3"], ["--workers", "8", "--cut", "8"]]
 
 
 def memory_rows():
-    """Each call for memory refused alone, and with all that come later."""
+    """Each call for memory refused alone, and with all that come later: in small runs each of them, also without --all."""
     inputs = [
+        ("replay of a book that is closed first", ["replay"], CLOSED_FIRST, EACH),
+        ("clear of two orders", ["clear"], TWO_ORDERS + CLOSE, EACH),
+        ("clear of two blocks", ["clear"], TWO_BLOCKS + CLOSE, EACH),
+        ("day of two orders", ["day"], TWO_ORDERS, EACH),
+        ("no word", [], b"", EACH),
+        ("help", ["--help"], b"", EACH),
+        ("nine workers", ["clear", "--workers", "9"], b"", EACH),
+        ("replay of a bad field", ["replay"], BAD_FIELD, EACH),
+        ("clear of an open book", ["clear"], TWO_ORDERS, EACH),
+        ("day with a close", ["day"], CLOSED_FIRST, EACH),
+        ("clear of two blocks that ends unfinished", ["clear", "--cut", "0", "--nodes", "1"], TWO_BLOCKS + CLOSE, EACH),
         ("replay of the auction day", ["replay"], AUCTION, MANY),
         ("replay of the first day", ["replay"], FIRST, FEW),
         ("replay of a quoted journal", ["replay"], QUOTED, FEW),
         ("replay of a broken journal", ["replay"], BROKEN, FEW),
         ("replay of a byte over 127", ["replay"], NOT_ASCII, FEW),
         ("clear of the auction day", ["clear"], AUCTION, MANY),
-        ("clear of an open book", ["clear"], OPEN_AUCTION, FEW),
+        ("clear of the open auction day", ["clear"], OPEN_AUCTION, FEW),
         ("clear that ends unfinished", ["clear", "--workers", "1", "--cut", "0", "--nodes", "1"], AUCTION, FEW),
         ("day of the auction day", ["day"], OPEN_AUCTION, MANY),
         ("day of the first day", ["day"], OPEN_FIRST, FEW),
-        ("day of two orders", ["day"], TWO_ORDERS, MANY),
-        ("day with a close given", ["day"], AUCTION, FEW),
-        ("no word", [], b"", FEW),
-        ("help", ["--help"], b"", FEW),
-        ("nine workers", ["clear", "--workers", "9"], b"", FEW),
+        ("day of the closed auction day", ["day"], AUCTION, FEW),
     ]
     inputs += [(f"{word} by {' '.join(plan)}", [word, *plan], data, FEW)
                for plan in CUTTINGS for word, data in [("clear", AUCTION), ("day", OPEN_AUCTION)]]
@@ -138,6 +150,7 @@ class Runs:
         self.pool = ThreadPoolExecutor(os.cpu_count() or 1)
         self.answers = {}
         self.passed = self.failed = 0
+        self.tried = self.calls = 0  # the calls that were refused, and all that could be
 
     def answer(self, words, data):
         key = (tuple(words), data)
@@ -166,6 +179,10 @@ class Runs:
         if row.kind == "memory":
             self.check(f"{row.about}: {total} calls are counted", total > 0)
         numbers = self.numbers(row, total)
+        if row.runs > MANY:
+            self.check(f"{row.about}: each of {total} calls is refused", len(numbers) == total + 1)
+        self.tried += len(numbers)
+        self.calls += total + 1
         found = list(self.pool.map(lambda number: self.difference(row, answer, number), numbers))
         wrong = [line for line in found if line]
         self.passed += found.count(None)
@@ -176,10 +193,11 @@ class Runs:
 
     def run_rows(self, about, rows):
         begun, passed, failed = time.monotonic(), self.passed, self.failed
+        tried, calls = self.tried, self.calls
         for row in rows:
             self.run(row)
-        took = time.monotonic() - begun
-        print(f"{about}: {self.passed - passed} runs right, {self.failed - failed} wrong, {took:.1f} s", flush=True)
+        took, runs = time.monotonic() - begun, f"{self.tried - tried} of {self.calls - calls} runs"
+        print(f"{about}: {runs}, {self.passed - passed} right, {self.failed - failed} wrong, {took:.1f} s", flush=True)
 
     def check(self, about, is_right):
         self.passed += is_right

@@ -11,6 +11,7 @@
 The tables and their columns are those of tools/table, which docs/TABLES.md describes. Results are checked against the journal as
 they are read: `Day.wrong` lists what breaks the market rules, and is empty for every result of the program."""
 
+import ctypes
 import os
 import shutil
 import subprocess
@@ -29,6 +30,9 @@ __all__ = ["Day", "Fault", "Journal", "TABLES", "clear", "frame", "journal_of_or
 TABLES = tuple(tables.TABLES)
 # Where the program is built, in the tree that this module is part of.
 BUILT = Path(__file__).resolve().parents[2] / "crates" / "dam_cli" / "out" / "dam_cli"
+# And where the library for C is, if library/build has made it.
+LIBRARY = Path(__file__).resolve().parents[2] / "library" / "out" / "libdam.so"
+MOST_NODES = 67_108_864
 
 
 class Fault(Exception):
@@ -80,9 +84,43 @@ def program_of(program):
     return found
 
 
+class Answer(ctypes.Structure):
+    """What the library answers: see library/dam.h."""
+
+    _fields_ = [("status", ctypes.c_uint8), ("length", ctypes.c_size_t)]
+
+
+def cleared_by_library(text):
+    """What `dam clear` prints for the text, or the fault, by the library for C; names are hashed with random bytes."""
+    call = ctypes.CDLL(os.fspath(LIBRARY)).dam_clear_seeded
+    call.restype = Answer
+    secret = os.urandom(16)
+    given = *sized(secret), *sized(text), ctypes.c_uint32(MOST_NODES)
+    room = 1 << 16
+    while True:
+        buffer = ctypes.create_string_buffer(room)
+        answer = call(*given, buffer, ctypes.c_size_t(room))
+        if answer.length <= room:
+            break
+        room = answer.length
+    if answer.status:
+        raise Fault(buffer.raw[: answer.length].decode(errors="replace").strip(), answer.status)
+    return buffer.raw[: answer.length]
+
+
+def sized(data):
+    """The arguments that stand for some bytes."""
+    return ctypes.c_char_p(data), ctypes.c_size_t(len(data))
+
+
 def clear(source, program=None, workers=None, cut=None, nodes=None, timeout=None):
-    """The results of a journal, by a run of the program. The options are those of `dam clear`; none changes the answer."""
+    """The results of a journal, by a run of the program. The options are those of `dam clear`; none but a limit on nodes changes the
+    answer. If neither a program nor an option is named, and the library for C was built, the library is called instead: it gives the
+    same answer, on one thread."""
     read = as_journal(source)
+    is_free = (program, workers, cut, nodes, timeout) == (None,) * 5 and "DAM" not in os.environ
+    if is_free and LIBRARY.exists():
+        return read_results(read, cleared_by_library(journal.journal_text(read).encode()))
     options = [f"--{name}={value}" for name, value in (("workers", workers), ("cut", cut), ("nodes", nodes)) if value is not None]
     words = [os.fspath(program_of(program)), "clear", *options]
     ran = subprocess.run(words, input=journal.journal_text(read).encode(), capture_output=True, timeout=timeout)

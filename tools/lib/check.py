@@ -13,29 +13,47 @@ def better_word(row, price):
 
 def differences(problem, data):
     """The results of a text (None if it has none), and each difference from what follows from their own selection of blocks, as a
-    line with its place."""
+    line with its place: first what is wrong with the selection itself, and then the numbers in the order of their lines. One wrong
+    block changes the prices of many periods, so its own fault is said before these."""
     said, wrong = results.read_results(problem, data)
     if said is None:
         return None, wrong
     follows = selection.outcome(problem, said.accepted)
-    wrong += selection.link_faults(problem, said.accepted)
+    wrong += selection_faults(problem, said, follows)
+    wrong += welfare_difference(said, follows)
     wrong += period_differences(problem, said, follows)
     wrong += hourly_differences(problem, said, follows)
-    wrong += block_differences(problem, said, follows)
+    wrong += surplus_differences(problem, said, follows)
+    return said, wrong
+
+
+def selection_faults(problem, said, follows):
+    """Why the selection isn't eligible."""
+    yield from selection.link_faults(problem, said.accepted)
+    for place, loss in selection.losing(problem, said.accepted, follows.surpluses).items():
+        block = problem.blocks[place]
+        line = said.lines[f"block {block}"]
+        family = " together with its accepted descendants" if selection.helping(problem, said.accepted, place) else ""
+        yield f"results line {line}: block {block}: it is accepted and loses {loss}{family}"
+    for number, found in follows.cleared.items():
+        if found is None:
+            line = said.lines[f"period {number}"]
+            yield f"results line {line}: period {number}: no execution balances the accepted blocks"
+
+
+def welfare_difference(said, follows):
     if follows.welfare is not None and said.welfare != follows.welfare:
         line = said.lines["the welfare"]
         right = f"that of these executions {follows.welfare}"
-        wrong.append(f"results line {line}: the welfare is {said.welfare}, and {right}")
-    return said, wrong
+        yield f"results line {line}: the welfare is {said.welfare}, and {right}"
 
 
 def period_differences(problem, said, follows):
     for number, found in follows.cleared.items():
+        if found is None:
+            continue
         at = f"results line {said.lines[f'period {number}']}: period {number}"
         price, volume = said.prices[number - 1], said.volumes[number - 1]
-        if found is None:
-            yield f"{at}: no execution balances the accepted blocks"
-            continue
         if price != found.price:
             ends = f"the supporting prices go from {found.low} to {found.high}"
             yield f"{at}: the price is {price}; {ends}, and the rule takes {found.price}, {found.case}"
@@ -55,13 +73,8 @@ def hourly_differences(problem, said, follows):
             yield f"results line {line}: hour {row}: {executed} is executed, and {gives}"
 
 
-def block_differences(problem, said, follows):
+def surplus_differences(problem, said, follows):
     for place, (block, surplus) in enumerate(zip(problem.blocks, follows.surpluses)):
         if surplus is not None and said.surpluses[place] != surplus:
             line = said.lines[f"block {block}"]
             yield f"results line {line}: block {block}: the surplus is {said.surpluses[place]}, and at the prices {surplus}"
-    for place, loss in selection.losing(problem, said.accepted, follows.surpluses).items():
-        block = problem.blocks[place]
-        line = said.lines[f"block {block}"]
-        family = " together with its accepted descendants" if selection.helping(problem, said.accepted, place) else ""
-        yield f"results line {line}: block {block}: it is accepted and loses {loss}{family}"

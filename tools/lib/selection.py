@@ -41,7 +41,7 @@ class Problem:
 
     def euros(self, amount):
         """An amount in cents per MWh times tenths of a MW, over periods of this day, in EUR."""
-        return text.euros(amount, self.hours)
+        return text.exact_euros(amount, self.hours)
 
     def groups(self):
         """The places of the blocks of each exclusive group."""

@@ -110,6 +110,12 @@ def euros(amount, hours, thousands=","):
     return fixed(Fraction(amount) * hours / 1_000, 3 if hours == 1 else 5, thousands)
 
 
+def exact_euros(amount, hours):
+    """An amount as `euros` takes it, for readers: in EUR, exactly, with at least two digits and no zeros after these."""
+    whole, _, digits = euros(amount, hours).partition(".")
+    return f"{whole}.{digits[:2]}{digits[2:].rstrip('0')}"
+
+
 NARROW = "\u202f"  # the narrow space between thousands, which no line is broken at
 
 

@@ -5,6 +5,7 @@ import random
 import re
 import tempfile
 import unittest
+from fractions import Fraction
 from pathlib import Path
 
 import support
@@ -12,6 +13,7 @@ from support import AUCTION, cleared_cases, journal_of, printed, problem, result
 
 import days
 from lib import best, book, check, command, journal, period, rules, selection
+from lib.text import exact_euros
 from small_days import ranked, small_problems
 
 NUMBER = re.compile(rb"(?<=,)-?\d+(?=[,\n])")
@@ -104,10 +106,42 @@ class Results(unittest.TestCase):
         self.assertIn("block A,K2: it is accepted and loses 500", wrong)
         self.assertNotIn("with those", wrong)
 
+    def test_a_wrong_block_is_said_before_the_prices_that_it_changes(self):
+        hourly = [
+            f"submit,A,{name}-{number},hour,{side},{price},{number}:100,,"
+            for number in range(1, 25)
+            for name, side, price in (("B", "buy", 5_000), ("S", "sell", 1_000))
+        ]
+        volumes = ";".join(f"{number}:100" for number in range(1, 25))
+        data = journal_of(*hourly, f"submit,A,K,block,sell,4000,{volumes},,")
+        status, out, _ = audit(data, results_of(data, frozenset()).replace(b"rejected", b"accepted"))
+        lines = out.decode().splitlines()
+        self.assertEqual((status, len(lines)), (command.DIFFERS, 21))
+        self.assertRegex(lines[0], r"^results line 75: block A,K: it is accepted and loses \d+$")
+        self.assertRegex(lines[1], r"^results line 2: the welfare is ")
+        self.assertRegex(lines[2], r"^results line 3: period 1: the price is ")
+        self.assertRegex(lines[-1], r"^and \d+ more$")
+
+    def test_faults_come_in_their_order(self):
+        """Links and groups, losses, the welfare, periods, hourly orders, surpluses."""
+        data, text = AUCTION.read_bytes(), printed(AUCTION)
+        text = text.replace(b"STAY,accepted", b"STAY,rejected").replace(b"UNIT-7,rejected", b"UNIT-7,accepted")
+        kinds = [
+            r"^block GAS,EVENING is accepted and its parent",
+            r"it is accepted and loses",
+            r"the welfare is",
+            r"(the price is|the volume is)",
+            r"is executed, and the rule gives",
+            r"the surplus is",
+        ]
+        found = [next(at for at, kind in enumerate(kinds) if re.search(kind, line)) for line in differences(data, text)]
+        self.assertEqual(found, sorted(found))
+        self.assertEqual(set(found), set(range(len(kinds))))
+
     def test_a_selection_that_balances_nowhere_is_refused(self):
         case = support.TOP / "tests/cases/clear/too-large-block.csv"
         wrong = differences(case.read_bytes(), printed(case).replace(b"rejected", b"accepted"))
-        self.assertIn("period 1: no execution balances", "\n".join(wrong))
+        self.assertIn("period 1: no execution balances", wrong[0])
 
 
 class Text(unittest.TestCase):
@@ -396,7 +430,7 @@ class CommandLine(unittest.TestCase):
 
     def test_refused_commands_are_counted(self):
         text = results_of(journal_of("submit,A,B,hour,buy,1,24:1,,"), frozenset())
-        for command_line, said in (b"cancel,A,C,,,,,,\n", b"welfare 0.000 EUR, 1 of 3 commands refused\n"), (b"", b"EUR\n"):
+        for command_line, said in (b"cancel,A,C,,,,,,\n", b"welfare 0.00 EUR, 1 of 3 commands refused\n"), (b"", b"EUR\n"):
             data = journal_of("submit,A,B,hour,buy,1,24:1,,").replace(b"close", command_line + b"close")
             status, out, _ = audit(data, text)
             self.assertEqual((status, out.endswith(said)), (command.DONE, True), out)
@@ -425,6 +459,18 @@ class CommandLine(unittest.TestCase):
             self.assertIn("audit: error: ", err)
         for words in (["-", "-"], ["--replies", "-"]):
             self.assertEqual(tool("audit", *words)[0], command.COMMAND_LINE)
+
+    def test_amounts_have_the_digits_that_they_need(self):
+        for amount, hours, said in (
+            (245_193_556_800, 1, "245,193,556.80"),
+            (0, 1, "0.00"),
+            (-1, 1, "-0.001"),
+            (2_500_000, 1, "2,500.00"),
+            (1, Fraction(1, 4), "0.00025"),
+            (10, Fraction(1, 4), "0.0025"),
+            (12_394_787_000, Fraction(1, 4), "3,098,696.75"),
+        ):
+            self.assertEqual(exact_euros(amount, hours), said)
 
     def test_the_words_for_what_was_tried(self):
         self.assertEqual(best.tried(0, 1), "there is no block to select")

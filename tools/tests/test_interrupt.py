@@ -32,6 +32,16 @@ def opened(pipe):
             time.sleep(0.01)
 
 
+def wait_until_asleep(process):
+    """Returns once the process sleeps, because it waits for what isn't there yet. A signal that comes between two calls of the system is
+    only seen after the second, so a tool that is about to read from a pipe would wait for its end."""
+    end = time.monotonic() + SECONDS
+    while "\nState:\tS" not in Path(f"/proc/{process.pid}/status").read_text():
+        if time.monotonic() >= end:
+            raise TimeoutError(f"process {process.pid} didn't wait for its journal")
+        time.sleep(0.01)
+
+
 class Interrupted(unittest.TestCase):
     def setUp(self):
         # A command that a shell runs in the background ignores the signal, and so would the tools that it starts.
@@ -45,6 +55,7 @@ class Interrupted(unittest.TestCase):
             running = subprocess.Popen([sys.executable, TOOLS / name, pipe], stdout=subprocess.PIPE, stderr=subprocess.PIPE, cwd=folder)
             try:
                 writing = opened(pipe)
+                wait_until_asleep(running)
                 running.send_signal(signal.SIGINT)
                 out, err = running.communicate(timeout=SECONDS)
                 os.close(writing)

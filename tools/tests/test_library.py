@@ -8,6 +8,7 @@ from support import TOP
 PAGE = TOP / "docs" / "LIBRARY.md"
 CRATE = TOP / "crates" / "dam_example"
 GATE = TOP / "crates" / "dam_refusals"  # whose program holds a gate by hand
+CALLERS = TOP / "tests" / "library"  # of the library for C
 BLOCK = re.compile(r"^```(\w+)\n(.*?)^```$", re.MULTILINE | re.DOTALL)
 
 
@@ -17,11 +18,15 @@ def quotes(language):
 
 class Library(unittest.TestCase):
     def test_code_stands_in_the_crates(self):
-        sources = ["\n" + path.read_text() for crate in [CRATE, GATE] for path in sorted(crate.glob("src/*.rt"))]
+        crates = [path for crate in [CRATE, GATE] for path in sorted(crate.glob("src/*.rt"))]
         self.assertGreater(len(quotes("rust")), 5)
-        for quote in quotes("rust"):
-            with self.subTest(quote):
-                self.assertTrue(any("\n" + quote in source for source in sources), "no source has these lines")
+        callers = {"c": [CALLERS / "caller.c"], "python": [CALLERS / "caller.py"]}
+        for language, paths in {"rust": [*crates, CALLERS / "caller.rs"], **callers}.items():
+            self.assertTrue(quotes(language))
+            sources = ["\n" + path.read_text() for path in paths]
+            for quote in quotes(language):
+                with self.subTest(quote):
+                    self.assertTrue(any("\n" + quote in source for source in sources), "no source has these lines")
 
     def test_texts_are_the_line_of_the_crate_and_what_it_prints(self):
         line = next(line for line in (TOP / "crates.txt").read_text().splitlines() if line.startswith("dam_example:"))

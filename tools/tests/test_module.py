@@ -64,6 +64,18 @@ class Module(unittest.TestCase):
         with self.assertRaises(ValueError):
             dam_tools.records(opened)
 
+    @unittest.skipUnless(dam_tools.LIBRARY.exists(), "the library for C isn't built (library/build)")
+    def test_the_library_for_c(self):
+        with unittest.mock.patch.dict(os.environ), unittest.mock.patch.object(subprocess, "run", side_effect=AssertionError):
+            os.environ.pop("DAM", None)
+            day = dam_tools.clear(AUCTION)
+            with self.assertRaises(dam_tools.Fault) as fault:
+                dam_tools.clear(b"day,24,,,,,,,\n")
+        again = dam_tools.read_results(AUCTION, AUCTION.with_suffix(".stdout"))
+        for name in dam_tools.TABLES:
+            self.assertEqual(dam_tools.records(day, name), dam_tools.records(again, name))
+        self.assertEqual((str(fault.exception), fault.exception.status), ("input: StillOpen", 1))
+
     @unittest.skipUnless(command.has_zone(shapes.ZONE), "the time zones are missing (Debian's tzdata)")
     def test_dates(self):
         day = dam_tools.read_results(AUCTION, AUCTION.with_suffix(".stdout"))

@@ -28,8 +28,9 @@ fn accepts_first(first: Selection, second: Selection) -> bool
     ensures { result ≡ accepts_first first second }
 {
     for place in 0..MOST_BLOCKS {
-        if first.has(place) != second.has(place) {
-            return first.has(place);
+        let accepted = first.accepts(place);
+        if accepted != second.accepts(place) {
+            return accepted;
         }
     }
     false

@@ -59,6 +59,14 @@ impl Selection {
         self.accepted.get(place).copied().unwrap_or(false)
     }
 
+    /// Whether the block at this place is accepted, as `has` does, with no copy of the selection made.
+    pub(crate) fn accepts(&self, place: usize) -> bool
+        requires { place < most_blocks }
+        ensures { result ≡ accepts self.now place }
+    {
+        self.accepted[place]
+    }
+
     /// The choice of this number over the first `count` places, of which there are 2 to the power
     /// `count`: the first half of them accepts the first place, and so on within each half.
     pub fn choice(count: usize, number: u32) -> Selection

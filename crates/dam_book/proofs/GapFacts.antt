@@ -358,8 +358,3 @@ module _ (ps : List Place) (rows : List Row) (k : Label) (l : Key) (view : held 
 
   pub gap_at : (x : Option Order) → Some x ≡ lookup (same_label k) ps → x ≡ None → None ≡ lookup (same_key l) rows
   gap_at x e none = sym none ∙ ap flat e ∙ sym seen_at
-
--- Labels that are copied.
-
-pub same_copy : {who other name text : List ℕ} {n m : ℕ} → who ≡ other → name ≡ text → n ≡ m → ◌≡◌ {A = Label} ((who, name), n) ((other, text), m)
-same_copy e f g = ap₂ (λ (k : Key) (i : ℕ). let l : Label = (k, i) in l) (same_pair e f) g

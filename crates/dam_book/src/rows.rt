@@ -2,15 +2,15 @@ ghost use Rattle.std.specs.Prelude.{◌≡◌, ◌+◌, ◌==◌, if◌then◌el
 ghost use Rattle.std.specs.List.{list_any, IsDistinct};
 ghost use Rattle.std.specs.Option.{option_copied};
 ghost use Rattle.std.specs.Map.{lookup, remove_entry, keys_of};
-ghost use Rattle.std.specs.Cmp.Rules.{hashing};
+ghost use Rattle.std.specs.Cmp.Rules.{comparing, hashing};
 ghost use Rattle.std.specs.Hash as fed;
 ghost use Rattle.std.proofs.Common.{rules};
 ghost use Rattle.dam_book.specs.Book.{same_key, changed, names_parent};
 ghost use Rattle.dam_book.specs.Order.{amended};
-ghost use Rattle.dam_book.specs.inside.Gaps.{Label, held, gap_count, same_label, AreNumbered, child_at, is_child_place};
+ghost use Rattle.dam_book.specs.inside.Gaps.{held, gap_count, key_bytes, same_label, AreNumbered, child_at, is_child_place};
 
 use crate::boxed::BoxedOrder;
-use crate::name::{Name, Participant};
+use crate::name::{LONGEST_NAME, LONGEST_PARTICIPANT, Name, Participant};
 use crate::order::Order;
 use crate::price::Price;
 use crate::seed::Seed;
@@ -20,38 +20,77 @@ use std::alloc::{AllocError, Allocator};
 use std::hash::{Hash, Hasher};
 use std::marker::Model;
 
-// What tells the label of a filler from that of a row: 0 for a row, and for a filler the number of its place, counted from 1.
-// So no two fillers are alike.
-#[derive(Clone, Copy, PartialEq, Eq, Debug)]
-struct Filler {
-    place: usize,
+// What the map finds a place by: the key of its row, or a filler's. The number is 0 for a row, and for a filler that of its place,
+// counted from 1. So no two fillers are alike.
+#[derive(Debug, Drop)]
+struct Label {
+    who: Participant,
+    name: Name,
+    filler: usize,
 }
 
-impl Model for Filler {
-    ghost use Rattle.std.specs.Prelude.{ℕ};
+impl Model for Label {
+    ghost use Rattle.dam_book.specs.inside.Gaps as gaps;
 
-    ghost Value = { ℕ };
+    ghost Value = { gaps.Label };
 
-    ghost view = { λ f. f.place };
+    ghost view = { λ l. ((l.who, l.name), l.filler) };
 
-    ghost inverse = { λ n. record { place = n } };
+    ghost inverse = { λ l. record { who = l.0.0; name = l.0.1; filler = l.1 } };
 }
 
-impl Hash for Filler {
-    ghost hash_input = { λ f. if f == 0 then [] else fed.usize f };
+impl Clone for Label {
+    ghost is_clone = { λ x y. y ≡ x };
+
+    fn clone(&self) -> Result<Label, AllocError> {
+        Ok(Label {
+            who: self.who.copy(),
+            name: self.name.copy(),
+            filler: self.filler,
+        })
+    }
+}
+
+impl PartialEq for Label {
+    ghost eq = { same_label };
+
+    ghost laws = { Prim.search (comparing, rules) };
+
+    fn eq(&self, other: &Label) -> bool {
+        self.who == other.who && self.name == other.name && self.filler == other.filler
+    }
+}
+
+impl Eq for Label {
+    ghost laws = { Prim.search (comparing, rules) };
+}
+
+impl Hash for Label {
+    ghost hash_input = { λ l. key_bytes l.0 ∷ (if l.1 == 0 then [] else fed.usize l.1) };
 
     ghost respects_eq = { Prim.search (hashing, rules) };
 
     // A row's label hashes as its key alone: to hash more would make every command slower.
     fn hash<H: Hasher>(&self, state: &mut H) {
-        if self.place != 0 {
-            self.place.hash(state);
+        state.write(&key_bytes(&self.who, &self.name));
+        if self.filler != 0 {
+            self.filler.hash(state);
         }
     }
 }
 
-// What the map finds a place by: the key of its row, or a filler's.
-type Label = ((Participant, Name), Filler);
+// The bytes of a key's two texts side by side: one call hashes them in whole words.
+fn key_bytes(who: &Participant, name: &Name) -> [u8; HASHED]
+    ensures { result ≡ key_bytes (who.now, name.now) }
+{
+    let mut bytes = [0; HASHED];
+    bytes[..LONGEST_PARTICIPANT].copy_from_slice(who.padded());
+    bytes[LONGEST_PARTICIPANT..LONGEST_PARTICIPANT + LONGEST_NAME].copy_from_slice(name.padded());
+    bytes
+}
+
+// Three words of eight bytes, in which both texts find room.
+const HASHED: usize = 24;
 
 // `None` at a gap.
 type Places<A> = IndexMap<Label, Option<BoxedOrder<A>>, Seed, A>;
@@ -83,10 +122,14 @@ impl<A: Allocator> Model for Rows<A> {
 }
 
 // The label of the key's row.
-fn label(who: &Participant, name: &Name) -> Label
+fn row_label(who: &Participant, name: &Name) -> Label
     ensures { result ≡ ((who.now, name.now), 0) }
 {
-    ((who.copy(), name.copy()), Filler { place: 0 })
+    Label {
+        who: who.copy(),
+        name: name.copy(),
+        filler: 0,
+    }
 }
 
 // Takes the label of a row from the gap at this place, which gets a filler's: the last place in the map takes the place of the
@@ -107,8 +150,12 @@ fn fill_gap<A: Allocator>(
 {
     // for the proof: there is a number after the place's
     let _len = places.len();
-    let key = (row.0.0.copy(), row.0.1.copy());
-    places.insert((key, Filler { place: place + 1 }), None)?;
+    let filler = Label {
+        who: row.who.copy(),
+        name: row.name.copy(),
+        filler: place + 1,
+    };
+    places.insert(filler, None)?;
     let _found = places.swap_remove_index(place).is_some();
     Ok(())
 }
@@ -195,7 +242,9 @@ fn is_child<A: Allocator>(
 fn any_child<A: Allocator>(places: &Places<A>, who: &Participant, name: &Name) -> bool
     ensures { result ≡ list_any (is_child_place (who.now, name.now)) places.now.entries }
 {
-    places.iter().any(|(((owner, _), _), place)| is_child(who, name, owner, place))
+    places
+        .iter()
+        .any(|(label, place)| is_child(who, name, &label.who, place))
 }
 
 // The row at a place, counted from 0 without the gaps.
@@ -204,10 +253,10 @@ fn row_among<A: Allocator>(places: &Places<A>, place: usize) -> Option<(Particip
         ≡ slice_get (held places.now.entries) place }
 {
     let mut left = place;
-    for (((who, name), _), place) in places.iter() {
+    for (label, place) in places.iter() {
         if let Some(order) = place {
             if left == 0 {
-                return Some((who.copy(), name.copy(), order.get()));
+                return Some((label.who.copy(), label.name.copy(), order.get()));
             }
             left -= 1;
         }
@@ -236,7 +285,7 @@ impl<A: Allocator + Copy> Rows<A> {
     pub(crate) fn find(&self, who: &Participant, name: &Name) -> Option<&Order>
         ensures { option_copied result ≡ lookup (same_key (who.now, name.now)) self.now }
     {
-        let Some(place) = self.places.get(&label(who, name)) else {
+        let Some(place) = self.places.get(&row_label(who, name)) else {
             return None;
         };
         let Some(order) = place else {
@@ -257,13 +306,13 @@ impl<A: Allocator + Copy> Rows<A> {
         ensures { option_map (λ r. ((r.0, r.1), r.2.now)) result ≡ slice_get self.now place }
     {
         if self.gaps == 0 {
-            let Some((((who, name), _), place)) = self.places.get_index(place) else {
+            let Some((label, place)) = self.places.get_index(place) else {
                 return None;
             };
             let Some(order) = place else {
                 return None;
             };
-            return Some((who.copy(), name.copy(), order.get()));
+            return Some((label.who.copy(), label.name.copy(), order.get()));
         }
         row_among(&self.places, place)
     }
@@ -281,7 +330,7 @@ impl<A: Allocator + Copy> Rows<A> {
         ensures err { OnErr result (self.new ≡ self.old) }
     {
         let boxed = BoxedOrder::of(*self.places.allocator(), order)?;
-        let row = label(who, name);
+        let row = row_label(who, name);
         free_label(&mut self.places, self.gaps, &row)?;
         self.places.insert(row, Some(boxed))?;
         Ok(())
@@ -292,7 +341,7 @@ impl<A: Allocator + Copy> Rows<A> {
         ensures { self.new
             ≡ changed (who.now, name.now) (amended price volumes.now) self.old }
     {
-        amend_order(&mut self.places, &label(who, name), price, volumes);
+        amend_order(&mut self.places, &row_label(who, name), price, volumes);
     }
 
     // Takes the order under the key out. The rest keep their order.
@@ -300,7 +349,7 @@ impl<A: Allocator + Copy> Rows<A> {
         ensures value { result ≡ lookup (same_key (who.now, name.now)) self.old }
         ensures entries { self.new ≡ remove_entry (same_key (who.now, name.now)) self.old }
     {
-        let Some(order) = take_order(&mut self.places, &label(who, name)) else {
+        let Some(order) = take_order(&mut self.places, &row_label(who, name)) else {
             return None;
         };
         let places = self.places.len();

@@ -8,7 +8,7 @@ use Rattle.std.proofs.lemmas.Bool.Decides.{nat_tests}
 use Rattle.std.proofs.lemmas.List.{get_or-set_same, get_or-set_other}
 use Rattle.std.proofs.lemmas.Option.{slice_get_within}
 use Rattle.dam_book.specs.Limits.{last_period, most_blocks}
-use Rattle.dam_book.specs.Volumes.{Pair, is_increasing}
+use Rattle.dam_book.specs.Volumes.{Pair}
 use Rattle.dam_hour.specs.declared.step.Step.{Step}
 use Rattle.dam_hour.specs.Best.{greatest_welfare}
 use Rattle.dam_blocks.specs.declared.problem.Block.{Block}
@@ -29,7 +29,7 @@ use Rattle.dam_bound.proofs.Extending.{same_net, same_period, same_value}
 use Rattle.dam_bound.proofs.Levelling.{drop_at}
 use Rattle.dam_bound.proofs.Periods.{one_at}
 use Rattle.dam_bound.proofs.Sizes.{value_small}
-use Rattle.dam_bound.proofs.Volumes.{own_volume, other_volume, past_volume}
+use Rattle.dam_bound.proofs.Volumes.{own_volume, other_volume}
 use Rattle.dam_bound.proofs.Worth.{worth, part, part_some, part_is, worth_is, sum_from, same_sum, sum_set, sum_within, sum_is_welfare, sum_at_least}
 
 -- what a period is worth: before the change if the block has a volume left there, and else after it
@@ -88,12 +88,12 @@ total_is problem prefix day of =
     no_units = record { units = 0; height = 0; held = 0; free = 0; near = 0; cost = 0 }
 
 pub nothing_changed : (problem : ProblemState) (place depth : ℕ) (change : Change) (accept : Bool) (before after : List Bool) (b : Block) (day : Day) (pairs : List Pair)
-    → slice_get problem.blocks place ≡ Some b → pairs ≡ b.order.volumes → IsChange problem.blocks place change accept depth before after → IsDay problem before day
+    → slice_get problem.blocks place ≡ Some b → ((t : ℕ) → volume_in pairs t ≡ volume_in b.order.volumes t) → IsChange problem.blocks place change accept depth before after → IsDay problem before day
     → IsChangedSoFar problem.blocks problem.hours (drop 0 pairs) before after day.periods day.total
 nothing_changed problem place depth change accept before after b day pairs at volumes is of = record {
   each = λ i ss d there none.
       same_period problem.blocks place depth change accept before after (i + 1) b ss (get_or day.periods i d) is at
-      (ap (λ (v : List Pair). volume_in v (i + 1)) (sym volumes) ∙ none) (of.each i ss d there);
+      (sym (volumes (i + 1)) ∙ none) (of.each i ss d there);
   sum = total_is problem before day of
       ∙ same_sum (part problem.blocks problem.hours before) (part_by problem.blocks problem.hours before after pairs) 1 (length problem.hours)
       (λ u l m. still u (volume_in pairs u) refl);
@@ -102,7 +102,7 @@ nothing_changed problem place depth change accept before after b day pairs at vo
     still : (t n : ℕ) → volume_in pairs t ≡ n → part problem.blocks problem.hours before t ≡ part_by problem.blocks problem.hours before after pairs t
     still t zero e =
         sym (part_after problem.blocks problem.hours before after pairs t e
-        ∙ same_part problem.blocks problem.hours place depth change accept before after t b is at (ap (λ (v : List Pair). volume_in v t) (sym volumes) ∙ e))
+        ∙ same_part problem.blocks problem.hours place depth change accept before after t b is at (sym (volumes t) ∙ e))
     still t (suc n) e = sym (part_before problem.blocks problem.hours before after pairs t (omega (arith, e)))
 
 -- what is left of the pairs at one of them
@@ -112,12 +112,12 @@ rest_at pairs k t p at apart = ap (λ (v : List Pair). volume_in v t) (drop_at p
 -- one period more
 pub period_changed : (blocks : List Block) (hours : List (List Step)) (pairs : List Pair) (k place : ℕ) (p : Pair) (before after : List Bool) (periods : List Taken)
     (ss : List Step) (own : Taken) (total next : ℤ)
-    → is_increasing 0 pairs ≡ true → slice_get pairs k ≡ Some p → 1 ≤ p.1 → p.0 ≡ place + 1 → slice_get hours place ≡ Some ss → place < length periods
+    → volume_in (drop (k + 1) pairs) p.0 ≡ 0 → slice_get pairs k ≡ Some p → 1 ≤ p.1 → p.0 ≡ place + 1 → slice_get hours place ≡ Some ss → place < length periods
     → IsPeriodOfDay blocks after p.0 (ss ++ as_steps p.0 (drop (length after) blocks)) own
     → next ≡ total +ℤ (part blocks hours after p.0 -ℤ part blocks hours before p.0)
     → IsChangedSoFar blocks hours (drop k pairs) before after periods total
     → IsChangedSoFar blocks hours (drop (k + 1) pairs) before after (slice_set periods place own) next
-period_changed blocks hours pairs k place p before after periods ss own total next rising at some number here inside is step so_far = record {
+period_changed blocks hours pairs k place p before after periods ss own total next past at some number here inside is step so_far = record {
   each = λ i other d there none. elim (cases_lt i place) [
     | inl less ↦ elsewhere i other d there none (omega (arith, less)) (omega (arith, less, number))
     | inr more ↦ elim (cases_lt place i) [
@@ -137,11 +137,9 @@ period_changed blocks hours pairs k place p before after periods ss own total ne
       let within = slice_get_within hours place ss here in
       let set = sum_set f g 1 (length hours) p.0 (omega (arith, number)) (omega (arith, number, within))
       (λ u apart. part_left blocks hours before after (drop k pairs) (drop (k + 1) pairs) u (rest_at pairs k u p at (λ e. apart (sym e)))) in
-      let one : suc k ≡ k + 1 = omega arith in
       let was = part_before blocks hours before after (drop k pairs) p.0
       (let v = ap (λ (v : List Pair). volume_in v p.0) (drop_at pairs k p at) ∙ own_volume p (drop (k + 1) pairs) p.0 refl in omega (arith, v, some)) in
-      let becomes = part_after blocks hours before after (drop (k + 1) pairs) p.0
-      (ap (λ (n : ℕ). volume_in (drop n pairs) p.0) (sym one) ∙ past_volume 0 pairs k p rising at) in
+      let becomes = part_after blocks hours before after (drop (k + 1) pairs) p.0 past in
       let sum = so_far.sum in
       omega (arith, ints, set, was, becomes, step, sum);
 }
@@ -278,13 +276,11 @@ turned_answer true p q before after day e m = subst (λ (r : ProblemState). IsDa
 turned_answer false p q before after day e m = subst (λ (r : ProblemState). relaxed_welfare r after ≡ None) e m
 
 -- the parent's periods that are still to be decided
-pub still_own : (pairs : List Pair) (k place : ℕ) (p : Pair) (before periods : List Taken) (own : Taken) → is_increasing 0 pairs ≡ true → slice_get pairs k ≡ Some p → 1 ≤ p.1
+pub still_own : (pairs : List Pair) (k place : ℕ) (p : Pair) (before periods : List Taken) (own : Taken) → volume_in (drop (k + 1) pairs) p.0 ≡ 0 → slice_get pairs k ≡ Some p → 1 ≤ p.1
     → p.0 ≡ place + 1
     → ((i : ℕ) (d : Taken) → 0 < volume_in (drop k pairs) (i + 1) → get_or periods i d ≡ get_or before i d)
     → (i : ℕ) (d : Taken) → 0 < volume_in (drop (k + 1) pairs) (i + 1) → get_or (slice_set periods place own) i d ≡ get_or before i d
-still_own pairs k place p before periods own rising at some number ahead i d more =
-    let step : suc k ≡ k + 1 = omega arith in
-    let past = ap (λ (n : ℕ). volume_in (drop n pairs) p.0) (sym step) ∙ past_volume 0 pairs k p rising at in
+still_own pairs k place p before periods own past at some number ahead i d more =
     let apart : p.0 ≢ i + 1 = (λ e. absurd (let none = ap (volume_in (drop (k + 1) pairs)) (sym e) ∙ past in omega (arith, none, more))) in
     let apart' : i ≢ place = omega (arith, apart, number) in
     get_or-set_other periods place i own d apart' ∙ ahead i d (let same = rest_at pairs k (i + 1) p at apart in omega (arith, same, more))
@@ -302,8 +298,10 @@ pub given_up : (problem : ProblemState) (least : Option ℕ) (before after : Lis
 given_up problem None before after e = e
 given_up problem (Some least) before after e = inl e
 
-pub under : (problem : ProblemState) (least : Option ℕ) (before after : List Bool) (total : ℤ) (r : Bool) → r ≡ true → MatchOption least (r ≡ false) (λ l. IsTrue r ↔ (total <ℤ pos l))
+pub under : (problem : ProblemState) (least : Option ℕ) (before after : List Bool) (total shown floor bound : ℤ) (r : Bool) → shown ≡ total → bound ≡ floor
+    → IsWithin (last_period * greatest_period_bound) total → r ≡ true → IsTrue r ↔ (shown <ℤ bound)
+    → ((z : ℤ) → IsWithin (last_period * greatest_period_bound) z → MatchOption least (¬ (z <ℤ floor)) (λ l. (z <ℤ floor) ↔ (z <ℤ pos l)))
     → (NeverRises problem.blocks before after → (w : ℤ) → relaxed_welfare problem after ≡ Some w → w ≤ℤ total) → IsGivenUp problem least before after
-under problem None before after total true e m f = absurd (cc)
-under problem None before after total false e m f = absurd (cc)
-under problem (Some least) before after total r e m f = inr (λ never w is. (let less = m.0 e in let most = f never w is in omega (arith, ints, less, most)))
+under problem None before after total shown floor bound r same level within e below m f = absurd (m total within (subst (λ z. total <ℤ z) level (subst (λ z. z <ℤ bound) same (below.0 e))))
+under problem (Some least) before after total shown floor bound r same level within e below m f =
+    inr (λ never w is. (let less = (m total within).0 (subst (λ z. total <ℤ z) level (subst (λ z. z <ℤ bound) same (below.0 e))) in let most = f never w is in omega (arith, ints, less, most)))

@@ -3,7 +3,10 @@ use Rattle.std.proofs.Common.{◌≡◌, ◌≢◌, ℕ, zero, suc, ◌+◌, ◌
 use Rattle.std.specs.List.{slice_get}
 use Rattle.std.proofs.lemmas.Bool.{cases_lt}
 use Rattle.std.proofs.lemmas.Bool.Decides.{nat_tests}
-use Rattle.std.proofs.lemmas.List.{length-set, get_or-set_same, get_or-set_other, get_or_append_left, get_or_push, drop_all, append-nil}
+use Rattle.std.proofs.lemmas.List.{length-set, get_or-set_same, get_or-set_other, get_or_append_left, get_or_push, drop_all, append-nil, append_assoc, map-append}
+use Rattle.std.specs.Prelude.{IsPermutation}
+use Rattle.std.proofs.lemmas.List.Sorted.{All-permutation, IsPermutation-map}
+use Rattle.std.proofs.lemmas.Option.{slice_get_within, slice_get-get_or, get_or_from_slice_get}
 use Rattle.dam_book.specs.Volumes.{Pair, is_increasing, have_beyond}
 use Rattle.dam_hour.specs.declared.step.Step.{Step}
 use Rattle.dam_stack.specs.declared.row.Row.{Row}
@@ -16,7 +19,7 @@ use Rattle.dam_blocks.specs.Problem.{IsBlock, AreBlocks}
 use Rattle.dam_blocks.specs.Selection.{volume_in}
 use Rattle.dam_bound.specs.declared.tables.Touch.{Touch}
 use Rattle.dam_bound.specs.Relaxed.{step_of, as_steps}
-use Rattle.dam_bound.specs.inside.Tables.{LotState, AreSpans, IsTouch, IsLot, AreLots, AreTables}
+use Rattle.dam_bound.specs.inside.Tables.{LotState, AreSpans, pair_of, pairs_of, IsTouch, IsLot, AreLots, AreTables}
 use Rattle.dam_bound.proofs.Extending.{same_steps}
 use Rattle.dam_bound.proofs.Levelling.{drop_at, some_step}
 use Rattle.dam_bound.proofs.Periods.{of_pushed, one_at}
@@ -48,6 +51,7 @@ touch_kept : (hours : List (List Step)) (blocks : List Block) (old new : List Ro
     → IsTouch hours blocks old k b p touch → IsTouch hours blocks new k b p touch
 touch_kept hours blocks old new k b p touch keeps t = record {
   at_is = t.at_is;
+  volume_is = t.volume_is;
   inside = t.inside;
   cut_is = λ ss at. cut_kept old new (step_of p.0 b.order) (ss ++ as_steps p.0 (drop (k + 1) blocks)) touch.cut keeps (t.cut_is ss at);
 }
@@ -56,8 +60,8 @@ lot_kept : (hours : List (List Step)) (blocks : List Block) (old new : List Row)
     → IsLot hours blocks old k b lot → IsLot hours blocks new k b lot
 lot_kept hours blocks old new k b lot keeps l = record {
   side_is = l.side_is;
-  as_many = l.as_many;
-  each = λ j p touch e f. touch_kept hours blocks old new k b p touch keeps (l.each j p touch e f);
+  pairs_are = l.pairs_are;
+  each = λ j touch e. touch_kept hours blocks old new k b (pair_of touch) touch keeps (l.each j touch e);
 }
 
 -- ---- the blocks of a day
@@ -187,39 +191,55 @@ spans_ended hours blocks rows k j pairs spans all so_far = record {
 -- ---- the touches so far
 pub record AreTouchesSoFar (hours : List (List Step)) (blocks : List Block) (rows : List Row) (k : ℕ) (b : Block) (count : ℕ)
     (touches : List Touch) : Type 0 where
-  pub as_many : length touches ≡ count
-  pub each : (j : ℕ) (p : Pair) (touch : Touch) → slice_get b.order.volumes j ≡ Some p → slice_get touches j ≡ Some touch
-      → IsTouch hours blocks rows k b p touch
+  pub pairs_are : pairs_of touches ++ drop count b.order.volumes ≡ b.order.volumes
+  pub each : (j : ℕ) (touch : Touch) → slice_get touches j ≡ Some touch → IsTouch hours blocks rows k b (pair_of touch) touch
 
 pub no_touch : (hours : List (List Step)) (blocks : List Block) (rows : List Row) (k : ℕ) (b : Block)
     → AreTouchesSoFar hours blocks rows k b 0 []
-no_touch hours blocks rows k b = record { as_many = refl; each = λ j p touch e f. absurd (cc) }
+no_touch hours blocks rows k b = record { pairs_are = refl; each = λ j touch e. absurd (cc) }
+
+is_pair : (p : Pair) (m n : ℕ) → p.0 ≡ m → p.1 ≡ n → p ≡ (m, n)
+is_pair p m n e f = ap (λ (x : ℕ). (x, p.1)) e ∙ ap (λ (y : ℕ). (m, y)) f
 
 pub touch_more : (hours : List (List Step)) (blocks : List Block) (old new : List Row) (k : ℕ) (b : Block) (j : ℕ) (p : Pair) (touches touches' : List Touch)
     (touch : Touch) → Keeps old new → slice_get b.order.volumes j ≡ Some p → IsTouch hours blocks new k b p
     touch → touches' ≡ touches ++ touch ∷ []
     → AreTouchesSoFar hours blocks old k b j touches → AreTouchesSoFar hours blocks new k b (j + 1) touches'
 touch_more hours blocks old new k b j p touches touches' touch keeps at is same so_far =
-    let long = so_far.as_many in
+    let pair = is_pair p (touch.at + 1) touch.cut.volume is.at_is is.volume_is in
     subst (AreTouchesSoFar hours blocks new k b (j + 1)) (sym same) (record {
-      as_many = omega (arith, length-append touches (touch ∷ []), long);
-      each = λ i q other e f. elim (of_pushed touches touch i other f) [
-        | inl old_one ↦ touch_kept hours blocks old new k b q other keeps (so_far.each i q other e old_one)
+      pairs_are =
+          ap (λ (ps : List Pair). ps ++ drop (j + 1) b.order.volumes) (map-append pair_of touches (touch ∷ []))
+          ∙ append_assoc (pairs_of touches) (pair_of touch ∷ []) (drop (j + 1) b.order.volumes)
+          ∙ ap (λ (q : Pair). pairs_of touches ++ q ∷ drop (j + 1) b.order.volumes) (sym pair)
+          ∙ ap (λ (ps : List Pair). pairs_of touches ++ ps) (sym (drop_at b.order.volumes j p at))
+          ∙ so_far.pairs_are;
+      each = λ i other f. elim (of_pushed touches touch i other f) [
+        | inl old_one ↦ touch_kept hours blocks old new k b (pair_of other) other keeps (so_far.each i other old_one)
         | inr new_one ↦
-            (let here : j ≡ i = omega (arith, new_one.0, long) in
-            let pair : p ≡ q = some_is p q (sym at ∙ subst (λ (n : ℕ). slice_get b.order.volumes n ≡ Some q) (sym here) e) in
-            subst (λ (x : Touch). IsTouch hours blocks new k b q x) new_one.1
-            (subst (λ (x : Pair). IsTouch hours blocks new k b x touch) pair is))
+            subst (λ (x : Touch). IsTouch hours blocks new k b (pair_of x) x) new_one.1
+            (subst (λ (x : Pair). IsTouch hours blocks new k b x touch) pair is)
       ];
     })
-  where
-    some_is : (x y : Pair) → Some x ≡ Some y → x ≡ y
-    some_is x y e = cc
 
-pub whole_lot : (hours : List (List Step)) (blocks : List Block) (rows : List Row) (k : ℕ) (b : Block) (count : ℕ) (lot : LotState)
-    → lot.side ≡ b.order.side
-    → count ≡ length b.order.volumes → AreTouchesSoFar hours blocks rows k b count lot.touches → IsLot hours blocks rows k b lot
-whole_lot hours blocks rows k b count lot side all so_far = record { side_is = side; as_many = so_far.as_many ∙ all; each = so_far.each }
+-- all touches, in any order
+pub whole_lot : (hours : List (List Step)) (blocks : List Block) (rows : List Row) (k : ℕ) (b : Block) (count : ℕ) (touches : List Touch) (lot : LotState)
+    → lot.side ≡ b.order.side → IsPermutation touches lot.touches
+    → length b.order.volumes ≤ count → AreTouchesSoFar hours blocks rows k b count touches → IsLot hours blocks rows k b lot
+whole_lot hours blocks rows k b count touches lot side same all so_far =
+    let pairs : pairs_of touches ≡ b.order.volumes =
+    sym (append-nil (pairs_of touches)) ∙ ap (λ (ps : List Pair). pairs_of touches ++ ps) (sym (drop_all count b.order.volumes all)) ∙ so_far.pairs_are in
+    let each = All-permutation (λ (x : Touch). IsTouch hours blocks rows k b (pair_of x) x) touches lot.touches same
+    (λ j d inside. so_far.each j (get_or touches j d) (slice_get-get_or touches j d inside)) in
+    record {
+      side_is = side;
+      pairs_are =
+          subst (λ (ps : List Pair). IsPermutation ps (pairs_of lot.touches)) pairs
+          (IsPermutation-map pair_of touches lot.touches same);
+      each = λ j touch at.
+          subst (λ (x : Touch). IsTouch hours blocks rows k b (pair_of x) x) (get_or_from_slice_get lot.touches j touch touch at)
+          (each j touch (slice_get_within lot.touches j touch at));
+    }
 
 -- ---- the lots so far
 pub lot_more : (hours : List (List Step)) (blocks : List Block) (old new : List Row) (k : ℕ) (b : Block) (lots lots' : List LotState) (lot : LotState)
@@ -325,6 +345,7 @@ is_touch hours blocks old new k b p spans touch n long at cut =
     let place : touch.at ≡ p.0 - 1 = omega (arith, at) in
     record {
       at_is = sym at;
+      volume_is = sym cut.is_of.volume_is;
       inside = omega (arith, at, inside, long);
       cut_is = λ ss there.
           (let steps : n.steps ≡ ss = some_is n.steps ss (sym n.there ∙ subst (λ (i : ℕ). slice_get hours i ≡ Some ss) place there) in

@@ -2,8 +2,9 @@
 use Rattle.std.proofs.Common.{◌≡◌, ℕ, ◌+◌, ◌<◌, ◌≤◌, Bool, true, false, ℤ, pos, ◌+ℤ◌, ◌*ℤ◌, neg_ℤ, Option, Some, None, MatchOption, List, ◌∷◌, ◌++◌, length, drop, get_or, slice_set, ap, ◌∙◌, sym, subst, refl, arith}
 use Rattle.std.specs.List.{slice_get}
 use Rattle.std.proofs.lemmas.List.{drop_all, append-nil}
-use Rattle.std.proofs.lemmas.Option.{slice_get_within, slice_get_read, slice_get-get_or}
-use Rattle.dam_book.specs.Volumes.{Pair, is_increasing}
+use Rattle.std.proofs.lemmas.Option.{slice_get_within, slice_get_read, slice_get-get_or, slice_get-map}
+use Rattle.std.specs.Option.{option_map}
+use Rattle.dam_book.specs.Volumes.{Pair}
 use Rattle.dam_book.specs.declared.order.Side.{Side}
 use Rattle.dam_hour.specs.declared.step.Step.{Step}
 use Rattle.dam_hour.specs.Best.{signed, greatest_welfare}
@@ -22,14 +23,14 @@ use Rattle.dam_bound.specs.declared.tables.Touch.{Touch}
 use Rattle.dam_bound.specs.Relaxed.{step_of, as_steps, relaxed_welfare}
 use Rattle.dam_bound.specs.Day.{IsPeriodOfDay, IsDay}
 use Rattle.dam_bound.specs.inside.Change.{by, IsChange, Move, steps_before, steps_after, IsMove}
-use Rattle.dam_bound.specs.inside.Tables.{LotState, IsLot, AreTables}
+use Rattle.dam_bound.specs.inside.Tables.{LotState, pair_of, pairs_of, IsLot, AreTables}
 use Rattle.dam_bound.proofs.Bounding.{unbalanced_period}
 use Rattle.dam_bound.proofs.Days.{own_period}
 use Rattle.dam_bound.proofs.Deciding.{IsChangedSoFar, AreStill, own_still, moved_part, period_changed}
 use Rattle.dam_bound.proofs.Levelling.{drop_at, some_step}
 use Rattle.dam_bound.proofs.Periods.{one_at}
 use Rattle.dam_bound.proofs.Tabling.{block_at, end_of}
-use Rattle.dam_bound.proofs.Volumes.{volume_at, pair_quantity}
+use Rattle.dam_bound.proofs.Volumes.{past_ordered, ordered_volume}
 use Rattle.dam_bound.proofs.Worth.{no_welfare}
 
 -- where nothing balances there is no greatest welfare
@@ -142,10 +143,10 @@ turned_move rows end touch own m answer is found =
 -- the pair and the period that it is of, and the move that the change makes there
 pub record Touched (problem : ProblemState) (rows : List Row) (ends : List Span) (place depth : ℕ) (change : Change) (accept : Bool)
     (before after : List Bool) (b : Block)
-    (periods : List Taken) (j : ℕ) (touch : Touch) : Type 0 where
+    (periods : List Taken) (j : ℕ) (pairs : List Pair) (touch : Touch) : Type 0 where
   pub pair : Pair
-  pub pair_is : slice_get b.order.volumes j ≡ Some pair
-  pub rising : is_increasing 0 b.order.volumes ≡ true
+  pub pair_is : slice_get pairs j ≡ Some pair
+  pub past : volume_in (drop (j + 1) pairs) pair.0 ≡ 0
   pub some : 1 ≤ pair.1
   pub number : pair.0 ≡ touch.at + 1
   pub inside : touch.at < length problem.hours
@@ -170,22 +171,22 @@ pub touched : (problem : ProblemState) (rows : List Row) (ends : List Span) (lot
     problem.blocks rows ends lots
     → slice_get problem.blocks place ≡ Some b → slice_get lots place ≡ Some lot → slice_get lot.touches j ≡ Some touch
     → IsChange problem.blocks place change accept depth before after → IsDay problem before day
-    → AreStill (drop j b.order.volumes) day.periods periods
-    → Touched problem rows ends place depth change accept before after b periods j touch
+    → AreStill (drop j (pairs_of lot.touches)) day.periods periods
+    → Touched problem rows ends place depth change accept before after b periods j (pairs_of lot.touches) touch
 touched problem rows ends lots lot place depth change accept before after b day periods j touch are at here is_at is of still =
     let own = are.lots_are.each place b lot at here in
     let block = block_at (length problem.hours) problem.blocks place b are.blocks_are at in
     let volumes = block.order.volumes in
-    let within = slice_get_within lot.touches j touch is_at in
-    let pair = one_at b.order.volumes j (let long = own.as_many in omega (arith, long, within)) in
-    let t = own.each j pair.0 touch pair.1 is_at in
+    let pairs = pairs_of lot.touches in let pair = pair_of touch in
+    let pair_is : slice_get pairs j ≡ Some pair = slice_get-map pair_of lot.touches j ∙ ap (option_map pair_of) is_at in
+    let t = own.each j touch is_at in
     let hour = one_at problem.hours touch.at t.inside in
-    let some = (pair_quantity b.order.volumes j pair.0 volumes.ranges pair.1).at_least in
-    let volume = volume_at 0 b.order.volumes j pair.0 volumes.increasing pair.1 in
+    let own_volume = ordered_volume b.order.volumes pairs j pair volumes.increasing volumes.ranges own.pairs_are pair_is in
+    let some = own_volume.0 in let volume = own_volume.1 in
     record {
-      pair = pair.0;
-      pair_is = pair.1;
-      rising = volumes.increasing;
+      pair = pair;
+      pair_is = pair_is;
+      past = past_ordered b.order.volumes pairs j pair volumes.increasing own.pairs_are pair_is;
       some = some;
       number = t.at_is;
       inside = t.inside;
@@ -193,7 +194,7 @@ touched problem rows ends lots lot place depth change accept before after b day 
       there = hour.1;
       move = record {
         steps = hour.0;
-        period = pair.0.0;
+        period = pair.0;
         blocks = problem.blocks;
         place = place;
         block = b;
@@ -210,10 +211,10 @@ touched problem rows ends lots lot place depth change accept before after b day 
         end_is = end_of problem.hours problem.blocks rows ends lots touch.at hour.0 e are hour.1;
         change_is = is;
         own_is =
-            let same = own_still b.order.volumes j touch.at pair.0 day.periods periods d pair.1 some t.at_is still in
-            subst (λ (o : Taken). IsPeriodOfDay problem.blocks before pair.0.0 (hour.0 ++ as_steps pair.0.0
+            let same = own_still pairs j touch.at pair day.periods periods d pair_is some t.at_is still in
+            subst (λ (o : Taken). IsPeriodOfDay problem.blocks before pair.0 (hour.0 ++ as_steps pair.0
             (drop (length before) problem.blocks)) o) (sym same)
-            (own_period problem before day touch.at pair.0.0 (length before) hour.0 d of hour.1 t.at_is refl);
+            (own_period problem before day touch.at pair.0 (length before) hour.0 d of hour.1 t.at_is refl);
       };
     }
 
@@ -238,42 +239,45 @@ pub touched_now : (problem : ProblemState) (rows : List Row) (ends : List Span) 
     → AreTables problem.hours problem.blocks rows ends lots
     → slice_get problem.blocks place ≡ Some b → lot ≡ get_or lots place lot → touches ≡ lot.touches → j < length touches
     → IsChange problem.blocks place change accept depth before after → IsDay problem before day
-    → AreStill (drop j b.order.volumes) day.periods periods
-    → Touched problem rows ends place depth change accept before after b periods j (get_or touches j no_touch_there)
+    → AreStill (drop j (pairs_of touches)) day.periods periods
+    → Touched problem rows ends place depth change accept before after b periods j (pairs_of touches) (get_or touches j no_touch_there)
 touched_now problem rows ends lots lot touches place depth change accept before after b day periods j are at read same inside is of still =
-    touched problem rows ends lots lot place depth change accept before after b day periods j (get_or touches j no_touch_there) are at
+    subst (λ (ts : List Touch). Touched problem rows ends place depth change accept before after b periods j (pairs_of ts)
+    (get_or touches j no_touch_there)) (sym same)
+    (touched problem rows ends lots lot place depth change accept before after b day periods j (get_or touches j no_touch_there) are at
     (lot_at problem rows ends lots lot place b are at read).0
     (subst (λ (ts : List Touch). slice_get ts j ≡ Some (get_or touches j no_touch_there)) same
-    (slice_get-get_or touches j no_touch_there inside)) is of still
+    (slice_get-get_or touches j no_touch_there inside)) is of
+    (subst (λ (ts : List Touch). AreStill (drop j (pairs_of ts)) day.periods periods) same still))
 
 -- whether the supply is left with what the block asks for
 pub serves : (problem : ProblemState) (rows : List Row) (ends : List Span) (lots : List LotState) (lot : LotState) (place depth : ℕ) (change : Change) (accept : Bool)
-    (before after : List Bool) (b : Block) (periods : List Taken) (j : ℕ) (touch : Touch) (side : Side) (served : Bool)
+    (before after : List Bool) (b : Block) (periods : List Taken) (j : ℕ) (pairs : List Pair) (touch : Touch) (side : Side) (served : Bool)
     → AreTables problem.hours problem.blocks rows ends lots → slice_get problem.blocks place ≡ Some b → lot ≡ get_or lots place lot
     → served ≡ falls side accept
-    → side ≡ lot.side → (t : Touched problem rows ends place depth change accept before after b periods j touch)
+    → side ≡ lot.side → (t : Touched problem rows ends place depth change accept before after b periods j pairs touch)
     → served ≡ falls t.move.block.order.side t.move.accept
-serves problem rows ends lots lot place depth change accept before after b periods j touch side served are at read e f t =
+serves problem rows ends lots lot place depth change accept before after b periods j pairs touch side served are at read e f t =
     e ∙ ap (λ (s : Side). falls s accept) (f ∙ (lot_at problem rows ends lots lot place b are at read).1.side_is)
     ∙ ap (λ (m : Move). falls m.block.order.side m.accept) (sym t.move_is)
 
 -- the move at the stack that was read
 pub is_move_at : (problem : ProblemState) (rows : List Row) (ends : List Span) (place depth : ℕ) (change : Change) (accept : Bool) (before after : List Bool) (b : Block)
-    (periods : List Taken) (j : ℕ) (touch : Touch) (end : Span) → (t : Touched problem rows ends place depth change accept before after b
-    periods j touch)
+    (periods : List Taken) (j : ℕ) (pairs : List Pair) (touch : Touch) (end : Span) → (t : Touched problem rows ends place depth change accept before after b
+    periods j pairs touch)
     → end ≡ get_or ends touch.at end → IsMove rows end touch change (get_or periods touch.at nothing_taken) t.move
-is_move_at problem rows ends place depth change accept before after b periods j touch end t read =
+is_move_at problem rows ends place depth change accept before after b periods j pairs touch end t read =
     subst (λ (s : Span). IsMove rows s touch change (get_or periods touch.at nothing_taken) t.move) (sym read) (t.is_move nothing_taken end)
 
 -- one touch more
 pub touch_changed : (problem : ProblemState) (rows : List Row) (ends : List Span) (place depth : ℕ) (change : Change) (accept : Bool) (before after : List Bool) (b : Block)
-    (periods : List Taken) (j : ℕ) (touch : Touch) (own next : Taken) (total gained : ℤ) (e : Span)
-    → (t : Touched problem rows ends place depth change accept before after b periods j touch) → touch.at < length periods
+    (periods : List Taken) (j : ℕ) (pairs : List Pair) (touch : Touch) (own next : Taken) (total gained : ℤ) (e : Span)
+    → (t : Touched problem rows ends place depth change accept before after b periods j pairs touch) → touch.at < length periods
     → IsMoved (steps_before t.move) (net_volume t.move.blocks t.move.before t.move.period) (steps_after t.move) (net_volume t.move.blocks t.move.after t.move.period)
     (by change t.move.accept (value_of t.move.period t.move.block.order)) next gained
-    → IsChangedSoFar problem.blocks problem.hours (drop j b.order.volumes) before after periods total
-    → IsChangedSoFar problem.blocks problem.hours (drop (j + 1) b.order.volumes) before after (slice_set periods touch.at next) (total +ℤ gained)
-touch_changed problem rows ends place depth change accept before after b periods j touch own next total gained e t inside moved so_far =
+    → IsChangedSoFar problem.blocks problem.hours (drop j pairs) before after periods total
+    → IsChangedSoFar problem.blocks problem.hours (drop (j + 1) pairs) before after (slice_set periods touch.at next) (total +ℤ gained)
+touch_changed problem rows ends place depth change accept before after b periods j pairs touch own next total gained e t inside moved so_far =
     let m : Move = record {
       steps = t.steps;
       period = t.pair.0;
@@ -291,16 +295,16 @@ touch_changed problem rows ends place depth change accept before after b periods
     let now = subst (IsMove rows (get_or ends touch.at e) touch change (get_or periods touch.at own)) t.move_is (t.is_move own e) in
     let part = moved_part problem.blocks problem.hours before after touch.at t.pair.0 t.steps (get_or periods touch.at own) next
     (by change accept (value_of t.pair.0 b.order)) gained t.there t.number now.own_is found (now.change_is.value t.pair.0 b now.block_is) in
-    period_changed problem.blocks problem.hours b.order.volumes j touch.at t.pair before after periods t.steps next total (total +ℤ gained)
-    t.rising t.pair_is t.some
+    period_changed problem.blocks problem.hours pairs j touch.at t.pair before after periods t.steps next total (total +ℤ gained)
+    t.past t.pair_is t.some
     t.number t.there inside found.taken_at (ap (λ (z : ℤ). total +ℤ z) part) so_far
 
 -- a period that doesn't balance after the change
 pub touch_unbalanced : (problem : ProblemState) (rows : List Row) (ends : List Span) (place depth : ℕ) (change : Change) (accept : Bool) (before after : List Bool)
-    (b : Block) (periods : List Taken) (j : ℕ) (touch : Touch) → WelfareLaw
-    → (t : Touched problem rows ends place depth change accept before after b periods j touch)
+    (b : Block) (periods : List Taken) (j : ℕ) (pairs : List Pair) (touch : Touch) → WelfareLaw
+    → (t : Touched problem rows ends place depth change accept before after b periods j pairs touch)
     → IsUnbalanced (steps_after t.move) (net_volume t.move.blocks t.move.after t.move.period) → relaxed_welfare problem after ≡ None
-touch_unbalanced problem rows ends place depth change accept before after b periods j touch law t none =
+touch_unbalanced problem rows ends place depth change accept before after b periods j pairs touch law t none =
     let unbalanced = subst (λ (n : Move). IsUnbalanced (steps_after n) (net_volume n.blocks n.after n.period)) t.move_is none in
     no_welfare problem.blocks (drop (length after) problem.blocks) after problem.hours touch.at t.pair.0 t.steps t.there t.number
     (sym (unbalanced_period problem.blocks after t.pair.0 (t.steps ++ as_steps t.pair.0 (drop (length after) problem.blocks))

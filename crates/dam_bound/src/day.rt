@@ -1,4 +1,4 @@
-ghost use Rattle.std.specs.Prelude.{◌≡◌, ◌*◌, false, ◌<◌, ◌≤◌, pos, ◌<ℤ◌, ◌↔◌, ℕ, List, Bool, [], length, map, slice_index_or, IsTrue, MatchBool, MatchOption};
+ghost use Rattle.std.specs.Prelude.{◌≡◌, ◌*◌, ◌<◌, ◌≤◌, ℤ, pos, neg_ℤ, ◌^◌, ◌<ℤ◌, ◌≤ℤ◌, ◌↔◌, ℕ, List, Bool, [], length, map, slice_index_or, IsTrue, MatchBool, MatchOption};
 ghost use Rattle.dam_book.specs.Limits.{last_period};
 ghost use Rattle.dam_hour.specs.Execution.{IsUnbalanced};
 ghost use Rattle.dam_hour.specs.declared.step.Step.{Step};
@@ -8,9 +8,10 @@ ghost use Rattle.dam_stack.specs.Taken.{IsMoved, falls};
 ghost use Rattle.dam_blocks.specs.declared.problem.Block.{Block};
 ghost use Rattle.dam_blocks.specs.Problem.{ProblemState};
 ghost use Rattle.dam_blocks.specs.Selection.{net_volume, value_of};
+ghost use Rattle.dam_blocks.specs.Magnitude.{IsWithin};
 ghost use Rattle.dam_bound.specs.Day.{IsDay};
 ghost use Rattle.dam_bound.specs.inside.Change.{by, IsChange, IsGivenUp, Move, IsMove, steps_before, steps_after};
-ghost use Rattle.dam_bound.specs.inside.Levels.{last_steps, AreDayLevels, problem_kept};
+ghost use Rattle.dam_bound.specs.inside.Levels.{last_steps, AreDayLevels, problem_kept, greatest_period_bound};
 ghost use Rattle.dam_bound.specs.inside.Tables.{AreSpans, AreTables};
 
 use crate::levels::Levels;
@@ -89,14 +90,24 @@ pub(crate) fn root_of<A: Allocator>(
     day
 }
 
-/// Whether the total is less than what is asked for, if anything is.
-fn is_under(total: i64, least: Option<u64>) -> bool
-    ensures { MatchOption least (result ≡ false) (λ l. IsTrue result ↔ (total <ℤ pos l)) }
+/// The least total that isn't under what is asked for; if nothing is, one that no total is under.
+fn floor_of(least: Option<u64>) -> i64
+    ensures floor { (total : ℤ) → IsWithin (last_period * greatest_period_bound) total
+        → MatchOption least (¬ (total <ℤ result)) (λ l. (total <ℤ result) ↔ (total <ℤ pos l)) }
+    ensures at_least { neg_ℤ (pos (2 ^ 63)) ≤ℤ result }
+    ensures at_most { result <ℤ pos (2 ^ 63) }
 {
     match least {
-        Some(least) => total < 0 || (total as u64) < least,
-        None => false,
+        Some(least) => i64::try_from(least).unwrap_or(i64::MAX),
+        None => i64::MIN,
     }
+}
+
+/// Whether the total is under the floor.
+fn is_under(total: i64, floor: i64) -> bool
+    ensures { IsTrue result ↔ (total <ℤ floor) }
+{
+    total < floor
 }
 
 /// Whether the supply is left with what a block of the side asks for: a sell that is accepted is served,
@@ -160,6 +171,7 @@ pub(crate) fn change_day<A: Allocator>(
     laws::welfare();
     let lot = &tables.lots[place];
     let is_served = is_served(lot.side(), accept);
+    let floor = floor_of(least);
     for touch in lot.touches() {
         let at = touch.at as usize;
         let own = day.periods[at];
@@ -176,7 +188,7 @@ pub(crate) fn change_day<A: Allocator>(
         };
         day.periods[at] = next;
         day.total += gained;
-        if is_under(day.total, least) {
+        if is_under(day.total, floor) {
             return false;
         }
     }

@@ -1,6 +1,6 @@
 //! What the walk reads: each block in each of its periods, worked out once.
 
-ghost use Rattle.std.specs.Prelude.{◌≡◌, ◌<◌, ◌≤◌, ◌+◌, ◌-◌, ℕ, Some, List, [], ◌∷◌, ◌++◌, length, map, slice_get, slice_set, slice_index_or, IfOk};
+ghost use Rattle.std.specs.Prelude.{◌≡◌, ◌<◌, ◌≤◌, ◌+◌, ◌-◌, ℕ, Some, List, [], ◌∷◌, ◌++◌, length, map, slice_get, slice_set, slice_index_or, IfOk, IsPermutation};
 ghost use Rattle.dam_hour.specs.declared.step.Step.{Step};
 ghost use Rattle.dam_blocks.specs.declared.problem.Block.{Block};
 ghost use Rattle.dam_blocks.specs.Problem.{AreBlocks};
@@ -51,7 +51,7 @@ impl<A: Allocator> Lot<A> {
         self.side
     }
 
-    /// The block in each of its periods, in the order of periods.
+    /// The block in each of its periods, in any order.
     pub(crate) fn touches(&self) -> &[Touch]
         ensures { result.now ≡ self.now.touches }
     {
@@ -131,12 +131,30 @@ fn touch_of<A: Allocator>(
     Ok(Touch { at: at as u32, cut })
 }
 
+/// What the block may lose in the period by its decision, at the price with no block decided.
+fn stake(touch: &Touch, root: &Day) -> u64 {
+    match root.periods.get(touch.at as usize) {
+        Some(taken) => touch.cut.stake(*taken),
+        None => 0,
+    }
+}
+
+/// The touches with the greatest stakes first, so that a day whose bound is too low is given up soon.
+fn by_stake<A: Allocator>(touches: Vec<Touch, A>, root: &Day) -> Vec<Touch, A>
+    ensures { IsPermutation touches.items result.items }
+{
+    let mut touches = touches;
+    touches.sort_unstable_by_key(|touch| u64::MAX - stake(touch, root));
+    touches
+}
+
 /// A block as the walk has it, the blocks before it being decided; after it, it is decided too.
 fn lot_of<A: Allocator + Copy>(
     alloc: A,
     stacks: &mut Stacks<A>,
     spans: &mut Vec<Span, A>,
     block: &Block,
+    root: &Day,
 ) -> Result<Lot<A>, AllocError>
     requires { (hours : List (List Step)) × (blocks : List Block) × (k : ℕ)
         × (slice_get blocks k ≡ Some block.now) × AreBlocks (length hours) blocks
@@ -160,7 +178,7 @@ fn lot_of<A: Allocator + Copy>(
     }
     Ok(Lot {
         side: order.side(),
-        touches,
+        touches: by_stake(touches, root),
     })
 }
 
@@ -170,6 +188,7 @@ fn lots_of<A: Allocator + Copy>(
     stacks: &mut Stacks<A>,
     spans: &mut Vec<Span, A>,
     blocks: &[Block],
+    root: &Day,
 ) -> Result<Vec<Lot<A>, A>, AllocError>
     requires { (hours : List (List Step)) × AreBlocks (length hours) blocks.now
         × AreSpans hours blocks.now stacks.old 0 spans.old.items }
@@ -182,7 +201,7 @@ fn lots_of<A: Allocator + Copy>(
 {
     let mut lots = Vec::with_capacity(alloc, blocks.len())?;
     for block in blocks {
-        let lot = lot_of(alloc, stacks, spans, block)?;
+        let lot = lot_of(alloc, stacks, spans, block, root)?;
         lots.push(lot)?;
     }
     Ok(lots)
@@ -206,7 +225,7 @@ impl<A: Allocator + Copy> Tables<A> {
         stacks.reserve(row_count(periods))?;
         let mut spans = first_spans(alloc, &mut stacks, periods)?;
         let root = root_of(&stacks, &spans, periods);
-        let lots = lots_of(alloc, &mut stacks, &mut spans, blocks)?;
+        let lots = lots_of(alloc, &mut stacks, &mut spans, blocks, &root)?;
         Ok(Tables {
             stacks,
             ends: spans,

@@ -4,8 +4,10 @@
 //! results.
 #![tactic(auto)]
 
+mod advice;
 mod progress;
 
+use advice::{file_in, rule_of};
 use dam_book::Seed;
 use dam_engines::{
     RunFault, Sink, Source, fault_line, run_clear, run_day, run_replay, status, write_text,
@@ -24,7 +26,7 @@ const REFUSED_LINE: u8 = 2;
 fn main(rt: HostRuntime) -> ExitCode {
     let job = match job(&rt) {
         Ok(job) => job,
-        Err(fault) => return answer(&rt, &fault),
+        Err(status) => return status,
     };
     hint(&rt);
     let progress = Progress::new(&rt, rt.stderr().is_terminal());
@@ -53,13 +55,28 @@ fn main(rt: HostRuntime) -> ExitCode {
         ),
     };
     match done {
-        Ok(()) => ExitCode::SUCCESS,
+        Ok(()) => {
+            progress.say_refused();
+            ExitCode::SUCCESS
+        }
         Err(fault) => report(&rt, &fault),
     }
 }
 
-/// The job that the program's words ask for, of which the first is its name.
-fn job(rt: &HostRuntime) -> Result<Job, LineFault> {
+/// The job that the program's words ask for. If they ask for none, they are answered, and this is the status.
+fn job(rt: &HostRuntime) -> Result<Job, ExitCode> {
+    let words = match words(rt) {
+        Ok(words) => words,
+        Err(fault) => return Err(answer(rt, &fault, &[])),
+    };
+    match read_line(rt.alloc(), words.as_slice()) {
+        Ok(job) => Ok(job),
+        Err(fault) => Err(answer(rt, &fault, words.as_slice())),
+    }
+}
+
+/// The program's words, without its name.
+fn words(rt: &HostRuntime) -> Result<Vec<String>, LineFault> {
     let alloc = rt.alloc();
     let mut words = match env::args(rt) {
         Ok(words) => words,
@@ -71,7 +88,7 @@ fn job(rt: &HostRuntime) -> Result<Job, LineFault> {
     let Ok(words) = words.collect::<Vec<String>>(alloc) else {
         return Err(LineFault::Memory);
     };
-    read_line(alloc, words.as_slice())
+    Ok(words)
 }
 
 /// The fault of words that aren't UTF-8.
@@ -91,16 +108,22 @@ fn hint(rt: &HostRuntime) {
     }
 }
 
-/// Prints the fault's line, if there is memory for it, and gives its status.
+/// Prints the fault's line, if there is memory for it, and gives its status. At a terminal a second line says which rule the
+/// input breaks.
 fn report(rt: &HostRuntime, fault: &RunFault) -> ExitCode {
     if let Ok(line) = fault_line(rt.alloc(), fault) {
         let _ = rt.stderr().write_all(&line);
+    }
+    if let Some(rule) = rule_of(fault) {
+        if rt.stderr().is_terminal() {
+            let _ = eprintln!(rt; "dam: {rule}");
+        }
     }
     ExitCode::from(status(fault))
 }
 
 /// Answers words that ask for no job: with the help where they ask for that.
-fn answer(rt: &HostRuntime, fault: &LineFault) -> ExitCode {
+fn answer(rt: &HostRuntime, fault: &LineFault, words: &[String]) -> ExitCode {
     match fault {
         LineFault::Refused { help: true, text } => {
             match write_text(&mut Sink::new(rt.stdout()), text.as_bytes()) {
@@ -108,13 +131,20 @@ fn answer(rt: &HostRuntime, fault: &LineFault) -> ExitCode {
                 Err(fault) => report(rt, &fault),
             }
         }
-        LineFault::Refused { help: false, text } => refuse(rt, text.as_str()),
+        LineFault::Refused { help: false, text } => refuse(rt, text.as_str(), words),
         LineFault::Memory => report(rt, &RunFault::Memory),
     }
 }
 
-/// Prints why the words are refused.
-fn refuse(rt: &HostRuntime, text: &str) -> ExitCode {
+/// Prints why the words are refused. At a terminal, if one of them may be a journal's file, a last line says how it is read.
+fn refuse(rt: &HostRuntime, text: &str, words: &[String]) -> ExitCode {
     let _ = eprint!(rt; "command line\n{text}");
+    if let Some((command, file)) = file_in(words) {
+        if rt.stderr().is_terminal() {
+            let _ = eprintln!(rt;
+                "dam: a journal is read from standard input: dam {command} < {file}"
+            );
+        }
+    }
     ExitCode::from(REFUSED_LINE)
 }

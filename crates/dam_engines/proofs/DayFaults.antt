@@ -9,7 +9,7 @@ use Rattle.dam_book.specs.declared.command.Command.TheVariants.{Close}
 use Rattle.dam_book.specs.declared.command.Entry.{Entry}
 use Rattle.dam_gate.specs.Limits.{most_participants}
 use Rattle.dam_gate.specs.Journal.{IsJournal, JournalState}
-use Rattle.dam_gate.specs.Day.{IsDayRun, giver, refused, refused_at, refused_from, with_giver}
+use Rattle.dam_gate.specs.Day.{AreTaken, IsDayRun}
 use Rattle.dam_gate.specs.declared.day.DayFault.{DayFault}
 use Rattle.dam_gate.specs.declared.day.DayFault.TheVariants.{TooManyCommands as ManyCommands, CloseGiven as CloseAt, TooManyParticipants as ManyAt}
 use Rattle.dam_search.specs.Plan.{PlanTerms}
@@ -20,35 +20,6 @@ use Rattle.dam_engines.specs.Engine.{most_read}
 use Rattle.dam_engines.specs.Clear.{IsBookFault}
 use Rattle.dam_engines.specs.Day.{IsCommandsFault, IsDayTextFault, IsEarlyFault}
 use Rattle.dam_engines.proofs.Fronts.{reads-given, text_fault-given}
-
--- the place of the command that the fault tells, if any, is below this one
-abbrev pub IsBelow : ℕ → Option DayFault → Type 0
-IsBelow n (Some (CloseAt place)) = place < n
-IsBelow n (Some (ManyAt place)) = place < n
-IsBelow n fault = Unit {0}
-
-below-if : (b : Bool) (n : ℕ) (x y : Option DayFault) → IsBelow n x → IsBelow n y → IsBelow n (if b then x else y)
-below-if true n x y is other = is
-below-if false n x y is other = other
-
-below-at : (n place : ℕ) (whos : List (List ℕ)) (g : Option (List ℕ)) (behind : List (List ℕ) → Option DayFault)
-    → place < n → ((more : List (List ℕ)) → IsBelow n (behind more)) → IsBelow n (refused_at place whos g behind)
-below-at n place whos None behind below rest = below
-below-at n place whos (Some who) behind below rest =
-    below-if (nat_lt most_participants (length (with_giver whos who))) n (Some (ManyAt place)) (behind (with_giver whos who)) below (rest (with_giver whos who))
-
-below-from : (cs : List Command) (n place : ℕ) (whos : List (List ℕ)) → place + length cs ≤ n → IsBelow n (refused_from place whos cs)
-below-from [] n place whos fits = tt
-below-from (c ∷ cs) n place whos fits =
-    below-at n place whos (giver c) (λ more. refused_from (place + 1) more cs) (omega (arith, fits)) (λ more. below-from cs n (place + 1) more (omega (arith, fits)))
-
-below-refused : (cs : List Command) (many : Bool) → nat_lt (most_entries - 1) (length cs) ≡ many
-    → IsBelow most_entries (if many then Some ManyCommands else refused_from 0 [] cs)
-below-refused cs true is = tt
-below-refused cs false is = below-from cs most_entries 0 [] (omega (arith, ltb-false (most_entries - 1) (length cs) is))
-
-pub refused-place : (cs : List Command) (fault : DayFault) → refused cs ≡ Some fault → IsBelow most_entries (Some fault)
-refused-place cs fault is = subst (IsBelow most_entries) is (below-refused cs (nat_lt (most_entries - 1) (length cs)) refl)
 
 -- a close closes any book
 closed-behind : (periods : ℕ) (rows : _) (closed : Bool) → (book_after (record { periods = periods; rows = rows; closed = closed }) Close).closed ≡ true
@@ -65,7 +36,7 @@ day_run-closed periods commands entries day =
 
 -- what the book of a day run is answered, its commands are answered
 book_fault-day : (plan : PlanTerms) (periods : ℕ) (commands : List Command) (entries : List Entry) (fault : RunFault)
-    → refused commands ≡ None → IsDayRun periods commands entries → IsBookFault plan (run periods (commands_of entries)) fault → IsCommandsFault plan periods commands fault
+    → AreTaken commands → IsDayRun periods commands entries → IsBookFault plan (run periods (commands_of entries)) fault → IsCommandsFault plan periods commands fault
 book_fault-day plan periods commands entries Read taken day is = absurd is
 book_fault-day plan periods commands entries (Input fault) taken day is = absurd is
 book_fault-day plan periods commands entries TooManyCommands taken day is = absurd is
@@ -79,7 +50,7 @@ book_fault-day plan periods commands entries Memory taken day is = tt
 book_fault-day plan periods commands entries (Write written) taken day is = absurd is
 
 pub journal_fault-day : {X : Type 0} (plan : PlanTerms) (periods : ℕ) (commands : List Command) (j : JournalState) (result : Result X RunFault)
-    → refused commands ≡ None → IsDayRun periods commands j.entries → IsJournal j → j.book.periods ≡ periods
+    → AreTaken commands → IsDayRun periods commands j.entries → IsJournal j → j.book.periods ≡ periods
     → IfErr result (IsBookFault plan j.book) → IfErr result (IsCommandsFault plan periods commands)
 journal_fault-day plan periods commands j result taken day journal same told =
     let book : j.book ≡ run periods (commands_of j.entries) = journal.book_is ∙ ap (λ n. run n (commands_of j.entries)) same in

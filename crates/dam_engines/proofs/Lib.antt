@@ -4,5 +4,6 @@ pub mod Cuts
 pub mod Devices
 pub mod Runs
 pub mod Results
+pub mod Limits
 pub mod DayFaults
 pub mod Exact

@@ -1,28 +1,25 @@
 -- What the clearing engine answers to a text.
-use Rattle.std.specs.Prelude.{◌≡◌, ℕ, min, pos, Bool, true, false, List, length}
+use Rattle.std.specs.Prelude.{◌≡◌, ℕ, min, true, false, List, length}
 use Rattle.dam_book.specs.Book.{BookState, run}
 use Rattle.dam_book.specs.declared.command.Command.{Command}
 use Rattle.dam_blocks.specs.Problem.{problem_of}
-use Rattle.dam_blocks.specs.Result.{IsResult}
 use Rattle.dam_search.specs.Plan.{PlanTerms}
 use Rattle.dam_search.specs.Search.{IsUnfinished}
 use Rattle.dam_results.specs.declared.published.PeriodResult.{PeriodResult}
 use Rattle.dam_results.specs.declared.published.RowResult.{RowResult}
 use Rattle.dam_results.specs.Journal.{IsMadeFrom, ReadsAs}
-use Rattle.dam_results.specs.Published.{ArePublished, results_text}
+use Rattle.dam_results.specs.Published.{results_text}
+use Rattle.dam_results.specs.Clearing.{IsClearing}
 use Rattle.dam_engines.specs.declared.fault.RunFault.{RunFault}
 use Rattle.dam_engines.specs.declared.fault.RunFault.TheVariants.{StillOpen, Unfinished, Memory}
 use Rattle.dam_engines.specs.Engine.{IsTextFault}
 
--- the book is closed, and this is the results text of the result of its problem
+-- this is the results text of what is published of the closed book
 pub record IsClearedAs (book : BookState) (text : List ℕ) : Type 0 where
-  pub closed : book.closed ≡ true
-  pub selection : List Bool
   pub welfare : ℕ
-  pub is_result : IsResult (problem_of book) selection (pos welfare)
   pub periods : List PeriodResult
   pub rows : List RowResult
-  pub published : ArePublished (problem_of book) selection welfare periods rows
+  pub clearing : IsClearing book welfare periods rows
   pub text_is : text ≡ results_text welfare periods rows
 
 -- a results text of the run of these commands

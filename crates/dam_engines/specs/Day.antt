@@ -1,9 +1,9 @@
 -- What the engine of a day answers to a text.
-use Rattle.std.specs.Prelude.{◌≡◌, ◌+◌, ◌++◌, ℕ, List, None, codes}
+use Rattle.std.specs.Prelude.{◌≡◌, ◌+◌, ◌++◌, ℕ, List, codes}
 use Rattle.dam_book.specs.Book.{run, commands_of}
 use Rattle.dam_book.specs.declared.command.Command.{Command}
 use Rattle.dam_book.specs.declared.command.Entry.{Entry}
-use Rattle.dam_gate.specs.Day.{IsDayFault, IsDayRun, refused}
+use Rattle.dam_gate.specs.Day.{AreTaken, IsDayFault, IsDayRun}
 use Rattle.dam_gate.specs.declared.day.DayFault.TheVariants.{TooManyCommands as ManyCommands, CloseGiven as CloseAt, TooManyParticipants as ManyAt, NotSettled}
 use Rattle.dam_search.specs.Plan.{PlanTerms}
 use Rattle.dam_results.specs.Journal.{IsMadeFrom}
@@ -18,10 +18,10 @@ abbrev pub with_results : ℕ → List Entry → List ℕ → List ℕ
 with_results periods entries results =
     journal_text periods entries ++ (codes "results\n" ++ results)
 
--- none of the commands is refused, and this is printed of some day run of them: its written journal, the line `results`,
+-- a day takes the commands, and this is printed of some day run of them: its written journal, the line `results`,
 -- and the results text of its book
 pub record IsDayText (periods : ℕ) (commands : List Command) (text : List ℕ) : Type 0 where
-  pub taken : refused commands ≡ None
+  pub taken : AreTaken commands
   pub entries : List Entry
   pub day_run : IsDayRun periods commands entries
   pub results : List ℕ
@@ -32,11 +32,11 @@ pub record IsDayText (periods : ℕ) (commands : List Command) (text : List ℕ)
 abbrev pub IsDayTextTo : List ℕ → List ℕ → Type 0
 IsDayTextTo text printed = IsMadeFrom IsDayText text printed
 
--- none of the commands is refused, and of the book that some day run of them makes the search by this plan could not
+-- a day takes the commands, and of the book that some day run of them makes the search by this plan could not
 -- finish this piece within its limit on nodes
 pub record IsDayCutShort (plan : PlanTerms) (periods : ℕ) (commands : List Command)
     (piece visited : ℕ) : Type 0 where
-  pub taken : refused commands ≡ None
+  pub taken : AreTaken commands
   pub entries : List Entry
   pub day_run : IsDayRun periods commands entries
   pub cut : IsCutShort plan (run periods (commands_of entries)) piece visited
@@ -45,8 +45,8 @@ pub record IsDayCutShort (plan : PlanTerms) (periods : ℕ) (commands : List Com
 abbrev pub record_number : ℕ → ℕ
 record_number place = place + 2
 
--- what commands can be answered before a book is cleared: why they are refused, if they are; if they aren't, that the day
--- came out unsettled; or that memory ran out
+-- what commands can be answered before a book is cleared: why a day doesn't take them, if it doesn't; if it does, that the
+-- day came out unsettled; or that memory ran out
 abbrev pub IsEarlyFault : List Command → RunFault → Type 0
 IsEarlyFault commands TooManyCommands = IsDayFault commands ManyCommands
 IsEarlyFault commands (CloseGiven at) =
@@ -57,7 +57,7 @@ IsEarlyFault commands (Mismatch why) = IsDayFault commands (NotSettled why)
 IsEarlyFault commands Memory = Unit {0}
 IsEarlyFault commands fault = ⊥
 
--- what commands can be answered: the above, or, where they aren't refused, that the search of a day's book didn't finish,
+-- what commands can be answered: the above, or, where a day takes them, that the search of a day's book didn't finish,
 -- if that can be
 abbrev pub IsCommandsFault : PlanTerms → ℕ → List Command → RunFault → Type 0
 IsCommandsFault plan periods commands (Unfinished piece visited) =

@@ -13,7 +13,8 @@ use crate::output::write_text;
 use crate::watch::Watch;
 use dam_blocks::Problem;
 use dam_book::{Book, Seed};
-use dam_results::{book_of_text, results, results_text};
+use dam_results::publishing_laws::published_results_are_clearings;
+use dam_results::{Run, results, results_text, run_of_text};
 use dam_search::{Plan, search};
 use std::alloc::Global;
 use std::io::{Read, Write};
@@ -65,17 +66,18 @@ fn clear_text<H: Threads + Sync, T: Watch + Sync>(
     ensures done { IfOk result (λ results. AreResultsTo text.now results.items) }
     ensures fault { IfErr result (IsClearTextFault plan text.now) }
 {
-    let book = run_journal(alloc, seed, text)?;
-    clear_book(rt, alloc, &book, plan, turnstile)
+    let run = run_journal(alloc, seed, text)?;
+    turnstile.refused(run.refused);
+    clear_book(rt, alloc, &run.book, plan, turnstile)
 }
 
-/// The book that a journal's text makes. The text may have been cut behind the first byte too many.
-fn run_journal(alloc: Global, seed: Seed, text: &[u8]) -> Result<Book, RunFault>
-    ensures done { IfOk result (λ book. (periods : ℕ) × (commands : List Command)
-        × ReadsAs text.now periods commands × (book ≡ run periods commands)) }
+/// The run of a journal's text. The text may have been cut behind the first byte too many.
+fn run_journal(alloc: Global, seed: Seed, text: &[u8]) -> Result<Run, RunFault>
+    ensures done { IfOk result (λ found. (periods : ℕ) × (commands : List Command)
+        × ReadsAs text.now periods commands × (found.book ≡ run periods commands)) }
     ensures fault { IfErr result (IsTextFault text.now) }
 {
-    Ok(book_of_text(alloc, seed, text)?)
+    Ok(run_of_text(alloc, seed, text)?)
 }
 
 /// The results text of a closed book. An open one is answered `StillOpen`, before any memory is asked
@@ -91,6 +93,7 @@ pub fn clear_book<H: Threads + Sync, T: Watch + Sync>(
     ensures fault { IfErr result (IsBookFault plan book.now) }
     ensures still_open { IsErrOf result RunFault.StillOpen ↔ (book.now.closed ≡ false) }
 {
+    published_results_are_clearings();
     let problem = Problem::of_book(alloc, book)?;
     let depth = usize::from(plan.cut()).min(problem.block_count());
     turnstile.begin(1 << depth);

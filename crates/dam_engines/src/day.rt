@@ -1,6 +1,6 @@
 ghost use Rattle.std.specs.Prelude.{◌≡◌, ◌≢◌, ◌≤◌, ◌+◌, ℕ, List, None, true, IfOk, IfErr, IfSome, OnOk, MatchResult};
 ghost use Rattle.dam_book.specs.Book.{is_day};
-ghost use Rattle.dam_gate.specs.Day.{IsDayRun, refused};
+ghost use Rattle.dam_gate.specs.Day.{AreTaken, IsDayRun};
 ghost use Rattle.dam_gate.specs.Journal.{IsJournal};
 ghost use Rattle.dam_engines.specs.Device.{HaveFailed, HaveServed};
 ghost use Rattle.dam_engines.specs.Engine.{Ends, most_read};
@@ -138,7 +138,7 @@ fn settled_day<H: Threads + Wait + Sync, U: Turnstile + Sync>(
     ensures periods { IfOk result (λ settled. settled.book.periods ≡ periods) }
     ensures journal { IfOk result IsJournal }
     ensures day { IfOk result (λ settled. IsDayRun periods commands.now settled.entries) }
-    ensures taken { OnOk result (refused commands.now ≡ None) }
+    ensures taken { OnOk result (AreTaken commands.now) }
     ensures fault { IfErr result (IsEarlyFault commands.now) }
 {
     let door = Door {

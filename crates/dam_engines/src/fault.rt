@@ -5,7 +5,7 @@ use dam_blocks::ProblemFault;
 use dam_gate::Mismatch;
 use dam_results::JournalFault;
 use dam_search::SearchFault;
-use std::alloc::{AllocError, Global};
+use std::alloc::{AllocError, Allocator};
 use std::error::Error;
 use std::fmt;
 
@@ -165,7 +165,7 @@ pub fn status(fault: &RunFault) -> u8
 }
 
 /// The line that the program prints on standard error, with its line feed.
-pub fn fault_line(alloc: Global, fault: &RunFault) -> Result<Vec<u8>, AllocError>
+pub fn fault_line<A: Allocator>(alloc: A, fault: &RunFault) -> Result<Vec<u8, A>, AllocError>
     ensures { IfOk result (λ line. line.items ≡ fault_text fault.now ++ codes "\n") }
 {
     let line = format!(in alloc; "{fault}\n")?;

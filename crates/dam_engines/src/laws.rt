@@ -1,7 +1,10 @@
 //! The laws of the engines, each the contract of a function that does nothing but cite the laws that it rests on.
-ghost use Rattle.std.specs.Prelude.{◌≡◌, ℕ, List, Option, Result};
+ghost use Rattle.std.specs.Prelude.{◌≡◌, ◌≤◌, ℕ, List, length, Option, Result};
 ghost use Rattle.dam_book.specs.Book.{BookState, run};
 ghost use Rattle.dam_book.specs.declared.command.Command.{Command};
+ghost use Rattle.dam_blocks.specs.Problem.{ProblemState, IsProblem, problem_of};
+ghost use Rattle.dam_search.specs.Limits.{most_nodes};
+ghost use Rattle.dam_search.specs.Piece.{all_nodes};
 ghost use Rattle.dam_search.specs.Plan.{PlanTerms};
 ghost use Rattle.dam_results.specs.Journal.{ReadsAs};
 ghost use Rattle.dam_results.specs.Replies.{AreReplies};
@@ -9,20 +12,18 @@ ghost use Rattle.dam_engines.specs.declared.fault.RunFault.{RunFault};
 ghost use Rattle.dam_engines.specs.declared.fault.RunFault.TheVariants.{Memory};
 ghost use Rattle.dam_engines.specs.Engine.{Ends, IsTextFault};
 ghost use Rattle.dam_engines.specs.Replay.{AreRepliesTo};
-ghost use Rattle.dam_engines.specs.Clear.{AreResultsTo, IsBookFault, IsClearTextFault, IsClearedAs};
+ghost use Rattle.dam_engines.specs.Clear.{AreResultsTo, IsBookFault, IsClearTextFault, IsClearedAs, IsCutShort};
 ghost use Rattle.dam_engines.specs.Day.{IsCommandsFault, IsDayText, IsDayTextFault, IsDayTextTo};
 
-use dam_blocks::laws::uniqueness;
 use dam_results::laws::{fault_is_no_journal, text_is_one_journal};
-use dam_results::publishing_laws::selections_are_published_alike;
+use dam_results::publishing_laws::books_are_cleared_alike;
 
 /// A closed book has one results text at most.
 pub fn cleared_text_is_one()
     ensures { (book : BookState) (text other : List ℕ)
         → IsClearedAs book text → IsClearedAs book other → text ≡ other }
 {
-    uniqueness();
-    selections_are_published_alike();
+    books_are_cleared_alike();
 }
 
 /// If the text is a journal, a replay ends with the replies to its commands, or memory runs out.
@@ -62,3 +63,13 @@ pub fn day_is_exact()
     text_is_one_journal();
     fault_is_no_journal();
 }
+
+/// The greatest limit on nodes, which stands where the words give none, covers any book: a search over all its blocks has at most
+/// 2 to the power of one more than their number, less 1, and so that limit cuts no search short.
+pub fn greatest_limit_cuts_no_search()
+    ensures covers { (problem : ProblemState) → IsProblem problem
+        → all_nodes (length problem.blocks) ≤ most_nodes }
+    ensures whole { (plan : PlanTerms) (book : BookState) (piece visited : ℕ)
+        → IsProblem (problem_of book) → plan.nodes ≡ most_nodes
+        → ¬ (IsCutShort plan book piece visited) }
+{}

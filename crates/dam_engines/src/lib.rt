@@ -29,6 +29,7 @@
 //! The crate knows nothing of the command line, nor of terminals.
 #![tactic(auto)]
 
+mod alone;
 mod clear;
 mod day;
 mod device;
@@ -39,10 +40,11 @@ mod output;
 mod replay;
 mod watch;
 
+pub use alone::clear_text_alone;
 pub use clear::run_clear;
 pub use day::run_day;
 pub use device::{Sink, Source};
 pub use fault::{RunFault, fault_line, status};
 pub use output::write_text;
-pub use replay::run_replay;
+pub use replay::{replies_of, run_replay};
 pub use watch::Watch;

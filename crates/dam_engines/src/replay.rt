@@ -42,8 +42,9 @@ pub fn run_replay<R: Read, W: Write>(
     write_text(writer, replies.as_slice())
 }
 
-/// The replies to a text, which may have been cut behind the first byte too many.
-fn replies_of(alloc: Global, seed: Seed, text: &[u8]) -> Result<Vec<u8>, RunFault>
+/// The replies to a text, as `run_replay` prints them. A text that is longer than a journal may be may have been cut after the first
+/// byte too many. The book hashes names by the seed.
+pub fn replies_of(alloc: Global, seed: Seed, text: &[u8]) -> Result<Vec<u8>, RunFault>
     ensures done { IfOk result (λ replies. AreRepliesTo text.now replies.items) }
     ensures fault { IfErr result (IsTextFault text.now) }
 {

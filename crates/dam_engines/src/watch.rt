@@ -1,7 +1,10 @@
 use dam_search::{FreeTurn, Turnstile};
 
-/// A turnstile that is also told when a search begins and when it ends.
+/// A turnstile that is also told of refused commands, and when a search begins and when it ends.
 pub trait Watch: Turnstile {
+    /// Called by `run_clear` before its book is cleared, with how many of the journal's commands the book refused.
+    fn refused(&self, commands: u32);
+
     /// Called before a search of so many pieces.
     fn begin(&self, pieces: u32);
 
@@ -10,6 +13,8 @@ pub trait Watch: Turnstile {
 }
 
 impl Watch for FreeTurn {
+    fn refused(&self, _commands: u32) {}
+
     fn begin(&self, _pieces: u32) {}
 
     fn end(&self) {}

@@ -1,20 +1,11 @@
--- What comes of a closed book, and of the text of a journal.
-use Rattle.std.specs.Prelude.{◌≡◌, ℕ, pos, Bool, true, List}
-use Rattle.dam_book.specs.Book.{BookState, run}
+-- What comes of the text of a journal.
+use Rattle.std.specs.Prelude.{ℕ, List}
+use Rattle.dam_book.specs.Book.{run}
 use Rattle.dam_book.specs.declared.command.Command.{Command}
-use Rattle.dam_blocks.specs.Problem.{problem_of}
-use Rattle.dam_blocks.specs.Result.{IsResult}
 use Rattle.dam_results.specs.declared.published.PeriodResult.{PeriodResult}
 use Rattle.dam_results.specs.declared.published.RowResult.{RowResult}
 use Rattle.dam_results.specs.Journal.{ReadsAs}
-use Rattle.dam_results.specs.Published.{ArePublished}
-
--- the book is closed, and this is published of the result of its problem
-pub record IsClearing (book : BookState) (welfare : ℕ) (periods : List PeriodResult) (rows : List RowResult) : Type 0 where
-  pub closed : book.closed ≡ true
-  pub selection : List Bool
-  pub is_result : IsResult (problem_of book) selection (pos welfare)
-  pub published : ArePublished (problem_of book) selection welfare periods rows
+use Rattle.dam_results.specs.Clearing.{IsClearing}
 
 -- the text is a journal, and this is published of the book that its commands make
 abbrev pub IsClearingOf : List ℕ → ℕ → List PeriodResult → List RowResult → Type 0

@@ -1,10 +1,12 @@
 //! From the text of a journal, or from a book, to what is published of it.
 ghost use Rattle.std.specs.Prelude.{IfOk};
-ghost use Rattle.dam_example.specs.Clearing.{IsClearing, IsClearingOf};
+ghost use Rattle.dam_results.specs.Clearing.{IsClearing};
+ghost use Rattle.dam_example.specs.Clearing.{IsClearingOf};
 
 use anyhow::{Context, Result};
 use dam_blocks::Problem;
 use dam_book::{Book, Seed};
+use dam_results::publishing_laws::published_results_are_clearings;
 use dam_results::{Results, book_of_text, results};
 use dam_search::{FreeTurn, Plan, search};
 use std::alloc::Global;
@@ -22,6 +24,7 @@ pub fn clear_text<R: Threads + Sync>(rt: &R, alloc: Global, text: &[u8]) -> Resu
 pub fn clear<R: Threads + Sync>(rt: &R, alloc: Global, book: &Book) -> Result<Results>
     ensures { IfOk result (λ r. IsClearing book.now r.welfare r.periods.items r.rows.items) }
 {
+    published_results_are_clearings();
     let problem = Problem::of_book(alloc, book)?;
     let plan = Plan::new(2, 3, 1_000_000).context("a plan")?;
     let best = search(rt, alloc, &problem, plan, &FreeTurn)?;

@@ -1,15 +1,18 @@
--- Receipts that are the entries number by number are the entries, each once, and those of a pass stand in their order.
+-- Receipts that are the entries number by number are the entries, each once, and the other way round; those of a pass stand
+-- in their order.
 use Rattle.std.proofs.Common.{◌≡◌, ◌≢◌, ℕ, suc, ◌<◌, ◌≤◌, ◌==◌, ◌⊎◌, inl, inr, Bool, true, false, List, [], ◌∷◌, ◌++◌, length, refl, sym, ap, subst, ◌∙◌, append_assoc, length-append, arith, All}
 use Rattle.std.proofs.lemmas.Bool.{eqb-true, eqb-false, cases_lt}
 use Rattle.std.proofs.lemmas.List.Elements.{filter-append, All-nil, All-cons}
 use Rattle.std.specs.List.Sorted.{IsPermutation}
 use Rattle.std.proofs.lemmas.List.Sorted.{IsPermutation-refl, IsPermutation-trans, IsPermutation-middle, IsPermutation-cons}
 use Rattle.dam_book.specs.declared.command.Entry.{Entry}
-use Rattle.dam_book.specs.Book.{BookState, book_after, IsLegalFrom}
+use Rattle.dam_book.specs.Book.{BookState, book_after, empty_book, IsLegalFrom, IsLegalHistory}
 use Rattle.dam_gate.specs.Pass.{PassState, IsPass, AreInOrder}
-use Rattle.dam_gate.specs.Settled.{numbered, receipts_of, AreReceipts}
+use Rattle.dam_gate.specs.Settled.{numbered, receipts_of}
 use Rattle.dam_gate.specs.Headline.{AreSomeOf}
+use Rattle.dam_gate.specs.inside.Tally.{AreReceipts}
 use Rattle.dam_gate.proofs.Numbers.{numbered-head, numbered-tail, none_below}
+use Rattle.dam_gate.proofs.Permutations.{filter-permutation, short-permutation}
 
 -- where the entry of a number stands
 pub record Stands (e : Entry) (rs : List Entry) : Type 0 where
@@ -81,6 +84,12 @@ at_most_one n m b (e ∷ es) legal = elim (e.number == m) as (λ (t : Bool). e.n
       omega (arith, ap (λ (xs : List Entry). length xs) one)
   | false ↦ λ other. omega (arith, ap (λ (xs : List Entry). length xs) (numbered-tail m e es (eqb-false e.number m other)), at_most_one (suc n) m (book_after b e.command) es legal.2)
 ] refl
+
+-- entries, each once, are the entries number by number
+pub each_number : (periods : ℕ) (es rs : List Entry) → IsLegalHistory periods es → IsPermutation rs es → AreReceipts es rs
+each_number periods es rs legal once n =
+    short-permutation (numbered n rs) (numbered n es) (filter-permutation (λ (e : Entry). e.number == n) rs es once)
+    (at_most_one 1 n (empty_book periods) es legal)
 
 only_one : (xs ys zs : List Entry) (r : Entry) → xs ++ r ∷ ys ≡ zs → length zs ≤ 1 → zs ≡ r ∷ []
 only_one [] [] zs r is few = sym is

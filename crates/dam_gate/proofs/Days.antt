@@ -1,5 +1,5 @@
 -- A settled gate through which each participant entered its own commands in their order holds a day run.
-use Rattle.std.proofs.Common.{◌-◌, nat_lt, All, ◌≡◌, ◌≢◌, ℕ, zero, suc, ◌+◌, ◌<◌, ◌≤◌, ◌==◌, ◌⊎◌, inl, inr, Bool, true, false, cond, if◌then◌else◌, ◌||◌, List, [], ◌∷◌, ◌++◌, length, get_or, map, take, drop, Option, Some, None, refl, sym, ap, ap₂, subst, ◌∙◌, append-nil, length-append, arith}
+use Rattle.std.proofs.Common.{All, slice_get, ◌≡◌, ◌≢◌, ℕ, zero, suc, ◌+◌, ◌<◌, ◌≤◌, ◌==◌, ◌⊎◌, inl, inr, Bool, true, false, cond, if◌then◌else◌, ◌||◌, List, [], ◌∷◌, ◌++◌, length, get_or, map, take, drop, Option, Some, None, refl, sym, ap, ap₂, subst, ◌∙◌, append-nil, length-append, arith}
 use Rattle.std.specs.List.{filter}
 use Rattle.std.specs.Bool.{Decides}
 use Rattle.std.proofs.lemmas.Bool.{eqb-true, eqb-false, cases_lt, le-ltb, or_parts}
@@ -13,9 +13,10 @@ use Rattle.dam_book.specs.declared.command.Command.TheVariants.{Submit, Amend, C
 use Rattle.dam_book.specs.declared.command.Entry.{Entry}
 use Rattle.dam_book.specs.Book.{BookState, empty_book, book_after, commands_of, IsLegalFrom, IsLegalHistory}
 use Rattle.dam_gate.specs.Pass.{PassState, Knowledge, knowing_nothing, IsPass, AreInOrder, holders, new_pass, is_own, is_from, is_close}
-use Rattle.dam_gate.specs.Settled.{numbered, receipts_of, AreReceipts}
-use Rattle.dam_gate.specs.Day.{commands_by, is_one_of, IsDayFault, refused, giver, givers_from, with_any, with_giver, refused_at, refused_from, IsDayRun}
-use Rattle.dam_gate.specs.inside.Entering.{AreApart, AreGivers, AreServed, Enters, HasAll, HasEntered, IsLateFault, own_commands}
+use Rattle.dam_gate.specs.Settled.{numbered, receipts_of}
+use Rattle.dam_gate.specs.Day.{commands_by, is_one_of, AreTaken, IsDayFault, giver, givers_from, givers_of, with_any, with_giver, IsDayRun}
+use Rattle.dam_gate.specs.inside.Tally.{AreReceipts}
+use Rattle.dam_gate.specs.inside.Entering.{AreApart, AreGivers, AreServed, Enters, HasAll, HasEntered, IsRefusalAt, own_commands}
 use Rattle.dam_gate.specs.declared.day.DayFault.{DayFault}
 use Rattle.dam_gate.specs.declared.day.DayFault.TheVariants.{TooManyCommands, CloseGiven, TooManyParticipants, NotSettled, Memory}
 use Rattle.dam_gate.specs.declared.settlement.Mismatch.{Mismatch}
@@ -246,17 +247,46 @@ givers-step participants who c front false new gives are =
 pub givers-more : (participants : List (List ℕ)) (who : List ℕ) (c : Command) (front : List Command) → giver c ≡ Some who → AreGivers participants front → AreGivers (with_giver participants who) (front ++ c ∷ [])
 givers-more participants who c front gives are = givers-step participants who c front (is_one_of participants who) refl gives are
 
-pub left-more : (i : ℕ) (participants : List (List ℕ)) (who : List ℕ) (c : Command) (cs rest : List Command) (end : Option DayFault) → giver c ≡ Some who → length (with_giver participants who) ≤ most_participants
-    → cs ≡ c ∷ rest → refused_from i participants cs ≡ end → refused_from (i + 1) (with_giver participants who) rest ≡ end
-left-more i participants who c cs rest end gives few next kept =
-    let after = λ (more : List (List ℕ)). refused_from (i + 1) more rest in
-    sym (ap (λ (b : Bool). if b then Some (TooManyParticipants i) else after (with_giver participants who)) (le-ltb most_participants (length (with_giver participants who)) few))
-    ∙ sym (ap (λ (g : Option (List ℕ)). refused_at i participants g after) gives) ∙ ap (refused_from i participants) (sym next) ∙ kept
+givers_from-snoc : (participants : List (List ℕ)) (front : List Command) (c : Command) → givers_from participants (front ++ c ∷ []) ≡ with_any (givers_from participants front) (giver c)
+givers_from-snoc participants [] c = refl
+givers_from-snoc participants (x ∷ front) c = givers_from-snoc (with_any participants (giver x)) front c
 
-pub order-more : (participants : List (List ℕ)) (who : List ℕ) (c : Command) (cs rest : List Command) (end : List (List ℕ)) → giver c ≡ Some who
-    → cs ≡ c ∷ rest → givers_from participants cs ≡ end → givers_from (with_giver participants who) rest ≡ end
-order-more participants who c cs rest end gives next kept =
-    sym (ap (λ (g : Option (List ℕ)). givers_from (with_any participants g) rest) gives) ∙ ap (givers_from participants) (sym next) ∙ kept
+pub order-more : (participants : List (List ℕ)) (who : List ℕ) (c : Command) (front : List Command) → giver c ≡ Some who → participants ≡ givers_of front
+    → with_giver participants who ≡ givers_of (front ++ c ∷ [])
+order-more participants who c front gives is =
+    ap (λ (ps : List (List ℕ)). with_giver ps who) is ∙ ap (with_any (givers_of front)) (sym gives) ∙ sym (givers_from-snoc [] front c)
+
+given-open : (c : Command) (who : List ℕ) → giver c ≡ Some who → is_close c ≡ false
+given-open (Submit w name order) who gives = refl
+given-open (Amend w name price volumes) who gives = refl
+given-open (Cancel w name) who gives = refl
+given-open Close who gives = absurd (cc)
+
+pub no_close-more : (c : Command) (who : List ℕ) (front : List Command) → giver c ≡ Some who → filter is_close front ≡ [] → filter is_close (front ++ c ∷ []) ≡ []
+no_close-more c who front gives none =
+    filter-append is_close front (c ∷ []) ∙ ap₂ (λ (cs : List Command) (b : Bool). cs ++ cond b (c ∷ []) []) none (given-open c who gives)
+
+-- ---- the first command that isn't taken
+
+nobody-closes : (c : Command) → giver c ≡ None → c ≡ Close
+nobody-closes (Submit who name order) none = absurd (cc)
+nobody-closes (Amend who name price volumes) none = absurd (cc)
+nobody-closes (Cancel who name) none = absurd (cc)
+nobody-closes Close none = refl
+
+-- the commands before the place are taken, and the one at the place isn't
+pub refused-at : (cs : List Command) (place : ℕ) (participants : List (List ℕ)) (c : Command) (fault : DayFault) → length cs < most_entries → place < length cs → slice_get cs place ≡ Some c
+    → take (place + 1) cs ≡ take place cs ++ c ∷ [] → AreTaken (take place cs) → participants ≡ givers_of (take place cs) → IsRefusalAt place participants c fault → IsDayFault cs fault
+refused-at cs place participants c TooManyCommands room inside at next taken order is = absurd is
+refused-at cs place participants c (CloseGiven other) room inside at next taken order is =
+    subst (λ (n : ℕ). IsDayFault cs (CloseGiven n)) (sym is.0) (room, taken, at ∙ ap (λ (d : Command). Some d) (nobody-closes c is.1))
+refused-at cs place participants c (TooManyParticipants other) room inside at next taken order is =
+    let more : with_any participants (giver c) ≡ givers_of (take (place + 1) cs) =
+    ap (λ (ps : List (List ℕ)). with_any ps (giver c)) order ∙ sym (givers_from-snoc [] (take place cs) c) ∙ ap givers_of (sym next) in
+    subst (λ (n : ℕ). IsDayFault cs (TooManyParticipants n)) (sym is.0)
+    (room, taken, inside, subst (λ (ps : List (List ℕ)). most_participants < length ps) more is.1)
+refused-at cs place participants c (NotSettled why) room inside at next taken order is = absurd is
+refused-at cs place participants c Memory room inside at next taken order is = room
 
 -- ---- the shares of the participants in the journal
 
@@ -461,41 +491,3 @@ accounts-enter given olds news same enters i d within =
     let below : i < length olds = omega (arith, within, length-map olds f) in
     subst (λ (p : PassState). Enters given p (get_or (accounts news) i d)) (sym (get_or-map f olds i k d below))
     (subst (λ (p : PassState). Enters given (get_or olds i k).account p) (sym (get_or-map f news i k d (omega (arith, below, same)))) (enters i k below))
-
--- ---- the faults
-
-never-if : (b : Bool) (place : ℕ) (rest : Option DayFault) (why : Mismatch) → (rest ≡ Some (NotSettled why) → ⊥)
-    → (if b then Some (TooManyParticipants place) else rest) ≡ Some (NotSettled why) → ⊥
-never-if true place rest why never is = cc
-never-if false place rest why never is = never is
-
-never-at : (place : ℕ) (participants : List (List ℕ)) (g : Option (List ℕ)) (after : List (List ℕ) → Option DayFault) (why : Mismatch)
-    → ((more : List (List ℕ)) → after more ≡ Some (NotSettled why) → ⊥) → refused_at place participants g after ≡ Some (NotSettled why) → ⊥
-never-at place participants None after why never is = cc
-never-at place participants (Some who) after why never is =
-    never-if (nat_lt most_participants (length (with_giver participants who))) place (after (with_giver participants who)) why (never (with_giver participants who)) is
-
-never-settles : (place : ℕ) (participants : List (List ℕ)) (cs : List Command) (why : Mismatch) → refused_from place participants cs ≡ Some (NotSettled why) → ⊥
-never-settles place participants [] why is = cc
-never-settles place participants (c ∷ cs) why is =
-    never-at place participants (giver c) (λ more. refused_from (place + 1) more cs) why (λ more. never-settles (place + 1) more cs why) is
-
--- where there are not too many commands, the first that is refused decides
-pub refused-few : (cs : List Command) → length cs < most_entries → refused cs ≡ refused_from 0 [] cs
-refused-few cs few = ap (λ (b : Bool). if b then Some TooManyCommands else refused_from 0 [] cs) (le-ltb (most_entries - 1) (length cs) (omega (arith, few)))
-
-pub refused-fault : (cs : List Command) (fault : DayFault) → length cs < most_entries → (fault ≡ Memory) ⊎ (refused_from 0 [] cs ≡ Some fault) → IsDayFault cs fault
-refused-fault cs fault few (inl none) = subst (IsDayFault cs) (sym none) few
-refused-fault cs Memory few (inr is) = few
-refused-fault cs (NotSettled why) few (inr is) = absurd (never-settles 0 [] cs why is)
-refused-fault cs TooManyCommands few (inr is) = refused-few cs few ∙ is
-refused-fault cs (CloseGiven place) few (inr is) = refused-few cs few ∙ is
-refused-fault cs (TooManyParticipants place) few (inr is) = refused-few cs few ∙ is
-
--- a day of commands that aren't refused
-pub late-fault : (cs : List Command) (fault : DayFault) → length cs < most_entries → refused_from 0 [] cs ≡ None → IsLateFault fault → IsDayFault cs fault
-late-fault cs Memory few none is = few
-late-fault cs (NotSettled why) few none is = (refused-few cs few ∙ none, is)
-late-fault cs TooManyCommands few none is = absurd is
-late-fault cs (CloseGiven place) few none is = absurd is
-late-fault cs (TooManyParticipants place) few none is = absurd is

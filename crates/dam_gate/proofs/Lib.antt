@@ -5,5 +5,6 @@ pub mod Beginnings
 pub mod Adding
 pub mod Numbers
 pub mod Tallies
+pub mod Permutations
 pub mod Accounts
 pub mod Days

@@ -20,20 +20,13 @@ LeadsTo-more es e s after leads =
 
 -- the books stay where an entry is added
 pub AreSteps-more : (es : List Entry) (e : Entry) (b : BooksState) → AreSteps es b → AreSteps (es ++ e ∷ []) b
-AreSteps-more es e b are = (
-  IfSome_then b.second are.0 (λ s leads. LeadsTo-more es e s b.book leads),
-  IfSome_then b.first are.1 (λ f all. IfSome_then b.second all (λ s leads. LeadsTo-more es e f s.book leads)),
-)
+AreSteps-more es e b are = IfSome_then b.before are (λ s leads. LeadsTo-more es e s b.book leads)
 
 -- they go on to the book after its command
-pub AreSteps-next : (es : List Entry) (e : Entry) (b now : BooksState) (place : ℕ) → length es ≡ place → AreSteps es b
-    → now.book ≡ book_after b.book e.command → now.first ≡ b.second → now.second ≡ Some (record { book = b.book; place = place }) → AreSteps (es ++ e ∷ []) now
-AreSteps-next es e b now place at are made first second =
+pub AreSteps-next : (es : List Entry) (e : Entry) (b now : BooksState) (place : ℕ) → length es ≡ place
+    → now.book ≡ book_after b.book e.command → now.before ≡ Some (record { book = b.book; place = place }) → AreSteps (es ++ e ∷ []) now
+AreSteps-next es e b now place at made before =
     let all = es ++ e ∷ [] in
     let last : slice_get all place ≡ Some e = subst (λ (n : ℕ). slice_get all n ≡ Some e) at (slice_get-last es e) in
-    let to_now : LeadsTo all (record { book = b.book; place = place }) now.book = record { entry = e; stands = last; made = sym made } in (
-      subst (λ (o : Option StepState). IfSome o (λ s. LeadsTo all s now.book)) (sym second) to_now,
-      subst (λ (o : Option StepState). IfSome o (λ f. IfSome now.second (λ s. LeadsTo all f s.book))) (sym first)
-          (subst (λ (o : Option StepState). IfSome b.second (λ f. IfSome o (λ s. LeadsTo all f s.book))) (sym second)
-          (IfSome_then b.second are.0 (λ s leads. LeadsTo-more es e s b.book leads))),
-    )
+    let to_now : LeadsTo all (record { book = b.book; place = place }) now.book = record { entry = e; stands = last; made = sym made } in
+    subst (λ (o : Option StepState). IfSome o (λ s. LeadsTo all s now.book)) (sym before) to_now

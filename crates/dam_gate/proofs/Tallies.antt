@@ -11,8 +11,8 @@ use Rattle.dam_gate.specs.declared.settlement.Mismatch.{Mismatch}
 use Rattle.dam_gate.specs.declared.settlement.Mismatch.TheVariants.{StillOpen, Missing, Doubled, Differs, Extra, Memory}
 use Rattle.dam_gate.specs.declared.tally.Found.{Found}
 use Rattle.dam_gate.specs.declared.tally.Found.TheVariants.{Nothing, Same, Other, Several}
-use Rattle.dam_gate.specs.Settled.{numbered, AreReceipts, IsFaultOf, IsLeastFault, IsExtra}
-use Rattle.dam_gate.specs.inside.Tally.{IsFound, found_with, AreFound, IsLeastExtra, lesser, IsTally, first_fault}
+use Rattle.dam_gate.specs.Settled.{numbered, IsFaultOfReceipts, IsLeastFault, IsExtra}
+use Rattle.dam_gate.specs.inside.Tally.{AreReceipts, IsFound, found_with, AreFound, IsLeastExtra, lesser, IsTally, first_fault}
 use Rattle.dam_gate.proofs.Numbers.{numbered-own, numbered-other, none_below, none_above, AreOnly, are_only}
 
 -- ---- one receipt more
@@ -144,7 +144,7 @@ right-more n all rs here right m below = go (cases_lt m n)
 
 first-told : (last n : ℕ) (all rs es : List Entry) (fs : List Found) → last ≡ n + length es → AreOnly n es all → AreFound n es fs rs
     → ((m : ℕ) → m < n → numbered m rs ≡ numbered m all)
-    → MatchOption (first_fault n fs) ((m : ℕ) → m < last → numbered m rs ≡ numbered m all) (IsFaultOf all rs)
+    → MatchOption (first_fault n fs) ((m : ℕ) → m < last → numbered m rs ≡ numbered m all) (IsFaultOfReceipts all rs)
 first-told last n all rs [] [] end only are right = λ m below. right m (omega (arith, end, below))
 first-told last n all rs (e ∷ es) (Nothing ∷ fs) end only are right =
     record { wrong = (ap (λ (xs : List Entry). length xs) only.0, are.0); least = right }
@@ -163,19 +163,19 @@ none-wrong periods es rs legal positive m below =
     subst (λ (k : ℕ). numbered k rs ≡ numbered k es) zero_is (positive ∙ sym (none_below 1 0 (empty_book periods) es legal (omega arith)))
 
 tally-first : (periods : ℕ) (es : List Entry) (fs : List Found) (extra : Option ℕ) (rs : List Entry) → IsLegalHistory periods es → IsTally es fs extra rs
-    → MatchOption (first_fault 1 fs) ((m : ℕ) → m < 1 + length es → numbered m rs ≡ numbered m es) (IsFaultOf es rs)
+    → MatchOption (first_fault 1 fs) ((m : ℕ) → m < 1 + length es → numbered m rs ≡ numbered m es) (IsFaultOfReceipts es rs)
 tally-first periods es fs extra rs legal tally =
     first-told (1 + length es) 1 es rs es fs refl (are_only 1 (empty_book periods) es legal) tally.are_found (none-wrong periods es rs legal tally.positive)
 
 pub fault-told : (periods : ℕ) (es : List Entry) (fs : List Found) (extra : Option ℕ) (rs : List Entry) (fault : Mismatch) → IsLegalHistory periods es → first_fault 1 fs ≡ Some fault
-    → IsTally es fs extra rs → IsFaultOf es rs fault
+    → IsTally es fs extra rs → IsFaultOfReceipts es rs fault
 fault-told periods es fs extra rs fault legal is tally =
-    subst (λ (o : Option Mismatch). MatchOption o ((m : ℕ) → m < 1 + length es → numbered m rs ≡ numbered m es) (IsFaultOf es rs)) is (tally-first periods es fs extra rs legal tally)
+    subst (λ (o : Option Mismatch). MatchOption o ((m : ℕ) → m < 1 + length es → numbered m rs ≡ numbered m es) (IsFaultOfReceipts es rs)) is (tally-first periods es fs extra rs legal tally)
 
 none-told : (periods : ℕ) (es : List Entry) (fs : List Found) (extra : Option ℕ) (rs : List Entry) → IsLegalHistory periods es → first_fault 1 fs ≡ None
     → IsTally es fs extra rs → (m : ℕ) → m < 1 + length es → numbered m rs ≡ numbered m es
 none-told periods es fs extra rs legal is tally =
-    subst (λ (o : Option Mismatch). MatchOption o ((m : ℕ) → m < 1 + length es → numbered m rs ≡ numbered m es) (IsFaultOf es rs)) is (tally-first periods es fs extra rs legal tally)
+    subst (λ (o : Option Mismatch). MatchOption o ((m : ℕ) → m < 1 + length es → numbered m rs ≡ numbered m es) (IsFaultOfReceipts es rs)) is (tally-first periods es fs extra rs legal tally)
 
 all_numbers : (periods n : ℕ) (es rs : List Entry) → IsLegalHistory periods es → ((m : ℕ) → m < 1 + length es → numbered m rs ≡ numbered m es)
     → (length es < n → numbered n rs ≡ []) → numbered n rs ≡ numbered n es
@@ -201,7 +201,7 @@ extra-told periods least es fs extra rs legal is some tally =
     }
 
 -- what is received as it should be has no fault
-pub no_fault : (es rs : List Entry) (why : Mismatch) → IsFaultOf es rs why → AreReceipts es rs → ⊥
+pub no_fault : (es rs : List Entry) (why : Mismatch) → IsFaultOfReceipts es rs why → AreReceipts es rs → ⊥
 no_fault es rs StillOpen is are = is
 no_fault es rs (Missing n) is are = omega (arith, is.wrong.0, ap (λ (xs : List Entry). length xs) (sym is.wrong.1 ∙ are n))
 no_fault es rs (Doubled n) is are = omega (arith, is.wrong.0, is.wrong.1, ap (λ (xs : List Entry). length xs) (are n))

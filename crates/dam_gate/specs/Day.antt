@@ -1,5 +1,5 @@
 -- A day of given commands: participants enter theirs side by side, and then the operator closes.
-use Rattle.std.specs.Prelude.{◌≡◌, ◌≢◌, ℕ, ◌+◌, ◌-◌, ◌<◌, Bool, nat_lt, if◌then◌else◌, List, [], ◌∷◌, ◌++◌, length, map, Option, None, Some}
+use Rattle.std.specs.Prelude.{◌≡◌, ◌≢◌, ℕ, ◌+◌, ◌<◌, ◌≤◌, Bool, if◌then◌else◌, List, [], ◌∷◌, ◌++◌, length, map, take, slice_get, Option, None, Some}
 use Rattle.std.specs.List.{filter, list_any}
 use Rattle.dam_book.specs.Limits.{most_entries}
 use Rattle.dam_book.specs.Name.{same_text}
@@ -11,7 +11,7 @@ use Rattle.dam_gate.specs.Limits.{most_participants}
 use Rattle.dam_gate.specs.Pass.{is_from, is_close}
 use Rattle.dam_gate.specs.declared.day.DayFault.{DayFault}
 use Rattle.dam_gate.specs.declared.day.DayFault.TheVariants.{TooManyCommands, CloseGiven, TooManyParticipants, NotSettled, Memory}
-use Rattle.dam_gate.specs.declared.settlement.Mismatch.TheVariants.{Memory as NoTally}
+use Rattle.dam_gate.specs.declared.settlement.Mismatch.TheVariants.{Memory as MismatchMemory}
 
 -- this participant's commands, in their order
 abbrev pub commands_by : List ℕ → List Command → List Command
@@ -51,31 +51,31 @@ abbrev pub givers_from : List (List ℕ) → List Command → List (List ℕ)
 givers_from participants [] = participants
 givers_from participants (c ∷ cs) = givers_from (with_any participants (giver c)) cs
 
+-- the participants who give the commands, each once, by first occurrence
+abbrev pub givers_of : List Command → List (List ℕ)
+givers_of cs = givers_from [] cs
+
 -- who holds the passes of a day of these commands, in the order of the passes: the participants, by first occurrence, and
 -- then the operator
 abbrev pub day_holders : List Command → List (Option (List ℕ))
-day_holders cs = map (λ (who : List ℕ). Some who) (givers_from [] cs) ++ None ∷ []
+day_holders cs = map (λ (who : List ℕ). Some who) (givers_of cs) ++ None ∷ []
 
--- a command at this place is refused where nobody gives it or it brings one participant too many, and else what comes
--- after it decides
-abbrev pub refused_at : ℕ → List (List ℕ) → Option (List ℕ) → (List (List ℕ) → Option DayFault) → Option DayFault
-refused_at place participants None after = Some (CloseGiven place)
-refused_at place participants (Some who) after =
-    if nat_lt most_participants (length (with_giver participants who)) then Some (TooManyParticipants place)
-    else after (with_giver participants who)
+-- a day takes the commands: there are fewer than a journal has entries, whose last is kept for the close; none of them is a
+-- close; and no more participants give them than a day may have
+pub record AreTaken (cs : List Command) : Type 0 where
+  pub room : length cs < most_entries
+  pub no_close : filter is_close cs ≡ []
+  pub participants : length (givers_of cs) ≤ most_participants
 
--- why the first of the commands from this place on is refused that is, where these participants came before
-abbrev pub refused_from : ℕ → List (List ℕ) → List Command → Option DayFault
-refused_from place participants [] = None
-refused_from place participants (c ∷ cs) = refused_at place participants (giver c) (λ more. refused_from (place + 1) more cs)
-
--- why no day is run of the commands: there are too many, or one of them is refused, by its place from 0
-abbrev pub refused : List Command → Option DayFault
-refused cs = if nat_lt (most_entries - 1) (length cs) then Some TooManyCommands else refused_from 0 [] cs
-
--- what a day of these commands may answer: why it is refused, if it is; or that it came out unsettled, if it isn't; or want
--- of memory, where there aren't too many
+-- what a day of these commands may answer: that there are too many; if there aren't, the place, from 0, of a command that it
+-- doesn't take while it takes those before, a close or one that brings a participant too many; if it takes them all, that it
+-- came out unsettled; or, unless there are too many, want of memory
 abbrev pub IsDayFault : List Command → DayFault → Type 0
+IsDayFault cs TooManyCommands = most_entries ≤ length cs
+IsDayFault cs (CloseGiven place) =
+    (length cs < most_entries) × AreTaken (take place cs) × (slice_get cs place ≡ Some Close)
+IsDayFault cs (TooManyParticipants place) =
+    (length cs < most_entries) × AreTaken (take place cs) × (place < length cs)
+    × (most_participants < length (givers_of (take (place + 1) cs)))
+IsDayFault cs (NotSettled why) = AreTaken cs × (why ≢ MismatchMemory)
 IsDayFault cs Memory = length cs < most_entries
-IsDayFault cs (NotSettled why) = (refused cs ≡ None) × (why ≢ NoTally)
-IsDayFault cs fault = refused cs ≡ Some fault

@@ -1,6 +1,7 @@
 -- Settlement: whether the receipts of the passes are the entries of the journal.
 use Rattle.std.specs.Prelude.{◌≡◌, ◌≢◌, ℕ, ◌<◌, ◌≤◌, ◌==◌, true, false, List, [], length}
 use Rattle.std.specs.List.{filter, flat_map}
+use Rattle.std.specs.List.Sorted.{IsPermutation}
 use Rattle.dam_book.specs.declared.command.Entry.{Entry}
 use Rattle.dam_gate.specs.declared.settlement.Mismatch.{Mismatch}
 use Rattle.dam_gate.specs.declared.settlement.Mismatch.TheVariants.{StillOpen, Missing, Doubled, Differs, Extra, Memory}
@@ -11,21 +12,16 @@ use Rattle.dam_gate.specs.Pass.{PassState}
 abbrev pub receipts_of : List PassState → List Entry
 receipts_of passes = flat_map (λ (p : PassState). p.receipts) passes
 
+-- the book is closed, and the receipts of the passes are the journal's entries, each once
+pub record IsSettled (j : JournalState) (passes : List PassState) : Type 0 where
+  pub closed : j.book.closed ≡ true
+  pub each_once : IsPermutation (receipts_of passes) j.entries
+
+-- What can be wrong with a number, by the entries and the receipts of it.
+
 -- those of this number
 abbrev pub numbered : ℕ → List Entry → List Entry
 numbered n es = filter (λ (e : Entry). e.number == n) es
-
--- of each number these are the very receipts that there are entries
-abbrev pub AreReceipts : List Entry → List Entry → Type 0
-AreReceipts es rs = (n : ℕ) → numbered n rs ≡ numbered n es
-
--- the book is closed, and of each number the passes have the very receipts that the journal has entries: one of each
--- entry's number, equal to the entry, and none of any other number
-pub record IsSettled (j : JournalState) (passes : List PassState) : Type 0 where
-  pub closed : j.book.closed ≡ true
-  pub received : AreReceipts j.entries (receipts_of passes)
-
--- What can be wrong with a number, by the entries and the receipts of it.
 
 -- an entry has no receipt
 abbrev pub IsMissing : List Entry → List Entry → Type 0
@@ -49,16 +45,16 @@ pub record IsLeastFault (IsWrong : List Entry → List Entry → Type 0) (es rs 
   pub least : (m : ℕ) → m < n → numbered m rs ≡ numbered m es
 
 -- what is wrong with these receipts of these entries
-abbrev pub IsFaultOf : List Entry → List Entry → Mismatch → Type 0
-IsFaultOf es rs StillOpen = ⊥
-IsFaultOf es rs (Missing n) = IsLeastFault IsMissing es rs n
-IsFaultOf es rs (Doubled n) = IsLeastFault IsDoubled es rs n
-IsFaultOf es rs (Differs n) = IsLeastFault IsDifferent es rs n
-IsFaultOf es rs (Extra n) = IsLeastFault IsExtra es rs n
-IsFaultOf es rs Memory = ⊥
+abbrev pub IsFaultOfReceipts : List Entry → List Entry → Mismatch → Type 0
+IsFaultOfReceipts es rs StillOpen = ⊥
+IsFaultOfReceipts es rs (Missing n) = IsLeastFault IsMissing es rs n
+IsFaultOfReceipts es rs (Doubled n) = IsLeastFault IsDoubled es rs n
+IsFaultOfReceipts es rs (Differs n) = IsLeastFault IsDifferent es rs n
+IsFaultOfReceipts es rs (Extra n) = IsLeastFault IsExtra es rs n
+IsFaultOfReceipts es rs Memory = ⊥
 
 -- why a journal and passes are not found settled: the book is open, or the least faulty number is faulty so, or memory ran out
 abbrev pub IsMismatch : JournalState → List PassState → Mismatch → Type 0
 IsMismatch j passes StillOpen = j.book.closed ≡ false
 IsMismatch j passes Memory = j.book.closed ≡ true
-IsMismatch j passes fault = (j.book.closed ≡ true) × IsFaultOf j.entries (receipts_of passes) fault
+IsMismatch j passes fault = (j.book.closed ≡ true) × IsFaultOfReceipts j.entries (receipts_of passes) fault

@@ -26,14 +26,13 @@ impl<A: Allocator> Model for Step<A> {
     ghost view = { λ s. record { book = arc_value s.book; place = s.place } };
 }
 
-/// A book that others may share, and the two before it with the places of the commands that changed them. A book that
-/// nobody shares any more is brought up by the commands that it lacks, which is far quicker than a copy.
+/// A book that others may share, and the one before it with the place of the command that changed it. If nobody shares that one
+/// any more, it is brought up by the command that it lacks, which is far quicker than a copy.
 ///
-/// A contract sees the three.
+/// A contract sees the two.
 #[derive(Debug, Drop)]
 pub(crate) struct Books<A: Allocator = Global> {
-    first: Option<Step<A>>,
-    second: Option<Step<A>>,
+    before: Option<Step<A>>,
     book: Arc<Book<A>, A>,
 }
 
@@ -43,8 +42,7 @@ impl<A: Allocator> Model for Books<A> {
 
     ghost Value = { BooksState };
 
-    ghost view = { λ b.
-        record { book = arc_value b.book; first = b.first; second = b.second } };
+    ghost view = { λ b. record { book = arc_value b.book; before = b.before } };
 }
 
 impl<A: Allocator + Copy> Books<A> {
@@ -52,11 +50,7 @@ impl<A: Allocator + Copy> Books<A> {
         ensures book { result.book ≡ arc_value book }
         ensures steps { (entries : _) → AreSteps entries result }
     {
-        Books {
-            first: None,
-            second: None,
-            book,
-        }
+        Books { before: None, book }
     }
 
     pub(crate) fn book(&self) -> &Book<A>
@@ -72,19 +66,17 @@ impl<A: Allocator + Copy> Books<A> {
         Arc::try_clone(&self.book)
     }
 
-    /// An equal book that nobody else has: the first of the two before it, if nobody shares that any more, and else a copy.
+    /// An equal book that nobody else has: the one before it, if nobody shares that any more, and else a copy.
     pub(crate) fn another(&mut self, entries: &[Entry]) -> Result<Book<A>, AllocError>
         requires { AreSteps entries.now self.old }
         ensures book { IfOk result (λ book. book ≡ self.old.book) }
         ensures same { self.new.book ≡ self.old.book }
         ensures steps { AreSteps entries.now self.new }
     {
-        if let (Some(first), Some(second)) = (self.first.take(), &self.second) {
-            let Step { book, place } = first;
-            if let (Some(first), Some(second)) = (entries.get(place), entries.get(second.place)) {
+        if let Some(Step { book, place }) = self.before.take() {
+            if let Some(entry) = entries.get(place) {
                 if let Ok(mut book) = Arc::try_unwrap(book) {
-                    let _first = book.apply(&first.command)?;
-                    let _second = book.apply(&second.command)?;
+                    let _done = book.apply(&entry.command)?;
                     return Ok(book);
                 }
             }
@@ -100,9 +92,8 @@ impl<A: Allocator + Copy> Books<A> {
         ensures book { self.new.book ≡ book_after self.old.book entry.now.command }
         ensures steps { (entries : _) → length entries ≡ place → AreSteps entries self.old
             → AreSteps (entries ++ entry.now ∷ []) self.new }
-        ensures first { entry.now.reply ≡ Done → self.new.first ≡ self.old.second }
-        ensures second { entry.now.reply ≡ Done
-            → self.new.second ≡ Some (record { book = self.old.book; place = place }) }
+        ensures before { entry.now.reply ≡ Done
+            → self.new.before ≡ Some (record { book = self.old.book; place = place }) }
     {
         if let Reply::Refused(_) = entry.reply {
             return;
@@ -111,7 +102,7 @@ impl<A: Allocator + Copy> Books<A> {
             book: replace(&mut self.book, book),
             place,
         };
-        let _oldest = replace(&mut self.first, replace(&mut self.second, Some(before)));
+        let _oldest = replace(&mut self.before, Some(before));
     }
 
     pub(crate) fn into_book(self) -> Arc<Book<A>, A>

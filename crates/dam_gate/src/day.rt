@@ -1,12 +1,12 @@
 ghost use Rattle.std.specs.Option.{option_copied};
 ghost use Rattle.dam_gate.specs.Limits.{most_participants};
-ghost use Rattle.std.specs.Prelude.{◌≡◌, ◌⊎◌, ◌≤◌, ◌<◌, ◌∷◌, ◌++◌, [], ℕ, All, true, None, Some, length, map, slice_index_or, IfOk, IfErr, OnOk};
+ghost use Rattle.std.specs.Prelude.{◌≡◌, ◌≤◌, ◌<◌, ◌∷◌, ◌++◌, [], ℕ, All, true, None, Some, length, map, slice_index_or, IfOk, IfErr, OnOk};
 ghost use Rattle.dam_book.specs.Book.{is_day, commands_of};
+ghost use Rattle.dam_book.specs.Limits.{most_entries};
 ghost use Rattle.dam_gate.specs.Journal.{IsJournal};
 ghost use Rattle.dam_gate.specs.Pass.{Knowledge, IsPass, holders, knowing_nothing};
-ghost use Rattle.dam_gate.specs.Settled.{IsSettled};
 ghost use Rattle.dam_gate.specs.Headline.{IsWholeAccount};
-ghost use Rattle.dam_gate.specs.Day.{IsDayFault, IsDayRun, day_holders, refused, giver, givers_from, is_one_of, refused_from};
+ghost use Rattle.dam_gate.specs.Day.{AreTaken, IsDayFault, IsDayRun, day_holders, giver, givers_of, is_one_of};
 ghost use Rattle.dam_gate.specs.inside.Entering.{AreGivers, AreServed, Enters, HasAll, IsClosedDay, IsLateFault, IsRefusalAt, Takes, own_commands};
 
 use crate::account::{Account, owns};
@@ -14,7 +14,6 @@ use crate::doorkeeper::Doorkeeper;
 use crate::gate::{Gate, GateFault, PassFault};
 use crate::history::{Naming, Opening};
 use crate::keeper::{BeginFault, Journal};
-use crate::laws::whole_account;
 use crate::limits::MOST_PARTICIPANTS;
 use crate::pass::Pass;
 use crate::settlement::{Mismatch, Settled, settle};
@@ -225,13 +224,12 @@ fn take_giver(
 
 /// The participants who give the commands, by first occurrence.
 fn givers(alloc: Global, commands: &[Command]) -> Result<Vec<Participant>, DayFault>
+    requires { length commands.now < most_entries }
     ensures ok { IfOk result (λ participants. AreGivers participants.items commands.now) }
-    ensures order { IfOk result (λ participants.
-        participants.items ≡ givers_from [] commands.now) }
+    ensures order { IfOk result (λ participants. participants.items ≡ givers_of commands.now) }
     ensures few { IfOk result (λ participants. length participants.items ≤ most_participants) }
-    ensures given { OnOk result (refused_from 0 [] commands.now ≡ None) }
-    ensures refused { IfErr result (λ fault.
-        (fault ≡ DayFault.Memory) ⊎ (refused_from 0 [] commands.now ≡ Some fault)) }
+    ensures taken { OnOk result (AreTaken commands.now) }
+    ensures fault { IfErr result (IsDayFault commands.now) }
 {
     let mut participants = Vec::new(alloc);
     for (place, command) in commands.iter().enumerate() {
@@ -355,7 +353,7 @@ fn run_day<J: Naming + Send + Sync, R: Threads + Wait + Sync, D: Doorkeeper + Sy
     ensures journal { IfOk result (λ day. IsJournal day.settled) }
     ensures day { IfOk result (λ day.
         IsDayRun opening.periods commands.now day.settled.entries) }
-    ensures settled { IfOk result (λ day. IsSettled day.settled day.passes.items) }
+    ensures account { IfOk result (λ day. IsWholeAccount day.settled day.passes.items) }
     ensures passes { IfOk result (λ day.
         holders day.passes.items ≡ map (λ who. Some who) participants.now ++ None ∷ []) }
     ensures err { IfErr result IsLateFault }
@@ -379,7 +377,7 @@ fn run_day<J: Naming + Send + Sync, R: Threads + Wait + Sync, D: Doorkeeper + Sy
 /// The journal settled with the passes.
 fn settle_day(alloc: Global, journal: Journal, passes: &[Account]) -> Result<Settled, DayFault>
     ensures journal { IfOk result (λ settled. settled ≡ journal) }
-    ensures settled { IfOk result (λ settled. IsSettled settled passes.now) }
+    ensures account { IfOk result (λ settled. IsWholeAccount settled passes.now) }
     ensures err { IfErr result IsLateFault }
 {
     match settle(alloc, journal, passes) {
@@ -410,7 +408,7 @@ pub fn run_commands<R: Threads + Wait + Sync, D: Doorkeeper + Sync>(
     ensures day { IfOk result (λ day. IsDayRun periods commands.now day.settled.entries) }
     ensures account { IfOk result (λ day. IsWholeAccount day.settled day.passes.items) }
     ensures passes { IfOk result (λ day. holders day.passes.items ≡ day_holders commands.now) }
-    ensures given { OnOk result (refused commands.now ≡ None) }
+    ensures taken { OnOk result (AreTaken commands.now) }
     ensures fault { IfErr result (IsDayFault commands.now) }
 {
     if commands.len() >= MOST_ENTRIES {
@@ -418,7 +416,7 @@ pub fn run_commands<R: Threads + Wait + Sync, D: Doorkeeper + Sync>(
     }
     let participants = givers(alloc, commands)?;
     let opening = Opening::new(periods);
-    let day = run_day::<Brand, R, D>(
+    run_day::<Brand, R, D>(
         rt,
         alloc,
         opening,
@@ -426,7 +424,5 @@ pub fn run_commands<R: Threads + Wait + Sync, D: Doorkeeper + Sync>(
         doorkeeper,
         &participants,
         commands,
-    )?;
-    whole_account(&day.settled, &day.passes);
-    Ok(day)
+    )
 }

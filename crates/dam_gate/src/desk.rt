@@ -125,6 +125,17 @@ fn next_place<J: Naming, R: Wait + Drop>(
     Ok(place)
 }
 
+/// Brings the copy that no look reads any more up to the one that is shown, so that nothing keeps the version before it. It
+/// waits for the looks at that version.
+fn let_go<J: Naming, R: Wait + Drop>(writer: &mut WriteHandle<Shown<J>, Change<J>, R>)
+    requires { pending writer.old ≡ [] }
+    ensures shown { (published writer.new).held ≡ (published writer.old).held }
+    ensures waiting { pending writer.new ≡ [] }
+{
+    // Nothing waits, so an `Err` would change nothing either.
+    let _shown = writer.publish();
+}
+
 /// The history after the step, whose version then stands at the place.
 fn go_on<J: Naming>(
     head: &Head<J>,
@@ -256,6 +267,7 @@ impl<J: Naming, R: Wait + Drop> Desk<J, R> {
         if self.writer.publish().is_err() {
             return Err(GateFault::NoVersion);
         }
+        let_go(&mut self.writer);
         self.next = None;
         let entry = self.keeper.put(ready);
         self.front = front.again();

@@ -13,8 +13,8 @@
 //! let journal = gate.finish();
 //! let accounts = [pass.into_account(), operator.into_account()];
 //! match settle(alloc, journal, &accounts) {
-//!     Ok(settled) => whole_account(&settled, &accounts), // a law: what a settled journal accounts for
-//!     Err(unsettled) => return Err(unsettled.why), // with the journal in it
+//!     Ok(settled) => Ok(settled), // which accounts for the whole day: the clause `account`
+//!     Err(unsettled) => Err(unsettled.why), // with the journal in it
 //! }
 //! ```
 //!

@@ -1,9 +1,11 @@
 ghost use Rattle.std.specs.Prelude.{◌≡◌, true, IfOk, IfErr};
 ghost use Rattle.dam_gate.specs.Settled.{IsMismatch, IsSettled, receipts_of};
+ghost use Rattle.dam_gate.specs.Headline.{IsWholeAccount};
 ghost use Rattle.dam_gate.specs.inside.Tally.{IsFirstFault};
 
 use crate::account::Account;
 use crate::keeper::Journal;
+use crate::laws::whole_account;
 use crate::tally::Tally;
 use std::alloc::{AllocError, Allocator, Global};
 use std::marker::Model;
@@ -70,7 +72,7 @@ pub struct Unsettled<A: Allocator = Global> {
 }
 
 /// Compares the receipts of the passes with the entries of a closed journal: each entry needs just one receipt, equal to
-/// it, and no receipt may have another number.
+/// it, and no receipt may have another number. A journal that comes out settled accounts for its whole day.
 ///
 /// It goes once over the receipts and once over the entries, and takes a byte of memory for each entry.
 pub fn settle<A: Allocator + Copy, B: Allocator>(
@@ -80,6 +82,7 @@ pub fn settle<A: Allocator + Copy, B: Allocator>(
 ) -> Result<Settled<A>, Unsettled<A>>
     ensures journal { IfOk result (λ settled. settled ≡ journal) }
     ensures settled { IfOk result (λ settled. IsSettled settled passes.now) }
+    ensures account { IfOk result (λ settled. IsWholeAccount settled passes.now) }
     ensures back { IfErr result (λ unsettled. unsettled.journal ≡ journal) }
     ensures why { IfErr result (λ unsettled. IsMismatch journal passes.now unsettled.why) }
     ensures exact { IsSettled journal passes.now
@@ -92,7 +95,11 @@ pub fn settle<A: Allocator + Copy, B: Allocator>(
         });
     }
     match compare(alloc, &journal, passes) {
-        Ok(None) => Ok(Settled { journal }),
+        Ok(None) => {
+            let settled = Settled { journal };
+            whole_account(&settled, passes);
+            Ok(settled)
+        }
         Ok(Some(why)) => Err(Unsettled { why, journal }),
         Err(_) => Err(Unsettled {
             why: Mismatch::Memory,

@@ -18,7 +18,7 @@ use Rattle.dam_results.specs.Rules.{FieldRule, OneOf, NameOrEmpty, Keeps, IsLeas
 use Rattle.dam_results.specs.Journal.{AreRecords, IsCommand, ReadsAs}
 use Rattle.dam_results.specs.Faults.{IsRecordFault, HasFault, IsFaultOf}
 
-abbrev KeepAll : List FieldRule → Fields → Type 0
+abbrev pub KeepAll : List FieldRule → Fields → Type 0
 KeepAll [] fields = Unit {0}
 KeepAll (rule ∷ rules) [] = Unit {0}
 KeepAll (rule ∷ rules) (field ∷ fields) = Keeps rule field × KeepAll rules fields

@@ -6,9 +6,13 @@ pub mod FaultFound
 pub mod RecordsDiffer
 pub mod JournalsHaveNoFault
 pub mod OneFault
+pub mod Deciding
+pub mod EveryField
+pub mod EveryText
 pub mod SpelledRecords
 pub mod FieldBytes
 pub mod ReadBack
 pub mod WriterLines
 pub mod ClearingSteps
 pub mod PublishedOnce
+pub mod BestSelections

@@ -1,10 +1,10 @@
 -- The records that a reader over a text has still to give.
 use Rattle.std.proofs.Common.{◌≡◌, ℕ, zero, suc, ◌+◌, ◌<◌, ◌≤◌, Bool, true, false, List, [], ◌∷◌, length, Option, Some, None, Bor, ltb, nat_lt, eqb, refl, sym, ap, ◌∙◌, arith, add-one}
-use Rattle.std.specs.Prelude.{IsSome}
+use Rattle.std.specs.Prelude.{IsSome, MatchBool}
 use Rattle.std.proofs.lemmas.Bool.{ltb-false, lt-ltb}
 use Rattle.std.proofs.lemmas.Bool.Decides.{nat_tests}
 use Rattle.csv.specs.Machine.{Read, next_record, ends_at_end}
-use Rattle.csv.specs.Reading.{strip_bom, Reached, Ready, ReadRecord, default_config, records_from, reader_state, owned_rows_reader, owned_rows_left}
+use Rattle.csv.specs.Reading.{strip_bom, Reached, Ready, ReadRecord, default_config, records_from, reader_state}
 use Rattle.csv.specs.declared.parser.State.{State}
 use Rattle.csv.specs.declared.parser.State.TheVariants as st
 use Rattle.csv.proofs.ReadFacts.{rows-end, rows-more}
@@ -45,20 +45,20 @@ enough (suc n) (suc m) s xs e p q =
 pub record Left (reader : RecordReader) : Type 0 where
   pub bytes : List ℕ
   pub source : unread reader ≡ Some bytes
-  pub rows : rows_left reader ≡ records_from default_config (length bytes + 1) (reader_state (owned_rows_reader reader)) bytes
+  pub rows : rows_left reader ≡ records_from default_config (length bytes + 1) (reader_state reader) bytes
 
 left_of : (state : State) (known : Option (List ℕ)) → IsSome known → (bytes : List ℕ) × (known ≡ Some bytes) × (rows_from state known ≡ records_from default_config (length bytes + 1) state bytes)
 left_of state None k = absurd cc
 left_of state (Some bytes) k = (bytes, refl, refl)
 
 Left-open : (reader : RecordReader) → IsOpen reader → Left reader
-Left-open reader h = let p = left_of (reader_state (owned_rows_reader reader)) (unread reader) h.known in record { bytes = p.0; source = p.1; rows = p.2 }
+Left-open reader h = let p = left_of (reader_state reader) (unread reader) h.known in record { bytes = p.0; source = p.1; rows = p.2 }
 
 -- a read that found no record shows that none was left
-pub rows_left-none : (a b : RecordReader) (fields : Fields) → IsOpen a → ReadRecord given (owned_rows_reader a) (owned_rows_reader b) false fields → rows_left a ≡ []
+pub rows_left-none : (a b : RecordReader) (fields : Fields) → IsOpen a → ReadRecord given a b false fields → rows_left a ≡ []
 rows_left-none a b fields h r =
     let left = Left-open a h in
-    left.rows ∙ records_from-None (length left.bytes + 1) (reader_state (owned_rows_reader a)) left.bytes (rows-end given (owned_rows_reader a) (owned_rows_reader b) fields default_config left.bytes h.config left.source r)
+    left.rows ∙ records_from-None (length left.bytes + 1) (reader_state a) left.bytes (rows-end given a b fields default_config left.bytes h.config left.source r)
 
 abbrev read : Fields → State → List ℕ → Option Read
 read fields s xs = Some (fields, s, xs)
@@ -79,12 +79,12 @@ pub record Takes (a b : RecordReader) (fields : Fields) : Type 0 where
   pub goes_on : IsOpen b
   pub rows : rows_left a ≡ fields ∷ rows_left b
 
-pub rows_left-takes : (a b : RecordReader) (fields : Fields) → IsOpen a → ReadRecord given (owned_rows_reader a) (owned_rows_reader b) true fields → Ready (owned_rows_reader b) → 0 < owned_rows_left b → Takes a b fields
-rows_left-takes a b fields h r ready turns =
+pub rows_left-takes : (a b : RecordReader) (fields : Fields) → IsOpen a → ReadRecord given a b true fields → Ready b → Takes a b fields
+rows_left-takes a b fields h r ready =
     let left = Left-open a h in
-    let s = reader_state (owned_rows_reader a) in
-    let t = reader_state (owned_rows_reader b) in
-    let m = rows-more given (owned_rows_reader a) (owned_rows_reader b) fields default_config s left.bytes left.bytes [] h.config left.source (here s left.bytes) r in
+    let s = reader_state a in
+    let t = reader_state b in
+    let m = rows-more given a b fields default_config s left.bytes left.bytes [] h.config left.source (here s left.bytes) r in
     let e = one_read s t left.bytes m.0 fields m.2 in
     let p : Read = (fields, t, m.0) in
     let after : IsAfter p left.bytes = next_record-after s [] [] left.bytes p e in
@@ -93,7 +93,6 @@ rows_left-takes a b fields h r ready turns =
     let fewer = enough (length left.bytes) (length m.0 + 1) t m.0 after.closed less (omega arith) in
     record {
       goes_on = record {
-        turns = turns;
         untrimmed = r.3 ∙ h.untrimmed;
         ready = ready;
         config = r.2 ∙ h.config;
@@ -102,6 +101,12 @@ rows_left-takes a b fields h r ready turns =
       };
       rows = all ∙ ap (λ (rows : List Fields). fields ∷ rows) (fewer ∙ ap (λ (known : Option (List ℕ)). rows_from t known) (sym m.1));
     }
+
+-- what a read says of the records left: it took the first of them, or there was none
+pub rows_left-next : (a b : RecordReader) (found : Bool) (fields : Fields) → IsOpen a → ReadRecord given a b found fields → Ready b
+    → MatchBool found (IsOpen b × (rows_left a ≡ fields ∷ rows_left b)) (rows_left a ≡ [])
+rows_left-next a b true fields h r ready = let takes = rows_left-takes a b fields h r ready in (takes.goes_on, takes.rows)
+rows_left-next a b false fields h r ready = rows_left-none a b fields h r
 
 first_low : (a : ℕ) (xs : List ℕ) (high : Bool) → nat_lt 127 a ≡ high → first_high (a ∷ xs) ≡ None → high ≡ false
 first_low a xs true p e =
@@ -122,6 +127,6 @@ strip_bom-ascii (a ∷ b ∷ c ∷ rest) e =
     rw ne refl
 
 -- a reader that has read nothing has all the records of its text left
-pub rows_left-start : (reader : RecordReader) (text : List ℕ) → first_high text ≡ None → reader_state (owned_rows_reader reader) ≡ st.StartRecord → unread reader ≡ Some (strip_bom text)
+pub rows_left-start : (reader : RecordReader) (text : List ℕ) → first_high text ≡ None → reader_state reader ≡ st.StartRecord → unread reader ≡ Some (strip_bom text)
     → rows_left reader ≡ records_of text
 rows_left-start reader text ascii state source = rw (source, state, strip_bom-ascii text ascii) refl

@@ -8,4 +8,5 @@ pub mod Run
 pub mod Spelling
 pub mod Written
 pub mod Published
+pub mod Clearing
 pub mod inside

@@ -1,5 +1,5 @@
-ghost use Rattle.std.specs.Prelude.{◌≡◌, ◌<◌, ◌≤◌, ◌+◌, ◌⊎◌, ℕ, List, [], ◌∷◌, true, length, None, IfOk, IfErr, MatchOption, MatchResult};
-ghost use Rattle.csv.specs.Reading.{is_flexible, owned_rows_reader};
+ghost use Rattle.std.specs.Prelude.{◌≡◌, ◌<◌, ◌≤◌, ◌+◌, ◌⊎◌, ℕ, List, [], ◌∷◌, true, length, None, IfOk, IfErr, MatchBool, MatchResult};
+ghost use Rattle.csv.specs.Reading.{is_flexible};
 ghost use Rattle.csv.specs.Records.{fields_of};
 ghost use Rattle.dam_book.specs.Book.{is_day};
 ghost use Rattle.dam_book.specs.declared.command.Command.{Command};
@@ -16,7 +16,7 @@ use crate::laws;
 use crate::limits::{MOST_BYTES, MOST_RECORDS};
 use crate::record::{read_command, read_day};
 use crate::row::{Row, field_of};
-use csv::{ByteRecord, ByteRecordsIntoIter, ReaderBuilder};
+use csv::{ByteRecord, Reader, ReaderBuilder};
 use dam_book::{Command, Seed};
 use std::alloc::{AllocError, AllocFailed, Global};
 use thiserror::Error;
@@ -153,7 +153,7 @@ fn later_row<'a>(number: usize, fields: &'a ByteRecord) -> Result<Row<'a>, Journ
     Ok(row)
 }
 
-type Records<'a> = ByteRecordsIntoIter<&'a [u8]>;
+type Records<'a> = Reader<&'a [u8]>;
 
 fn records<'a>(alloc: Global, text: &'a [u8]) -> Records<'a>
     requires { Journal.first_high text.now ≡ None }
@@ -161,40 +161,38 @@ fn records<'a>(alloc: Global, text: &'a [u8]) -> Records<'a>
     ensures rows { rows_left result ≡ records_of text.entry.now }
 
     // A record of another length than the first is read too.
-    ensures flexible { is_flexible (owned_rows_reader result) ≡ true }
+    ensures flexible { is_flexible result ≡ true }
 {
     ReaderBuilder::new()
         .has_headers(false)
         .flexible(true)
         .from_reader(alloc, text)
-        .into_byte_records()
 }
 
-/// The next record, if there is one.
-fn next_record(records: &mut Records) -> Result<Option<ByteRecord>, AllocError>
+/// Reads the next record's fields into the record that is lent, and says whether there was one.
+fn next_record(records: &mut Records, fields: &mut ByteRecord) -> Result<bool, AllocError>
     requires { IsOpen records.old }
-    ensures { IfOk result (λ next. MatchOption next
-        (rows_left records.old ≡ [])
-        (λ fields. IsOpen records.new
-        × (rows_left records.old ≡ fields_of fields ∷ rows_left records.new))) }
+    ensures { IfOk result (λ found. MatchBool found
+        (IsOpen records.new × (rows_left records.old ≡ fields_of fields.new ∷ rows_left records.new))
+        (rows_left records.old ≡ [])) }
 {
-    match records.next() {
-        None => Ok(None),
-        Some(Ok(record)) => Ok(Some(record)),
-        Some(Err(_)) => Err(AllocError),
-    }
+    let Ok(found) = records.read_byte_record(fields) else {
+        return Err(AllocError);
+    };
+    Ok(found)
 }
 
-fn next_day(records: &mut Records) -> Result<u8, JournalFault>
+fn next_day(records: &mut Records, fields: &mut ByteRecord) -> Result<u8, JournalFault>
     requires { IsOpen records.old }
     ensures { MatchResult result
         (λ periods. (is_day periods ≡ true) × IsOpen records.new
         × (rows_left records.old ≡ day_row periods ∷ rows_left records.new))
         (IsFaultOfRecords (rows_left records.old)) }
 {
-    match next_record(records)? {
-        Some(record) => read_first(&record),
-        None => Err(JournalFault::NotDay),
+    if next_record(records, fields)? {
+        read_first(fields)
+    } else {
+        Err(JournalFault::NotDay)
     }
 }
 
@@ -221,7 +219,11 @@ fn take_record<T: FromJournal>(
 }
 
 /// Takes the commands of all records after the day's.
-fn take_records<T: FromJournal>(made: &mut T, records: &mut Records) -> Result<(), JournalFault>
+fn take_records<T: FromJournal>(
+    made: &mut T,
+    records: &mut Records,
+    fields: &mut ByteRecord,
+) -> Result<(), JournalFault>
     requires { IsOpen records.old }
     ensures { (periods : ℕ) → is_day periods ≡ true → T.made_of periods [] made.old
         → MatchResult result
@@ -231,9 +233,9 @@ fn take_records<T: FromJournal>(made: &mut T, records: &mut Records) -> Result<(
         (IsFaultOfRecords (day_row periods ∷ rows_left records.old)) }
 {
     let mut number = 0;
-    while let Some(record) = next_record(records)? {
+    while next_record(records, fields)? {
         number += 1;
-        take_record(made, number, &record)?;
+        take_record(made, number, fields)?;
     }
     Ok(())
 }
@@ -250,9 +252,11 @@ fn read_records<T: FromJournal>(
         × AreRecords (rows_left records.old) periods commands × T.made_of periods commands made)
         (IsFaultOfRecords (rows_left records.old)) }
 {
-    let periods = next_day(records)?;
+    // One for all records, so that its memory is asked for once.
+    let mut fields = ByteRecord::new(alloc);
+    let periods = next_day(records, &mut fields)?;
     let mut made = T::begin(alloc, seed, periods)?;
-    take_records(&mut made, records)?;
+    take_records(&mut made, records, &mut fields)?;
     Ok(made)
 }
 

@@ -1,6 +1,6 @@
 //! Laws of the journal format, each the contract of a function that does nothing but cite the laws
 //! that it rests on.
-ghost use Rattle.std.specs.Prelude.{◌≡◌, ◌⊎◌, ℕ, List};
+ghost use Rattle.std.specs.Prelude.{◌≡◌, ◌≢◌, ◌⊎◌, ℕ, List};
 ghost use Rattle.dam_book.specs.declared.command.Command.{Command};
 ghost use Rattle.dam_results.specs.declared.journal.JournalFault.{JournalFault};
 ghost use Rattle.dam_results.specs.declared.journal.JournalFault.TheVariants.{Memory};
@@ -38,4 +38,12 @@ pub fn text_has_one_fault()
     ensures { (text : List ℕ) (fault other : JournalFault)
         → IsFaultOf text fault → IsFaultOf text other
         → (fault ≡ other) ⊎ ((fault ≡ Memory) ⊎ (other ≡ Memory)) }
+{}
+
+/// Each text is a journal, or has a first fault other than want of memory. With the laws above, the
+/// reader's answer follows from the text, unless memory runs out.
+pub fn text_is_journal_or_faulty()
+    ensures { (text : List ℕ)
+        → ((periods : ℕ) × (commands : List Command) × ReadsAs text periods commands)
+        ⊎ ((fault : JournalFault) × IsFaultOf text fault × (fault ≢ Memory)) }
 {}

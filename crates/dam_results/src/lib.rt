@@ -1,8 +1,9 @@
 //! The texts that the auction reads and prints, and what is published of a selection of blocks.
 //!
-//! A journal's text is read into its commands (`read_journal`), its book (`book_of_text`) or the replies to
-//! its commands (`replay_text`), each with the first fault where the text is no journal. `results` finds
-//! what is published of an eligible selection; `results_text`, `replies_text` and `journal_text` write.
+//! A journal's text is read into its commands (`read_journal`), its book (`book_of_text`), its book and how
+//! many commands that refused (`run_of_text`), or the replies to its commands (`replay_text`), each with the
+//! first fault where the text is no journal. `results` finds what is published of an eligible selection;
+//! `results_text`, `replies_text` and `journal_text` write.
 //!
 //! ```
 //! let book = book_of_text(alloc, Seed::fixed(), text)?;
@@ -40,7 +41,7 @@ pub use journal::{JournalFault, JournalRead, read_journal};
 pub use limits::{MOST_BYTES, MOST_RECORDS};
 pub use publish::results;
 pub use published::{PeriodResult, Results, RowResult};
-pub use replay::{book_of_text, replay_text, run_text};
+pub use replay::{Run, book_of_text, replay_text, run_of_text, run_text};
 pub use replies::replies_text;
 pub use text::results_text;
 pub use writer::journal_text;

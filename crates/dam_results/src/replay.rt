@@ -8,14 +8,14 @@ ghost use Rattle.dam_results.specs.Journal.{IsMadeFrom, ReadsAs};
 ghost use Rattle.dam_results.specs.Faults.{IsFaultOf};
 ghost use Rattle.dam_results.specs.Replies.{AreReplies, day_line, entry_line, reply_line};
 ghost use Rattle.dam_results.specs.Replies;
-ghost use Rattle.dam_results.specs.Run.{IsRun};
+ghost use Rattle.dam_results.specs.Run.{HasRefused, IsRun};
 
 use crate::from_journal::FromJournal;
 use crate::journal::{JournalFault, read_into};
 use crate::lines::write_day;
 use crate::replies::write_line;
 use dam_book::laws::runs_grow;
-use dam_book::{Book, Command, Seed};
+use dam_book::{Book, Command, Reply, Seed};
 use std::alloc::{AllocError, Allocator, Global};
 
 /// The empty book of a day that a journal may have.
@@ -29,19 +29,32 @@ fn empty_book(alloc: Global, seed: Seed, periods: u8) -> Book
     book
 }
 
-impl FromJournal for Book {
-    ghost use Rattle.std.specs.Prelude.{◌≡◌};
-    ghost use Rattle.dam_results.specs.Run.{IsRun};
+/// The run of a journal's commands.
+#[derive(Drop)]
+pub struct Run {
+    /// The book that they make.
+    pub book: Book,
+    /// How many of them the book refused.
+    pub refused: u32,
+}
 
-    ghost made_of = { λ periods commands book. IsRun periods commands book };
+impl FromJournal for Run {
+    ghost use Rattle.std.specs.Prelude.{◌≡◌, ◌≤◌, length};
+    ghost use Rattle.dam_results.specs.Run.{HasRefused, IsRun};
 
-    fn begin(alloc: Global, seed: Seed, periods: u8) -> Result<Book, AllocError> {
-        Ok(empty_book(alloc, seed, periods))
+    ghost made_of = { λ periods commands run. IsRun periods commands run.book
+        × HasRefused periods commands run.refused × (run.refused ≤ length commands) };
+
+    fn begin(alloc: Global, seed: Seed, periods: u8) -> Result<Run, AllocError> {
+        let book = empty_book(alloc, seed, periods);
+        Ok(Run { book, refused: 0 })
     }
 
     fn take(&mut self, _number: u32, command: &Command) -> Result<(), AllocError> {
         runs_grow();
-        let _reply = self.apply(command)?;
+        if let Reply::Refused(_) = self.book.apply(command)? {
+            self.refused = self.refused.saturating_add(1);
+        }
         Ok(())
     }
 }
@@ -143,6 +156,18 @@ pub fn replay_text(alloc: Global, seed: Seed, text: &[u8]) -> Result<Vec<u8>, Jo
     Ok(replay.text)
 }
 
+/// The run of a journal, from its text, or the first fault of the text.
+///
+/// Each command is applied as it is read, and no list of them is kept. The book hashes names by the seed.
+pub fn run_of_text(alloc: Global, seed: Seed, text: &[u8]) -> Result<Run, JournalFault>
+    ensures ok { IfOk result (λ run. (periods : ℕ) × (commands : List Command)
+        × ReadsAs text.now periods commands
+        × IsRun periods commands run.book × HasRefused periods commands run.refused) }
+    ensures fault { IfErr result (IsFaultOf text.now) }
+{
+    read_into(alloc, seed, text)
+}
+
 /// The book that the commands of a journal make of the empty one of its day, from the journal's text, or
 /// the first fault of the text.
 ///
@@ -155,5 +180,6 @@ pub fn book_of_text(alloc: Global, seed: Seed, text: &[u8]) -> Result<Book, Jour
     ensures exact { (periods : ℕ) (commands : List Command) → ReadsAs text.now periods commands
         → MatchResult result (IsRun periods commands) (λ fault. fault ≡ JournalFault.Memory) }
 {
-    read_into(alloc, seed, text)
+    let run: Run = read_into(alloc, seed, text)?;
+    Ok(run.book)
 }

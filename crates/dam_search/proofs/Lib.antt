@@ -8,3 +8,4 @@ pub mod Sums
 pub mod Rule
 pub mod Shares
 pub mod Leaf
+pub mod OneAnswer

@@ -1,12 +1,12 @@
 -- What one step of a walk costs, and two walks after one another.
-use Rattle.std.proofs.Common.{◌≡◌, ℕ, suc, ◌+◌, ◌-◌, ◌^◌, ◌<◌, ◌≤◌, ℤ, pos, negsuc, Bool, true, false, not, Option, Some, None, List, [], ◌∷◌, ◌++◌, length, if◌then◌else◌, ◌∙◌, ap, subst, refl, arith}
+use Rattle.std.proofs.Common.{◌≡◌, ℕ, suc, ◌+◌, ◌-◌, ◌^◌, ◌<◌, ◌≤◌, ◌⊎◌, ℤ, pos, negsuc, Bool, true, false, not, Option, Some, None, List, [], ◌∷◌, ◌++◌, length, if◌then◌else◌, ◌∙◌, ap, subst, refl, arith}
 use Rattle.std.proofs.lemmas.Bool.Decides.{nat_tests}
 use Rattle.std.proofs.lemmas.Nat.{pow_pos}
 use Rattle.std.proofs.Math.Nat.{two-pow-succ}
 use Rattle.dam_blocks.specs.Problem.{ProblemState}
 use Rattle.dam_bound.specs.Relaxed.{relaxed_welfare, reaches, live_count}
 use Rattle.dam_search.specs.Piece.{IsSpent}
-use Rattle.dam_search.specs.inside.Walk.{Spends}
+use Rattle.dam_search.specs.inside.Walk.{Spends, Reads}
 use Rattle.dam_search.proofs.Prefixes.{length_more}
 
 -- a power of two twice over
@@ -76,6 +76,31 @@ spends_one problem prefix left told nodes before h =
       over_all = λ f. absurd (cc);
       over_live = λ f v m. absurd (cc);
     }
+
+-- nothing was read
+pub reads_nothing : (left before after read told told' : ℕ) → read ≤ told → told' ≡ told → (after ≡ before) ⊎ (left ≡ 0)
+    → Reads left before after read read told told'
+reads_nothing left before after read told told' h e none = record {
+  grows = omega arith;
+  told = omega (arith, h, e);
+  kept = λ f. omega (arith, e, f);
+  asked = λ more some. absurd (omega (arith, none, more, some));
+  unvisited = λ f. refl;
+  full = λ f. refl;
+}
+
+-- the incumbent was read
+pub reads_asked : (left before after read_before read_after told_before told_after : ℕ) → 0 < left → before < after
+    → read_before ≤ told_before → told_before ≤ read_after → told_after ≡ read_after
+    → Reads left before after read_before read_after told_before told_after
+reads_asked left before after read_before read_after told_before told_after some more h h' e = record {
+  grows = omega (arith, h, h');
+  told = omega (arith, h', e);
+  kept = λ f. omega (arith, e);
+  asked = λ m n. omega (arith, e);
+  unvisited = λ f. absurd (omega (arith, f, more));
+  full = λ f. absurd (omega (arith, f, some));
+}
 
 -- one block less is undecided
 one_less : (n : ℕ) (prefix : List Bool) (b : Bool) → length prefix < n → n - length prefix ≡ suc (n - length (prefix ++ b ∷ []))

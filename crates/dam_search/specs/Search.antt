@@ -59,10 +59,3 @@ IsCollected depth answers (Err (Unfinished piece visited)) =
     × (u.visited ≡ visited))
 IsCollected depth answers (Ok best) =
     AreOneEach answers (2 ^ depth) × IsLeastUnfinished answers None × IsHighest answers best
-
--- what a search answers, want of memory apart: what workers' answers about its pieces come to
-pub record IsSearched (problem : ProblemState) (depth nodes : ℕ) (result : Result Best SearchFault)
-    : Type 0 where
-  pub answers : List PieceAnswer
-  pub worked : All (λ (a : PieceAnswer). IsWorked problem depth nodes a) answers
-  pub collected : IsCollected depth answers result

@@ -17,6 +17,7 @@
 //! The crate knows nothing of how prices are found, nor of texts.
 #![tactic(auto)]
 
+mod alone;
 mod answer;
 mod collect;
 mod fault;
@@ -32,6 +33,7 @@ mod words;
 mod worker;
 mod workers;
 
+pub use alone::search_alone;
 pub use answer::PieceAnswer;
 pub use dam_plan::{MOST_CUT, MOST_NODES, MOST_WORKERS, Plan};
 pub use fault::SearchFault;

@@ -6,7 +6,7 @@ ghost use Rattle.dam_bound.specs.Prefix.{IsCompletion};
 ghost use Rattle.dam_bound.specs.Relaxed.{relaxed_welfare, without_rows};
 ghost use Rattle.dam_bound.specs.Day.{IsDay, IsUnder};
 ghost use Rattle.dam_search.specs.Piece.{IsFind, IsMatched, Rises, welfare_found, IsSound, IsSpent};
-ghost use Rattle.dam_search.specs.inside.Walk.{Finds, Covers, Spends, Reads};
+ghost use Rattle.dam_search.specs.inside.Walk.{Finds, Covers, IsGoing, IsWalked};
 
 use crate::answer::PieceAnswer;
 use crate::incumbent::Incumbent;
@@ -122,7 +122,8 @@ fn equals(bound: i64, value: u64) -> bool
 /// A prefix whose bound is less than what was read is passed over after its own visit. 'Rejected' is
 /// explored before 'accepted', which finds good selections sooner. If the bound equals what was read, no
 /// completion has more welfare than that, and only the order of ties counts: 'accepted' comes first in
-/// it, and is explored first. Days are made in `below`, one for each undecided block.
+/// it, and is explored first. The first decision's day is made in `below`, where there is one for each
+/// undecided block, and the other's of this day itself, of which nothing is promised afterwards.
 ///
 /// It is inlined into `decide`, so that the walk is one function that calls itself.
 #[cycle(explore)]
@@ -132,7 +133,7 @@ fn explore<A: Allocator, B: Allocator, I: Incumbent>(
     relaxed: &Relaxed<B>,
     nodes: u32,
     prefix: Prefix,
-    day: &Day,
+    day: &mut Day,
     bounded: bool,
     below: &mut [Day],
     incumbent: &mut I,
@@ -140,23 +141,13 @@ fn explore<A: Allocator, B: Allocator, I: Incumbent>(
 ) -> bool
     requires same { relaxed.now ≡ without_rows problem.now }
     requires depth { length prefix ≤ length problem.now.blocks }
-    requires day { MatchBool bounded (IsDay relaxed.now prefix day.now)
+    requires day { MatchBool bounded (IsDay relaxed.now prefix day.old)
         (IsUnder relaxed.now prefix found.old.read) }
     requires admissible { IsAdmissible problem.now.blocks (padded prefix) }
     requires days { length problem.now.blocks ≤ length prefix + length below.old }
-    requires room { found.old.visited ≤ nodes }
-    requires read { found.old.read ≤ I.told incumbent.old }
-    requires best { IsFind problem.now [] found.old.best }
-    requires offered { welfare_found found.old.best ≤ I.top incumbent.old }
-    ensures finds { Finds problem.now prefix found.old.best found.new.best }
-    ensures covers { result ≡ true → Covers problem.now prefix found.new.best found.new.read }
-    ensures spends { Spends problem.now prefix (length problem.now.blocks - length prefix)
-        (I.told incumbent.old) nodes found.old.visited found.new.visited result }
-    ensures reads { Reads (length problem.now.blocks - length prefix)
-        found.old.visited found.new.visited found.old.read found.new.read
-        (I.told incumbent.old) (I.told incumbent.new) }
-    ensures offered { I.top incumbent.new
-        ≡ max (I.top incumbent.old) (welfare_found found.new.best) }
+    requires going { IsGoing problem.now nodes (I.told incumbent.old) (I.top incumbent.old) found.old }
+    ensures walked { IsWalked problem.now prefix nodes (I.told incumbent.old) (I.top incumbent.old)
+        (I.told incumbent.new) (I.top incumbent.new) found.old found.new result }
     ensures kept { I.kept incumbent.new ≡ I.kept incumbent.old }
 {
     dam_blocks::laws::ranking();
@@ -173,9 +164,13 @@ fn explore<A: Allocator, B: Allocator, I: Incumbent>(
     let Some(open) = prefix.opened(day, bounded, found.read) else {
         return true;
     };
+    let Some((next, below)) = below.split_first_mut() else {
+        unreachable!();
+    };
+    relaxed.copy_day(day, next);
     let first = equals(day.total, found.read);
     if !decide(
-        problem, relaxed, nodes, &open, first, day, below, incumbent, found,
+        problem, relaxed, nodes, &open, first, next, below, incumbent, found,
     ) {
         return false;
     }
@@ -186,8 +181,8 @@ fn explore<A: Allocator, B: Allocator, I: Incumbent>(
 
 /// Explores the extension of a prefix by this decision on the next block, as `explore` does.
 ///
-/// If the links and the groups don't admit it, it is passed over without a visit, and no day is made of
-/// it. Its day is made no further than until its bound is under what was read: it isn't `bounded` then.
+/// If the links and the groups don't admit it, it is passed over without a visit. Its day is made of the
+/// prefix's, and no further than until its bound is under what was read: it isn't `bounded` then.
 #[cycle(explore)]
 fn decide<A: Allocator, B: Allocator, I: Incumbent>(
     problem: &Problem<A>,
@@ -195,45 +190,30 @@ fn decide<A: Allocator, B: Allocator, I: Incumbent>(
     nodes: u32,
     prefix: &Prefix,
     accept: bool,
-    day: &Day,
+    day: &mut Day,
     below: &mut [Day],
     incumbent: &mut I,
     found: &mut Found,
 ) -> bool
     requires same { relaxed.now ≡ without_rows problem.now }
     requires depth { length prefix.now < length problem.now.blocks }
-    requires day { IsDay relaxed.now prefix.now day.now }
+    requires day { IsDay relaxed.now prefix.now day.old }
     requires admissible { IsAdmissible problem.now.blocks (padded prefix.now) }
-    requires days { length problem.now.blocks ≤ length prefix.now + length below.old }
-    requires room { found.old.visited ≤ nodes }
-    requires read { found.old.read ≤ I.told incumbent.old }
-    requires best { IsFind problem.now [] found.old.best }
-    requires offered { welfare_found found.old.best ≤ I.top incumbent.old }
-    ensures finds { Finds problem.now (prefix.now ++ accept ∷ []) found.old.best found.new.best }
-    ensures covers { result ≡ true
-        → Covers problem.now (prefix.now ++ accept ∷ []) found.new.best found.new.read }
-    ensures spends { Spends problem.now (prefix.now ++ accept ∷ [])
-        (length problem.now.blocks - length (prefix.now ++ accept ∷ []))
-        (I.told incumbent.old) nodes found.old.visited found.new.visited result }
-    ensures reads { Reads (length problem.now.blocks - length (prefix.now ++ accept ∷ []))
-        found.old.visited found.new.visited found.old.read found.new.read
-        (I.told incumbent.old) (I.told incumbent.new) }
-    ensures offered { I.top incumbent.new
-        ≡ max (I.top incumbent.old) (welfare_found found.new.best) }
+    requires days { length problem.now.blocks ≤ length prefix.now + 1 + length below.old }
+    requires going { IsGoing problem.now nodes (I.told incumbent.old) (I.top incumbent.old) found.old }
+    ensures walked { IsWalked problem.now (prefix.now ++ accept ∷ []) nodes
+        (I.told incumbent.old) (I.top incumbent.old) (I.told incumbent.new) (I.top incumbent.new)
+        found.old found.new result }
     ensures kept { I.kept incumbent.new ≡ I.kept incumbent.old }
 {
     let _kept = problem.periods(); // for the proof: what every problem keeps
-    let Some((next, below)) = below.split_first_mut() else {
-        unreachable!();
-    };
     let extended = prefix.extended(accept);
     if accept && !extended.is_still_admissible(problem) {
         return true;
     }
-    relaxed.copy_day(day, next);
-    let bounded = relaxed.extend(next, prefix.depth(), accept, found.read);
+    let bounded = relaxed.extend(day, prefix.depth(), accept, found.read);
     explore(
-        problem, relaxed, nodes, extended, next, bounded, below, incumbent, found,
+        problem, relaxed, nodes, extended, day, bounded, below, incumbent, found,
     )
 }
 
@@ -286,7 +266,7 @@ pub fn search_piece<A: Allocator, B: Allocator, I: Incumbent>(
             done: true,
         };
     }
-    let (day, bounded) = prefix.bounded_day(relaxed);
+    let (mut day, bounded) = prefix.bounded_day(relaxed);
     let mut found = Found {
         best: None,
         read: 0,
@@ -294,7 +274,7 @@ pub fn search_piece<A: Allocator, B: Allocator, I: Incumbent>(
     };
     let mut below = [Day::empty(); MOST_BLOCKS];
     let done = explore(
-        problem, relaxed, nodes, prefix, &day, bounded, &mut below, incumbent, &mut found,
+        problem, relaxed, nodes, prefix, &mut day, bounded, &mut below, incumbent, &mut found,
     );
     PieceAnswer {
         piece,

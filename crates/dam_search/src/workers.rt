@@ -1,10 +1,10 @@
-ghost use Rattle.std.specs.Prelude.{◌≡◌, ◌⊎◌, ◌<◌, ◌≤◌, ◌-◌, ◌^◌, min, ℕ, pos, [], length};
+ghost use Rattle.std.specs.Prelude.{◌≡◌, ◌<◌, ◌≤◌, ◌-◌, ◌^◌, min, ℕ, pos, [], length};
 ghost use Rattle.std.specs.Prelude.{vec_len, All, IfOk, IsErrOf};
 ghost use Rattle.atomic_table.specs.Seated.{TableId};
 ghost use Rattle.dam_blocks.specs.Result.{IsResult};
 ghost use Rattle.dam_bound.specs.Relaxed.{without_rows};
 ghost use Rattle.dam_plan.specs.Limits.{most_workers, most_cut};
-ghost use Rattle.dam_search.specs.Search.{IsUnfinished, IsSearched};
+ghost use Rattle.dam_search.specs.Search.{IsUnfinished};
 ghost use Rattle.dam_search.specs.inside.Share.{IsNewSeat, IsShare, AreJoined, AreWhole};
 
 use crate::answer::PieceAnswer;
@@ -220,11 +220,6 @@ pub fn search<R: Threads + Sync, T: Turnstile + Sync>(
         → IsErrOf result (SearchFault.Unfinished piece visited)
         → IsUnfinished problem.now (min plan.cut (length problem.now.blocks))
         plan.nodes piece visited }
-
-    // Some answers of workers come to this. Which answers these are, and so which of several
-    // unfinished pieces is named, no clause can say.
-    ensures searched { IsErrOf result SearchFault.Memory
-        ⊎ IsSearched problem.now (min plan.cut (length problem.now.blocks)) plan.nodes result }
 
     // Each piece was drawn once: none lacks its answer or has two.
     ensures whole { (piece : ℕ) → ¬ (IsErrOf result (SearchFault.Collected piece)) }

@@ -1,6 +1,6 @@
 //! What is taken of a stack from the bottom, and what can be told of it once a step is gone, without a look at the rows.
 
-ghost use Rattle.std.specs.Prelude.{◌≡◌, ◌*◌, ◌≤◌, List, ◌++◌, ◌∷◌, IfSome, IfNone};
+ghost use Rattle.std.specs.Prelude.{◌≡◌, ◌+◌, ◌-◌, ◌*◌, ◌≤◌, List, ◌++◌, ◌∷◌, IfSome, IfNone};
 ghost use Rattle.dam_hour.specs.declared.step.Step.{Step};
 ghost use Rattle.dam_stack.specs.Taken.{IsTaken, IsCutOf};
 ghost use Rattle.dam_stack.specs.inside.Taken.{IsHeld, IsFree, IsFreed};
@@ -24,6 +24,20 @@ impl Cut {
         ensures { result ≡ self.now.span }
     {
         self.span
+    }
+
+    /// What a decision against the price of the last unit taken would cost there: the volume times the
+    /// cents between the limit and that price.
+    pub fn stake(&self, taken: Taken) -> u64
+        ensures { result ≡ (self.now.height - taken.height + (taken.height - self.now.height))
+            * self.now.volume }
+    {
+        let apart = if self.height < taken.height {
+            taken.height - self.height
+        } else {
+            self.height - taken.height
+        };
+        u64::from(apart) * u64::from(self.volume)
     }
 
     /// The volume times the cents from the least price up to the limit.

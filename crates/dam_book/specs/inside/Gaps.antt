@@ -1,5 +1,6 @@
 -- A list of places, each with an order or with none: a gap, where an order was taken out.
-use Rattle.std.specs.Prelude.{◌≡◌, ◌<◌, ℕ, suc, ◌+◌, Bool, false, ◌&&◌, nat_eq, List, [], ◌∷◌, Option, Some, None, ⊤}
+use Rattle.std.specs.Prelude.{◌≡◌, ◌<◌, ℕ, suc, ◌+◌, ◌-◌, Bool, false, ◌&&◌, nat_eq, List, [], ◌∷◌, ◌++◌, length, replicate, Option, Some, None, ⊤}
+use Rattle.dam_book.specs.Limits.{longest_name, longest_participant}
 use Rattle.dam_book.specs.Name.{same_text}
 use Rattle.dam_book.specs.Order.{is_parent, parent_of}
 use Rattle.dam_book.specs.Book.{Key, Row, same_key}
@@ -11,6 +12,14 @@ Label = Key × ℕ
 
 abbrev pub same_label : Label → Label → Bool
 same_label l m = same_key l.0 m.0 && nat_eq l.1 m.1
+
+-- the text, and a 0 in each place behind it
+abbrev pub padded : ℕ → List ℕ → List ℕ
+padded places text = text ++ replicate (places - length text) 0
+
+-- the bytes that a key is hashed as: its two texts, and zeros up to three words of eight bytes
+abbrev pub key_bytes : Key → List ℕ
+key_bytes k = padded longest_participant k.0 ++ (padded longest_name k.1 ++ replicate 4 0)
 
 abbrev pub Place : Type 0
 Place = Label × Option Order

@@ -1,5 +1,5 @@
 -- What the walk keeps: the stacks of the periods, and what each block is in each of its periods.
-use Rattle.std.specs.Prelude.{◌≡◌, ℕ, ◌+◌, ◌<◌, ◌≤◌, Some, List, ◌++◌, length, drop, slice_get, slice_index_or}
+use Rattle.std.specs.Prelude.{◌≡◌, ℕ, ◌+◌, ◌<◌, ◌≤◌, Some, List, ◌++◌, length, map, drop, slice_get, slice_index_or, IsPermutation}
 use Rattle.dam_book.specs.Limits.{last_period, most_blocks}
 use Rattle.dam_book.specs.Volumes.{Pair}
 use Rattle.dam_book.specs.declared.order.Side.{Side}
@@ -18,23 +18,30 @@ pub record AreSpans (hours : List (List Step)) (blocks : List Block) (rows : Lis
   pub each : (i : ℕ) (ss : List Step) (d : Span) → slice_get hours i ≡ Some ss
       → IsStackAt rows (slice_index_or spans i d) (ss ++ as_steps (i + 1) (drop depth blocks))
 
+-- the period of a touch and the block's volume there, and those of a list of touches
+abbrev pub pair_of : Touch → Pair
+pair_of touch = (touch.at + 1, touch.cut.volume)
+
+abbrev pub pairs_of : List Touch → List Pair
+pairs_of touches = map pair_of touches
+
 -- the block at the place in one of its periods: it stands as a step after the hourly orders, and the cut leads to the later blocks
 pub record IsTouch (hours : List (List Step)) (blocks : List Block) (rows : List Row) (place : ℕ) (b : Block) (p : Pair) (touch : Touch) : Type 0 where
   pub at_is : p.0 ≡ touch.at + 1
+  pub volume_is : p.1 ≡ touch.cut.volume
   pub inside : touch.at < length hours
   pub cut_is : (ss : List Step) → slice_get hours touch.at ≡ Some ss
       → IsCutOff rows (step_of p.0 b.order) (ss ++ as_steps p.0 (drop (place + 1) blocks)) touch.cut
 
--- a block's side and its touches, one for each of its volumes
+-- a block's side and its touches, one for each of its volumes, in any order
 pub record LotState : Type 0 where
   pub side : Side
   pub touches : List Touch
 
 pub record IsLot (hours : List (List Step)) (blocks : List Block) (rows : List Row) (place : ℕ) (b : Block) (lot : LotState) : Type 0 where
   pub side_is : lot.side ≡ b.order.side
-  pub as_many : length lot.touches ≡ length b.order.volumes
-  pub each : (j : ℕ) (p : Pair) (touch : Touch) → slice_get b.order.volumes j ≡ Some p → slice_get lot.touches j ≡ Some touch
-      → IsTouch hours blocks rows place b p touch
+  pub pairs_are : IsPermutation b.order.volumes (pairs_of lot.touches)
+  pub each : (j : ℕ) (touch : Touch) → slice_get lot.touches j ≡ Some touch → IsTouch hours blocks rows place b (pair_of touch) touch
 
 -- the lots of the first blocks
 pub record AreLots (hours : List (List Step)) (blocks : List Block) (rows : List Row) (count : ℕ) (lots : List LotState) : Type 0 where

@@ -1,4 +1,4 @@
--- The book of a keeper, the two before it, and how these lead to it.
+-- The book of a keeper, the one before it, and how that leads to it.
 use Rattle.std.specs.Prelude.{◌≡◌, ℕ, List, Option, Some, IfSome, slice_get}
 use Rattle.dam_book.specs.Book.{BookState, book_after}
 use Rattle.dam_book.specs.declared.command.Entry.{Entry}
@@ -8,11 +8,10 @@ pub record StepState : Type 0 where
   pub book : BookState
   pub place : ℕ
 
--- a book, the one before it (`second`) and the one before that (`first`), where they are kept
+-- a book, and the one before it, where that is kept
 pub record BooksState : Type 0 where
   pub book : BookState
-  pub first : Option StepState
-  pub second : Option StepState
+  pub before : Option StepState
 
 -- the command of the step's entry made this book of the step's
 pub record LeadsTo (es : List Entry) (s : StepState) (after : BookState) : Type 0 where
@@ -20,8 +19,6 @@ pub record LeadsTo (es : List Entry) (s : StepState) (after : BookState) : Type 
   pub stands : slice_get es s.place ≡ Some entry
   pub made : book_after s.book entry.command ≡ after
 
--- the two earlier books lead to the book, one by one
+-- the book before leads to the book
 abbrev pub AreSteps : List Entry → BooksState → Type 0
-AreSteps es b =
-    IfSome b.second (λ s. LeadsTo es s b.book)
-    × IfSome b.first (λ f. IfSome b.second (λ s. LeadsTo es f s.book))
+AreSteps es b = IfSome b.before (λ s. LeadsTo es s b.book)

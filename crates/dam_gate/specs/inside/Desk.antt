@@ -2,7 +2,7 @@
 use Rattle.std.specs.Prelude.{◌≡◌, ℕ, ◌<◌, ◌≤◌, true, false}
 use Rattle.dam_book.specs.declared.command.Command.{Command}
 use Rattle.dam_gate.specs.declared.gate.GateFault.{GateFault}
-use Rattle.dam_gate.specs.declared.gate.GateFault.TheVariants.{NotYours, JournalFull, Memory as NoMemory, NoVersion}
+use Rattle.dam_gate.specs.declared.gate.GateFault.TheVariants.{NotYours, JournalFull, Memory as GateMemory, NoVersion}
 use Rattle.dam_gate.specs.declared.gate.PassFault.{PassFault}
 use Rattle.dam_gate.specs.declared.gate.PassFault.TheVariants.{PassesUsed, NoPlace, Memory}
 use Rattle.dam_gate.specs.Journal.{JournalState, is_full}
@@ -25,5 +25,5 @@ IsPassFault given Memory = given < most_passes
 abbrev pub IsFaultAt : ℕ → PassState → Command → GateFault → Type 0
 IsFaultAt held p c NotYours = is_own p.holder c ≡ false
 IsFaultAt held p c (JournalFull n) = (is_own p.holder c ≡ true) × (n ≡ held) × (is_full held c ≡ true)
-IsFaultAt held p c NoMemory = (is_own p.holder c ≡ true) × (is_full held c ≡ false)
+IsFaultAt held p c GateMemory = (is_own p.holder c ≡ true) × (is_full held c ≡ false)
 IsFaultAt held p c NoVersion = (is_own p.holder c ≡ true) × (is_full held c ≡ false)

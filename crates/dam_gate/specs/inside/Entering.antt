@@ -1,15 +1,16 @@
 -- How the participants enter a day's commands.
-use Rattle.std.specs.Prelude.{◌≡◌, ◌≢◌, ◌⊎◌, ℕ, false, List, [], ◌∷◌, ◌++◌, length, Option, Some}
+use Rattle.std.specs.Prelude.{◌≡◌, ◌≢◌, ℕ, ◌<◌, false, List, [], ◌∷◌, ◌++◌, length, Option, None, Some}
 use Rattle.std.specs.List.{filter}
 use Rattle.dam_book.specs.Book.{commands_of}
 use Rattle.dam_book.specs.declared.command.Command.{Command}
 use Rattle.dam_book.specs.declared.command.Command.TheVariants.{Close}
 use Rattle.dam_gate.specs.Pass.{PassState, IsPass, is_own}
 use Rattle.dam_gate.specs.Journal.{JournalState, IsJournal}
-use Rattle.dam_gate.specs.Day.{commands_by, giver, is_one_of, refused_at, with_giver}
+use Rattle.dam_gate.specs.Limits.{most_participants}
+use Rattle.dam_gate.specs.Day.{commands_by, giver, is_one_of, with_any, with_giver}
 use Rattle.dam_gate.specs.declared.day.DayFault.{DayFault}
 use Rattle.dam_gate.specs.declared.day.DayFault.TheVariants.{TooManyCommands, CloseGiven, TooManyParticipants, NotSettled, Memory}
-use Rattle.dam_gate.specs.declared.settlement.Mismatch.TheVariants.{Memory as NoTally}
+use Rattle.dam_gate.specs.declared.settlement.Mismatch.TheVariants.{Memory as MismatchMemory}
 
 -- no two are one participant
 abbrev pub AreApart : List (List ℕ) → Type 0
@@ -27,10 +28,14 @@ pub record Takes (c : Command) (before after : List (List ℕ)) : Type 0 where
   pub gives : giver c ≡ Some who
   pub after_is : after ≡ with_giver before who
 
--- memory ran out, or the command at this place is refused, whatever comes after it
+-- memory ran out; or nobody gives the command at this place, or it brings a participant too many
 abbrev pub IsRefusalAt : ℕ → List (List ℕ) → Command → DayFault → Type 0
-IsRefusalAt place participants c fault =
-    (fault ≡ Memory) ⊎ ((after : List (List ℕ) → Option DayFault) → refused_at place participants (giver c) after ≡ Some fault)
+IsRefusalAt place participants c Memory = Unit {0}
+IsRefusalAt place participants c (CloseGiven at) = (at ≡ place) × (giver c ≡ None)
+IsRefusalAt place participants c (TooManyParticipants at) =
+    (at ≡ place) × (most_participants < length (with_any participants (giver c)))
+IsRefusalAt place participants c TooManyCommands = ⊥
+IsRefusalAt place participants c (NotSettled why) = ⊥
 
 -- the commands that are the holder's to give, in their order
 abbrev pub own_commands : Option (List ℕ) → List Command → List Command
@@ -72,5 +77,5 @@ abbrev pub IsLateFault : DayFault → Type 0
 IsLateFault TooManyCommands = ⊥
 IsLateFault (CloseGiven place) = ⊥
 IsLateFault (TooManyParticipants place) = ⊥
-IsLateFault (NotSettled why) = why ≢ NoTally
+IsLateFault (NotSettled why) = why ≢ MismatchMemory
 IsLateFault Memory = Unit {0}

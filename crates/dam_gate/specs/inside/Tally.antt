@@ -5,7 +5,12 @@ use Rattle.dam_gate.specs.declared.settlement.Mismatch.{Mismatch}
 use Rattle.dam_gate.specs.declared.settlement.Mismatch.TheVariants.{Missing, Doubled, Differs}
 use Rattle.dam_gate.specs.declared.tally.Found.{Found}
 use Rattle.dam_gate.specs.declared.tally.Found.TheVariants.{Nothing, Same, Other, Several}
-use Rattle.dam_gate.specs.Settled.{AreReceipts, IsFaultOf, numbered}
+use Rattle.dam_gate.specs.Settled.{IsFaultOfReceipts, numbered}
+
+-- of each number these are the very receipts that there are entries; of a legal history's entries, that they are the
+-- entries, each once
+abbrev pub AreReceipts : List Entry → List Entry → Type 0
+AreReceipts es rs = (n : ℕ) → numbered n rs ≡ numbered n es
 
 -- what was found of an entry, of whose number these are the receipts
 abbrev pub IsFound : Found → Entry → List Entry → Type 0
@@ -47,7 +52,7 @@ pub record IsTally (es : List Entry) (found : List Found) (extra : Option ℕ) (
 
 -- the least fault of these receipts of these entries, or that there is none
 abbrev pub IsFirstFault : List Entry → List Entry → Option Mismatch → Type 0
-IsFirstFault es rs why = MatchOption why (AreReceipts es rs) (IsFaultOf es rs)
+IsFirstFault es rs why = MatchOption why (AreReceipts es rs) (IsFaultOfReceipts es rs)
 
 -- the fault of the first of these that isn't as it should be
 abbrev pub fault_of : ℕ → Found → Option Mismatch

@@ -1,19 +1,19 @@
 -- A reader of records over a text in memory, between two records.
-use Rattle.std.specs.Prelude.{◌≡◌, ◌<◌, ℕ, ◌+◌, false, List, [], length, Option, Some, None, IsSome}
+use Rattle.std.specs.Prelude.{◌≡◌, ℕ, ◌+◌, false, List, [], length, Option, Some, None, IsSome}
 use Rattle.std.specs.Borrow.{Bor}
 use Rattle.csv.specs.Machine.{ends_at_end}
-use Rattle.csv.specs.Reading.{Ready, default_config, records_from, source_of, reader_trim, reader_config, reader_state, owned_rows_reader, owned_rows_left}
+use Rattle.csv.specs.Reading.{Ready, default_config, records_from, source_of, reader_trim, reader_config, reader_state}
 use Rattle.csv.specs.declared.parser.State.{State}
 use Rattle.csv.specs.declared.reader.Trim.TheVariants as trim
-use Rattle.csv.specs.declared.iter.ByteRecordsIntoIter.{ByteRecordsIntoIter}
+use Rattle.csv.specs.declared.reader.Reader.{Reader}
 use Rattle.dam_results.specs.Records.{Fields}
 
 abbrev pub RecordReader : Type 0
-RecordReader = ByteRecordsIntoIter (Bor (List ℕ))
+RecordReader = Reader (Bor (List ℕ))
 
 -- the bytes that it has left
 abbrev pub unread : RecordReader → Option (List ℕ)
-unread reader = source_of (λ (s : Bor (List ℕ)). Some s.now) (owned_rows_reader reader)
+unread reader = source_of (λ (s : Bor (List ℕ)). Some s.now) reader
 
 abbrev pub rows_from : State → Option (List ℕ) → List Fields
 rows_from state None = []
@@ -21,13 +21,12 @@ rows_from state (Some bytes) = records_from default_config (length bytes + 1) st
 
 -- the records that it has left
 abbrev pub rows_left : RecordReader → List Fields
-rows_left reader = rows_from (reader_state (owned_rows_reader reader)) (unread reader)
+rows_left reader = rows_from (reader_state reader) (unread reader)
 
 -- it reads on as it began, and has a record's end behind it
 pub record IsOpen (reader : RecordReader) : Type 0 where
-  pub turns : 0 < owned_rows_left reader
-  pub untrimmed : reader_trim (owned_rows_reader reader) ≡ trim.None
-  pub ready : Ready (owned_rows_reader reader)
-  pub config : reader_config (owned_rows_reader reader) ≡ default_config
-  pub between : ends_at_end (reader_state (owned_rows_reader reader)) ≡ false
+  pub untrimmed : reader_trim reader ≡ trim.None
+  pub ready : Ready reader
+  pub config : reader_config reader ≡ default_config
+  pub between : ends_at_end (reader_state reader) ≡ false
   pub known : IsSome (unread reader)

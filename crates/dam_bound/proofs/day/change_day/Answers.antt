@@ -1,10 +1,14 @@
 -- A touch more, and all of them.
-use Rattle.std.proofs.Common.{◌+◌, ℤ, ◌+ℤ◌, ◌≤ℤ◌, List, length, drop, get_or, slice_set, ap, ◌∙◌, sym, subst, refl, arith}
+use Rattle.std.proofs.Common.{◌+◌, ℤ, ◌+ℤ◌, List, length, drop, get_or, slice_set, ap, ◌∙◌, sym, subst, refl, arith}
 use Rattle.std.proofs.lemmas.Int.{ints, to_z-of_z}
-use Rattle.std.proofs.lemmas.List.{length-set, drop_all}
+use Rattle.std.proofs.lemmas.List.{length-set, length-map, drop_all}
 use mir.Syntax.{w64}
 use mir.Val.{to_z, of_z}
 use Rattle.dam_bound.specs.declared.tables.Touch.{Touch}
+use Rattle.dam_blocks.specs.Selection.{volume_in}
+use Rattle.dam_bound.specs.inside.Tables.{pair_of, pairs_of}
+use Rattle.dam_bound.proofs.Tabling.{block_at}
+use Rattle.dam_bound.proofs.Volumes.{volume_ordered}
 use Rattle.dam_bound.proofs.Periods.{one_at}
 use Rattle.dam_bound.proofs.Sizes.{added_up}
 use Rattle.dam_bound.proofs.Deciding.{IsChangedSoFar, nothing_changed, all_changed, total_within, total_at_least, still_own, given_up, under}
@@ -21,7 +25,12 @@ loop-touch-init g c = record {
   long = c.requires.7.long;
   so_far = λ problem depth before after b are at is of. (
     λ i d some. refl,
-    nothing_changed problem c.args.place depth c.args.change c.args.accept before after b c.args.day.now b.order.volumes at refl is of,
+    nothing_changed problem c.args.place depth c.args.change c.args.accept before after b c.args.day.now (pairs_of c.touches-touch-items.result.now) at
+        (λ t. (let lot = lot_at problem c.args.tables.now.stacks c.args.tables.now.ends.items c.args.tables.now.lots.items
+        c.index-lot.result.now c.args.place b are at c.index-lot.ensures in
+        ap (λ (ts : List Touch). volume_in (pairs_of ts) t) c.touches-touch-items.ensures
+        ∙ volume_ordered t b.order.volumes (pairs_of c.index-lot.result.now.touches)
+        (block_at (length problem.hours) problem.blocks c.args.place b are.blocks_are at).order.volumes.increasing lot.1.pairs_are)) is of,
   );
 }
 
@@ -31,6 +40,7 @@ bounds-day-at g c =
     let so_far = c.loop-touch.invariant.so_far c.requires.0 c.requires.1 c.requires.2 c.requires.3 block.0 c.requires.4 block.1 c.requires.6
     c.requires.7 in
     let touch = get_or c.touches-touch-items.result.now c.loop-touch.touch-index no_touch_there in
+    let pairs = pairs_of c.touches-touch-items.result.now in
     let t = touched_now c.requires.0 c.args.tables.now.stacks c.args.tables.now.ends.items c.args.tables.now.lots.items
     c.index-lot.result.now c.touches-touch-items.result.now c.args.place c.requires.1 c.args.change c.args.accept c.requires.2 c.requires.3
     block.0
@@ -45,6 +55,7 @@ bounds-day-at-in-loop-touch g c =
     let so_far = c.loop-touch.invariant.so_far c.requires.0 c.requires.1 c.requires.2 c.requires.3 block.0 c.requires.4 block.1 c.requires.6
     c.requires.7 in
     let touch = get_or c.touches-touch-items.result.now c.loop-touch.touch-index no_touch_there in
+    let pairs = pairs_of c.touches-touch-items.result.now in
     let t = touched_now c.requires.0 c.args.tables.now.stacks c.args.tables.now.ends.items c.args.tables.now.lots.items
     c.index-lot.result.now c.touches-touch-items.result.now c.args.place c.requires.1 c.args.change c.args.accept c.requires.2 c.requires.3
     block.0
@@ -59,6 +70,7 @@ index-requires g c =
     let so_far = c.loop-touch.invariant.so_far c.requires.0 c.requires.1 c.requires.2 c.requires.3 block.0 c.requires.4 block.1 c.requires.6
     c.requires.7 in
     let touch = get_or c.touches-touch-items.result.now c.loop-touch.touch-index no_touch_there in
+    let pairs = pairs_of c.touches-touch-items.result.now in
     let t = touched_now c.requires.0 c.args.tables.now.stacks c.args.tables.now.ends.items c.args.tables.now.lots.items
     c.index-lot.result.now c.touches-touch-items.result.now c.args.place c.requires.1 c.args.change c.args.accept c.requires.2 c.requires.3
     block.0
@@ -73,6 +85,7 @@ moved-next-requires g c =
     let so_far = c.loop-touch.invariant.so_far c.requires.0 c.requires.1 c.requires.2 c.requires.3 block.0 c.requires.4 block.1 c.requires.6
     c.requires.7 in
     let touch = get_or c.touches-touch-items.result.now c.loop-touch.touch-index no_touch_there in
+    let pairs = pairs_of c.touches-touch-items.result.now in
     let t = touched_now c.requires.0 c.args.tables.now.stacks c.args.tables.now.ends.items c.args.tables.now.lots.items
     c.index-lot.result.now c.touches-touch-items.result.now c.args.place c.requires.1 c.args.change c.args.accept c.requires.2 c.requires.3
     block.0
@@ -80,7 +93,7 @@ moved-next-requires g c =
     c.loop-touch-test.true c.requires.6 c.requires.7 so_far.0 in (
       t.move,
       is_move_at c.requires.0 c.args.tables.now.stacks c.args.tables.now.ends.items c.args.place c.requires.1 c.args.change c.args.accept
-          c.requires.2 c.requires.3 block.0 c.loop-touch.day.periods c.loop-touch.touch-index touch c.index.result.now t c.index.ensures,
+          c.requires.2 c.requires.3 block.0 c.loop-touch.day.periods c.loop-touch.touch-index pairs touch c.index.result.now t c.index.ensures,
     )
 
 pub returns-in_default : goal.returns-in_default
@@ -88,19 +101,20 @@ returns-in_default g c problem depth before after are inside is of =
     let block = one_at problem.blocks c.args.place inside in
     let so_far = c.loop-touch.invariant.so_far problem depth before after block.0 are block.1 is of in
     let touch = get_or c.touches-touch-items.result.now c.loop-touch.touch-index no_touch_there in
+    let pairs = pairs_of c.touches-touch-items.result.now in
     let t = touched_now problem c.args.tables.now.stacks c.args.tables.now.ends.items c.args.tables.now.lots.items c.index-lot.result.now
     c.touches-touch-items.result.now c.args.place depth c.args.change c.args.accept before after block.0
     c.args.day.now c.loop-touch.day.periods c.loop-touch.touch-index are block.1 c.index-lot.ensures c.touches-touch-items.ensures
     c.loop-touch-test.true is of so_far.0 in
     let move = is_move_at problem c.args.tables.now.stacks c.args.tables.now.ends.items c.args.place depth c.args.change c.args.accept
-    before after block.0 c.loop-touch.day.periods c.loop-touch.touch-index touch
+    before after block.0 c.loop-touch.day.periods c.loop-touch.touch-index pairs touch
     c.index.result.now t c.index.ensures in
     let served = serves problem c.args.tables.now.stacks c.args.tables.now.ends.items c.args.tables.now.lots.items c.index-lot.result.now
-    c.args.place depth c.args.change c.args.accept before after block.0 c.loop-touch.day.periods c.loop-touch.touch-index touch
+    c.args.place depth c.args.change c.args.accept before after block.0 c.loop-touch.day.periods c.loop-touch.touch-index pairs touch
     c.side.result c.is_served-is_served.result are block.1 c.index-lot.ensures c.is_served-is_served.ensures c.side.ensures t in
     given_up problem c.args.least before after
     (touch_unbalanced problem c.args.tables.now.stacks c.args.tables.now.ends.items c.args.place depth c.args.change c.args.accept before
-    after block.0 c.loop-touch.day.periods c.loop-touch.touch-index touch
+    after block.0 c.loop-touch.day.periods c.loop-touch.touch-index pairs touch
     (λ ss net none. (c.welfare.ensures.none ss net).1 none) t (c.in_default.ensures t.move move served))
 
 pub overflow_add-day : goal.overflow_add-day
@@ -109,20 +123,21 @@ overflow_add-day g c =
     let so_far = c.loop-touch.invariant.so_far c.requires.0 c.requires.1 c.requires.2 c.requires.3 block.0 c.requires.4 block.1 c.requires.6
     c.requires.7 in
     let touch = get_or c.touches-touch-items.result.now c.loop-touch.touch-index no_touch_there in
+    let pairs = pairs_of c.touches-touch-items.result.now in
     let t = touched_now c.requires.0 c.args.tables.now.stacks c.args.tables.now.ends.items c.args.tables.now.lots.items
     c.index-lot.result.now c.touches-touch-items.result.now c.args.place c.requires.1 c.args.change c.args.accept c.requires.2 c.requires.3
     block.0
     c.args.day.now c.loop-touch.day.periods c.loop-touch.touch-index c.requires.4 block.1 c.index-lot.ensures c.touches-touch-items.ensures
     c.loop-touch-test.true c.requires.6 c.requires.7 so_far.0 in
     let move = is_move_at c.requires.0 c.args.tables.now.stacks c.args.tables.now.ends.items c.args.place c.requires.1 c.args.change
-    c.args.accept c.requires.2 c.requires.3 block.0 c.loop-touch.day.periods c.loop-touch.touch-index touch
+    c.args.accept c.requires.2 c.requires.3 block.0 c.loop-touch.day.periods c.loop-touch.touch-index pairs touch
     c.index.result.now t c.index.ensures in
     let served = serves c.requires.0 c.args.tables.now.stacks c.args.tables.now.ends.items c.args.tables.now.lots.items
     c.index-lot.result.now c.args.place c.requires.1 c.args.change c.args.accept c.requires.2 c.requires.3 block.0 c.loop-touch.day.periods
-    c.loop-touch.touch-index touch
+    c.loop-touch.touch-index pairs touch
     c.side.result c.is_served-is_served.result c.requires.4 block.1 c.index-lot.ensures c.is_served-is_served.ensures c.side.ensures t in
     let m = c.in-Some.ensures t.move move served in
-    let size = total_within c.requires.0 (drop c.loop-touch.touch-index block.0.order.volumes) c.requires.2 c.requires.3 c.args.day.now
+    let size = total_within c.requires.0 (drop c.loop-touch.touch-index pairs) c.requires.2 c.requires.3 c.args.day.now
     c.loop-touch.day.periods c.loop-touch.day.total
     (length c.requires.0.hours) c.requires.4.blocks_are c.requires.4.few_blocks c.requires.4.few_periods c.requires.7 so_far.1 in
     let low = size.at_least in let high = size.at_most in let least = m.at_least in let most = m.at_most in
@@ -136,19 +151,20 @@ loop-touch-preserved g c = record {
   so_far = λ problem depth before after b are at is of.
       (let so_far = c.loop-touch.invariant.so_far problem depth before after b are at is of in
       let touch = get_or c.touches-touch-items.result.now c.loop-touch.touch-index no_touch_there in
+      let pairs = pairs_of c.touches-touch-items.result.now in
       let t = touched_now problem c.args.tables.now.stacks c.args.tables.now.ends.items c.args.tables.now.lots.items
       c.index-lot.result.now c.touches-touch-items.result.now c.args.place depth c.args.change c.args.accept before after b
       c.args.day.now c.loop-touch.day.periods c.loop-touch.touch-index are at c.index-lot.ensures c.touches-touch-items.ensures
       c.loop-touch-test.true is of so_far.0 in
       let move = is_move_at problem c.args.tables.now.stacks c.args.tables.now.ends.items c.args.place depth c.args.change c.args.accept
-      before after b c.loop-touch.day.periods c.loop-touch.touch-index touch
+      before after b c.loop-touch.day.periods c.loop-touch.touch-index pairs touch
       c.index.result.now t c.index.ensures in
       let served = serves problem c.args.tables.now.stacks c.args.tables.now.ends.items c.args.tables.now.lots.items
       c.index-lot.result.now c.args.place depth c.args.change c.args.accept before after b c.loop-touch.day.periods
-      c.loop-touch.touch-index touch
+      c.loop-touch.touch-index pairs touch
       c.side.result c.is_served-is_served.result are at c.index-lot.ensures c.is_served-is_served.ensures c.side.ensures t in
       let m = c.in-Some.ensures t.move move served in
-      let size = total_within problem (drop c.loop-touch.touch-index b.order.volumes) before after c.args.day.now
+      let size = total_within problem (drop c.loop-touch.touch-index pairs) before after c.args.day.now
       c.loop-touch.day.periods c.loop-touch.day.total
       (length problem.hours) are.blocks_are are.few_blocks are.few_periods of so_far.1 in
       let low = size.at_least in let high = size.at_most in let least = m.at_least in let most = m.at_most in
@@ -156,12 +172,12 @@ loop-touch-preserved g c = record {
       (omega (arith, ints, low, high, least, most)) in
       let in_day = t.inside in let few = are.few_periods in let long = c.loop-touch.invariant.long in
       let changed = touch_changed problem c.args.tables.now.stacks c.args.tables.now.ends.items c.args.place depth c.args.change
-      c.args.accept before after b c.loop-touch.day.periods c.loop-touch.touch-index touch
+      c.args.accept before after b c.loop-touch.day.periods c.loop-touch.touch-index pairs touch
       nothing_taken c.in-Some.next c.loop-touch.day.total c.in-Some.gained c.index.result.now t (omega (arith, in_day, few, long)) m
       so_far.1 in (
-        still_own b.order.volumes c.loop-touch.touch-index touch.at t.pair c.args.day.now.periods c.loop-touch.day.periods
-            c.in-Some.next t.rising t.pair_is t.some t.number so_far.0,
-        subst (IsChangedSoFar problem.blocks problem.hours (drop (c.loop-touch.touch-index + 1) b.order.volumes) before after
+        still_own pairs c.loop-touch.touch-index touch.at t.pair c.args.day.now.periods c.loop-touch.day.periods
+            c.in-Some.next t.past t.pair_is t.some t.number so_far.0,
+        subst (IsChangedSoFar problem.blocks problem.hours (drop (c.loop-touch.touch-index + 1) pairs) before after
             (slice_set c.loop-touch.day.periods touch.at c.in-Some.next))
             (sym sum.1) changed,
       ));
@@ -172,18 +188,19 @@ returns-then-is_under g c problem depth before after are inside is of =
     let block = one_at problem.blocks c.args.place inside in
     let so_far = c.loop-touch.invariant.so_far problem depth before after block.0 are block.1 is of in
     let touch = get_or c.touches-touch-items.result.now c.loop-touch.touch-index no_touch_there in
+    let pairs = pairs_of c.touches-touch-items.result.now in
     let t = touched_now problem c.args.tables.now.stacks c.args.tables.now.ends.items c.args.tables.now.lots.items c.index-lot.result.now
     c.touches-touch-items.result.now c.args.place depth c.args.change c.args.accept before after block.0
     c.args.day.now c.loop-touch.day.periods c.loop-touch.touch-index are block.1 c.index-lot.ensures c.touches-touch-items.ensures
     c.loop-touch-test.true is of so_far.0 in
     let move = is_move_at problem c.args.tables.now.stacks c.args.tables.now.ends.items c.args.place depth c.args.change c.args.accept
-    before after block.0 c.loop-touch.day.periods c.loop-touch.touch-index touch
+    before after block.0 c.loop-touch.day.periods c.loop-touch.touch-index pairs touch
     c.index.result.now t c.index.ensures in
     let served = serves problem c.args.tables.now.stacks c.args.tables.now.ends.items c.args.tables.now.lots.items c.index-lot.result.now
-    c.args.place depth c.args.change c.args.accept before after block.0 c.loop-touch.day.periods c.loop-touch.touch-index touch
+    c.args.place depth c.args.change c.args.accept before after block.0 c.loop-touch.day.periods c.loop-touch.touch-index pairs touch
     c.side.result c.is_served-is_served.result are block.1 c.index-lot.ensures c.is_served-is_served.ensures c.side.ensures t in
     let m = c.in-Some.ensures t.move move served in
-    let size = total_within problem (drop c.loop-touch.touch-index block.0.order.volumes) before after c.args.day.now
+    let size = total_within problem (drop c.loop-touch.touch-index pairs) before after c.args.day.now
     c.loop-touch.day.periods c.loop-touch.day.total
     (length problem.hours) are.blocks_are are.few_blocks are.few_periods of so_far.1 in
     let low = size.at_least in let high = size.at_most in let least = m.at_least in let most = m.at_most in
@@ -191,24 +208,28 @@ returns-then-is_under g c problem depth before after are inside is of =
     (omega (arith, ints, low, high, least, most)) in
     let in_day = t.inside in let few = are.few_periods in let long = c.loop-touch.invariant.long in
     let changed = touch_changed problem c.args.tables.now.stacks c.args.tables.now.ends.items c.args.place depth c.args.change c.args.accept
-    before after block.0 c.loop-touch.day.periods c.loop-touch.touch-index touch
+    before after block.0 c.loop-touch.day.periods c.loop-touch.touch-index pairs touch
     nothing_taken c.in-Some.next c.loop-touch.day.total c.in-Some.gained c.index.result.now t (omega (arith, in_day, few, long)) m
     so_far.1 in
-    under problem c.args.least before after _ c.is_under.result c.if-is_under.true c.is_under.ensures
-    (λ never w e. subst (λ (z : ℤ). w ≤ℤ z)
-    (sym (ap (λ (z : ℤ). to_z w64 (of_z w64 z)) sum.1 ∙ to_z-of_z w64 (c.loop-touch.day.total +ℤ c.in-Some.gained)
-    (omega (arith, ints, low, high, least, most))))
-    (total_at_least problem (drop (c.loop-touch.touch-index + 1) block.0.order.volumes) before after
+    under problem c.args.least before after (c.loop-touch.day.total +ℤ c.in-Some.gained) _ c.floor_of-floor.result _ c.is_under.result
+    (ap (λ (z : ℤ). to_z w64 (of_z w64 z)) sum.1 ∙ to_z-of_z w64 (c.loop-touch.day.total +ℤ c.in-Some.gained)
+    (omega (arith, ints, low, high, least, most)))
+    (let from = c.floor_of-floor.ensures.at_least in let to = c.floor_of-floor.ensures.at_most in
+    to_z-of_z w64 c.floor_of-floor.result (omega (arith, ints, from, to)))
+    (total_within problem (drop (c.loop-touch.touch-index + 1) pairs) before after c.args.day.now
+    (slice_set c.loop-touch.day.periods touch.at c.in-Some.next) (c.loop-touch.day.total +ℤ c.in-Some.gained)
+    (length problem.hours) are.blocks_are are.few_blocks are.few_periods of changed)
+    c.if-is_under.true c.is_under.ensures
+    c.floor_of-floor.ensures.floor
+    (λ never w e. total_at_least problem (drop (c.loop-touch.touch-index + 1) pairs) before after
     (slice_set c.loop-touch.day.periods touch.at c.in-Some.next)
-    (c.loop-touch.day.total +ℤ c.in-Some.gained) w changed never e))
+    (c.loop-touch.day.total +ℤ c.in-Some.gained) w changed never e)
 
 pub returns : goal.returns
 returns g c problem depth before after are inside is of =
     let block = one_at problem.blocks c.args.place inside in
     let so_far = c.loop-touch.invariant.so_far problem depth before after block.0 are block.1 is of in
-    let lot = (lot_at problem c.args.tables.now.stacks c.args.tables.now.ends.items c.args.tables.now.lots.items c.index-lot.result.now
-    c.args.place block.0 are block.1 c.index-lot.ensures).1 in
-    let many = lot.as_many in let long = ap (λ (ts : List Touch). length ts)
-    c.touches-touch-items.ensures in let past = c.loop-touch-test.false in
-    all_changed problem before after (drop c.loop-touch.touch-index block.0.order.volumes) c.loop-touch.day c.loop-touch.invariant.long
-    (drop_all c.loop-touch.touch-index block.0.order.volumes (omega (arith, many, long, past))) so_far.1
+    let pairs = pairs_of c.touches-touch-items.result.now in
+    let many = length-map c.touches-touch-items.result.now pair_of in let past = c.loop-touch-test.false in
+    all_changed problem before after (drop c.loop-touch.touch-index pairs) c.loop-touch.day c.loop-touch.invariant.long
+    (drop_all c.loop-touch.touch-index pairs (omega (arith, many, past))) so_far.1

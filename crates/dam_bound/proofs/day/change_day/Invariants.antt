@@ -6,7 +6,7 @@ use Rattle.dam_blocks.specs.declared.problem.Block.{Block}
 use Rattle.dam_blocks.specs.Problem.{ProblemState}
 use Rattle.dam_bound.specs.Day.{IsDay}
 use Rattle.dam_bound.specs.inside.Change.{IsChange}
-use Rattle.dam_bound.specs.inside.Tables.{AreTables}
+use Rattle.dam_bound.specs.inside.Tables.{pairs_of, AreTables}
 use Rattle.dam_bound.proofs.Deciding.{IsChangedSoFar, AreStill}
 use Rattle.dam_bound.proofs.day.change_day.Given as goal
 
@@ -17,6 +17,6 @@ invariant-loop-touch g l = record {
       → AreTables problem.hours problem.blocks l.tables.stacks l.tables.ends.items l.tables.lots.items
       → slice_get problem.blocks l.place ≡ Some b
       → IsChange problem.blocks l.place l.change l.accept depth before after → IsDay problem before l.fn.day
-      → AreStill (drop l.touch-index b.order.volumes) l.fn.day.periods l.day.periods
-      × IsChangedSoFar problem.blocks problem.hours (drop l.touch-index b.order.volumes) before after l.day.periods l.day.total;
+      → AreStill (drop l.touch-index (pairs_of l.touch-items)) l.fn.day.periods l.day.periods
+      × IsChangedSoFar problem.blocks problem.hours (drop l.touch-index (pairs_of l.touch-items)) before after l.day.periods l.day.total;
 }

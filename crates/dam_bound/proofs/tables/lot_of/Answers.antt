@@ -83,8 +83,8 @@ returns-clause-lot g c hours blocks k at are spans =
     let long = ap (λ (ps : List Pair). length ps) (c.pairs-pairs.ensures.value ∙ c.volumes.ensures) in
     let past = c.loop-period-test.false in let most = c.loop-period.auto.period-index-end in
     whole_lot hours blocks c.loop-period.stacks k c.args.block.now
-    c.loop-period.period-index (record { side = c.side.result; touches = c.loop-period.touches.items })
-    c.side.ensures (omega (arith, long, past, most)) (c.loop-period.invariant.so_far hours blocks k at are spans).1
+    c.loop-period.period-index c.loop-period.touches.items (record { side = c.side.result; touches = c.by_stake.result.items })
+    c.side.ensures c.by_stake.ensures (omega (arith, long, past)) (c.loop-period.invariant.so_far hours blocks k at are spans).1
 
 pub returns-clause-spans : goal.returns-clause-spans
 returns-clause-spans g c hours blocks k at are spans =

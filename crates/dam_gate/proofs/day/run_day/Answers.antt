@@ -4,8 +4,11 @@ use Rattle.dam_book.specs.Book.{IsLegalHistory}
 use Rattle.dam_gate.specs.Journal.{IsJournal, JournalState}
 use Rattle.dam_gate.specs.Opening.{OpeningState}
 use Rattle.dam_gate.specs.Pass.{PassState, holders}
-use Rattle.dam_gate.specs.Settled.{AreReceipts, IsSettled, receipts_of}
+use Rattle.dam_gate.specs.Headline.{IsWholeAccount}
+use Rattle.dam_gate.specs.Settled.{receipts_of}
 use Rattle.dam_gate.specs.inside.Entering.{IsClosedDay}
+use Rattle.dam_gate.specs.inside.Tally.{AreReceipts}
+use Rattle.dam_gate.proofs.Accounts.{each_number}
 use Rattle.dam_gate.proofs.Days.{day_run}
 use Rattle.dam_gate.proofs.day.run_day.Goals as goal
 
@@ -16,16 +19,17 @@ returns-clause-day g c =
     let periods : c.in_ok-settled.settled.book.periods ≡ c.args.opening.periods =
     ap (λ (j : JournalState). j.book.periods) c.in_ok-settled.ensures.journal
     ∙ (c.finish-journal.ensures.day ∙ sym (ap (λ (o : OpeningState). o.periods) c.requires.name)) in
-    day_run c.args.opening.periods c.args.commands.now c.args.participants.now es c.in_ok-passes.passes.items c.in_ok-operator.operator closed.before
-    (subst (λ (n : ℕ). IsLegalHistory n es) periods closed.journal.history.legal)
-    (subst (λ (ps : List PassState). AreReceipts es (receipts_of ps)) (c.deref.ensures.value ∙ c.in_ok-push.ensures.items) c.in_ok-settled.ensures.settled.received)
+    let legal = subst (λ (n : ℕ). IsLegalHistory n es) periods closed.journal.history.legal in
+    day_run c.args.opening.periods c.args.commands.now c.args.participants.now es c.in_ok-passes.passes.items c.in_ok-operator.operator closed.before legal
+    (subst (λ (ps : List PassState). AreReceipts es (receipts_of ps)) (c.deref.ensures.value ∙ c.in_ok-push.ensures.items)
+    (each_number c.args.opening.periods es (receipts_of c.deref.result.now) legal c.in_ok-settled.ensures.account.each_once))
     c.requires.givers c.in_ok-passes.ensures.ok c.in_ok-operator.ensures.ok c.in_ok-operator.ensures.pass closed.last
 
 pub returns-clause-journal : goal.returns-clause-journal
 returns-clause-journal g c = subst IsJournal c.journal.ensures.value (c.ends_with_a_close.ensures c.if-not-ends_with_a_close.false).journal
 
-pub returns-clause-settled : goal.returns-clause-settled
-returns-clause-settled g c = subst (λ (ps : List PassState). IsSettled c.in_ok-settled.settled ps) c.deref.ensures.value c.in_ok-settled.ensures.settled
+pub returns-clause-account : goal.returns-clause-account
+returns-clause-account g c = subst (λ (ps : List PassState). IsWholeAccount c.in_ok-settled.settled ps) c.deref.ensures.value c.in_ok-settled.ensures.account
 
 pub returns-clause-passes : goal.returns-clause-passes
 returns-clause-passes g c =

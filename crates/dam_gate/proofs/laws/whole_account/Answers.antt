@@ -1,7 +1,8 @@
 use Rattle.std.proofs.Common.{sym, subst}
 use Rattle.dam_book.specs.Book.{empty_book}
+use Rattle.dam_gate.specs.Settled.{receipts_of}
 use Rattle.dam_gate.specs.Journal.{JournalState, IsJournal}
-use Rattle.dam_gate.proofs.Accounts.{each_once, in_order}
+use Rattle.dam_gate.proofs.Accounts.{each_number, in_order}
 use Rattle.dam_gate.proofs.laws.whole_account.Goals as goal
 
 pub returns : goal.returns
@@ -12,6 +13,7 @@ returns g c =
       replies = sym (c.histories_are_runs.ensures.entries j.book.periods j.entries is.history.legal);
       book = sym is.book_is;
       closed = c.requires.closed;
-      each_once = each_once 1 (empty_book j.book.periods) j.entries _ is.history.legal c.requires.received;
-      in_order = in_order (empty_book j.book.periods) j.entries c.args.passes.now is.history.legal c.requires.received c.are_passes.ensures;
+      each_once = c.requires.each_once;
+      in_order = in_order (empty_book j.book.periods) j.entries c.args.passes.now is.history.legal
+          (each_number j.book.periods j.entries (receipts_of c.args.passes.now) is.history.legal c.requires.each_once) c.are_passes.ensures;
     }

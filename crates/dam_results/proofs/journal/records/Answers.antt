@@ -9,22 +9,20 @@ returns c =
     let fresh = c.from_reader.ensures in
     let setup = c.flexible.ensures in
     let headless = c.has_headers.ensures in
-    let reader = c.into_byte_records.result in
-    let it = c.into_byte_records.ensures.rdr in
+    let reader = c.from_reader.result in
     let untrimmed = rw (setup, headless) at fresh.trim ∙ c.new.ensures.trim in
     let config = rw (setup, headless) at fresh.config ∙ c.new.ensures.config in
     let names = rw (setup, headless) at fresh.has_headers in
     let flexible = rw setup at fresh.flexible in
-    let source : unread reader ≡ Some (strip_bom c.args.text.now) = rw it fresh.source in
+    let source : unread reader ≡ Some (strip_bom c.args.text.now) = fresh.source in
     record {
       usable = record {
-        turns = c.into_byte_records.ensures.left;
-        untrimmed = rw it untrimmed;
-        ready = rw it (inr (inr (names, fresh.headers)));
-        config = rw it config;
-        between = rw (it, fresh.state) refl;
+        untrimmed = untrimmed;
+        ready = inr (inr (names, fresh.headers));
+        config = config;
+        between = rw fresh.state refl;
         known = rw source refl;
       };
-      rows = rows_left-start reader c.args.text.now c.requires (rw it fresh.state) source;
-      flexible = rw it flexible;
+      rows = rows_left-start reader c.args.text.now c.requires fresh.state source;
+      flexible = flexible;
     }

@@ -6,13 +6,13 @@ use Rattle.dam_results.specs.inside.Reader.{IsOpen, rows_left}
 use Rattle.dam_results.proofs.FaultFound.{ReadsInto}
 use Rattle.dam_results.proofs.journal.take_records.Given as goal
 
-abbrev pub invariant-loop-record : goal.invariant-loop-record
-invariant-loop-record g l = record {
+abbrev pub invariant-loop-number : goal.invariant-loop-number
+invariant-loop-number g l = record {
   usable : IsOpen l.records;
   few : l.number + 1 ≤ most_records;
   reads : (periods : ℕ) → is_day periods ≡ true → g.T.FromJournal.made_of periods [] l.initial.made
       → ReadsInto (g.T.FromJournal.made_of) periods (rows_left l.initial.records) (rows_left l.records) l.number l.made;
 }
 
-abbrev pub decreases-loop-record : goal.decreases-loop-record
-decreases-loop-record g l = length (rows_left l.records)
+abbrev pub decreases-loop-number : goal.decreases-loop-number
+decreases-loop-number g l = length (rows_left l.records)

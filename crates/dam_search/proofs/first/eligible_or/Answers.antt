@@ -1,5 +1,5 @@
 -- The day tells the verdict.
-use Rattle.std.proofs.Common.{◌≡◌, ◌≤◌, ℤ, pos, negsuc, false, nat_abs, List, Bool, length, ◌∙◌, ap, sym, subst, refl, rules, arith}
+use Rattle.std.proofs.Common.{◌≡◌, ◌≤◌, ℤ, pos, negsuc, false, nat_abs, List, Bool, length, ◌∙◌, sym, subst, refl, rules, arith}
 use lib.Signed.{lt_z}
 use Rattle.std.proofs.lemmas.Int.{to_z-of_z}
 use mir.Syntax.{w64}

@@ -1,6 +1,6 @@
 -- One node, and the walks from its two extensions.
-use Rattle.std.proofs.Common.{◌≡◌, ◌≢◌, inl, Some, MatchBool, ℕ, ◌+◌, ◌-◌, ◌≤◌, ◌<◌, true, false, not, List, Bool, [], ◌∷◌, ◌++◌}
-use Rattle.std.proofs.Common.{length, length-append, ◌∙◌, ap, sym, subst, rules, arith}
+use Rattle.std.proofs.Common.{◌≡◌, ◌≢◌, inl, inr, Some, MatchBool, ℕ, ◌+◌, ◌-◌, ◌≤◌, ◌<◌, true, false, not, List, Bool, [], ◌∷◌, ◌++◌}
+use Rattle.std.proofs.Common.{length, length-append, ◌∙◌, ap, sym, subst, refl, rules, arith}
 use Rattle.dam_book.specs.Limits.{most_blocks}
 use Rattle.dam_blocks.specs.Problem.{ProblemState}
 use Rattle.dam_bound.specs.declared.day.Day.{Day}
@@ -10,11 +10,10 @@ use Rattle.dam_blocks.specs.Eligible.{selection_welfare}
 use Rattle.dam_bound.specs.Prefix.{IsCompletion}
 use Rattle.dam_bound.specs.Day.{IsDay, IsUnder}
 use Rattle.dam_bound.specs.Relaxed.{without_rows, relaxed_welfare, reaches}
-use Rattle.dam_search.specs.Piece.{IsFind, welfare_found}
-use Rattle.dam_search.specs.inside.Walk.{Finds, Covers, Spends}
+use Rattle.dam_search.specs.inside.Walk.{Finds, Covers, Spends, Reads, IsGoing, IsWalked}
 use Rattle.dam_search.proofs.Ranks.{found_after, finds_nothing, finds_shorter, finds_twice, covers_both, welfare_rises}
 use Rattle.dam_search.proofs.LastBlock.{still_rejected}
-use Rattle.dam_search.proofs.Walks.{spends_none, spends_one, spends_first, spends_both}
+use Rattle.dam_search.proofs.Walks.{spends_none, spends_nothing, spends_one, spends_first, spends_both, reads_nothing, reads_asked}
 use Rattle.dam_search.proofs.piece.+explore.Goals.{decide-else-accept-via-then-accept+else-not-is_still_admissible}
 use Rattle.dam_search.proofs.piece.+explore.Goals.{decide-else-accept-via-else-accept}
 use Rattle.dam_search.proofs.piece.+explore.Goals as goal
@@ -49,14 +48,21 @@ rejected_here blocks next prefix accept e f few admissible =
 
 -- ---- a decision on the next block
 
-pub decide-returns-then-not-is_still_admissible-clause-finds : goal.decide-returns-then-not-is_still_admissible-clause-finds
-decide-returns-then-not-is_still_admissible-clause-finds g t c =
-    finds_nothing c.args.problem.now (c.args.prefix.now ++ c.args.accept ∷ []) c.args.found.now.best
-
-pub decide-returns-then-not-is_still_admissible-clause-covers : goal.decide-returns-then-not-is_still_admissible-clause-covers
-decide-returns-then-not-is_still_admissible-clause-covers g t c done sel w whole e =
-    let whole' = subst (λ (xs : List Bool). IsCompletion xs sel) (sym c.extended-extended.ensures) whole in
-    absurd (c.is_still_admissible.ensures.completions c.if-not-is_still_admissible.true sel whole' e.admissible)
+pub decide-returns-then-not-is_still_admissible-clause-walked : goal.decide-returns-then-not-is_still_admissible-clause-walked
+decide-returns-then-not-is_still_admissible-clause-walked g t c =
+    let problem = c.args.problem.now in let prefix = c.args.prefix.now ++ c.args.accept ∷ [] in let found = c.args.found.now in
+    let left = length problem.blocks - length prefix in let told = g.I.Incumbent.told c.args.incumbent.now in
+    let going = c.requires.going in
+    let passed : (sel : List Bool) → IsCompletion prefix sel → ¬ (IsAdmissible problem.blocks sel) =
+    λ sel whole. c.is_still_admissible.ensures.completions c.if-not-is_still_admissible.true sel
+    (subst (λ (xs : List Bool). IsCompletion xs sel) (sym c.extended-extended.ensures) whole) in
+    record {
+      finds = finds_nothing problem prefix found.best;
+      covers = λ done sel w whole e. absurd (passed sel whole e.admissible);
+      spends = spends_nothing problem prefix left told c.args.nodes found.visited going.room;
+      reads = reads_nothing left found.visited found.visited found.read told told going.read refl (inl refl);
+      offered = let offered = going.offered in omega (arith, offered);
+    }
 
 pub decide-explore-requires : goal.decide-explore-requires
 decide-explore-requires g t c =
@@ -68,7 +74,7 @@ decide-explore-requires g t c =
     let few : length prefix < most_blocks = omega (arith, c.requires.depth, c.periods-kept.ensures.valid.few_blocks) in
     let is_day : MatchBool bounded (IsDay relaxed next day) (IsUnder relaxed next read) =
     next_day relaxed next prefix c.args.accept c.depth.result read bounded day is c.depth.ensures.value
-    (λ e. c.extend-bounded.ensures prefix e (c.copy_day.ensures prefix c.requires.day)) in
+    (λ e. c.extend-bounded.ensures prefix e c.requires.day) in
     let admissible : IsAdmissible blocks (padded next) = elim c.else-accept.branch [
       | decide-else-accept-via-then-accept+else-not-is_still_admissible w ↦ w.is_still_admissible.ensures.value.0 (search rules)
       | decide-else-accept-via-else-accept w ↦
@@ -76,44 +82,78 @@ decide-explore-requires g t c =
     ] in
     search rules
 
-pub decide-returns-clause-covers : goal.decide-returns-clause-covers
-decide-returns-clause-covers g t c done =
-    let best = c.explore.new.found.best in let read = c.explore.new.found.read in
-    subst (λ (xs : List Bool). Covers c.args.problem.now xs best read) c.extended-extended.ensures (c.explore.ensures.covers done)
+pub decide-returns-clause-walked : goal.decide-returns-clause-walked
+decide-returns-clause-walked g t c =
+    let told = g.I.Incumbent.told in let top = g.I.Incumbent.top in let before = c.args.incumbent.now in let after = c.explore.new.incumbent in
+    subst (λ (xs : List Bool). IsWalked c.args.problem.now xs c.args.nodes (told before) (top before) (told after) (top after) c.args.found.now
+    c.explore.new.found c.explore.result) c.extended-extended.ensures c.explore.ensures.walked
 
 -- ---- the node
 
-pub explore-returns-then-found-nodes-clause-finds : goal.explore-returns-then-found-nodes-clause-finds
-explore-returns-then-found-nodes-clause-finds g t c = finds_nothing c.args.problem.now c.args.prefix c.args.found.now.best
+pub explore-returns-then-found-nodes-clause-walked : goal.explore-returns-then-found-nodes-clause-walked
+explore-returns-then-found-nodes-clause-walked g t c =
+    let problem = c.args.problem.now in let prefix = c.args.prefix in let found = c.args.found.now in
+    let left = length problem.blocks - length prefix in let told = g.I.Incumbent.told c.args.incumbent.now in
+    let going = c.requires.going in
+    record {
+      finds = finds_nothing problem prefix found.best;
+      covers = λ done. absurd (cc);
+      spends = spends_none problem prefix left told c.args.nodes found.visited c.if-found-nodes.true;
+      reads = reads_nothing left found.visited found.visited found.read told told going.read refl (inl refl);
+      offered = let offered = going.offered in omega (arith, offered);
+    }
 
-pub explore-returns-then-found-nodes-clause-spends : goal.explore-returns-then-found-nodes-clause-spends
-explore-returns-then-found-nodes-clause-spends g t c =
-    let left = length c.args.problem.now.blocks - length c.args.prefix in let told = g.I.Incumbent.told c.args.incumbent.now in
-    spends_none c.args.problem.now c.args.prefix left told c.args.nodes c.args.found.now.visited c.if-found-nodes.true
+pub explore-returns-then-depth-block_count-clause-walked : goal.explore-returns-then-depth-block_count-clause-walked
+explore-returns-then-depth-block_count-clause-walked g t c =
+    let problem = c.args.problem.now in let prefix = c.args.prefix in let found = c.args.found.now in
+    let left = length problem.blocks - length prefix in let told = g.I.Incumbent.told in
+    let going = c.requires.going in let after = c.try_selection.new.found in
+    let visited : after.visited ≡ found.visited + 1 = c.try_selection.ensures.visited in
+    let full : left ≡ 0 = omega (arith, c.depth.ensures.value, c.block_count.ensures.value, c.if-depth-block_count.true) in
+    let room = unmet found.visited c.args.nodes going.room c.if-found-nodes.false in
+    record {
+      finds = c.try_selection.ensures.finds;
+      covers = λ done. c.try_selection.ensures.covers;
+      spends =
+          subst (λ (n : ℕ). Spends problem prefix left (told c.args.incumbent.now) c.args.nodes found.visited n true) (sym visited)
+          (spends_one problem prefix left (told c.args.incumbent.now) c.args.nodes found.visited room);
+      reads =
+          subst (λ (n : ℕ). Reads left found.visited after.visited found.read n (told c.args.incumbent.now) (told c.try_selection.new.incumbent))
+          (sym c.try_selection.ensures.read)
+          (reads_nothing left found.visited after.visited found.read (told c.args.incumbent.now) (told c.try_selection.new.incumbent) going.read
+          c.try_selection.ensures.told (inr full));
+      offered = c.try_selection.ensures.offered;
+    }
 
-pub explore-returns-in_default-clause-finds : goal.explore-returns-in_default-clause-finds
-explore-returns-in_default-clause-finds g t c = finds_nothing c.args.problem.now c.args.prefix c.args.found.now.best
-
-pub explore-returns-in_default-clause-covers : goal.explore-returns-in_default-clause-covers
-explore-returns-in_default-clause-covers g t c done sel w whole e =
-    let relaxed = c.args.relaxed.now in
-    let low : c.args.found.now.read ≤ c.read-found.result = omega (arith, c.requires.read, c.read-found.ensures.rises) in
-    let welfare = subst (λ (p : ProblemState). selection_welfare p sel ≡ Some w) (sym c.requires.same) e.welfare_is in
-    inl (c.in_default.ensures relaxed c.args.found.now.read low c.requires.day sel w whole welfare)
-
-pub explore-returns-in_default-clause-spends : goal.explore-returns-in_default-clause-spends
-explore-returns-in_default-clause-spends g t c =
-    let left = length c.args.problem.now.blocks - length c.args.prefix in let told = g.I.Incumbent.told c.args.incumbent.now in
-    let visited = c.args.found.now.visited in
-    spends_one c.args.problem.now c.args.prefix left told c.args.nodes visited
-    (unmet visited c.args.nodes c.requires.room c.if-found-nodes.false)
+pub explore-returns-in_default-clause-walked : goal.explore-returns-in_default-clause-walked
+explore-returns-in_default-clause-walked g t c =
+    let problem = c.args.problem.now in let relaxed = c.args.relaxed.now in let prefix = c.args.prefix in let found = c.args.found.now in
+    let left = length problem.blocks - length prefix in let told = g.I.Incumbent.told in
+    let going = c.requires.going in let read = going.read in let offered = going.offered in
+    let low : found.read ≤ c.read-found.result = omega (arith, read, c.read-found.ensures.rises) in
+    let inside =
+    undecided prefix c.depth.result c.block_count.result (length problem.blocks) c.depth.ensures.value c.block_count.ensures.value
+    c.requires.depth c.if-depth-block_count.false in
+    record {
+      finds = finds_nothing problem prefix found.best;
+      covers = λ done sel w whole e.
+          (let welfare = subst (λ (p : ProblemState). selection_welfare p sel ≡ Some w) (sym c.requires.same) e.welfare_is in
+          inl (c.in_default.ensures relaxed found.read low c.requires.day sel w whole welfare));
+      spends =
+          spends_one problem prefix left (told c.args.incumbent.now) c.args.nodes found.visited
+          (unmet found.visited c.args.nodes going.room c.if-found-nodes.false);
+      reads =
+          reads_asked left found.visited (found.visited + 1) found.read c.read-found.result (told c.args.incumbent.now)
+          (told c.read-found.new.self) (omega (arith, inside)) (omega arith) read c.read-found.ensures.rises c.read-found.ensures.told;
+      offered = omega (arith, offered, c.read-found.ensures.top);
+    }
 
 -- ---- its two extensions
 
 pub explore-decide-requires : goal.explore-decide-requires
 explore-decide-requires g t c =
     let problem = c.args.problem.now in let relaxed = c.args.relaxed.now in let prefix = c.args.prefix in let opened = c.in-Some.open in
-    let low : c.args.found.now.read ≤ c.read-found.result = omega (arith, c.requires.read, c.read-found.ensures.rises) in
+    let low : c.args.found.now.read ≤ c.read-found.result = omega (arith, c.requires.going.read, c.read-found.ensures.rises) in
     let is = c.in-Some.ensures relaxed c.args.found.now.read low c.requires.day in
     let long = ap (λ (xs : List Bool). length xs) is.0 in
     let inside =
@@ -123,22 +163,24 @@ explore-decide-requires g t c =
     let day : IsDay relaxed opened c.args.day.now = subst (λ (xs : List Bool). IsDay relaxed xs c.args.day.now) (sym is.0) is.2 in
     let admissible : IsAdmissible problem.blocks (padded opened) =
     subst (λ (xs : List Bool). IsAdmissible problem.blocks (padded xs)) (sym is.0) c.requires.admissible in
+    let next : IsDay relaxed opened c.copy_day.new.to = c.copy_day.ensures opened day in
+    let going : IsGoing problem c.args.nodes (g.I.Incumbent.told c.read-found.new.self) (g.I.Incumbent.top c.read-found.new.self)
+    (record { best = c.args.found.now.best; read = c.read-found.result; visited = c.args.found.now.visited + 1 }) =
+    let offered = c.requires.going.offered in
+    let room = unmet c.args.found.now.visited c.args.nodes c.requires.going.room c.if-found-nodes.false in
+    record {
+      room = omega (arith, room);
+      read = omega (arith, c.read-found.ensures.told);
+      best = c.requires.going.best;
+      offered = omega (arith, offered, c.read-found.ensures.top);
+    } in
     search rules
 
-pub explore-returns-then-not-decide-clause-finds : goal.explore-returns-then-not-decide-clause-finds
-explore-returns-then-not-decide-clause-finds g t c =
-    let problem = c.args.problem.now in let prefix = c.args.prefix in let first = c.equals-first.result in
-    let a = c.args.found.now.best in let b = c.decide.new.found.best in
-    let low : c.args.found.now.read ≤ c.read-found.result = omega (arith, c.requires.read, c.read-found.ensures.rises) in
-    let is = c.in-Some.ensures c.args.relaxed.now c.args.found.now.read low c.requires.day in
-    let one = subst (λ (xs : List Bool). Finds problem (xs ++ first ∷ []) a b) is.0 c.decide.ensures.finds in
-    finds_shorter problem prefix (first ∷ []) a b one
-
-pub explore-returns-then-not-decide-clause-spends : goal.explore-returns-then-not-decide-clause-spends
-explore-returns-then-not-decide-clause-spends g t c =
+pub explore-returns-then-not-decide-clause-walked : goal.explore-returns-then-not-decide-clause-walked
+explore-returns-then-not-decide-clause-walked g t c =
     let problem = c.args.problem.now in let prefix = c.args.prefix in let n = length problem.blocks in let first = c.equals-first.result in
     let nodes = c.args.nodes in let told = g.I.Incumbent.told in
-    let low : c.args.found.now.read ≤ c.read-found.result = omega (arith, c.requires.read, c.read-found.ensures.rises) in
+    let low : c.args.found.now.read ≤ c.read-found.result = omega (arith, c.requires.going.read, c.read-found.ensures.rises) in
     let is = c.in-Some.ensures c.args.relaxed.now c.args.found.now.read low c.requires.day in
     let inside =
     undecided prefix c.depth.result c.block_count.result n c.depth.ensures.value c.block_count.ensures.value
@@ -148,20 +190,33 @@ explore-returns-then-not-decide-clause-spends g t c =
     subst (λ (xs : List Bool).
     Spends problem (xs ++ first ∷ []) (n - length (xs ++ first ∷ [])) (told c.read-found.new.self) nodes (before + 1) after
     c.decide.result)
-    is.0 c.decide.ensures.spends in
+    is.0 c.decide.ensures.walked.spends in
     let read =
     subst (λ (v : ℕ). Spends problem (prefix ++ first ∷ []) (n - length (prefix ++ first ∷ [])) v nodes (before + 1) after c.decide.result)
     c.read-found.ensures.told here in
     let unfinished =
     subst (λ (b : Bool). Spends problem (prefix ++ first ∷ []) (n - length (prefix ++ first ∷ [])) least nodes (before + 1) after b)
     c.if-not-decide.true read in
-    spends_first problem prefix first n (told c.args.incumbent.now) least nodes before after inside c.read-found.ensures.rises
-    (alive_here problem c.args.relaxed.now prefix least c.requires.same is.1) unfinished
+    let a = c.args.found.now.best in let b = c.decide.new.found.best in let walked = c.decide.ensures.walked in
+    let offered = walked.offered in let grows = walked.reads.grows in let reads = walked.reads.told in let more = walked.spends.grows in
+    record {
+      finds =
+          finds_shorter problem prefix (first ∷ []) a b (subst (λ (xs : List Bool). Finds problem (xs ++ first ∷ []) a b) is.0 walked.finds);
+      covers = λ done. absurd (cc);
+      spends =
+          spends_first problem prefix first n (told c.args.incumbent.now) least nodes before after inside c.read-found.ensures.rises
+          (alive_here problem c.args.relaxed.now prefix least c.requires.same is.1) unfinished;
+      reads =
+          reads_asked (n - length prefix) before after c.args.found.now.read c.decide.new.found.read (told c.args.incumbent.now)
+          (told c.decide.new.incumbent) (omega (arith, inside)) (omega (arith, more)) c.requires.going.read
+          (omega (arith, c.read-found.ensures.rises, grows)) (omega (arith, c.read-found.ensures.told, grows, reads));
+      offered = omega (arith, offered, c.read-found.ensures.top);
+    }
 
 pub explore-decide-requires-2 : goal.explore-decide-requires-2
 explore-decide-requires-2 g t c =
     let problem = c.args.problem.now in let relaxed = c.args.relaxed.now in let prefix = c.args.prefix in let opened = c.in-Some.open in
-    let low : c.args.found.now.read ≤ c.read-found.result = omega (arith, c.requires.read, c.read-found.ensures.rises) in
+    let low : c.args.found.now.read ≤ c.read-found.result = omega (arith, c.requires.going.read, c.read-found.ensures.rises) in
     let is = c.in-Some.ensures relaxed c.args.found.now.read low c.requires.day in
     let long = ap (λ (xs : List Bool). length xs) is.0 in
     let inside =
@@ -172,59 +227,32 @@ explore-decide-requires-2 g t c =
     let admissible : IsAdmissible problem.blocks (padded opened) =
     subst (λ (xs : List Bool). IsAdmissible problem.blocks (padded xs)) (sym is.0) c.requires.admissible in
     let now = c.decide.new.found in let incumbent = c.decide.new.incumbent in
-    let room : now.visited ≤ c.args.nodes = c.decide.ensures.spends.within in
-    let read : now.read ≤ g.I.Incumbent.told incumbent = let told = c.decide.ensures.reads.told in omega (arith, told) in
-    let best : IsFind problem [] now.best =
-    found_after problem (opened ++ c.equals-first.result ∷ []) c.args.found.now.best now.best c.requires.best c.decide.ensures.finds in
-    let offered : welfare_found now.best ≤ g.I.Incumbent.top incumbent = let top = c.decide.ensures.offered in omega (arith, top) in
+    let walked = c.decide.ensures.walked in let told = walked.reads.told in let top = walked.offered in
+    let going : IsGoing problem c.args.nodes (g.I.Incumbent.told incumbent) (g.I.Incumbent.top incumbent) now = record {
+      room = walked.spends.within;
+      read = omega (arith, told);
+      best = found_after problem (opened ++ c.equals-first.result ∷ []) c.args.found.now.best now.best c.requires.going.best walked.finds;
+      offered = omega (arith, top);
+    } in
     search rules
 
-pub explore-returns-clause-finds : goal.explore-returns-clause-finds
-explore-returns-clause-finds g t c =
-    let problem = c.args.problem.now in let prefix = c.args.prefix in let first = c.equals-first.result in
-    let a = c.args.found.now.best in let b = c.decide.new.found.best in let z = c.decide-2.new.found.best in
-    let low : c.args.found.now.read ≤ c.read-found.result = omega (arith, c.requires.read, c.read-found.ensures.rises) in
-    let is = c.in-Some.ensures c.args.relaxed.now c.args.found.now.read low c.requires.day in
-    let one = subst (λ (xs : List Bool). Finds problem (xs ++ first ∷ []) a b) is.0 c.decide.ensures.finds in
-    let other = subst (λ (xs : List Bool). Finds problem (xs ++ not first ∷ []) b z) is.0 c.decide-2.ensures.finds in
-    finds_twice problem prefix a b z c.ranking.ensures.transitive c.requires.best
-    (finds_shorter problem prefix (first ∷ []) a b one) (finds_shorter problem prefix (not first ∷ []) b z other)
-
-pub explore-returns-clause-covers : goal.explore-returns-clause-covers
-explore-returns-clause-covers g t c done =
-    let problem = c.args.problem.now in let prefix = c.args.prefix in let first = c.equals-first.result in
-    let a = c.args.found.now.best in let b = c.decide.new.found.best in let z = c.decide-2.new.found.best in
-    let read = c.decide.new.found.read in let later = c.decide-2.new.found.read in
-    let low : c.args.found.now.read ≤ c.read-found.result = omega (arith, c.requires.read, c.read-found.ensures.rises) in
-    let is = c.in-Some.ensures c.args.relaxed.now c.args.found.now.read low c.requires.day in
-    let inside =
-    undecided prefix c.depth.result c.block_count.result (length problem.blocks) c.depth.ensures.value c.block_count.ensures.value
-    c.requires.depth c.if-depth-block_count.false in
-    let few : length prefix < most_blocks = omega (arith, inside, c.block_count.ensures.valid.few_blocks) in
-    covers_both problem prefix first a b z read later c.ranking.ensures.transitive c.completions.ensures.extended few c.requires.best
-    (subst (λ (xs : List Bool). Finds problem (xs ++ first ∷ []) a b) is.0 c.decide.ensures.finds)
-    (subst (λ (xs : List Bool). Covers problem (xs ++ first ∷ []) b read) is.0 (c.decide.ensures.covers c.if-not-decide.false))
-    (subst (λ (xs : List Bool). Finds problem (xs ++ not first ∷ []) b z) is.0 c.decide-2.ensures.finds)
-    (subst (λ (xs : List Bool). Covers problem (xs ++ not first ∷ []) z later) is.0 (c.decide-2.ensures.covers done))
-    c.decide-2.ensures.reads.grows
-
-pub explore-returns-clause-spends : goal.explore-returns-clause-spends
-explore-returns-clause-spends g t c =
+pub explore-returns-clause-walked : goal.explore-returns-clause-walked
+explore-returns-clause-walked g t c =
     let problem = c.args.problem.now in let prefix = c.args.prefix in let n = length problem.blocks in let first = c.equals-first.result in
     let nodes = c.args.nodes in let told = g.I.Incumbent.told in
-    let low : c.args.found.now.read ≤ c.read-found.result = omega (arith, c.requires.read, c.read-found.ensures.rises) in
+    let low : c.args.found.now.read ≤ c.read-found.result = omega (arith, c.requires.going.read, c.read-found.ensures.rises) in
     let is = c.in-Some.ensures c.args.relaxed.now c.args.found.now.read low c.requires.day in
     let inside =
     undecided prefix c.depth.result c.block_count.result n c.depth.ensures.value c.block_count.ensures.value
     c.requires.depth c.if-depth-block_count.false in
     let least = c.read-found.result in let later = told c.decide.new.incumbent in
     let before = c.args.found.now.visited in let middle = c.decide.new.found.visited in let after = c.decide-2.new.found.visited in
-    let asked = c.read-found.ensures.told in let raised = c.decide.ensures.reads.told in
+    let asked = c.read-found.ensures.told in let raised = c.decide.ensures.walked.reads.told in
     let at_open =
     subst (λ (b : Bool).
     Spends problem (c.in-Some.open ++ first ∷ []) (n - length (c.in-Some.open ++ first ∷ [])) (told c.read-found.new.self) nodes
     (before + 1) middle b)
-    c.if-not-decide.false c.decide.ensures.spends in
+    c.if-not-decide.false c.decide.ensures.walked.spends in
     let here =
     subst (λ (xs : List Bool).
     Spends problem (xs ++ first ∷ []) (n - length (xs ++ first ∷ [])) (told c.read-found.new.self) nodes (before + 1) middle true)
@@ -235,12 +263,32 @@ explore-returns-clause-spends g t c =
     let other =
     subst (λ (xs : List Bool).
     Spends problem (xs ++ not first ∷ []) (n - length (xs ++ not first ∷ [])) later nodes middle after c.decide-2.result)
-    is.0 c.decide-2.ensures.spends in
-    spends_both problem prefix first n (told c.args.incumbent.now) least later nodes before middle after c.decide-2.result inside
-    c.read-found.ensures.rises (omega (arith, asked, raised))
-    (alive_here problem c.args.relaxed.now prefix least c.requires.same is.1) one other
-
-pub explore-returns-clause-offered : goal.explore-returns-clause-offered
-explore-returns-clause-offered g t c =
-    let rises = welfare_rises c.decide.new.found.best c.decide-2.new.found.best c.decide-2.ensures.finds.rises in
-    omega (arith, rises, c.decide.ensures.offered, c.decide-2.ensures.offered, c.read-found.ensures.top)
+    is.0 c.decide-2.ensures.walked.spends in
+    let a = c.args.found.now.best in let b = c.decide.new.found.best in let z = c.decide-2.new.found.best in
+    let w = c.decide.ensures.walked in let v = c.decide-2.ensures.walked in
+    let few : length prefix < most_blocks = omega (arith, inside, c.block_count.ensures.valid.few_blocks) in
+    let here = subst (λ (xs : List Bool). Finds problem (xs ++ first ∷ []) a b) is.0 w.finds in
+    let there = subst (λ (xs : List Bool). Finds problem (xs ++ not first ∷ []) b z) is.0 v.finds in
+    let grows = w.reads.grows in let grows' = v.reads.grows in let raised' = v.reads.told in
+    let more = w.spends.grows in let more' = v.spends.grows in
+    let top = w.offered in let top' = v.offered in
+    record {
+      finds =
+          finds_twice problem prefix a b z c.ranking.ensures.transitive c.requires.going.best (finds_shorter problem prefix (first ∷ []) a b here)
+          (finds_shorter problem prefix (not first ∷ []) b z there);
+      covers = λ done.
+          covers_both problem prefix first a b z c.decide.new.found.read c.decide-2.new.found.read c.ranking.ensures.transitive
+          c.completions.ensures.extended few c.requires.going.best here
+          (subst (λ (xs : List Bool). Covers problem (xs ++ first ∷ []) b c.decide.new.found.read) is.0 (w.covers c.if-not-decide.false)) there
+          (subst (λ (xs : List Bool). Covers problem (xs ++ not first ∷ []) z c.decide-2.new.found.read) is.0 (v.covers done)) grows';
+      spends =
+          spends_both problem prefix first n (told c.args.incumbent.now) least later nodes before middle after c.decide-2.result inside
+          c.read-found.ensures.rises (omega (arith, asked, raised))
+          (alive_here problem c.args.relaxed.now prefix least c.requires.same is.1) one other;
+      reads =
+          reads_asked (n - length prefix) before after c.args.found.now.read c.decide-2.new.found.read (told c.args.incumbent.now)
+          (told c.decide-2.new.incumbent) (omega (arith, inside)) (omega (arith, more, more')) c.requires.going.read
+          (omega (arith, c.read-found.ensures.rises, grows, grows')) (omega (arith, asked, raised, raised', grows, grows'));
+      offered =
+          let rises = welfare_rises b z v.finds.rises in omega (arith, rises, top, top', c.requires.going.offered, c.read-found.ensures.top);
+    }

@@ -33,11 +33,14 @@ explore-done-requires-clause-depth g c =
 pub explore-done-requires-clause-admissible : goal.explore-done-requires-clause-admissible
 explore-done-requires-clause-admissible g c = c.is_admissible.ensures.value.0 (search rules)
 
+pub explore-done-requires-clause-going : goal.explore-done-requires-clause-going
+explore-done-requires-clause-going g c = record { room = omega arith; read = omega arith; best = tt; offered = omega arith }
+
 pub returns-clause-sound : goal.returns-clause-sound
 returns-clause-sound g c =
     let found = c.explore-done.new.found in
     subst (λ (prefix : List Bool). IsSound c.args.problem.now prefix found.best found.read c.explore-done.result) c.of_piece-prefix.ensures
-    (sound c.args.problem.now c.of_piece-prefix.result found.best found.read c.explore-done.result c.explore-done.ensures.finds c.explore-done.ensures.covers)
+    (sound c.args.problem.now c.of_piece-prefix.result found.best found.read c.explore-done.result c.explore-done.ensures.walked.finds c.explore-done.ensures.walked.covers)
 
 pub returns-clause-spent : goal.returns-clause-spent
 returns-clause-spent g c =
@@ -46,17 +49,17 @@ returns-clause-spent g c =
     let visited = c.explore-done.new.found.visited in
     subst (λ (left : ℕ). IsSpent c.args.problem.now (choice c.args.depth c.args.piece) (n - left) told c.args.nodes visited c.explore-done.result) long
     (subst (λ (prefix : List Bool). IsSpent c.args.problem.now prefix (n - length c.of_piece-prefix.result) told c.args.nodes visited c.explore-done.result) c.of_piece-prefix.ensures
-    (spent_from c.args.problem.now c.of_piece-prefix.result (n - length c.of_piece-prefix.result) told c.args.nodes visited c.explore-done.result c.explore-done.ensures.spends))
+    (spent_from c.args.problem.now c.of_piece-prefix.result (n - length c.of_piece-prefix.result) told c.args.nodes visited c.explore-done.result c.explore-done.ensures.walked.spends))
 
 pub returns-clause-read : goal.returns-clause-read
 returns-clause-read g c some few =
     let long = as_long c.of_piece-prefix.result c.args.depth c.args.piece c.of_piece-prefix.ensures in
-    c.explore-done.ensures.reads.asked some (omega (arith, long, few))
+    c.explore-done.ensures.walked.reads.asked some (omega (arith, long, few))
 
 pub returns-clause-unread : goal.returns-clause-unread
 returns-clause-unread g c h =
     let long = as_long c.of_piece-prefix.result c.args.depth c.args.piece c.of_piece-prefix.ensures in
     elim h [
-      | inl none ↦ c.explore-done.ensures.reads.unvisited none
-      | inr full ↦ c.explore-done.ensures.reads.full (omega (arith, long, full))
+      | inl none ↦ c.explore-done.ensures.walked.reads.unvisited none
+      | inr full ↦ c.explore-done.ensures.walked.reads.full (omega (arith, long, full))
     ]

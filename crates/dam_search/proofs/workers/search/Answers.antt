@@ -1,8 +1,8 @@
 -- The answers of the workers are the ones that are collected, and they are one about each piece.
-use Rattle.std.proofs.Common.{◌≡◌, ℕ, min, inr, List, length, ◌∙◌, ap₂, sym, subst}
+use Rattle.std.proofs.Common.{◌≡◌, ℕ, min, List, length, ◌∙◌, ap₂, sym, subst}
 use Rattle.std.specs.List.{All}
 use Rattle.dam_search.specs.declared.answer.PieceAnswer.{PieceAnswer}
-use Rattle.dam_search.specs.Search.{IsWorked, IsUnfinished, IsSearched, IsCollected}
+use Rattle.dam_search.specs.Search.{IsWorked, IsUnfinished, IsCollected}
 use Rattle.dam_search.proofs.Shares.{first_reached, all_worked, one_each, none_faulty}
 use Rattle.dam_search.proofs.workers.search.Goals as goal
 
@@ -18,18 +18,6 @@ returns-clause-unfinished g c piece visited e =
     let depth : c.min.result ≡ min c.args.plan.cut (length problem.blocks) = c.min.ensures ∙ ap₂ (λ (m n : ℕ). min m n) (c.from.ensures ∙ c.cut.ensures.value) c.block_count.ensures.value in
     subst (λ (n : ℕ). IsUnfinished problem n c.args.plan.nodes piece visited) depth
     (subst (λ (n : ℕ). IsUnfinished problem c.min.result n piece visited) c.nodes.ensures.value (c.collected.ensures.unfinished piece visited e))
-
-pub returns-clause-searched : goal.returns-clause-searched
-returns-clause-searched g c =
-    let problem = c.args.problem.now in let reached = first_reached problem c.first_selection.result c.first_selection.ensures in
-    let depth : c.min.result ≡ min c.args.plan.cut (length problem.blocks) = c.min.ensures ∙ ap₂ (λ (m n : ℕ). min m n) (c.from.ensures ∙ c.cut.ensures.value) c.block_count.ensures.value in
-    let worked = all_worked problem c.min.result c.nodes.result c.first_selection.result.welfare c.in_ok-explored.explored.answers.items reached c.in_ok-explored.ensures in
-    inr (subst (λ (n : ℕ). IsSearched problem n c.args.plan.nodes c.collected.result) depth
-    (subst (λ (n : ℕ). IsSearched problem c.min.result n c.collected.result) c.nodes.ensures.value (record {
-      answers = c.in_ok-explored.explored.answers.items;
-      worked = worked;
-      collected = subst (λ (xs : List PieceAnswer). IsCollected c.min.result xs c.collected.result) c.deref.ensures.value c.collected.ensures.collected;
-    })))
 
 pub returns-clause-whole : goal.returns-clause-whole
 returns-clause-whole g c piece e =

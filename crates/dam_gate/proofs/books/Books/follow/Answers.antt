@@ -9,5 +9,5 @@ returns-in-Refused-clause-steps g c = λ entries at steps. AreSteps-more entries
 pub returns-clause-steps : goal.returns-clause-steps
 returns-clause-steps g c = λ entries at steps.
     AreSteps-next entries c.args.entry.now c.args.self.now
-    (record { book = arc_value c.replace.new.dest; first = c.replace-oldest.new.dest; second = c.replace-2.new.dest }) c.args.place at steps
-    (search rules) (search rules) (search rules)
+    (record { book = arc_value c.replace.new.dest; before = c.replace-oldest.new.dest }) c.args.place at
+    (search rules) (search rules)

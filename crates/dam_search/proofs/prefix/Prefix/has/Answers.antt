@@ -1,6 +1,6 @@
 -- The selection has the decisions at its front.
 use Rattle.dam_search.proofs.Prefixes.{decision_at}
-use Rattle.std.proofs.Common.{◌≡◌, Some, Bool, ap, ◌∙◌, sym}
+use Rattle.std.proofs.Common.{Some, Bool, ap, ◌∙◌, sym}
 use Rattle.dam_search.proofs.prefix.Prefix.has.Goals as goal
 
 pub returns : goal.returns

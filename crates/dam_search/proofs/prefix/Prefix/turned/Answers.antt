@@ -1,5 +1,5 @@
 -- A decision more.
-use Rattle.std.proofs.Common.{◌≡◌, ◌∙◌, arith}
+use Rattle.std.proofs.Common.{◌∙◌, arith}
 use Rattle.dam_search.proofs.Prefixes.{prefix_of, turned_more}
 use Rattle.dam_search.proofs.prefix.Prefix.turned.Goals as goal
 use Rattle.dam_search.proofs.prefix.Prefix.turned.Goals.{then-own-place, else-own-place}

@@ -1,0 +1,128 @@
+#!/usr/bin/env python3
+"""How a search grows with its book: each family with 8 to 24 blocks and 500 hourly orders, on days of 24 and of 96 periods. An enumeration
+would try 2^n selections of n blocks.
+
+Nodes are those of one worker that walks without a cut. A node stands for the selections that agree in its first blocks, so a walk that
+leaves nothing out visits 2^(n+1) - 1 nodes. Time and memory are those of a whole `dam clear` by the default plan; the time is the median
+of up to nine runs."""
+
+import os
+import statistics
+import sys
+
+import make_family
+from figures import DAM, LIMIT, MEASURES, PART, by_turns, line, peak, run, seconds
+
+BLOCKS = (8, 12, 16, 20, 24)
+PERIODS = {"24": "1", "96": "4"}  # and how many of them an hour has
+ORDERS = "500"
+# Of its books every selection is visited, so its time has a target of its own.
+LONG = "ties"
+# The seconds within which `dam clear` has to end.
+MOST = {"24": 0.15, "96": 0.7}
+PAGE, PICTURE = f"out/{PART}.md", "../docs/growth.svg"
+
+
+class Book:
+    """A book of a family, and what its search costs. A figure is None if there was none within the limit."""
+
+    def __init__(self, family, periods, blocks):
+        self.family, self.periods, self.blocks = family, periods, blocks
+        self.path = f"out/{family}-{ORDERS}-{periods}-{blocks}.csv"
+        with open(self.path, "wb") as made:
+            made.write(run(["./make_family.py", family, ORDERS, str(blocks), PERIODS[periods]]).text)
+        self.nodes = self.counted()
+        self.seconds, self.memory = self.cleared()
+
+    def counted(self):
+        walk = run([MEASURES, "nodes", "0", "1"], self.path)
+        return walk and int(walk.text.split()[-1])
+
+    def cleared(self):
+        runs = by_turns({"dam": [DAM, "clear"]}, self.path, most=9, seconds=1.5)["dam"]
+        if not runs:
+            return None, None
+        return statistics.median(each.wall for each in runs), peak([DAM, "clear"], self.path)
+
+    def print(self):
+        most = MOST[self.periods]
+        what = f"{self.family} {ORDERS}, {self.periods} periods, {self.blocks} blocks: dam clear"
+        detail = f"{amount(self.nodes)} nodes, 2^n is {2 ** self.blocks:,}; {mebibytes(self.memory)}"
+        shown = f"> {LIMIT:g} s" if self.seconds is None else seconds(self.seconds)
+        if self.family == LONG:
+            line(what, shown, detail=detail)
+        else:
+            line(what, shown, f"at most {seconds(most)}", self.seconds is not None and self.seconds <= most, detail)
+
+
+def amount(count):
+    return "?" if count is None else f"{count:,}"
+
+
+def mebibytes(size):
+    return "?" if size is None else f"{size:.1f} MiB"
+
+
+def table(title, head, rows):
+    """A table with a row for each family and length of a day, and a column for each number of blocks."""
+    columns = [head, *(f"{blocks} blocks" for blocks in BLOCKS)]
+    lines = [f"| {' | '.join(cells)} |" for cells in (columns, *rows)]
+    lines.insert(1, "|---" * len(columns) + "|")
+    return f"### {title}\n\n" + "\n".join(lines) + "\n"
+
+
+def rows_of(books, shown):
+    """The rows of a table, of what `shown` says of each book."""
+    for (family, periods), ones in books.items():
+        yield [f"{family}, {periods} periods", *(shown(each) for each in ones)]
+
+
+def page(books):
+    """Writes what MEASURED has of this part: tables of nodes, time and memory, and the picture's place."""
+    all_selections = ["all selections, 2^n", *(f"{2 ** blocks:,}" for blocks in BLOCKS)]
+    with open(PAGE, "w", encoding="utf-8") as text:
+        text.write(table("Nodes", "Family", [all_selections, *rows_of(books, lambda book: amount(book.nodes))]) + "\n")
+        taken = rows_of(books, lambda book: f"> {LIMIT:g} s" if book.seconds is None else seconds(book.seconds))
+        text.write(table("Time of `dam clear`", "Family", taken) + "\n")
+        text.write(table("Peak memory of `dam clear`", "Family", rows_of(books, lambda book: mebibytes(book.memory))))
+        if picture(books):
+            text.write("\n![Nodes of each family by the number of blocks, compared with 2^n](growth.svg)\n")
+
+
+def picture(books):
+    """Draws the nodes by the number of blocks, a panel for each length of a day. Returns whether there is a picture."""
+    try:
+        import matplotlib
+    except ImportError:
+        print("no picture: python3-matplotlib is missing", file=sys.stderr)
+        return os.path.exists(PICTURE)
+    matplotlib.use("Agg")
+    from matplotlib import pyplot
+
+    matplotlib.rcParams.update({"svg.hashsalt": "dam", "svg.fonttype": "none", "font.size": 9, "legend.frameon": False})
+    figure, panels = pyplot.subplots(1, len(PERIODS), figsize=(10, 4.2), sharey=True, layout="constrained")
+    for panel, periods in zip(panels, PERIODS):
+        panel.plot(BLOCKS, [2**blocks for blocks in BLOCKS], color="#1b1c1d", linestyle="--", linewidth=1, label="2^n")
+        for number, family in enumerate(make_family.FAMILIES):
+            counts = [(book.blocks, book.nodes) for book in books[family, periods] if book.nodes is not None]
+            panel.plot(*zip(*counts), marker="osv^DPX"[number], markersize=4, linewidth=1.2, label=family)
+        panel.set(title=f"{periods} periods", xlabel="blocks", xticks=BLOCKS, yscale="log")
+        panel.grid(color="#d9dbdd", linewidth=0.6)
+        panel.spines[["top", "right"]].set_visible(False)
+    panels[0].set_ylabel("nodes of one worker")
+    panels[-1].legend(loc="center left", bbox_to_anchor=(1, 0.5))
+    figure.savefig(PICTURE, metadata={"Date": None, "Title": "Nodes of each family by the number of blocks"})
+    return True
+
+
+def main():
+    books = {}
+    for family in make_family.FAMILIES:
+        for periods in PERIODS:
+            books[family, periods] = [Book(family, periods, blocks) for blocks in BLOCKS]
+            for book in books[family, periods]:
+                book.print()
+    page(books)
+
+
+main()

@@ -1,0 +1,47 @@
+ghost use Rattle.std.specs.Prelude.{◌≡◌, ◌⊎◌, ◌++◌, codes, MatchResult};
+ghost use Rattle.dam_engines.specs.Fault.{fault_status, fault_text};
+ghost use Rattle.dam_c.specs.Answer.{Holds};
+
+use dam_engines::{RunFault, fault_line, status};
+use std::alloc::Global;
+
+/// What an export answers.
+#[repr(C)]
+#[derive(Clone, Copy)]
+pub struct DamAnswer {
+    /// The status that `dam` would end with. If it is 0, the text is what `dam` prints, and else the line of the fault.
+    pub status: u8,
+    /// The length of the whole text in bytes. The buffer holds its first bytes, as many as it has room for.
+    pub length: usize,
+}
+
+/// Copies as much of the text as there is room for. Returns the length of the whole.
+fn put(text: &[u8], buffer: &mut [u8]) -> usize
+    ensures { Holds buffer.new result text.now }
+{
+    let count = text.len().min(buffer.len());
+    buffer[..count].copy_from_slice(&text[..count]);
+    text.len()
+}
+
+/// The answer of a text, or of a fault.
+pub(crate) fn answer(alloc: Global, made: Result<Vec<u8>, RunFault>, buffer: &mut [u8]) -> DamAnswer
+    ensures { MatchResult made
+        (λ text. (result.status ≡ 0) × Holds buffer.new result.length text.items)
+        (λ fault. (result.status ≡ fault_status fault) × ((result.length ≡ 0)
+        ⊎ Holds buffer.new result.length (fault_text fault ++ codes "\n"))) }
+{
+    match made {
+        Ok(text) => DamAnswer {
+            status: 0,
+            length: put(&text, buffer),
+        },
+        Err(fault) => DamAnswer {
+            status: status(&fault),
+            length: match fault_line(alloc, &fault) {
+                Ok(line) => put(&line, buffer),
+                Err(_) => 0,
+            },
+        },
+    }
+}

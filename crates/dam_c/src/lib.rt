@@ -1,0 +1,78 @@
+//! The engines of `dam` for callers in C, and in any language that calls C: each reads a journal's text, and leaves the text that
+//! `dam` prints for it in a buffer of the caller's.
+//!
+//! They start no thread, keep nothing between calls, and read and write nothing but memory, so any number of threads may call them
+//! at the same time. Where memory runs out, that is a status. `include/dam.h` is the header; it says what a caller owes.
+//!
+//! The crate knows nothing of rules: it hands a text to an engine of `dam_engines`, and copies what that makes.
+#![tactic(auto)]
+
+mod answer;
+mod given;
+
+ghost use Rattle.dam_engines.specs.Clear.{AreResultsTo, IsClearTextFault};
+ghost use Rattle.dam_engines.specs.Engine.{IsTextFault};
+ghost use Rattle.dam_engines.specs.Replay.{AreRepliesTo};
+ghost use Rattle.dam_c.specs.Answer.{IsAnswered};
+
+pub use answer::DamAnswer;
+use answer::answer;
+use dam_book::Seed;
+use dam_engines::{clear_text_alone, replies_of};
+use given::drawn_from;
+use std::alloc::Global;
+
+/// What `dam replay` prints for the text. The book hashes names by the seed that everybody knows.
+#[unsafe(no_mangle)]
+pub extern "C" fn dam_replay(alloc: Global, text: &[u8], buffer: &mut [u8]) -> DamAnswer
+    ensures { IsAnswered (AreRepliesTo text.now) (IsTextFault text.now) result buffer.new }
+{
+    answer(alloc, replies_of(alloc, Seed::fixed(), text), buffer)
+}
+
+/// The same, but the book hashes names by a seed that is drawn from the caller's secret, at least 16 random bytes.
+#[unsafe(no_mangle)]
+pub extern "C" fn dam_replay_seeded(
+    alloc: Global,
+    secret: &[u8],
+    text: &[u8],
+    buffer: &mut [u8],
+) -> DamAnswer
+    ensures { IsAnswered (AreRepliesTo text.now) (IsTextFault text.now) result buffer.new }
+{
+    answer(alloc, replies_of(alloc, drawn_from(secret), text), buffer)
+}
+
+/// What `dam clear` prints for the text. The search visits at most so many nodes; 67,108,864 are enough for any book.
+#[unsafe(no_mangle)]
+pub extern "C" fn dam_clear(alloc: Global, text: &[u8], nodes: u32, buffer: &mut [u8]) -> DamAnswer
+    ensures { IsAnswered (AreResultsTo text.now)
+        (IsClearTextFault (record { workers = 1; cut = 0; nodes = nodes }) text.now)
+        result buffer.new }
+{
+    answer(
+        alloc,
+        clear_text_alone(alloc, Seed::fixed(), text, nodes),
+        buffer,
+    )
+}
+
+/// The same, but the book hashes names by a seed that is drawn from the caller's secret, at least 16 random bytes.
+#[unsafe(no_mangle)]
+pub extern "C" fn dam_clear_seeded(
+    alloc: Global,
+    secret: &[u8],
+    text: &[u8],
+    nodes: u32,
+    buffer: &mut [u8],
+) -> DamAnswer
+    ensures { IsAnswered (AreResultsTo text.now)
+        (IsClearTextFault (record { workers = 1; cut = 0; nodes = nodes }) text.now)
+        result buffer.new }
+{
+    answer(
+        alloc,
+        clear_text_alone(alloc, drawn_from(secret), text, nodes),
+        buffer,
+    )
+}

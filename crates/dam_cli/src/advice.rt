@@ -1,0 +1,94 @@
+//! What a person at a terminal is told besides a fault of the input, or besides the refusal of words that name a file.
+
+use dam_engines::RunFault;
+use dam_results::JournalFault;
+
+/// Which rule the input breaks, and what to do; nothing for a fault that isn't the input's.
+pub fn rule_of(fault: &RunFault) -> Option<&'static str> {
+    let rule = match fault {
+        RunFault::Input(fault) => return rule_of_journal(*fault),
+        RunFault::TooManyCommands => "a day takes 9,999 commands at most",
+        RunFault::CloseGiven(_) =>
+            "a day is closed by its operator: leave out the record close,,,,,,,,",
+        RunFault::TooManyParticipants(_) => "a day takes 8 participants at most",
+        RunFault::StillOpen =>
+            "a book is cleared when it is closed: end the journal with close,,,,,,,,",
+        RunFault::Mismatch(_)
+        | RunFault::Unfinished { .. }
+        | RunFault::Collected { .. }
+        | RunFault::Read
+        | RunFault::Memory
+        | RunFault::Write { .. } => return None,
+    };
+    Some(rule)
+}
+
+fn rule_of_journal(fault: JournalFault) -> Option<&'static str> {
+    let rule = match fault {
+        JournalFault::TooLong => "a journal has 16,777,216 bytes at most",
+        JournalFault::NotAscii(0) => {
+            "a journal is plain ASCII: save it without a byte order mark"
+        }
+        JournalFault::NotAscii(_) => "a journal is plain ASCII, without accents and the like",
+        JournalFault::TooManyRecords => "a journal has the day and 10,000 commands at most",
+        JournalFault::NotDay => {
+            "the first record is the day, such as day,24,,,,,,,: a journal has no header, and commas between its fields"
+        }
+        JournalFault::FieldCount(_) =>
+            "a record has nine fields, and so eight commas, as in close,,,,,,,,",
+        JournalFault::BadField(1, field) => rule_of_day(field),
+        JournalFault::BadField(_, field) => rule_of_command(field),
+        JournalFault::Memory => return None,
+    };
+    Some(rule)
+}
+
+/// The rule of a field of the first record.
+fn rule_of_day(field: usize) -> &'static str {
+    match field {
+        2 => "field 2 of the day is its number of periods: 23, 24, 25, 92, 96 or 100",
+        _ => "fields 3 to 9 of the day are empty",
+    }
+}
+
+/// The rule of a field of a command's record.
+fn rule_of_command(field: usize) -> &'static str {
+    match field {
+        1 => "field 1 is what the record is: submit, amend, cancel or close",
+        2 => "field 2 is the participant: 1 to 8 capitals; empty in a close",
+        3 => "field 3 is the order's name: 1 to 12 capitals, digits and dashes; empty in a close",
+        4 => "field 4 is hour or block in a submit, and empty in any other record",
+        5 => "field 5 is buy or sell in a submit, and empty in any other record",
+        6 => {
+            "field 6 is the limit price: whole cents from -50000 to 400000, without leading zeros; empty in a cancel and a close"
+        }
+        7 => {
+            "field 7 is the volumes, period:volume, for a block by increasing period, separated by ;, each from 1 to 99999 tenths of a MW; empty in a cancel and a close"
+        }
+        8 =>
+            "field 8 is the parent of a block, an order's name or empty; empty in any other record",
+        _ =>
+            "field 9 is the exclusive group of a block, a name or empty; empty in any other record",
+    }
+}
+
+/// The first word after the command that is neither an option nor an option's number, and the command; if that is one of the
+/// three.
+pub fn file_in(words: &[String]) -> Option<(&str, &str)> {
+    let command = words.first()?.as_str();
+    if command != "replay" && command != "clear" && command != "day" {
+        return None;
+    }
+    let mut is_number = false;
+    for word in words.iter().skip(1) {
+        let word = word.as_str();
+        if is_number {
+            is_number = false;
+        } else if word.starts_with('-') {
+            is_number = !word.contains('=');
+        } else {
+            return Some((command, word));
+        }
+    }
+    None
+}

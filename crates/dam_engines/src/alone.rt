@@ -1,0 +1,41 @@
+ghost use Rattle.std.specs.Prelude.{IfOk, IfErr};
+ghost use Rattle.dam_engines.specs.Clear.{AreResultsTo, IsBookFault, IsClearedAs, IsClearTextFault};
+
+use crate::fault::RunFault;
+use dam_blocks::Problem;
+use dam_book::{Book, Seed};
+use dam_results::publishing_laws::published_results_are_clearings;
+use dam_results::{book_of_text, results, results_text};
+use dam_search::search_alone;
+use std::alloc::Global;
+
+/// The results text of a closed book, found on the calling thread alone.
+fn clear_book_alone(alloc: Global, book: &Book, nodes: u32) -> Result<Vec<u8>, RunFault>
+    ensures done { IfOk result (λ results. IsClearedAs book.now results.items) }
+    ensures fault { IfErr result
+        (IsBookFault (record { workers = 1; cut = 0; nodes = nodes }) book.now) }
+{
+    published_results_are_clearings();
+    let problem = Problem::of_book(alloc, book)?;
+    let best = search_alone(alloc, &problem, nodes)?;
+    let published = results(alloc, &problem, best)?;
+    Ok(results_text(alloc, &published)?)
+}
+
+/// The results text of a journal's text, as `run_clear` prints it, found on the calling thread alone.
+///
+/// No thread is started, and nothing is read or written but memory. The search visits at most `nodes` nodes. The book hashes
+/// names by the seed. `StillOpen` comes if the book is open after the last command.
+pub fn clear_text_alone(
+    alloc: Global,
+    seed: Seed,
+    text: &[u8],
+    nodes: u32,
+) -> Result<Vec<u8>, RunFault>
+    ensures done { IfOk result (λ results. AreResultsTo text.now results.items) }
+    ensures fault { IfErr result
+        (IsClearTextFault (record { workers = 1; cut = 0; nodes = nodes }) text.now) }
+{
+    let book = book_of_text(alloc, seed, text)?;
+    clear_book_alone(alloc, &book, nodes)
+}

@@ -1,0 +1,24 @@
+-- What is published of a closed book.
+use Rattle.std.specs.Prelude.{◌≡◌, ◌≢◌, ◌⊎◌, ℕ, ℤ, pos, ◌<ℤ◌, Bool, true, List}
+use Rattle.dam_book.specs.Book.{BookState}
+use Rattle.dam_blocks.specs.Problem.{ProblemState, problem_of}
+use Rattle.dam_blocks.specs.Eligible.{IsEligible}
+use Rattle.dam_blocks.specs.Result.{accepts_first}
+use Rattle.dam_results.specs.declared.published.PeriodResult.{PeriodResult}
+use Rattle.dam_results.specs.declared.published.RowResult.{RowResult}
+use Rattle.dam_results.specs.Published.{ArePublished}
+
+-- the best selection, with its welfare: each other eligible selection has less welfare; or the same, and then this one accepts
+-- the first block at which they differ
+pub record IsBestSelection (problem : ProblemState) (sel : List Bool) (welfare : ℤ) : Type 0 where
+  pub eligible : IsEligible problem sel welfare
+  pub others : (other : List Bool) (its_welfare : ℤ) → IsEligible problem other its_welfare → other ≢ sel
+      → (its_welfare <ℤ welfare) ⊎ ((its_welfare ≡ welfare) × (accepts_first sel other ≡ true))
+
+-- the book is closed, and this welfare, these periods and these orders are published of its best selection
+pub record IsClearing (book : BookState) (welfare : ℕ) (periods : List PeriodResult)
+    (rows : List RowResult) : Type 0 where
+  pub closed : book.closed ≡ true
+  pub selection : List Bool
+  pub best : IsBestSelection (problem_of book) selection (pos welfare)
+  pub published : ArePublished (problem_of book) selection welfare periods rows

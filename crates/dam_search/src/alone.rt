@@ -1,0 +1,78 @@
+ghost use Rattle.std.specs.Prelude.{◌≡◌, ◌≤◌, max, ℕ, pos, true, [], IfOk, IsErrOf};
+ghost use Rattle.dam_blocks.specs.Result.{IsResult};
+ghost use Rattle.dam_search.specs.Answer.{IsReached};
+ghost use Rattle.dam_search.specs.Piece.{IsSound, welfare_found};
+ghost use Rattle.dam_search.specs.Search.{IsUnfinished, IsWorked};
+
+use crate::answer::PieceAnswer;
+use crate::fault::SearchFault;
+use crate::first::first_selection;
+use crate::incumbent::{Incumbent, Private};
+use crate::laws;
+use crate::piece::search_piece;
+use dam_blocks::{Best, Problem};
+use dam_bound::Relaxed;
+use std::alloc::Global;
+
+/// What a finished walk over the one piece found, if this welfare was offered before it.
+fn only_best(problem: &Problem, first: u64, answer: &PieceAnswer) -> Best
+    requires piece { answer.now.piece ≡ 0 }
+    requires sound { IsSound problem.now [] answer.now.best answer.now.read answer.now.done }
+    requires done { answer.now.done ≡ true }
+    requires first { IsReached problem.now first }
+    requires read { answer.now.read ≤ max first (welfare_found answer.now.best) }
+    ensures { IsResult problem.now result.selection (pos result.welfare) }
+{
+    laws::collecting();
+    // What every problem keeps, as a clause of this reader tells it.
+    let _kept = problem.periods();
+    match answer.best {
+        Some(best) => best,
+        None => unreachable!(),
+    }
+}
+
+/// What the walk over the one piece comes to, if this welfare was offered before it.
+fn concluded(
+    problem: &Problem,
+    first: u64,
+    nodes: u32,
+    answer: &PieceAnswer,
+) -> Result<Best, SearchFault>
+    requires worked { IsWorked problem.now 0 nodes answer.now }
+    requires first { IsReached problem.now first }
+    requires read { answer.now.read ≤ max first (welfare_found answer.now.best) }
+    ensures ok { IfOk result (λ best. IsResult problem.now best.selection (pos best.welfare)) }
+    ensures unfinished { (piece visited : ℕ)
+        → IsErrOf result (SearchFault.Unfinished piece visited)
+        → IsUnfinished problem.now 0 nodes piece visited }
+    ensures whole { (piece : ℕ) → ¬ (IsErrOf result (SearchFault.Collected piece)) }
+{
+    if !answer.done {
+        return Err(SearchFault::Unfinished {
+            piece: answer.piece,
+            visited: answer.visited,
+        });
+    }
+    Ok(only_best(problem, first, answer))
+}
+
+/// The result of a problem, found on the calling thread alone: no thread is started, and there is no
+/// lock and no shared word. It is for callers that can't start threads.
+///
+/// It finds what `search` finds, whose clauses it has for a plan that cuts nothing. The whole search
+/// is piece 0, which visits at most `nodes` nodes; 67,108,864 are enough for any problem.
+pub fn search_alone(alloc: Global, problem: &Problem, nodes: u32) -> Result<Best, SearchFault>
+    ensures ok { IfOk result (λ best. IsResult problem.now best.selection (pos best.welfare)) }
+    ensures unfinished { (piece visited : ℕ)
+        → IsErrOf result (SearchFault.Unfinished piece visited)
+        → IsUnfinished problem.now 0 nodes piece visited }
+    ensures whole { (piece : ℕ) → ¬ (IsErrOf result (SearchFault.Collected piece)) }
+{
+    let relaxed = Relaxed::build(alloc, problem)?;
+    let first = first_selection(problem, &relaxed);
+    let mut incumbent = Private::new();
+    incumbent.offer(first.welfare);
+    let answer = search_piece(problem, &relaxed, 0, 0, nodes, &mut incumbent);
+    concluded(problem, first.welfare, nodes, &answer)
+}
