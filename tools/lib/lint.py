@@ -36,6 +36,7 @@ class Lint:
         self.unclear = set()  # participants and names of submits that couldn't be read
         self.others = set()  # participants
         self.closed = None  # the line of the first close
+        self.is_cut = False  # whether records at the end weren't looked at
         self.data = data
 
     def tell(self, line, words, field="", refusal=""):
@@ -49,6 +50,7 @@ class Lint:
             behind = at
             if number > rules.MOST_RECORDS:
                 self.tell(line, f"a journal has at most {rules.MOST_RECORDS - 1} commands: remove what follows")
+                self.is_cut = True
                 break
             if record in RESULTS or record[0] == b"welfare":
                 whole = "the results of a day begin here" if record in RESULTS else "these are results"
@@ -241,7 +243,7 @@ class Lint:
             self.tell(1, f"the journal is empty: begin with the day, such as {DAY}")
         elif self.held is None:
             self.tell(line, f"there is no day: begin with it, such as {DAY}")
-        if self.command == "clear" and self.closed is None and records:
+        if self.command == "clear" and self.closed is None and records and not self.is_cut:
             self.tell(line, f"no command closes the book, so there are no results: end with {CLOSE}")
         if self.command == "day":
             if records > rules.MOST_DAY_COMMANDS + 1:
@@ -254,6 +256,13 @@ class Lint:
 def faults(data, command="clear"):
     """What is wrong with a text as a journal for `dam clear`, `dam replay` or `dam day`, by line."""
     return Lint(data, command).run()
+
+
+def counted(found):
+    """How many faults there are, and how many commands the book would refuse."""
+    refused = sum(1 for one in found if one.refusal)
+    counts = [(len(found) - refused, "fault"), (refused, "refused command")]
+    return ", ".join(f"{count} {name}{'s' * (count > 1)}" for count, name in counts if count) or "nothing is wrong"
 
 
 def in_few_words(data):

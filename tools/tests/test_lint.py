@@ -124,6 +124,13 @@ class Hand(unittest.TestCase):
         blocks = b"".join(b"submit,A,K%d,block,sell,1,1:1,,\n" % number for number in range(24))
         self.check(GOOD.replace(b"close", blocks + b"close"), ("line 27", "a book holds at most 24 blocks"))
 
+    def test_a_journal_that_is_too_long_is_not_called_open(self):
+        cancels = b"cancel,NORD,WIND-8,,,,,,\n" * 10_000
+        self.assertEqual(
+            [fault for fault in told(b"day,24,,,,,,,\n" + cancels + b"close,,,,,,,,\n") if "WIND-8" not in fault],
+            ["line 10002: a journal has at most 10000 commands: remove what follows"],
+        )
+
     def test_one_fault_is_not_told_of_as_many(self):
         # The order is taken for what it was meant to be, so that the cancel finds it; of one that can't be read nothing is told.
         cancel = GOOD.replace(b"close", b"cancel,NORD,WIND-8,,,,,,\nclose")
@@ -178,7 +185,8 @@ class CommandLine(unittest.TestCase):
     def test_statuses(self):
         self.assertEqual(tool("lint", "-", data=GOOD), (command.DONE, b"nothing is wrong\n", ""))
         status, out, _ = tool("lint", AUCTION)
-        self.assertEqual((status, out.splitlines()[-1], b"line 94, order: STAY of line 86" in out), (command.DIFFERS, b"1 fault", True))
+        self.assertEqual((status, out.splitlines()[-1], b"line 94, order: STAY of line 86" in out), (command.DIFFERS, b"1 refused command", True))
+        self.assertEqual(tool("lint", "-", data=b"day,24\nclose\nclose\n")[1].splitlines()[-1], b"3 faults, 1 refused command")
         self.assertEqual(tool("lint", "--quiet", "-", data=FIRST), (command.DIFFERS, b"", ""))
         self.assertEqual(tool("lint", "/nowhere/a.csv")[0], command.NO_INPUT)
         self.assertEqual(tool("lint", "--fo", "day", AUCTION)[0], command.COMMAND_LINE)

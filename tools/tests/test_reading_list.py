@@ -6,7 +6,7 @@ from pathlib import Path
 
 from support import tool
 
-CRATES = "upper: lower\nlower:\ndam_engines: upper lower\ndam_gate:\n"
+CRATES = "upper: lower\nlower:\ndam_engines: upper lower\ndam_gate: lower\ndam_c: dam_engines\n"
 LIB = {"lower": ["Limits", "Sizes", "Unused"], "upper": ["Rule"], "dam_engines": ["Engine"]}
 SPECS = {
     "lower/Limits": "abbrev pub most : ℕ\nmost = 4\n",
@@ -35,6 +35,17 @@ pub fn NAME(size: Size) -> u8
     ensures done { Printed result × (size ≡ Size.Small) }
 {
     unused(unused_number)
+}
+"""
+METHODS = """ghost use Rattle.lower.specs.Sizes.{other};
+
+impl Gate {
+    /// Runs.
+    pub fn NAME(&self) -> u8
+        ensures { result ≡ other }
+    {
+        1
+    }
 }
 """
 SIZE = "use crate::unit::Unit;\n\npub enum Size {\n    Unit,\n    Small,\n    Large { unit: Unit },\n}\n"
@@ -72,6 +83,10 @@ class ReadingList(unittest.TestCase):
         write("crates/lower/src/size.rt", SIZE)
         write("crates/lower/src/unit.rt", UNIT)
         write("crates/dam_gate/src/laws.rt", ENGINE.replace("NAME", "whole_account"))
+        write("crates/dam_gate/src/settlement.rt", ENGINE.replace("NAME", "settle"))
+        write("crates/dam_gate/src/gate.rt", METHODS.replace("NAME", "call") + METHODS.replace("NAME", "finish"))
+        write("crates/dam_gate/src/pass.rt", METHODS.replace("NAME", "look"))
+        write("crates/dam_c/src/lib.rt", ENGINE.replace("NAME", "dam_clear").replace("pub fn", 'pub extern "C" fn'))
 
     def test_the_page_has_the_list_of_this_repository(self):
         self.assertEqual(tool("reading-list", "--check"), (0, b"", ""))
@@ -99,10 +114,28 @@ class ReadingList(unittest.TestCase):
             _, printed, _ = tool("reading-list", "--top", folder)
             lines = printed.decode().splitlines()
             self.assertEqual(lines[0], "1. For `run_replay` (`dam_engines`):")
-            self.assertIn("   - `lower/specs/`: `Limits`, `Sizes`", lines)
+            self.assertIn("   - `lower/specs/`: `Limits`, `Sizes` (`IsSize`)", lines)
+            at = lines.index("2. For `run_clear` (`dam_engines`):")
             self.assertEqual(
-                lines[-3:],
-                ["2. For `run_clear` (`dam_engines`):", "3. For `run_day` (`dam_engines`):", "4. For `whole_account` (`dam_gate`):"],
+                lines[at:],
+                [
+                    "2. For `run_clear` (`dam_engines`):",
+                    "   - nothing more",
+                    "3. For `run_day` (`dam_engines`):",
+                    "   - nothing more",
+                    "4. For `whole_account` (`dam_gate`):",
+                    "   - nothing more",
+                    "5. For `settle` (`dam_gate`):",
+                    "   - nothing more",
+                    "6. For `Gate::call` (`dam_gate`):",
+                    "   - `lower/specs/`: `Sizes` (`other`)",
+                    "7. For `Pass::look` (`dam_gate`):",
+                    "   - nothing more",
+                    "8. For `Gate::finish` (`dam_gate`):",
+                    "   - nothing more",
+                    "9. For `dam_clear` (`dam_c`):",
+                    "   - nothing more",
+                ],
             )
 
     def test_a_name_without_a_definition_is_refused(self):
