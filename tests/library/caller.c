@@ -5,17 +5,23 @@
 #include <stdlib.h>
 #include <string.h>
 
-enum { MOST_TEXT = 16777217, ROOM = 1 << 21 };
+enum { MOST_TEXT = 16777217 };
+
+static struct dam_answer called(int count, char **words, const uint8_t *text, size_t length, uint8_t *buffer) {
+    if (strcmp(words[1], "replay") == 0) {
+        return dam_replay(text, length, buffer, DAM_MOST_ANSWER);
+    }
+    uint32_t nodes = count > 2 ? (uint32_t)strtoul(words[2], NULL, 10) : DAM_MOST_NODES;
+    return dam_clear(text, length, nodes, buffer, DAM_MOST_ANSWER);
+}
 
 int main(int count, char **words) {
-    static uint8_t text[MOST_TEXT], buffer[ROOM];
+    static uint8_t text[MOST_TEXT], buffer[DAM_MOST_ANSWER];
     if (count < 2) {
         return 2;
     }
     size_t length = fread(text, 1, sizeof text, stdin);
-    uint32_t nodes = count > 2 ? (uint32_t)strtoul(words[2], NULL, 10) : DAM_MOST_NODES;
-    struct dam_answer answer = strcmp(words[1], "replay") == 0 ? dam_replay(text, length, buffer, sizeof buffer)
-                                                               : dam_clear(text, length, nodes, buffer, sizeof buffer);
+    struct dam_answer answer = called(count, words, text, length, buffer);
     if (answer.length > sizeof buffer) {
         return 99;
     }

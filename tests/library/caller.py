@@ -1,31 +1,38 @@
 """caller.py LIBRARY replay|clear: prints for the journal on standard input what `dam` prints, with its status, by the library."""
 
 import ctypes
+import os
 import sys
+
+MOST_NODES, MOST_ANSWER = 67_108_864, 300_000
 
 
 class Answer(ctypes.Structure):
     _fields_ = [("status", ctypes.c_uint8), ("length", ctypes.c_size_t)]
 
 
+def library(path):
+    """The library, with the types of its calls, so that a missing argument is an error and not a wrong address."""
+    calls, text = ctypes.CDLL(path), [ctypes.c_char_p, ctypes.c_size_t]
+    calls.dam_replay_seeded.argtypes = [*text, *text, *text]
+    calls.dam_clear_seeded.argtypes = [*text, *text, ctypes.c_uint32, *text]
+    calls.dam_replay_seeded.restype = calls.dam_clear_seeded.restype = Answer
+    return calls
+
+
 def answer(call, text, *nodes):
-    """The status and the whole answer; a second call is made with as much room as the first asked for."""
-    given = ctypes.c_char_p(text), ctypes.c_size_t(len(text)), *map(ctypes.c_uint32, nodes)
-    call.restype, room = Answer, 4096
-    while True:
-        buffer = ctypes.create_string_buffer(room)
-        found = call(*given, buffer, ctypes.c_size_t(room))
-        if found.length <= room:
-            return found.status, buffer.raw[: found.length]
-        room = found.length
+    """The status and the whole answer, of `dam_replay_seeded` or `dam_clear_seeded`."""
+    secret, buffer = os.urandom(16), ctypes.create_string_buffer(MOST_ANSWER)
+    found = call(secret, len(secret), text, len(text), *nodes, buffer, MOST_ANSWER)
+    return found.status, buffer.raw[: found.length]
 
 
 def main():
-    library, text = ctypes.CDLL(sys.argv[1]), sys.stdin.buffer.read()
+    calls, text = library(sys.argv[1]), sys.stdin.buffer.read()
     if sys.argv[2] == "replay":
-        status, shown = answer(library.dam_replay, text)
+        status, shown = answer(calls.dam_replay_seeded, text)
     else:
-        status, shown = answer(library.dam_clear, text, 67_108_864)
+        status, shown = answer(calls.dam_clear_seeded, text, MOST_NODES)
     (sys.stderr if status else sys.stdout).buffer.write(shown)
     sys.exit(status)
 

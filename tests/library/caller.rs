@@ -2,6 +2,9 @@
 
 use std::io::{Read, Write, stderr, stdin, stdout};
 
+const MOST_NODES: u32 = 67_108_864;
+const MOST_ANSWER: usize = 300_000;
+
 #[repr(C)]
 struct Answer {
     status: u8,
@@ -13,20 +16,16 @@ unsafe extern "C" {
     fn dam_clear(text: *const u8, text_length: usize, nodes: u32, buffer: *mut u8, buffer_length: usize) -> Answer;
 }
 
-/// The status and the whole answer; a second call is made with as much room as the first asked for.
+/// The status and the whole answer.
 fn answer(replays: bool, text: &[u8]) -> (u8, Vec<u8>) {
-    let mut buffer = vec![0; 4096];
-    loop {
-        let (from, room) = (text.as_ptr(), buffer.len());
-        let found = match replays {
-            true => unsafe { dam_replay(from, text.len(), buffer.as_mut_ptr(), room) },
-            false => unsafe { dam_clear(from, text.len(), 67_108_864, buffer.as_mut_ptr(), room) },
-        };
-        buffer.resize(found.length, 0);
-        if found.length <= room {
-            return (found.status, buffer);
-        }
-    }
+    let mut buffer = vec![0; MOST_ANSWER];
+    let (from, to) = (text.as_ptr(), buffer.as_mut_ptr());
+    let found = match replays {
+        true => unsafe { dam_replay(from, text.len(), to, MOST_ANSWER) },
+        false => unsafe { dam_clear(from, text.len(), MOST_NODES, to, MOST_ANSWER) },
+    };
+    buffer.truncate(found.length);
+    (found.status, buffer)
 }
 
 fn main() -> std::io::Result<()> {

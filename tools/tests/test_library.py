@@ -28,6 +28,11 @@ class Library(unittest.TestCase):
                 with self.subTest(quote):
                     self.assertTrue(any("\n" + quote in source for source in sources), "no source has these lines")
 
+    def test_the_header_has_the_version_of_the_changelog(self):
+        header = (TOP / "library" / "dam.h").read_text()
+        newest = re.search(r"^## (\S+)", (TOP / "CHANGELOG.md").read_text(), re.MULTILINE)[1]
+        self.assertIn(f'#define DAM_VERSION "{newest}"', header)
+
     def test_texts_are_the_line_of_the_crate_and_what_it_prints(self):
         line = next(line for line in (TOP / "crates.txt").read_text().splitlines() if line.startswith("dam_example:"))
         self.assertEqual(quotes("text"), [f"{line}\n", (CRATE / "stdout").read_text()])
