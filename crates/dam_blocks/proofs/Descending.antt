@@ -44,7 +44,7 @@ place_of_child : (problem : ProblemState) (i j : ℕ) → IsProblem problem → 
 place_of_child problem i j is at =
     first_parent problem.blocks j i at.child at.parent at.child_stands at.parent_stands
     (λ k l. false_from_ne_true (names (get_or problem.blocks k at.child) at.child)
-        (λ e. (let same = no_other problem i j k is at l at.child e in let wrong : 0 < 0 = omega (arith, l, same) in omega (arith, wrong))))
+    (λ e. (let same = no_other problem i j k is at l at.child e in let wrong : 0 < 0 = omega (arith, l, same) in omega (arith, wrong))))
     (parent_named at.parent at.child at.is_parent)
 
 pub place : (problem : ProblemState) (i j : ℕ) → IsProblem problem → (parent_place problem.blocks j ≡ Some i) ↔ IsChildAt problem.blocks i j
@@ -81,8 +81,8 @@ of_parent problem i j p n is e long l =
     ap (λ (o : Option ℕ). leads_to (length problem.blocks) problem.blocks i o) e
     ∙ ap (λ (m : ℕ). leads_to m problem.blocks i (Some p)) long
     ∙ ap (λ (x : Bool). (p == i) || x) (enough problem i n (length problem.blocks) (parent_place problem.blocks p) is
-        (λ q at. (let before = parent_stands_before problem p q is at in omega (arith, before, l)))
-        (λ q at. (let before = parent_stands_before problem p q is at in omega (arith, before, l, long))))
+    (λ q at. (let before = parent_stands_before problem p q is at in omega (arith, before, l)))
+    (λ q at. (let before = parent_stands_before problem p q is at in omega (arith, before, l, long))))
 
 some_more : (n k : ℕ) → k < n → (m : ℕ) × (n ≡ suc m)
 some_more zero k l = absurd (omega (arith, l))
@@ -101,9 +101,9 @@ or_true true = refl
 or_true false = refl
 
 descends_by_chain : (problem : ProblemState) (i j : ℕ) → IsProblem problem → Descends problem.blocks i j → descends problem.blocks i j ≡ true
-descends_by_chain problem i j is (Child j at) =
+descends_by_chain problem i _ is (Child j at) =
     of_child problem i j i is at ∙ ap (λ (x : Bool). x || descends problem.blocks i i) (eq-eqb i i refl)
-descends_by_chain problem i j is (OfChild k j further at) =
+descends_by_chain problem i _ is (OfChild k j further at) =
     of_child problem i j k is at ∙ ap (λ (x : Bool). (k == i) || x) (descends_by_chain problem i k is further) ∙ or_true (k == i)
 
 pub descends_is : (problem : ProblemState) (i j : ℕ) → IsProblem problem → (descends problem.blocks i j ≡ true) ↔ Descends problem.blocks i j

@@ -2,11 +2,11 @@
 use Rattle.dam_blocks.proofs.Descending.{named, place, descends_is}
 use Rattle.dam_blocks.proofs.laws.families.Goals as goal
 
-pub returns-then-named : goal.returns-then-named
-returns-then-named c = named
+pub returns-clause-named : goal.returns-clause-named
+returns-clause-named c = named
 
-pub returns-then-place : goal.returns-then-place
-returns-then-place c = place
+pub returns-clause-place : goal.returns-clause-place
+returns-clause-place c = place
 
-pub returns-then-descends : goal.returns-then-descends
-returns-then-descends c = descends_is
+pub returns-clause-descends : goal.returns-clause-descends
+returns-clause-descends c = descends_is
