@@ -37,7 +37,7 @@ abbrev where_true : Bool → ℤ → ℤ
 where_true true x = x
 where_true false x = pos 0
 
-unequal : (m n : ℕ) → (m ≡ n → ⊥) → (m == n) ≡ false
+pub unequal : (m n : ℕ) → (m ≡ n → ⊥) → (m == n) ≡ false
 unequal m n apart = false_from_ne_true (m == n) (λ e. apart (eqb-true m n e))
 
 past_none : (n k : ℕ) (x : ℤ) → n ≤ k → sum_below n (λ r. where_true (k == r) x) ≡ pos 0

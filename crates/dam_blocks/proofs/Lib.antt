@@ -1,6 +1,7 @@
 pub mod Sums
 pub mod Families
 pub mod WelfareAtLeastZero
+pub mod Descending
 pub mod Magnitudes
 pub mod Ranks
 pub mod Choices

@@ -69,23 +69,23 @@ gains_from laws blocks sel t (ss ∷ hours) (p ∷ prices) w are e =
     omega (arith, ints, rest, least, here, both, sum, own)
 
 -- a child and the parent that stands at the place
-record HasParentAt (blocks : List Block) (j p : ℕ) : Type 0 where
-  child : Block
-  parent : Block
-  child_stands : slice_get blocks j ≡ Some child
-  parent_stands : slice_get blocks p ≡ Some parent
-  is_parent : IsParent parent child
+pub record HasParentAt (blocks : List Block) (j p : ℕ) : Type 0 where
+  pub child : Block
+  pub parent : Block
+  pub child_stands : slice_get blocks j ≡ Some child
+  pub parent_stands : slice_get blocks p ≡ Some parent
+  pub is_parent : IsParent parent child
 
 some_text : (o : Option (List ℕ)) (name : List ℕ) → is_parent name o ≡ true → o ≡ Some name
 some_text None name e = absurd (cc)
 some_text (Some xs) name e = ap (λ (ys : List ℕ). Some ys) (sym ((bytes_decides name xs).0 e))
 
-named_parent : (p b : Block) → names p b ≡ true → IsParent p b
+pub named_parent : (p b : Block) → names p b ≡ true → IsParent p b
 named_parent p b e =
     let both = and_parts (same_text p.who b.who) (is_parent p.name b.order.parent) e in
     record { who = (bytes_decides p.who b.who).0 both.0; name = some_text b.order.parent p.name both.1 }
 
-parent_found : (blocks : List Block) (j p : ℕ) → parent_place blocks j ≡ Some p → HasParentAt blocks j p
+pub parent_found : (blocks : List Block) (j p : ℕ) → parent_place blocks j ≡ Some p → HasParentAt blocks j p
 parent_found blocks j p e = from (slice_get blocks j) refl
   where
     from : (o : Option Block) → slice_get blocks j ≡ o → HasParentAt blocks j p
@@ -94,33 +94,34 @@ parent_found blocks j p e = from (slice_get blocks j) refl
         let found = position-Some (λ q. names q b) blocks p b (sym (ap (λ (o : Option Block). parent_among blocks o) at) ∙ e) in
         record { child = b; parent = get_or blocks p b; child_stands = at; parent_stands = slice_get-get_or blocks p b found.0; is_parent = named_parent (get_or blocks p b) b found.1 }
 
-same_text_in : (xs ys : List ℕ) → Some xs ≡ Some ys → xs ≡ ys
+pub same_text_in : (xs ys : List ℕ) → Some xs ≡ Some ys → xs ≡ ys
 same_text_in xs ys e = cc
 
 same_block_in : (a b : Block) → Some a ≡ Some b → a ≡ b
 same_block_in a b e = cc
 
+-- in a problem a parent stands before its child
+pub parent_stands_before : (problem : ProblemState) (j p : ℕ) → IsProblem problem → parent_place problem.blocks j ≡ Some p → p < j
+parent_stands_before problem j p is e =
+    let found = parent_found problem.blocks j p e in
+    let kept = is.parents j found.child found.parent.name found.child_stands found.is_parent.name in
+    let same = is.unique kept.place p kept.parent found.parent kept.stands found.parent_stands
+    (kept.is_parent.who ∙ sym found.is_parent.who)
+    (same_text_in _ _ (sym kept.is_parent.name ∙ found.is_parent.name)) in
+    let less = kept.lesser in omega (arith, same, less)
+
 -- among the blocks of a problem a parent stands before its child, and an admissible selection accepts it too
 are_chains : (problem : ProblemState) (sel : List Bool) → IsProblem problem → IsAdmissible problem.blocks sel → AreChains problem.blocks sel
 are_chains problem sel is admissible = record {
-  before = earlier;
+  before = λ j p e. parent_stands_before problem j p is e;
   with_parent = λ j p acc e. (let found = parent_found problem.blocks j p e in
       let allowed = admissible.each j acc in
       let block : found.child ≡ allowed.block = same_block_in _ _ (sym found.child_stands ∙ allowed.stands) in
-      let less = earlier j p e in
+      let less = parent_stands_before problem j p is e in
       let permits = allowed.others p found.parent (λ same. (let wrong : 0 < 0 = omega (arith, less, same) in omega (arith, wrong))) found.parent_stands in
       permits.parent (subst (λ (b : Block). IsParent found.parent b) block found.is_parent));
   within = λ j acc. (let allowed = admissible.each j acc in (allowed.block, allowed.stands));
 }
-  where
-    earlier : (j p : ℕ) → parent_place problem.blocks j ≡ Some p → p < j
-    earlier j p e =
-        let found = parent_found problem.blocks j p e in
-        let kept = is.parents j found.child found.parent.name found.child_stands found.is_parent.name in
-        let same = is.unique kept.place p kept.parent found.parent kept.stands found.parent_stands
-        (kept.is_parent.who ∙ sym found.is_parent.who)
-        (same_text_in _ _ (sym kept.is_parent.name ∙ found.is_parent.name)) in
-        let less = kept.lesser in omega (arith, same, less)
 
 pub welfare_at_least_zero : PriceLaws → (problem : ProblemState) (sel : List Bool) (w : ℤ) → IsProblem problem → IsEligible problem sel w → pos 0 ≤ℤ w
 welfare_at_least_zero laws problem sel w is e =

@@ -1,8 +1,9 @@
 -- Families of linked blocks: which blocks descend from another one by their chain of parents.
-use Rattle.std.specs.Prelude.{ℕ, zero, suc, Bool, false, ◌==◌, ◌&&◌, ◌||◌, Option, Some, None, List, [], ◌∷◌, length, slice_get, position}
+use Rattle.std.specs.Prelude.{◌≡◌, ℕ, zero, suc, Bool, false, ◌==◌, ◌&&◌, ◌||◌, Option, Some, None, List, [], ◌∷◌, length, slice_get, position}
 use Rattle.dam_book.specs.Name.{same_text}
 use Rattle.dam_book.specs.Order.{is_parent}
 use Rattle.dam_blocks.specs.declared.problem.Block.{Block}
+use Rattle.dam_blocks.specs.Problem.{IsParent}
 
 -- whether p is the block that b names as its parent, a name of the same participant
 abbrev pub names : Block → Block → Bool
@@ -35,3 +36,16 @@ accepted_where test j (a ∷ sel) = (a && test j) ∷ accepted_where test (suc j
 -- the accepted blocks that descend from the one at place i
 abbrev pub accepted_descendants : List Block → List Bool → ℕ → List Bool
 accepted_descendants blocks sel i = accepted_where (descends blocks i) 0 sel
+
+-- What the two above come to in a problem (a law of the crate): the block at place j is a child of the one at place i
+pub record IsChildAt (blocks : List Block) (i j : ℕ) : Type 0 where
+  pub parent : Block
+  pub child : Block
+  pub parent_stands : slice_get blocks i ≡ Some parent
+  pub child_stands : slice_get blocks j ≡ Some child
+  pub is_parent : IsParent parent child
+
+-- it is a child of that one, or of a block that descends from it
+pub data Descends (blocks : List Block) (i : ℕ) : ℕ → Type 0 where
+  Child : (j : ℕ) → IsChildAt blocks i j → Descends blocks i j
+  OfChild : (k j : ℕ) → Descends blocks i k → IsChildAt blocks k j → Descends blocks i j

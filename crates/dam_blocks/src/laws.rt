@@ -3,15 +3,15 @@
 //!
 //! A caller that needs one of them in a proof calls the function, at no cost.
 
-ghost use Rattle.std.specs.Prelude.{◌≡◌, ◌≢◌, ◌<◌, ◌^◌, ◌+ℤ◌, ◌≤ℤ◌, ◌⊎◌, ℕ, ℤ, pos, Some, List, ◌++◌, Bool, ◌&&◌, length, drop};
+ghost use Rattle.std.specs.Prelude.{◌≡◌, ◌≢◌, ◌↔◌, true, ◌<◌, ◌^◌, ◌+ℤ◌, ◌≤ℤ◌, ◌⊎◌, ℕ, ℤ, pos, Some, List, ◌++◌, Bool, ◌&&◌, length, drop};
 ghost use Rattle.dam_book.specs.Terms.{BlockTerms};
 ghost use Rattle.dam_book.specs.Limits.{last_period, most_blocks};
 ghost use Rattle.dam_blocks.specs.declared.problem.Block.{Block};
 ghost use Rattle.dam_blocks.specs.declared.scoring.Verdict.{Verdict};
 ghost use Rattle.dam_blocks.specs.declared.scoring.Verdict.TheVariants.{Eligible};
-ghost use Rattle.dam_blocks.specs.Problem.{ProblemState, IsProblem};
+ghost use Rattle.dam_blocks.specs.Problem.{ProblemState, IsProblem, IsParent};
 ghost use Rattle.dam_blocks.specs.Selection.{accepts, padded, empty_selection, choice, over_accepted, IsAdmissible};
-ghost use Rattle.dam_blocks.specs.Family.{descends, accepted_descendants};
+ghost use Rattle.dam_blocks.specs.Family.{names, parent_place, descends, accepted_descendants, IsChildAt, Descends};
 ghost use Rattle.dam_blocks.specs.Eligible.{selection_welfare, IsEligible};
 ghost use Rattle.dam_blocks.specs.Magnitude.{IsWithin, greatest_hourly_value, greatest_block_value, greatest_surplus, greatest_selection_welfare};
 ghost use Rattle.dam_blocks.specs.Score.{IsVerdict};
@@ -124,6 +124,17 @@ pub fn descendants()
     ensures { (blocks : List Block) (sel : List Bool) (i j : ℕ)
         → accepts (accepted_descendants blocks sel i) j
         ≡ (accepts sel j && descends blocks i j) }
+{}
+
+/// Of the blocks of a problem, the one that a block names is its parent in the sense of the links, and the
+/// one that stands at its parent's place; and a block descends from another exactly if it is its child, or
+/// the child of one that descends from it.
+pub fn families()
+    ensures named { (parent child : Block) → (names parent child ≡ true) ↔ IsParent parent child }
+    ensures place { (problem : ProblemState) (i j : ℕ) → IsProblem problem
+        → (parent_place problem.blocks j ≡ Some i) ↔ IsChildAt problem.blocks i j }
+    ensures descends { (problem : ProblemState) (i j : ℕ) → IsProblem problem
+        → (descends problem.blocks i j ≡ true) ↔ Descends problem.blocks i j }
 {}
 
 /// Where a selection is admissible, so is each front of it with no other block: a block's parent stands

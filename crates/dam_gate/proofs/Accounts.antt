@@ -1,15 +1,15 @@
 -- Receipts that are the entries number by number are the entries, each once, and the other way round; those of a pass stand
 -- in their order.
-use Rattle.std.proofs.Common.{◌≡◌, ◌≢◌, ℕ, suc, ◌<◌, ◌≤◌, ◌==◌, ◌⊎◌, inl, inr, Bool, true, false, List, [], ◌∷◌, ◌++◌, length, refl, sym, ap, subst, ◌∙◌, append_assoc, length-append, arith, All}
+use Rattle.std.proofs.Common.{◌≡◌, ◌≢◌, ℕ, suc, ◌<◌, ◌≤◌, ◌==◌, ◌⊎◌, inl, inr, Bool, true, false, Option, List, [], ◌∷◌, ◌++◌, length, refl, sym, ap, subst, ◌∙◌, append_assoc, length-append, arith, All}
 use Rattle.std.proofs.lemmas.Bool.{eqb-true, eqb-false, cases_lt}
-use Rattle.std.proofs.lemmas.List.Elements.{filter-append, All-nil, All-cons}
+use Rattle.std.proofs.lemmas.List.Elements.{filter-append, All-nil, All-cons, All-weaker}
 use Rattle.std.specs.List.Sorted.{IsPermutation}
 use Rattle.std.proofs.lemmas.List.Sorted.{IsPermutation-refl, IsPermutation-trans, IsPermutation-middle, IsPermutation-cons}
 use Rattle.dam_book.specs.declared.command.Entry.{Entry}
 use Rattle.dam_book.specs.Book.{BookState, book_after, empty_book, IsLegalFrom, IsLegalHistory}
-use Rattle.dam_gate.specs.Pass.{PassState, IsPass, AreInOrder}
+use Rattle.dam_gate.specs.Pass.{PassState, IsPass, AreInOrder, AreOwn, is_own}
 use Rattle.dam_gate.specs.Settled.{numbered, receipts_of}
-use Rattle.dam_gate.specs.Headline.{AreSomeOf}
+use Rattle.dam_gate.specs.Headline.{AreSomeOf, AreOfHolder}
 use Rattle.dam_gate.specs.inside.Tally.{AreReceipts}
 use Rattle.dam_gate.proofs.Numbers.{numbered-head, numbered-tail, none_below}
 use Rattle.dam_gate.proofs.Permutations.{filter-permutation, short-permutation}
@@ -152,3 +152,11 @@ in_order-from b es front (p ∷ ps) legal are passes =
 pub in_order : (b : BookState) (es : List Entry) (ps : List PassState) → IsLegalFrom 1 b es → AreReceipts es (receipts_of ps) → All IsPass ps
     → All (λ (p : PassState). AreSomeOf p.receipts es) ps
 in_order b es ps legal are passes = in_order-from b es [] ps legal are passes
+
+-- each receipt of a pass is of a command that was its holder's to give
+all_own : (holder : Option (List ℕ)) (es : List Entry) → AreOwn holder es → All (λ (e : Entry). is_own holder e.command ≡ true) es
+all_own holder [] own = All-nil (λ (e : Entry). is_own holder e.command ≡ true)
+all_own holder (e ∷ es) own = All-cons (λ (x : Entry). is_own holder x.command ≡ true) e es own.0 (all_own holder es own.2)
+
+pub of_holders : (ps : List PassState) → All IsPass ps → All AreOfHolder ps
+of_holders ps passes = All-weaker IsPass AreOfHolder (λ p is. all_own p.holder p.receipts is.own) ps passes

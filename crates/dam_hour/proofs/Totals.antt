@@ -8,7 +8,7 @@ use Rattle.dam_book.specs.declared.order.Side.{Side}
 use Rattle.dam_book.specs.declared.order.Side.TheVariants.{Buy, Sell}
 use Rattle.dam_hour.specs.declared.step.Step.{Step}
 use Rattle.dam_hour.specs.Execution.{IsExecution, executed_volume, Balances}
-use Rattle.dam_hour.specs.Best.{RanksAtOrBelow, IsBest, welfare_of}
+use Rattle.dam_hour.specs.Best.{IsNoBetter, IsBest, welfare_of}
 use Rattle.dam_hour.specs.Price.{Supports, IsSupporting}
 use Rattle.dam_hour.specs.inside.Volumes.{better_volume, at_volume, full_surplus, total_on, fill, IsHighEnough, IsLowEnough, AreTotals}
 use Rattle.dam_hour.proofs.Duality.{supported_greatest, equals_supported, welfare_balanced, surplus_supported}
@@ -60,7 +60,7 @@ same_sold : (net : ℤ) (b s s2 : ℕ) → pos s +ℤ net ≡ pos b → pos s2 +
 same_sold net b s s2 e e2 = omega (arith, ints)
 
 ranks_below : (ss : List Step) (net p : ℤ) (bought sold : ℕ) → AreTotals ss net p bought sold
-    → (ys : List ℕ) → IsExecution ss ys → Balances ss net ys → RanksAtOrBelow ss ys (best_at p ss bought sold)
+    → (ys : List ℕ) → IsExecution ss ys → Balances ss net ys → IsNoBetter ss ys (best_at p ss bought sold)
 ranks_below ss net p bought sold t ys ey by =
     let xs = best_at p ss bought sold in
     let ex : IsExecution ss xs = fill_fits p ss (left_at p ss bought sold) in

@@ -30,17 +30,17 @@ abbrev pub AtMostInOrder : List ℕ → List ℕ → Type 0
 AtMostInOrder (x ∷ xs) (y ∷ ys) = (x ≤ y) × (x ≡ y → AtMostInOrder xs ys)
 AtMostInOrder _ _ = Unit {0}
 
--- ys ranks at or below xs: by welfare, then by bought volume, then by the volumes in book order
-pub record RanksAtOrBelow (ss : List Step) (ys xs : List ℕ) : Type 0 where
+-- ys is no better than xs: by welfare, then by bought volume, then by the volumes in book order
+pub record IsNoBetter (ss : List Step) (ys xs : List ℕ) : Type 0 where
   pub by_welfare : welfare_of ss ys ≤ℤ welfare_of ss xs
   pub by_bought : welfare_of ss ys ≡ welfare_of ss xs → executed_volume Buy ss ys ≤ executed_volume Buy ss xs
   pub by_order : welfare_of ss ys ≡ welfare_of ss xs → executed_volume Buy ss ys ≡ executed_volume Buy ss xs → AtMostInOrder ys xs
 
--- a balanced execution that no other ranks above
+-- a balanced execution: no other is better
 pub record IsBest (ss : List Step) (net : ℤ) (xs : List ℕ) : Type 0 where
   pub execution : IsExecution ss xs
   pub balance : Balances ss net xs
-  pub greatest : (ys : List ℕ) → IsExecution ss ys → Balances ss net ys → RanksAtOrBelow ss ys xs
+  pub greatest : (ys : List ℕ) → IsExecution ss ys → Balances ss net ys → IsNoBetter ss ys xs
 
 -- the bought and the sold volume and the welfare of the best execution
 pub record AreBestTotals (ss : List Step) (net : ℤ) (bought sold : ℕ) (welfare : ℤ) : Type 0 where

@@ -45,5 +45,5 @@ pub const NODES: NumberOption = NumberOption {
     default: MOST_NODES,
     default_text: "67108864",
     letter: "M",
-    help: "Give up where a piece needs more than M nodes, from 1 to 67108864",
+    help: "Give up if a piece needs more than M nodes, from 1 to 67108864",
 };

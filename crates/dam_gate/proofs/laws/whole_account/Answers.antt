@@ -2,7 +2,7 @@ use Rattle.std.proofs.Common.{sym, subst}
 use Rattle.dam_book.specs.Book.{empty_book}
 use Rattle.dam_gate.specs.Settled.{receipts_of}
 use Rattle.dam_gate.specs.Journal.{JournalState, IsJournal}
-use Rattle.dam_gate.proofs.Accounts.{each_number, in_order}
+use Rattle.dam_gate.proofs.Accounts.{each_number, in_order, of_holders}
 use Rattle.dam_gate.proofs.laws.whole_account.Goals as goal
 
 pub returns : goal.returns
@@ -16,4 +16,5 @@ returns g c =
       each_once = c.requires.each_once;
       in_order = in_order (empty_book j.book.periods) j.entries c.args.passes.now is.history.legal
           (each_number j.book.periods j.entries (receipts_of c.args.passes.now) is.history.legal c.requires.each_once) c.are_passes.ensures;
+      own = of_holders c.args.passes.now c.are_passes.ensures;
     }
