@@ -258,16 +258,8 @@ pub never_rises : Laws → (blocks : List Block) (prefix rest : List Bool) → N
 never_rises laws blocks prefix rest t ss w e =
     period_extended laws t blocks prefix rest ss w (ap (λ (left : List Block). period_welfare blocks (prefix ++ rest) t (ss ++ as_steps t left)) (sym (drop_more blocks prefix rest)) ∙ e)
 
-some_none : (x : Option ℤ) (w : ℤ) → x ≡ None → x ≡ Some w → ⊥
+pub some_none : (x : Option ℤ) (w : ℤ) → x ≡ None → x ≡ Some w → ⊥
 some_none x w e f = absurd (cc)
-
-pub extended_answer : (result : Bool) (p q : ProblemState) (least : ℕ) (before after : List Bool) (day : Day) → p ≡ q → NeverRises p.blocks before after
-    → MatchBool result (IsDay p after day) (IsGivenUp p (Some least) before after) → MatchBool result (IsDay q after day) (IsUnder q after least)
-extended_answer true p q least before after day e never m = subst (λ (r : ProblemState). IsDay r after day) e m
-extended_answer false p q least before after day e never m = subst (λ (r : ProblemState). IsUnder r after least) e (elim m [
-  | inl none ↦ (λ w is. absurd (some_none (relaxed_welfare p after) w none is))
-  | inr under ↦ under never
-])
 
 -- ---- one turned round
 pub turned_answer : (result : Bool) (p q : ProblemState) (before after : List Bool) (day : Day) → p ≡ q

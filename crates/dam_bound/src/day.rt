@@ -91,7 +91,7 @@ pub(crate) fn root_of<A: Allocator>(
 }
 
 /// The least total that isn't under what is asked for; if nothing is, one that no total is under.
-fn floor_of(least: Option<u64>) -> i64
+pub(crate) fn floor_of(least: Option<u64>) -> i64
     ensures floor { (total : ℤ) → IsWithin (last_period * greatest_period_bound) total
         → MatchOption least (¬ (total <ℤ result)) (λ l. (total <ℤ result) ↔ (total <ℤ pos l)) }
     ensures at_least { neg_ℤ (pos (2 ^ 63)) ≤ℤ result }
@@ -104,7 +104,7 @@ fn floor_of(least: Option<u64>) -> i64
 }
 
 /// Whether the total is under the floor.
-fn is_under(total: i64, floor: i64) -> bool
+pub(crate) fn is_under(total: i64, floor: i64) -> bool
     ensures { IsTrue result ↔ (total <ℤ floor) }
 {
     total < floor
@@ -112,7 +112,7 @@ fn is_under(total: i64, floor: i64) -> bool
 
 /// Whether the supply is left with what a block of the side asks for: a sell that is accepted is served,
 /// and a buy that is rejected takes nothing.
-fn is_served(side: Side, accept: bool) -> bool
+pub(crate) fn is_served(side: Side, accept: bool) -> bool
     ensures { result ≡ falls side accept }
 {
     match side {
@@ -122,7 +122,8 @@ fn is_served(side: Side, accept: bool) -> bool
 }
 
 /// What the change makes of one of the block's periods, as the stacks have it.
-fn moved<A: Allocator>(
+#[inline(always)]
+pub(crate) fn moved<A: Allocator>(
     stacks: &Stacks<A>,
     end: Span,
     touch: Touch,
