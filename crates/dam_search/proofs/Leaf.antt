@@ -1,5 +1,8 @@
 -- The verdict on a selection, told by the day of its decisions.
 use Rattle.std.proofs.Common.{◌≡◌, inr, ◌↔◌, MatchOption, ℕ, ℤ, pos, ◌<ℤ◌, Bool, true, false, Option, Some, None, List, ◌∙◌, ap, sym, subst}
+use Rattle.std.proofs.lemmas.Int.{to_z-of_z}
+use mir.Syntax.{w64}
+use mir.Val.{to_z, of_z, SFits}
 use Rattle.dam_blocks.specs.declared.selection.Best.{Best}
 use Rattle.dam_blocks.specs.Problem.{ProblemState}
 use Rattle.dam_blocks.specs.Selection.{padded, IsAdmissible}
@@ -45,6 +48,11 @@ pub unless_told : (told : Option ℤ) (problem : ProblemState) (prefix : List Bo
     → MatchOption told (IsUnder problem prefix low) (IsDayIn problem prefix trail) → IsUnder problem prefix low
 unless_told (Some own) problem prefix trail low e m = absurd (cc)
 unless_told None problem prefix trail low e m = m
+
+-- the day, with the total as it is passed on
+pub as_passed : (problem : ProblemState) (prefix : List Bool) (trail : Trail) (total : ℤ) → SFits w64 total → IsDayIn problem prefix trail total
+    → IsDayIn problem prefix trail (to_z w64 (of_z w64 total))
+as_passed problem prefix trail total fits is = subst (λ (z : ℤ). IsDayIn problem prefix trail z) (sym (to_z-of_z w64 total fits)) is
 
 -- no more welfare than the prefix's bound
 pub under_read : (problem relaxed : ProblemState) (prefix sel : List Bool) (read : ℕ) (w : ℤ) → relaxed ≡ without_rows problem → IsUnder relaxed prefix read

@@ -13,6 +13,7 @@ use Rattle.dam_bound.specs.Trail.{IsDayIn}
 use Rattle.dam_bound.specs.Relaxed.{without_rows, relaxed_welfare, reaches}
 use Rattle.dam_search.specs.inside.Walk.{Finds, Covers, Spends, Reads, IsGoing, IsWalked}
 use Rattle.dam_search.proofs.Ranks.{found_after, finds_nothing, finds_shorter, finds_twice, covers_both, welfare_rises}
+use Rattle.dam_search.proofs.Leaf.{as_passed}
 use Rattle.dam_search.proofs.LastBlock.{still_rejected}
 use Rattle.dam_search.proofs.Walks.{spends_none, spends_nothing, spends_one, spends_first, spends_both, reads_nothing, reads_asked}
 use Rattle.dam_search.proofs.piece.+explore.Goals.{decide-else-accept-via-then-accept+else-not-is_still_admissible}
@@ -76,7 +77,8 @@ decide-explore-requires g t c =
     let few : length prefix < most_blocks = omega (arith, c.requires.depth, c.periods-kept.ensures.valid.few_blocks) in
     let is_day : MatchOption total (IsUnder relaxed next read) (IsDayIn relaxed next trail) =
     next_day relaxed next prefix c.args.accept c.depth.result read total trail is c.depth.ensures.value
-    (λ e. c.extend-next.ensures.day prefix e c.requires.day) in
+    (λ e. c.extend-next.ensures.day prefix e
+    (as_passed relaxed prefix c.args.trail.now c.args.total (search rules) c.requires.day)) in
     let admissible : IsAdmissible blocks (padded next) = elim c.else-accept.branch [
       | decide-else-accept-via-then-accept+else-not-is_still_admissible w ↦ w.is_still_admissible.ensures.value.0 (search rules)
       | decide-else-accept-via-else-accept w ↦

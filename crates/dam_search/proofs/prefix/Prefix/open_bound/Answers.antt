@@ -8,7 +8,7 @@ use Rattle.dam_blocks.specs.Problem.{ProblemState}
 use Rattle.dam_bound.specs.declared.trail.Trail.{Trail}
 use Rattle.dam_bound.specs.Relaxed.{relaxed_welfare, reaches}
 use Rattle.dam_bound.specs.Trail.{IsDayIn}
-use Rattle.dam_search.proofs.Leaf.{if_told, unless_told}
+use Rattle.dam_search.proofs.Leaf.{as_passed, if_told, unless_told}
 use Rattle.dam_search.proofs.prefix.Prefix.open_bound.Goals as goal
 
 -- what is at most a bound that doesn't reach the value is less than the value
@@ -29,13 +29,15 @@ returns-in_default c relaxed trail low few day sel w whole e =
 
 pub returns-then-reaches : goal.returns-then-reaches
 returns-then-reaches c relaxed trail low few day =
-    let own = if_told c.args.total c.in-Some.total relaxed c.args.self.now trail low (sym c.in-Some.is) day in
-    let fits : SFits w64 c.in-Some.total = search rules in
-    (subst (λ (bound : Option ℤ). reaches bound c.args.least ≡ true) (ap (λ (z : ℤ). Some z) (to_z-of_z w64 c.in-Some.total fits) ∙ bound_is relaxed c.args.self.now trail c.in-Some.total own) (sym c.reaches.ensures ∙ c.if-reaches.true), own)
+    let own = if_told c.args.total c.in-Some.total relaxed c.args.self.now trail low c.in-Some.is day in
+    let fits : SFits w64 c.in-Some.total = search rules in (
+      subst (λ (bound : Option ℤ). reaches bound c.args.least ≡ true) (ap (λ (z : ℤ). Some z) (to_z-of_z w64 c.in-Some.total fits) ∙ bound_is relaxed c.args.self.now trail c.in-Some.total own) (sym c.reaches.ensures ∙ c.if-reaches.true),
+      as_passed relaxed c.args.self.now trail c.in-Some.total fits own,
+    )
 
 pub returns-else-reaches : goal.returns-else-reaches
 returns-else-reaches c relaxed trail low few day sel w whole e =
-    let own = if_told c.args.total c.in-Some.total relaxed c.args.self.now trail low (sym c.in-Some.is) day in
+    let own = if_told c.args.total c.in-Some.total relaxed c.args.self.now trail low c.in-Some.is day in
     let fits : SFits w64 c.in-Some.total = search rules in
     let most = c.bound.ensures.most relaxed c.args.self.now sel w whole e in
     let is = ap (λ (z : ℤ). Some z) (to_z-of_z w64 c.in-Some.total fits) ∙ bound_is relaxed c.args.self.now trail c.in-Some.total own ∙ most.1 in

@@ -1,8 +1,9 @@
 -- One decision more, and where a bound of some of the decisions is under 0.
-use Rattle.std.proofs.Common.{◌≡◌, ◌+◌, ℤ, Some, None, Option, List, Bool, [], ◌∷◌, ◌++◌, take, drop, take-append-drop, ap, ◌∙◌, sym, subst, arith}
+use Rattle.std.proofs.Common.{◌≡◌, ◌+◌, ℤ, Some, None, Option, List, Bool, [], ◌∷◌, ◌++◌, take, drop, take-append-drop, ap, ◌∙◌, sym, subst, rules, arith}
 use Rattle.std.proofs.lemmas.Int.{ints}
 use Rattle.dam_bound.specs.Trail.{IsDayIn}
 use Rattle.dam_bound.specs.Relaxed.{relaxed_welfare}
+use Rattle.dam_search.proofs.Leaf.{as_passed}
 use Rattle.dam_search.proofs.Prefixes.{prefix_of, decided_more, front_long}
 use Rattle.dam_search.proofs.prefix.Prefix.walked.Goals as goal
 
@@ -24,8 +25,9 @@ loop-place-preserved g c =
     let front = take c.loop-place.place c.args.self.now in
     let more = decided_more c.self.inside.taken c.args.self.now c.self.inside.depth c.loop-place.place c.self.view_is c.self.invariant.0 c.self.invariant.1 c.loop-place-test.true
     ∙ ap (λ (b : Bool). front ++ b ∷ []) (sym c.has.ensures.value) in
-    subst (λ (xs : List Bool). IsDayIn c.args.relaxed.now xs c.extend-next.new.trail c.in-Some.next) (sym more)
-    (c.in-Some.ensures.day front (front_long c.self.inside.taken c.args.self.now c.self.inside.depth c.loop-place.place c.self.view_is c.self.invariant.0 c.self.invariant.1 c.loop-place-test.true) c.loop-place.invariant)
+    as_passed c.args.relaxed.now (take (c.loop-place.place + 1) c.args.self.now) c.extend-next.new.trail c.in-Some.next (search rules)
+    (subst (λ (xs : List Bool). IsDayIn c.args.relaxed.now xs c.extend-next.new.trail c.in-Some.next) (sym more)
+    (c.in-Some.ensures.day front (front_long c.self.inside.taken c.args.self.now c.self.inside.depth c.loop-place.place c.self.view_is c.self.invariant.0 c.self.invariant.1 c.loop-place-test.true) c.loop-place.invariant))
 
 pub returns-in_default : goal.returns-in_default
 returns-in_default g c w e =
