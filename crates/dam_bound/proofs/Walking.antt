@@ -1,5 +1,5 @@
 -- A decision in the slots, touch by touch.
-use Rattle.std.proofs.Common.{◌≡◌, ◌≢◌, ◌⊎◌, ℕ, zero, suc, ◌+◌, ◌*◌, ◌<◌, ◌≤◌, ℤ, Bool, Option, Some, None, MatchOption, List, [], length, drop, get_or, slice_set, inl, inr, ap, ◌∙◌, sym, subst, refl, arith}
+use Rattle.std.proofs.Common.{◌≡◌, ◌≢◌, ℕ, ◌+◌, ◌*◌, ◌<◌, ◌≤◌, ℤ, Bool, Option, Some, None, MatchOption, List, [], length, drop, get_or, slice_set, inl, inr, ap, ◌∙◌, sym, subst, refl, arith}
 use Rattle.std.specs.List.{slice_get}
 use Rattle.std.proofs.lemmas.Bool.{cases_lt}
 use Rattle.std.proofs.lemmas.List.{length-set, get_or-set_same, get_or-set_other}
@@ -12,7 +12,6 @@ use Rattle.dam_stack.specs.declared.taken.Taken.{Taken}
 use Rattle.dam_blocks.specs.declared.problem.Block.{Block}
 use Rattle.dam_blocks.specs.Problem.{ProblemState}
 use Rattle.dam_blocks.specs.Selection.{volume_in}
-use Rattle.dam_bound.specs.declared.day.Day.{Day}
 use Rattle.dam_bound.specs.declared.day.Change.TheVariants.{Decide}
 use Rattle.dam_bound.specs.declared.tables.Touch.{Touch}
 use Rattle.dam_bound.specs.declared.trail.Trail.{Trail}
@@ -169,7 +168,7 @@ all_decided problem place before after rest first trail total room depth all so_
 
 -- ---- the decision on the next block
 pub extended : (result : Option ℤ) (p q : ProblemState) (least : ℕ) (before after : List Bool) (trail : Trail) → p ≡ q → NeverRises p.blocks before after
-    → MatchOption result (IsGivenUp p (Some least) before after) (IsDayIn p after trail) → MatchOption result (IsUnder q after least) (IsDayIn q after trail)
+    → MatchOption result (IsGivenUp p least before after) (IsDayIn p after trail) → MatchOption result (IsUnder q after least) (IsDayIn q after trail)
 extended (Some total) p q least before after trail e never m = subst (λ (r : ProblemState). IsDayIn r after trail total) e m
 extended None p q least before after trail e never m = subst (λ (r : ProblemState). IsUnder r after least) e (elim m [
   | inl none ↦ (λ w is. absurd (some_none (relaxed_welfare p after) w none is))

@@ -10,7 +10,7 @@ ghost use Rattle.dam_bound.specs.Trail.{IsDayIn, KeepsDays};
 ghost use Rattle.dam_bound.specs.inside.Levels.{AreLevels, AreLevelsAt, last_steps, AreDayLevels};
 ghost use Rattle.dam_bound.specs.inside.Levels.{greatest_period_bound};
 
-use crate::day::{Change, Day, change_day, copy_periods};
+use crate::day::{Day, copy_periods, turn_block};
 use crate::families::families_of;
 use crate::gain::gain_of;
 use crate::levels::Levels;
@@ -236,7 +236,7 @@ impl<A: Allocator> Relaxed<A> {
             → MatchBool result (IsDay self.now (slice_set prefix place accept) day.new)
             (relaxed_welfare self.now (slice_set prefix place accept) ≡ None) }
     {
-        change_day(&self.tables, day, place, Change::Turn, accept, None)
+        turn_block(&self.tables, day, place, accept)
     }
 
     /// What the block at a place gains at the prices of a day on which every block is decided, with

@@ -1,15 +1,17 @@
 //! The days of a walk, in slots that are neither copied nor undone.
 
-ghost use Rattle.std.specs.Prelude.{◌≡◌, ◌*◌, ◌+◌, ◌<◌, ◌≤◌, ℕ, ℤ, List, Bool, length, slice_index_or, MatchOption, Some};
+ghost use Rattle.std.specs.Prelude.{◌≡◌, ◌*◌, ◌+◌, ◌<◌, ◌≤◌, ℕ, ℤ, pos, ◌^◌, ◌<ℤ◌, ◌≤ℤ◌, ◌↔◌, List, Bool, length, slice_index_or, IsTrue, MatchOption};
 ghost use Rattle.dam_book.specs.Limits.{last_period};
 ghost use Rattle.dam_stack.specs.declared.taken.Taken.{Taken};
 ghost use Rattle.dam_blocks.specs.Problem.{ProblemState};
+ghost use Rattle.dam_blocks.specs.Magnitude.{IsWithin};
+ghost use Rattle.dam_bound.specs.inside.Levels.{greatest_period_bound};
 ghost use Rattle.dam_bound.specs.Trail.{slot_count, IsDayIn};
 ghost use Rattle.dam_bound.specs.inside.Change.{IsChange, IsGivenUp};
 ghost use Rattle.dam_bound.specs.declared.day.Change.TheVariants.{Decide};
-ghost use Rattle.dam_bound.specs.inside.Tables.{AreTables, ArePlaces};
+ghost use Rattle.dam_bound.specs.inside.Tables.{AreTables};
 
-use crate::day::{Change, Day, floor_of, is_served, is_under, moved};
+use crate::day::{Change, Day, is_served, moved};
 use crate::tables::Tables;
 use dam_blocks::MOST_PERIODS;
 use dam_book::MOST_BLOCKS;
@@ -50,6 +52,23 @@ pub(crate) fn write_root(root: &Day, trail: &mut Trail, count: usize)
     trail.slots[..count].copy_from_slice(&root.periods[..count]);
 }
 
+/// The least total that isn't under what is asked for.
+fn floor_of(least: u64) -> i64
+    ensures floor { (total : ℤ) → IsWithin (last_period * greatest_period_bound) total
+        → (total <ℤ result) ↔ (total <ℤ pos least) }
+    ensures at_least { pos 0 ≤ℤ result }
+    ensures at_most { result <ℤ pos (2 ^ 63) }
+{
+    i64::try_from(least).unwrap_or(i64::MAX)
+}
+
+/// Whether the total is under the floor.
+fn is_under(total: i64, floor: i64) -> bool
+    ensures { IsTrue result ↔ (total <ℤ floor) }
+{
+    total < floor
+}
+
 /// Decides the block at the place in each of its periods; the new total, or `None` where some period
 /// doesn't balance or the total is at some time under `least`.
 ///
@@ -74,7 +93,7 @@ pub(crate) fn decide_block<A: Allocator>(
         → place < length problem.blocks
         → IsChange problem.blocks place Decide accept (place + 1) before after
         → IsDayIn problem before trail.old total
-        → MatchOption result (IsGivenUp problem (Some least) before after)
+        → MatchOption result (IsGivenUp problem least before after)
         (IsDayIn problem after trail.new) }
     ensures below { (i : ℕ) (own : Taken) → i < (place + 1) * last_period
         → slice_index_or trail.new.slots i own ≡ slice_index_or trail.old.slots i own }
@@ -83,7 +102,7 @@ pub(crate) fn decide_block<A: Allocator>(
     dam_hour::laws::welfare();
     let lot = &tables.lots[place];
     let is_served = is_served(lot.side(), accept);
-    let floor = floor_of(Some(least));
+    let floor = floor_of(least);
     let mut left = total;
     for touch in lot.touches() {
         let own = trail.slots[touch.from as usize];

@@ -1,5 +1,5 @@
 -- A touch more, and all of them.
-use Rattle.std.proofs.Common.{◌≡◌, ℕ, Some, ◌+◌, ◌*◌, ◌<◌, ◌≤◌, ℤ, ◌+ℤ◌, List, length, drop, get_or, slice_set, ap, ◌∙◌, sym, subst, refl, rules, arith}
+use Rattle.std.proofs.Common.{inl, ◌≡◌, ℕ, ◌+◌, ◌*◌, ◌<◌, ◌≤◌, ℤ, ◌+ℤ◌, List, length, drop, get_or, slice_set, ap, ◌∙◌, sym, subst, refl, rules, arith}
 use Rattle.std.proofs.lemmas.Int.{ints, to_z-of_z}
 use Rattle.std.proofs.lemmas.List.{length-set, length-map, drop_all}
 use mir.Syntax.{w64}
@@ -14,7 +14,7 @@ use Rattle.dam_bound.proofs.Tabling.{block_at}
 use Rattle.dam_bound.proofs.Volumes.{volume_ordered}
 use Rattle.dam_bound.proofs.Periods.{one_at}
 use Rattle.dam_bound.proofs.Sizes.{added_to}
-use Rattle.dam_bound.proofs.Deciding.{IsChangedSoFar, nothing_changed, total_within, total_at_least, still_own, given_up, under}
+use Rattle.dam_bound.proofs.Deciding.{IsChangedSoFar, nothing_changed, total_within, total_at_least, still_own, under}
 use Rattle.dam_bound.proofs.Touching.{no_touch_there, nothing_taken, lot_at, touched_now, serves, touch_changed, touch_unbalanced}
 use Rattle.dam_bound.proofs.Walking.{IsDecidedSoFar, undecided, is_move_read, from_within, to_within, below_more, decided_more, all_decided}
 use Rattle.dam_bound.proofs.trail.decide_block.Goals as goal
@@ -150,8 +150,7 @@ returns-in_default-clause-day g c problem before after are inside is of =
     let served = serves problem c.args.tables.now.stacks c.args.tables.now.ends.items c.args.tables.now.lots.items c.index-lot.result.now
     c.args.place (c.args.place + 1) Decide c.args.accept before after block.0 so_far.periods at pairs touch
     c.side.result c.is_served-is_served.result are block.1 c.index-lot.ensures c.is_served-is_served.ensures c.side.ensures t in
-    given_up problem (Some c.args.least) before after
-    (touch_unbalanced problem c.args.tables.now.stacks c.args.tables.now.ends.items c.args.place (c.args.place + 1) Decide c.args.accept
+    inl (touch_unbalanced problem c.args.tables.now.stacks c.args.tables.now.ends.items c.args.place (c.args.place + 1) Decide c.args.accept
     before after block.0 so_far.periods at pairs touch
     (λ ss net none. (c.welfare.ensures.none ss net).1 none) t (c.in_default.ensures t.move move served))
 
@@ -256,7 +255,7 @@ returns-then-is_under-clause-day g c problem before after are inside is of =
     let changed = touch_changed problem c.args.tables.now.stacks c.args.tables.now.ends.items c.args.place (c.args.place + 1) Decide
     c.args.accept before after block.0 so_far.periods at pairs touch nothing_taken c.in-Some.next (to_z w64 c.loop-touch.left-bits) c.in-Some.gained
     c.index.result.now t (omega (arith, in_day, few, long)) m so_far.so_far in
-    under problem (Some c.args.least) before after ((to_z w64 c.loop-touch.left-bits) +ℤ c.in-Some.gained) _ c.floor_of-floor.result _ c.is_under.result
+    under problem c.args.least before after ((to_z w64 c.loop-touch.left-bits) +ℤ c.in-Some.gained) _ c.floor_of-floor.result _ c.is_under.result
     sum.1
     (let from = c.floor_of-floor.ensures.at_least in let to = c.floor_of-floor.ensures.at_most in
     to_z-of_z w64 c.floor_of-floor.result (omega (arith, ints, from, to)))
