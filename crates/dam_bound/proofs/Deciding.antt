@@ -1,5 +1,5 @@
 -- A change of one block, pair by pair of its volumes.
-use Rattle.std.proofs.Common.{◌≡◌, ◌≢◌, ℕ, zero, suc, ◌+◌, ◌-◌, ◌*◌, ◌<◌, ◌≤◌, ◌==◌, cond, ℤ, pos, ◌+ℤ◌, ◌-ℤ◌, ◌≤ℤ◌, ◌<ℤ◌, IsTrue, MatchOption, ◌↔◌, Bool, true, false, MatchBool, Option, Some, None, List, [], ◌++◌, length, drop, get_or, slice_set, ap, ◌∙◌, sym, subst, refl, arith, inl, inr}
+use Rattle.std.proofs.Common.{◌≡◌, ◌≢◌, ℕ, zero, suc, ◌+◌, ◌-◌, ◌*◌, ◌<◌, ◌≤◌, ◌==◌, cond, ℤ, pos, ◌+ℤ◌, ◌-ℤ◌, ◌≤ℤ◌, ◌<ℤ◌, IsTrue, ◌↔◌, Bool, true, false, MatchBool, Option, Some, None, List, [], ◌++◌, length, drop, get_or, slice_set, ap, ◌∙◌, sym, subst, refl, arith, inl, inr}
 use Rattle.std.specs.List.{slice_get}
 use Rattle.std.specs.Option.{option_map}
 use Rattle.std.proofs.lemmas.Int.{ints}
@@ -21,7 +21,7 @@ use Rattle.dam_stack.specs.Taken.{IsMoved}
 use Rattle.dam_bound.specs.declared.day.Day.{Day}
 use Rattle.dam_bound.specs.declared.day.Change.{Change}
 use Rattle.dam_bound.specs.Relaxed.{as_steps, relaxed_welfare}
-use Rattle.dam_bound.specs.Day.{IsPeriodOfDay, IsDay, IsUnder}
+use Rattle.dam_bound.specs.Day.{IsPeriodOfDay, IsDay}
 use Rattle.dam_bound.specs.inside.Change.{IsChange, NeverRises, IsGivenUp}
 use Rattle.dam_bound.specs.inside.Levels.{greatest_period_bound}
 use Rattle.dam_bound.proofs.Covering.{Laws, period_extended, drop_more}
@@ -258,22 +258,14 @@ pub never_rises : Laws → (blocks : List Block) (prefix rest : List Bool) → N
 never_rises laws blocks prefix rest t ss w e =
     period_extended laws t blocks prefix rest ss w (ap (λ (left : List Block). period_welfare blocks (prefix ++ rest) t (ss ++ as_steps t left)) (sym (drop_more blocks prefix rest)) ∙ e)
 
-some_none : (x : Option ℤ) (w : ℤ) → x ≡ None → x ≡ Some w → ⊥
+pub some_none : (x : Option ℤ) (w : ℤ) → x ≡ None → x ≡ Some w → ⊥
 some_none x w e f = absurd (cc)
 
-pub extended_answer : (result : Bool) (p q : ProblemState) (least : ℕ) (before after : List Bool) (day : Day) → p ≡ q → NeverRises p.blocks before after
-    → MatchBool result (IsDay p after day) (IsGivenUp p (Some least) before after) → MatchBool result (IsDay q after day) (IsUnder q after least)
-extended_answer true p q least before after day e never m = subst (λ (r : ProblemState). IsDay r after day) e m
-extended_answer false p q least before after day e never m = subst (λ (r : ProblemState). IsUnder r after least) e (elim m [
-  | inl none ↦ (λ w is. absurd (some_none (relaxed_welfare p after) w none is))
-  | inr under ↦ under never
-])
-
 -- ---- one turned round
-pub turned_answer : (result : Bool) (p q : ProblemState) (before after : List Bool) (day : Day) → p ≡ q
-    → MatchBool result (IsDay p after day) (IsGivenUp p None before after) → MatchBool result (IsDay q after day) (relaxed_welfare q after ≡ None)
-turned_answer true p q before after day e m = subst (λ (r : ProblemState). IsDay r after day) e m
-turned_answer false p q before after day e m = subst (λ (r : ProblemState). relaxed_welfare r after ≡ None) e m
+pub turned_answer : (result : Bool) (p q : ProblemState) (after : List Bool) (day : Day) → p ≡ q
+    → MatchBool result (IsDay p after day) (relaxed_welfare p after ≡ None) → MatchBool result (IsDay q after day) (relaxed_welfare q after ≡ None)
+turned_answer result p q after day e m =
+    subst (λ (r : ProblemState). MatchBool result (IsDay r after day) (relaxed_welfare r after ≡ None)) e m
 
 -- the parent's periods that are still to be decided
 pub still_own : (pairs : List Pair) (k place : ℕ) (p : Pair) (before periods : List Taken) (own : Taken) → volume_in (drop (k + 1) pairs) p.0 ≡ 0 → slice_get pairs k ≡ Some p → 1 ≤ p.1
@@ -294,14 +286,9 @@ own_still pairs k place p before periods d at some number ahead =
     ahead place d (omega (arith, here, some))
 
 -- ---- giving up
-pub given_up : (problem : ProblemState) (least : Option ℕ) (before after : List Bool) → relaxed_welfare problem after ≡ None → IsGivenUp problem least before after
-given_up problem None before after e = e
-given_up problem (Some least) before after e = inl e
-
-pub under : (problem : ProblemState) (least : Option ℕ) (before after : List Bool) (total shown floor bound : ℤ) (r : Bool) → shown ≡ total → bound ≡ floor
+pub under : (problem : ProblemState) (least : ℕ) (before after : List Bool) (total shown floor bound : ℤ) (r : Bool) → shown ≡ total → bound ≡ floor
     → IsWithin (last_period * greatest_period_bound) total → r ≡ true → IsTrue r ↔ (shown <ℤ bound)
-    → ((z : ℤ) → IsWithin (last_period * greatest_period_bound) z → MatchOption least (¬ (z <ℤ floor)) (λ l. (z <ℤ floor) ↔ (z <ℤ pos l)))
+    → ((z : ℤ) → IsWithin (last_period * greatest_period_bound) z → (z <ℤ floor) ↔ (z <ℤ pos least))
     → (NeverRises problem.blocks before after → (w : ℤ) → relaxed_welfare problem after ≡ Some w → w ≤ℤ total) → IsGivenUp problem least before after
-under problem None before after total shown floor bound r same level within e below m f = absurd (m total within (subst (λ z. total <ℤ z) level (subst (λ z. z <ℤ bound) same (below.0 e))))
-under problem (Some least) before after total shown floor bound r same level within e below m f =
+under problem least before after total shown floor bound r same level within e below m f =
     inr (λ never w is. (let less = (m total within).0 (subst (λ z. total <ℤ z) level (subst (λ z. z <ℤ bound) same (below.0 e))) in let most = f never w is in omega (arith, ints, less, most)))

@@ -13,5 +13,8 @@ pub mod Volumes
 pub mod Tabling
 pub mod Deciding
 pub mod Touching
+pub mod Slots
+pub mod Places
+pub mod Walking
 pub mod Gains
 pub mod Members

@@ -38,3 +38,12 @@ added_up x y a b all =
       subst (SFits w64) (sym same) all,
       ap (λ (z : ℤ). to_z w64 (of_z w64 z)) same ∙ to_z-of_z w64 (x +ℤ y) all,
     )
+
+-- a sum as the code has it, of a local and of what a call told
+pub added_to : (x y : ℤ) → SFits w64 y → SFits w64 (x +ℤ y)
+    → SFits w64 (x +ℤ to_z w64 (of_z w64 y)) × (to_z w64 (of_z w64 (x +ℤ to_z w64 (of_z w64 y))) ≡ x +ℤ y)
+added_to x y b all =
+    let same = ap (λ (v : ℤ). x +ℤ v) (to_z-of_z w64 y b) in (
+      subst (SFits w64) (sym same) all,
+      ap (λ (z : ℤ). to_z w64 (of_z w64 z)) same ∙ to_z-of_z w64 (x +ℤ y) all,
+    )

@@ -1,5 +1,5 @@
 -- The stacks and the touches, block by block.
-use Rattle.std.proofs.Common.{◌≡◌, ◌≢◌, ℕ, zero, suc, ◌+◌, ◌-◌, ◌<◌, ◌≤◌, true, false, Some, List, [], ◌∷◌, ◌++◌, length, length-append, drop, get_or, slice_set, inl, inr, ap, ◌∙◌, sym, subst, refl, arith}
+use Rattle.std.proofs.Common.{◌≡◌, ◌≢◌, ℕ, zero, suc, ◌+◌, ◌-◌, ◌*◌, ◌<◌, ◌≤◌, true, false, Some, List, [], ◌∷◌, ◌++◌, length, length-append, drop, get_or, slice_set, inl, inr, ap, ◌∙◌, sym, subst, refl, arith}
 use Rattle.std.specs.List.{slice_get}
 use Rattle.std.proofs.lemmas.Bool.{cases_lt}
 use Rattle.std.proofs.lemmas.Bool.Decides.{nat_tests}
@@ -7,6 +7,7 @@ use Rattle.std.proofs.lemmas.List.{length-set, get_or-set_same, get_or-set_other
 use Rattle.std.specs.Prelude.{IsPermutation}
 use Rattle.std.proofs.lemmas.List.Sorted.{All-permutation, IsPermutation-map}
 use Rattle.std.proofs.lemmas.Option.{slice_get_within, slice_get-get_or, get_or_from_slice_get}
+use Rattle.dam_book.specs.Limits.{last_period}
 use Rattle.dam_book.specs.Volumes.{Pair, is_increasing, have_beyond}
 use Rattle.dam_hour.specs.declared.step.Step.{Step}
 use Rattle.dam_stack.specs.declared.row.Row.{Row}
@@ -19,7 +20,7 @@ use Rattle.dam_blocks.specs.Problem.{IsBlock, AreBlocks}
 use Rattle.dam_blocks.specs.Selection.{volume_in}
 use Rattle.dam_bound.specs.declared.tables.Touch.{Touch}
 use Rattle.dam_bound.specs.Relaxed.{step_of, as_steps}
-use Rattle.dam_bound.specs.inside.Tables.{LotState, AreSpans, pair_of, pairs_of, IsTouch, IsLot, AreLots, AreTables}
+use Rattle.dam_bound.specs.inside.Tables.{LotState, ArePlaces, AreSpans, pair_of, pairs_of, IsTouch, IsLot, AreLots, AreTables}
 use Rattle.dam_bound.proofs.Extending.{same_steps}
 use Rattle.dam_bound.proofs.Levelling.{drop_at, some_step}
 use Rattle.dam_bound.proofs.Periods.{of_pushed, one_at}
@@ -53,6 +54,8 @@ touch_kept hours blocks old new k b p touch keeps t = record {
   at_is = t.at_is;
   volume_is = t.volume_is;
   inside = t.inside;
+  from_is = t.from_is;
+  to_is = t.to_is;
   cut_is = λ ss at. cut_kept old new (step_of p.0 b.order) (ss ++ as_steps p.0 (drop (k + 1) blocks)) touch.cut keeps (t.cut_is ss at);
 }
 
@@ -336,17 +339,23 @@ next_touch hours blocks rows k j b p spans at are pair so_far =
           (subst (λ (ts : List Step). IsStackAt rows (get_or spans (p.0 - 1) d) ts) next.0 here));
     }
 
-pub is_touch : (hours : List (List Step)) (blocks : List Block) (old new : List Row) (k : ℕ) (b : Block) (p : Pair) (spans : List Span) (touch : Touch)
-    → (n : IsNext hours blocks old k b p spans) → length spans ≡ length hours → touch.at + 1 ≡ p.0
+pub is_touch : (hours : List (List Step)) (blocks : List Block) (old new : List Row) (k row : ℕ) (b : Block) (p : Pair) (spans : List Span) (places : List ℕ)
+    (touch : Touch) → (n : IsNext hours blocks old k b p spans) → length spans ≡ length hours → touch.at < last_period
+    → ArePlaces blocks k places → row ≡ (k + 1) * last_period → touch.at + 1 ≡ p.0
+    → ((d : ℕ) → touch.from ≡ get_or places (p.0 - 1) d) → touch.to + 1 ≡ row + p.0
     → IsCutOff new (record { side = b.order.side; price = b.order.price; qty = p.1 }) (n.steps ++ as_steps p.0 (drop (k + 1) blocks)) touch.cut
     → IsTouch hours blocks new k b p touch
-is_touch hours blocks old new k b p spans touch n long at cut =
+is_touch hours blocks old new k row b p spans places touch n long few are own at from to cut =
     let inside = n.inside in
     let place : touch.at ≡ p.0 - 1 = omega (arith, at) in
     record {
       at_is = sym at;
       volume_is = sym cut.is_of.volume_is;
       inside = omega (arith, at, inside, long);
+      from_is =
+          from 0 ∙ ap (λ (i : ℕ). get_or places i 0) (sym place)
+          ∙ are.each touch.at 0 few;
+      to_is = omega (arith, to, at, own);
       cut_is = λ ss there.
           (let steps : n.steps ≡ ss = some_is n.steps ss (sym n.there ∙ subst (λ (i : ℕ). slice_get hours i ≡ Some ss) place there) in
           subst (λ (s : Step). IsCutOff new s (ss ++ as_steps p.0 (drop (k + 1) blocks)) touch.cut) n.same

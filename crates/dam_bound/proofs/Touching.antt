@@ -1,9 +1,10 @@
 -- A change in one of the block's periods.
-use Rattle.std.proofs.Common.{◌≡◌, ℕ, ◌+◌, ◌<◌, ◌≤◌, Bool, true, false, ℤ, pos, ◌+ℤ◌, ◌*ℤ◌, neg_ℤ, Option, Some, None, MatchOption, List, ◌∷◌, ◌++◌, length, drop, get_or, slice_set, ap, ◌∙◌, sym, subst, refl, arith}
+use Rattle.std.proofs.Common.{◌≡◌, ℕ, ◌+◌, ◌*◌, ◌<◌, ◌≤◌, Bool, true, false, ℤ, pos, ◌+ℤ◌, ◌*ℤ◌, neg_ℤ, Option, Some, None, MatchOption, List, ◌∷◌, ◌++◌, length, drop, get_or, slice_set, ap, ◌∙◌, sym, subst, refl, arith}
 use Rattle.std.specs.List.{slice_get}
 use Rattle.std.proofs.lemmas.List.{drop_all, append-nil}
 use Rattle.std.proofs.lemmas.Option.{slice_get_within, slice_get_read, slice_get-get_or, slice_get-map}
 use Rattle.std.specs.Option.{option_map}
+use Rattle.dam_book.specs.Limits.{last_period}
 use Rattle.dam_book.specs.Volumes.{Pair}
 use Rattle.dam_book.specs.declared.order.Side.{Side}
 use Rattle.dam_hour.specs.declared.step.Step.{Step}
@@ -22,6 +23,7 @@ use Rattle.dam_bound.specs.declared.day.Change.TheVariants.{Decide, Turn}
 use Rattle.dam_bound.specs.declared.tables.Touch.{Touch}
 use Rattle.dam_bound.specs.Relaxed.{step_of, as_steps, relaxed_welfare}
 use Rattle.dam_bound.specs.Day.{IsPeriodOfDay, IsDay}
+use Rattle.dam_bound.specs.Trail.{slot_at}
 use Rattle.dam_bound.specs.inside.Change.{by, IsChange, Move, steps_before, steps_after, IsMove}
 use Rattle.dam_bound.specs.inside.Tables.{LotState, pair_of, pairs_of, IsLot, AreTables}
 use Rattle.dam_bound.proofs.Bounding.{unbalanced_period}
@@ -150,6 +152,8 @@ pub record Touched (problem : ProblemState) (rows : List Row) (ends : List Span)
   pub some : 1 ≤ pair.1
   pub number : pair.0 ≡ touch.at + 1
   pub inside : touch.at < length problem.hours
+  pub from_is : touch.from ≡ slot_at problem.blocks touch.at place
+  pub to_is : touch.to ≡ (place + 1) * last_period + touch.at
   pub steps : List Step
   pub there : slice_get problem.hours touch.at ≡ Some steps
   pub move : Move
@@ -190,6 +194,8 @@ touched problem rows ends lots lot place depth change accept before after b day 
       some = some;
       number = t.at_is;
       inside = t.inside;
+      from_is = t.from_is;
+      to_is = t.to_is;
       steps = hour.0;
       there = hour.1;
       move = record {
@@ -229,7 +235,7 @@ lot_at problem rows ends lots lot place b are at read =
 
 -- the touch at the place of a list of touches
 abbrev pub no_touch_there : Touch
-no_touch_there = record { at = 0; cut = record { volume = 0; height = 0; span = record { first = 0; steps = 0; units = 0 } } }
+no_touch_there = record { at = 0; from = 0; to = 0; cut = record { volume = 0; height = 0; span = record { first = 0; steps = 0; units = 0 } } }
 
 abbrev pub nothing_taken : Taken
 nothing_taken = record { units = 0; height = 0; held = 0; free = 0; near = 0; cost = 0 }

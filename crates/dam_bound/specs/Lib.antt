@@ -1,4 +1,5 @@
 pub mod Prefix
 pub mod Relaxed
 pub mod Day
+pub mod Trail
 pub mod inside

@@ -1,4 +1,4 @@
-ghost use Rattle.std.specs.Prelude.{◌≡◌, ◌*◌, ◌<◌, ◌≤◌, ℤ, pos, neg_ℤ, ◌^◌, ◌<ℤ◌, ◌≤ℤ◌, ◌↔◌, ℕ, List, Bool, [], length, map, slice_index_or, IsTrue, MatchBool, MatchOption};
+ghost use Rattle.std.specs.Prelude.{◌≡◌, ◌*◌, ◌<◌, ◌≤◌, pos, ℕ, List, Bool, [], length, map, slice_index_or, MatchBool, MatchOption};
 ghost use Rattle.dam_book.specs.Limits.{last_period};
 ghost use Rattle.dam_hour.specs.Execution.{IsUnbalanced};
 ghost use Rattle.dam_hour.specs.declared.step.Step.{Step};
@@ -8,10 +8,11 @@ ghost use Rattle.dam_stack.specs.Taken.{IsMoved, falls};
 ghost use Rattle.dam_blocks.specs.declared.problem.Block.{Block};
 ghost use Rattle.dam_blocks.specs.Problem.{ProblemState};
 ghost use Rattle.dam_blocks.specs.Selection.{net_volume, value_of};
-ghost use Rattle.dam_blocks.specs.Magnitude.{IsWithin};
 ghost use Rattle.dam_bound.specs.Day.{IsDay};
-ghost use Rattle.dam_bound.specs.inside.Change.{by, IsChange, IsGivenUp, Move, IsMove, steps_before, steps_after};
-ghost use Rattle.dam_bound.specs.inside.Levels.{last_steps, AreDayLevels, problem_kept, greatest_period_bound};
+ghost use Rattle.dam_bound.specs.inside.Change.{by, IsChange, Move, IsMove, steps_before, steps_after};
+ghost use Rattle.dam_bound.specs.declared.day.Change.TheVariants.{Turn};
+ghost use Rattle.dam_bound.specs.Relaxed.{relaxed_welfare};
+ghost use Rattle.dam_bound.specs.inside.Levels.{last_steps, AreDayLevels, problem_kept};
 ghost use Rattle.dam_bound.specs.inside.Tables.{AreSpans, AreTables};
 
 use crate::levels::Levels;
@@ -24,8 +25,7 @@ use std::alloc::Allocator;
 
 /// A day: what a prefix makes of each period, and its relaxed welfare.
 ///
-/// It is carried from a prefix to its extensions, in which only the periods of the next block are
-/// looked at again.
+/// A walk keeps its days in the slots of a trail; one of them is read out where every block is decided.
 #[derive(Clone, Copy)]
 pub struct Day {
     /// What is taken of each period's supply.
@@ -90,29 +90,9 @@ pub(crate) fn root_of<A: Allocator>(
     day
 }
 
-/// The least total that isn't under what is asked for; if nothing is, one that no total is under.
-fn floor_of(least: Option<u64>) -> i64
-    ensures floor { (total : ℤ) → IsWithin (last_period * greatest_period_bound) total
-        → MatchOption least (¬ (total <ℤ result)) (λ l. (total <ℤ result) ↔ (total <ℤ pos l)) }
-    ensures at_least { neg_ℤ (pos (2 ^ 63)) ≤ℤ result }
-    ensures at_most { result <ℤ pos (2 ^ 63) }
-{
-    match least {
-        Some(least) => i64::try_from(least).unwrap_or(i64::MAX),
-        None => i64::MIN,
-    }
-}
-
-/// Whether the total is under the floor.
-fn is_under(total: i64, floor: i64) -> bool
-    ensures { IsTrue result ↔ (total <ℤ floor) }
-{
-    total < floor
-}
-
 /// Whether the supply is left with what a block of the side asks for: a sell that is accepted is served,
 /// and a buy that is rejected takes nothing.
-fn is_served(side: Side, accept: bool) -> bool
+pub(crate) fn is_served(side: Side, accept: bool) -> bool
     ensures { result ≡ falls side accept }
 {
     match side {
@@ -122,7 +102,8 @@ fn is_served(side: Side, accept: bool) -> bool
 }
 
 /// What the change makes of one of the block's periods, as the stacks have it.
-fn moved<A: Allocator>(
+#[inline(always)]
+pub(crate) fn moved<A: Allocator>(
     stacks: &Stacks<A>,
     end: Span,
     touch: Touch,
@@ -144,34 +125,31 @@ fn moved<A: Allocator>(
     }
 }
 
-/// Makes the change in each period of the block at the place, which is then accepted or rejected. Whether
-/// every period balances, and the total is at no time under `least`: if not, the day is of no use.
-pub(crate) fn change_day<A: Allocator>(
+/// Turns the decision on the block at the place round in each of its periods; it is then accepted or
+/// rejected. Whether every period balances: if not, the day is of no use.
+pub(crate) fn turn_block<A: Allocator>(
     tables: &Tables<A>,
     day: &mut Day,
     place: usize,
-    change: Change,
     accept: bool,
-    least: Option<u64>,
 ) -> bool
-    requires { (problem : ProblemState) × (depth : ℕ) × (before : List Bool) × (after : List Bool)
+    requires { (problem : ProblemState) × (before : List Bool) × (after : List Bool)
         × AreTables problem.hours problem.blocks tables.now.stacks
         tables.now.ends.items tables.now.lots.items
         × (place < length problem.blocks)
-        × IsChange problem.blocks place change accept depth before after
+        × IsChange problem.blocks place Turn accept (length problem.blocks) before after
         × IsDay problem before day.old }
-    ensures { (problem : ProblemState) (depth : ℕ) (before after : List Bool)
+    ensures { (problem : ProblemState) (before after : List Bool)
         → AreTables problem.hours problem.blocks tables.now.stacks
         tables.now.ends.items tables.now.lots.items
         → place < length problem.blocks
-        → IsChange problem.blocks place change accept depth before after
+        → IsChange problem.blocks place Turn accept (length problem.blocks) before after
         → IsDay problem before day.old
-        → MatchBool result (IsDay problem after day.new) (IsGivenUp problem least before after) }
+        → MatchBool result (IsDay problem after day.new) (relaxed_welfare problem after ≡ None) }
 {
     laws::welfare();
     let lot = &tables.lots[place];
     let is_served = is_served(lot.side(), accept);
-    let floor = floor_of(least);
     for touch in lot.touches() {
         let at = touch.at as usize;
         let own = day.periods[at];
@@ -180,7 +158,7 @@ pub(crate) fn change_day<A: Allocator>(
             tables.ends[at],
             *touch,
             own,
-            change,
+            Change::Turn,
             is_served,
         );
         let Some((next, gained)) = next else {
@@ -188,9 +166,6 @@ pub(crate) fn change_day<A: Allocator>(
         };
         day.periods[at] = next;
         day.total += gained;
-        if is_under(day.total, floor) {
-            return false;
-        }
     }
     true
 }

@@ -6,11 +6,12 @@
 //! let bound = relaxed.bound(Selection::none().with(0), 2); // block 0 accepted, block 1 not, the others open
 //! ```
 //!
-//! A walk down the tree of prefixes carries the [`Day`] of each (`root`), and makes of a copy (`copy_day`) the
-//! day of the prefix with one more decision (`extend`): the same welfare, with only the periods of the last
-//! block changed, and no further than until it is seen to be less than what is asked for. Of the
-//! day of a prefix that decides every block, `turn` makes that with one decision turned round, and
-//! `gain` tells what an accepted block gains with its accepted descendants.
+//! A walk down the tree of prefixes keeps the days of those on its way in the slots of a [`Trail`]. It begins
+//! with the day of the prefix that decides nothing (`begin`), and makes that of a prefix with one more
+//! decision (`extend`): the same welfare, with only the periods of the last block changed, and no further
+//! than until it is seen to be less than what is asked for. Of a prefix that decides every block the day is
+//! read out (`day_at`) as a [`Day`]: `turn` makes that with one decision turned round, and `gain` tells
+//! what an accepted block gains with its accepted descendants.
 //!
 //! What these words mean stands in `specs/`: prefixes and their completions, the relaxed welfare,
 //! the live count. A contract sees a [`Relaxed`] as the problem that it was built of, without its
@@ -27,6 +28,8 @@ pub mod laws;
 mod levels;
 mod relaxed;
 mod tables;
+mod trail;
 
 pub use day::Day;
 pub use relaxed::Relaxed;
+pub use trail::Trail;

@@ -6,14 +6,16 @@ ghost use Rattle.dam_blocks.specs.Eligible.{period_welfare, ArePrices, gain_at};
 ghost use Rattle.dam_blocks.specs.Magnitude.{IsWithin};
 ghost use Rattle.dam_bound.specs.Relaxed.{as_steps, relaxed_welfare, without_rows};
 ghost use Rattle.dam_bound.specs.Day.{IsDay, IsUnder};
+ghost use Rattle.dam_bound.specs.Trail.{IsDayIn, KeepsDays};
 ghost use Rattle.dam_bound.specs.inside.Levels.{AreLevels, AreLevelsAt, last_steps, AreDayLevels};
 ghost use Rattle.dam_bound.specs.inside.Levels.{greatest_period_bound};
 
-use crate::day::{Change, Day, change_day, copy_periods};
+use crate::day::{Day, copy_periods, turn_block};
 use crate::families::families_of;
 use crate::gain::gain_of;
 use crate::levels::Levels;
 use crate::tables::Tables;
+use crate::trail::{Trail, day_of, decide_block, write_root};
 use dam_blocks::{Block, Problem, Selection, block_value, laws, net_volume};
 use dam_book::Period;
 use std::alloc::{AllocError, Allocator, Global};
@@ -39,7 +41,7 @@ impl<A: Allocator> Model for Relaxed<A> {
     ghost use Rattle.dam_bound.specs.Day.{IsDay};
     ghost use Rattle.dam_bound.specs.inside.Levels.{AreDayLevels, last_steps, problem_kept};
     ghost use Rattle.dam_bound.specs.inside.Families.{AreFamilies};
-    ghost use Rattle.dam_bound.specs.inside.Tables.{AreTables};
+    ghost use Rattle.dam_bound.specs.inside.Tables.{AreTables, ArePlaces};
 
     ghost Value = { ProblemState };
 
@@ -50,7 +52,8 @@ impl<A: Allocator> Model for Relaxed<A> {
         × AreFamilies r.blocks.items r.families.items
         × AreTables (map last_steps r.periods.items) r.blocks.items
         r.tables.stacks r.tables.ends.items r.tables.lots.items
-        × IsDay (problem_kept r.periods.items r.blocks.items) [] r.tables.root };
+        × IsDay (problem_kept r.periods.items r.blocks.items) [] r.tables.root
+        × ArePlaces r.blocks.items (length r.blocks.items) r.tables.places };
 }
 
 fn copies_of<A: Allocator>(alloc: A, blocks: &[Block]) -> Result<Vec<Block, A>, AllocError>
@@ -162,39 +165,52 @@ impl<A: Allocator> Relaxed<A> {
         Some(total)
     }
 
-    /// The day of the prefix that decides nothing; `None` where it has no bound.
-    pub fn root(&self) -> Option<Day>
-        ensures { MatchOption result (relaxed_welfare self.now [] ≡ None) (IsDay self.now []) }
+    /// Begins a walk: makes the day of the prefix that decides nothing, and returns its relaxed welfare.
+    pub fn begin(&self, trail: &mut Trail) -> i64
+        ensures { IsDayIn self.now [] trail.new result }
     {
-        Some(self.tables.root)
+        write_root(&self.tables.root, trail, self.periods.len());
+        self.tables.root.total
     }
 
-    /// Extends the day of a prefix by the decision on the block at the depth; whether it did. `false`
-    /// where the extension has no bound or one under `least`; nothing is then promised of the day.
-    /// `true` doesn't say that the bound reaches `least`.
+    /// Extends the day of a prefix by the decision on the block at the depth, and returns its relaxed
+    /// welfare; `None` where the extension has no bound or one under `least`. The days of the prefix and of
+    /// shorter ones stay, so that the other decision can be made afterwards.
     ///
-    /// Only the periods in which the block has a volume are changed, and no further than until
-    /// the bound is seen to be under `least`. Takes no memory.
-    pub fn extend(&self, day: &mut Day, depth: usize, accept: bool, least: u64) -> bool
+    /// That there is a relaxed welfare doesn't say that it reaches `least`. Only the periods in which
+    /// the block has a volume are looked at, and no further than until the bound is seen to be under
+    /// `least`. Takes no memory.
+    pub fn extend(
+        &self,
+        trail: &mut Trail,
+        depth: usize,
+        accept: bool,
+        total: i64,
+        least: u64,
+    ) -> Option<i64>
         requires depth { depth < length self.now.blocks }
         requires day { (prefix : List Bool) × (length prefix ≡ depth)
-            × IsDay self.now prefix day.old }
-        ensures { (prefix : List Bool) → length prefix ≡ depth → IsDay self.now prefix day.old
-            → MatchBool result (IsDay self.now (prefix ++ accept ∷ []) day.new)
-            (IsUnder self.now (prefix ++ accept ∷ []) least) }
+            × IsDayIn self.now prefix trail.old total }
+        ensures kept { KeepsDays self.now depth trail.old trail.new }
+        ensures day { (prefix : List Bool) → length prefix ≡ depth
+            → IsDayIn self.now prefix trail.old total
+            → MatchOption result (IsUnder self.now (prefix ++ accept ∷ []) least)
+            (IsDayIn self.now (prefix ++ accept ∷ []) trail.new) }
     {
         dam_hour::laws::joining();
         dam_hour::laws::welfare();
         dam_hour::laws::magnitude();
         laws::sums();
-        change_day(
-            &self.tables,
-            day,
-            depth,
-            Change::Decide,
-            accept,
-            Some(least),
-        )
+        decide_block(&self.tables, trail, depth, accept, total, least)
+    }
+
+    /// The day of a prefix that decides every block, where it is in the slots with this relaxed welfare.
+    /// Takes no memory.
+    pub fn day_at(&self, trail: &Trail, total: i64) -> Day
+        ensures { (prefix : List Bool) → length prefix ≡ length self.now.blocks
+            → IsDayIn self.now prefix trail.now total → IsDay self.now prefix result }
+    {
+        day_of(trail, &self.tables.places, self.periods.len(), total)
     }
 
     /// Makes `to` a day of whichever prefix `from` is the day of. Only what belongs to the problem's
@@ -220,7 +236,7 @@ impl<A: Allocator> Relaxed<A> {
             → MatchBool result (IsDay self.now (slice_set prefix place accept) day.new)
             (relaxed_welfare self.now (slice_set prefix place accept) ≡ None) }
     {
-        change_day(&self.tables, day, place, Change::Turn, accept, None)
+        turn_block(&self.tables, day, place, accept)
     }
 
     /// What the block at a place gains at the prices of a day on which every block is decided, with

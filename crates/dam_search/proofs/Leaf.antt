@@ -1,12 +1,17 @@
 -- The verdict on a selection, told by the day of its decisions.
-use Rattle.std.proofs.Common.{◌≡◌, inr, ◌↔◌, MatchBool, ℕ, ℤ, pos, ◌<ℤ◌, Bool, true, false, Option, Some, List, ◌∙◌, ap, sym, subst}
+use Rattle.std.proofs.Common.{◌≡◌, inr, ◌↔◌, MatchOption, ℕ, ℤ, pos, ◌<ℤ◌, Bool, true, false, Option, Some, None, List, ◌∙◌, ap, sym, subst}
+use Rattle.std.proofs.lemmas.Int.{to_z-of_z}
+use mir.Syntax.{w64}
+use mir.Val.{to_z, of_z, SFits}
 use Rattle.dam_blocks.specs.declared.selection.Best.{Best}
 use Rattle.dam_blocks.specs.Problem.{ProblemState}
 use Rattle.dam_blocks.specs.Selection.{padded, IsAdmissible}
 use Rattle.dam_blocks.specs.Eligible.{ArePrices, HasNoLoss, selection_welfare, IsEligible}
 use Rattle.dam_blocks.specs.Result.{RanksAtOrBelow}
 use Rattle.dam_bound.specs.declared.day.Day.{Day}
+use Rattle.dam_bound.specs.declared.trail.Trail.{Trail}
 use Rattle.dam_bound.specs.Day.{IsDay, IsUnder}
+use Rattle.dam_bound.specs.Trail.{IsDayIn}
 use Rattle.dam_bound.specs.Prefix.{IsCompletion}
 use Rattle.dam_bound.specs.Relaxed.{relaxed_welfare, without_rows}
 use Rattle.dam_search.specs.Piece.{Rises}
@@ -27,14 +32,27 @@ pub welfare_is_total : (problem relaxed : ProblemState) (prefix sel : List Bool)
 welfare_is_total problem relaxed prefix sel day same is decided =
     sym (is.total_is ∙ ap (λ (p : ProblemState). relaxed_welfare p prefix) same ∙ decided)
 
--- the day, or what else is known
-pub if_bounded : (bounded : Bool) (problem : ProblemState) (prefix : List Bool) (day : Day) (low : ℕ) → bounded ≡ true → MatchBool bounded (IsDay problem prefix day) (IsUnder problem prefix low) → IsDay problem prefix day
-if_bounded true problem prefix day low e m = m
-if_bounded false problem prefix day low e m = absurd (cc)
+pub welfare_is_told : (problem relaxed : ProblemState) (prefix sel : List Bool) (trail : Trail) (total : ℤ) → relaxed ≡ without_rows problem
+    → IsDayIn relaxed prefix trail total
+    → relaxed_welfare problem prefix ≡ selection_welfare problem sel → selection_welfare problem sel ≡ Some total
+welfare_is_told problem relaxed prefix sel trail total same is decided =
+    welfare_is_total problem relaxed prefix sel is.day same is.day_is decided ∙ ap (λ (z : ℤ). Some z) is.total_is
 
-pub unless_bounded : (bounded : Bool) (problem : ProblemState) (prefix : List Bool) (day : Day) (low : ℕ) → bounded ≡ false → MatchBool bounded (IsDay problem prefix day) (IsUnder problem prefix low) → IsUnder problem prefix low
-unless_bounded true problem prefix day low e m = absurd (cc)
-unless_bounded false problem prefix day low e m = m
+-- what is told of a prefix, or what else is known
+pub if_told : (told : Option ℤ) (total : ℤ) (problem : ProblemState) (prefix : List Bool) (trail : Trail) (low : ℕ) → told ≡ Some total
+    → MatchOption told (IsUnder problem prefix low) (IsDayIn problem prefix trail) → IsDayIn problem prefix trail total
+if_told (Some own) total problem prefix trail low e m = let same : own ≡ total = cc in subst (λ (z : ℤ). IsDayIn problem prefix trail z) same m
+if_told None total problem prefix trail low e m = absurd (cc)
+
+pub unless_told : (told : Option ℤ) (problem : ProblemState) (prefix : List Bool) (trail : Trail) (low : ℕ) → told ≡ None
+    → MatchOption told (IsUnder problem prefix low) (IsDayIn problem prefix trail) → IsUnder problem prefix low
+unless_told (Some own) problem prefix trail low e m = absurd (cc)
+unless_told None problem prefix trail low e m = m
+
+-- the day, with the total as it is passed on
+pub as_passed : (problem : ProblemState) (prefix : List Bool) (trail : Trail) (total : ℤ) → SFits w64 total → IsDayIn problem prefix trail total
+    → IsDayIn problem prefix trail (to_z w64 (of_z w64 total))
+as_passed problem prefix trail total fits is = subst (λ (z : ℤ). IsDayIn problem prefix trail z) (sym (to_z-of_z w64 total fits)) is
 
 -- no more welfare than the prefix's bound
 pub under_read : (problem relaxed : ProblemState) (prefix sel : List Bool) (read : ℕ) (w : ℤ) → relaxed ≡ without_rows problem → IsUnder relaxed prefix read

@@ -1,10 +1,11 @@
 ghost use Rattle.std.specs.Prelude.{◌≡◌, ◌⊎◌, ◌+◌, ◌-◌, ◌^◌, ◌<◌, ◌≤◌, max, ℤ, pos, ◌<ℤ◌, ◌≤ℤ◌, true, false, Some, None};
-ghost use Rattle.std.specs.Prelude.{Option, List, Bool, [], ◌∷◌, ◌++◌, length, IsTrue, ◌↔◌, MatchBool, IfSome, IfNone};
+ghost use Rattle.std.specs.Prelude.{Option, List, Bool, [], ◌∷◌, ◌++◌, length, IsTrue, ◌↔◌, MatchBool, MatchOption, IfSome, IfNone};
 ghost use Rattle.dam_blocks.specs.Selection.{choice, padded, IsAdmissible};
 ghost use Rattle.dam_blocks.specs.Eligible.{IsEligible};
 ghost use Rattle.dam_bound.specs.Prefix.{IsCompletion};
 ghost use Rattle.dam_bound.specs.Relaxed.{relaxed_welfare, without_rows};
-ghost use Rattle.dam_bound.specs.Day.{IsDay, IsUnder};
+ghost use Rattle.dam_bound.specs.Day.{IsUnder};
+ghost use Rattle.dam_bound.specs.Trail.{IsDayIn, KeepsDays};
 ghost use Rattle.dam_search.specs.Piece.{IsFind, IsMatched, Rises, welfare_found, IsSound, IsSpent};
 ghost use Rattle.dam_search.specs.inside.Walk.{Finds, Covers, IsGoing, IsWalked};
 
@@ -12,8 +13,7 @@ use crate::answer::PieceAnswer;
 use crate::incumbent::Incumbent;
 use crate::prefix::Prefix;
 use dam_blocks::{Best, Problem, Selection, ranks_above};
-use dam_book::MOST_BLOCKS;
-use dam_bound::{Day, Relaxed};
+use dam_bound::{Relaxed, Trail};
 use std::alloc::Allocator;
 
 /// What a walk has come to so far.
@@ -62,22 +62,22 @@ fn candidate(selection: Selection, welfare: i64, found: &Found) -> Option<Best>
 /// Takes the selection of a prefix that decides every block and that the links and the groups admit,
 /// and offers its welfare, where it is eligible and the best so far.
 ///
-/// The prefix's day tells its verdict: the welfare is the bound, and that is looked at first; prices
-/// are asked for only where it may be the best, and only in the periods of accepted blocks. If it isn't
-/// `bounded`, the welfare is known to be under what was read.
+/// The welfare is the bound, and that is looked at first; prices are asked for only where it may be the
+/// best, and only in the periods of accepted blocks. If no bound is told, the welfare is known to be under
+/// what was read.
 fn try_selection<A: Allocator, B: Allocator, I: Incumbent>(
     problem: &Problem<A>,
     relaxed: &Relaxed<B>,
     prefix: &Prefix,
-    day: &Day,
-    bounded: bool,
+    trail: &Trail,
+    total: Option<i64>,
     incumbent: &mut I,
     found: &mut Found,
 )
     requires same { relaxed.now ≡ without_rows problem.now }
     requires full { length problem.now.blocks ≡ length prefix.now }
-    requires day { MatchBool bounded (IsDay relaxed.now prefix.now day.now)
-        (IsUnder relaxed.now prefix.now found.old.read) }
+    requires day { MatchOption total (IsUnder relaxed.now prefix.now found.old.read)
+        (IsDayIn relaxed.now prefix.now trail.now) }
     requires admissible { IsAdmissible problem.now.blocks (padded prefix.now) }
     requires best { IsFind problem.now [] found.old.best }
     requires offered { welfare_found found.old.best ≤ I.top incumbent.old }
@@ -95,13 +95,14 @@ fn try_selection<A: Allocator, B: Allocator, I: Incumbent>(
     dam_bound::laws::prices();
     // What every problem keeps, as a clause of this reader tells it.
     let _kept = problem.periods();
-    if !bounded {
-        return;
-    }
-    let Some(best) = candidate(prefix.selection(), day.total, found) else {
+    let Some(total) = total else {
         return;
     };
-    if prefix.has_loss(relaxed, day) {
+    let Some(best) = candidate(prefix.selection(), total, found) else {
+        return;
+    };
+    let day = relaxed.day_at(trail, total);
+    if prefix.has_loss(relaxed, &day) {
         return;
     }
     let welfare = best.welfare;
@@ -122,8 +123,7 @@ fn equals(bound: i64, value: u64) -> bool
 /// A prefix whose bound is less than what was read is passed over after its own visit. 'Rejected' is
 /// explored before 'accepted', which finds good selections sooner. If the bound equals what was read, no
 /// completion has more welfare than that, and only the order of ties counts: 'accepted' comes first in
-/// it, and is explored first. The first decision's day is made in `below`, where there is one for each
-/// undecided block, and the other's of this day itself, of which nothing is promised afterwards.
+/// it, and is explored first. The days of the prefix and of the shorter ones stay.
 ///
 /// It is inlined into `decide`, so that the walk is one function that calls itself.
 #[cycle(explore)]
@@ -133,22 +133,21 @@ fn explore<A: Allocator, B: Allocator, I: Incumbent>(
     relaxed: &Relaxed<B>,
     nodes: u32,
     prefix: Prefix,
-    day: &mut Day,
-    bounded: bool,
-    below: &mut [Day],
+    trail: &mut Trail,
+    total: Option<i64>,
     incumbent: &mut I,
     found: &mut Found,
 ) -> bool
     requires same { relaxed.now ≡ without_rows problem.now }
     requires depth { length prefix ≤ length problem.now.blocks }
-    requires day { MatchBool bounded (IsDay relaxed.now prefix day.old)
-        (IsUnder relaxed.now prefix found.old.read) }
+    requires day { MatchOption total (IsUnder relaxed.now prefix found.old.read)
+        (IsDayIn relaxed.now prefix trail.old) }
     requires admissible { IsAdmissible problem.now.blocks (padded prefix) }
-    requires days { length problem.now.blocks ≤ length prefix + length below.old }
     requires going { IsGoing problem.now nodes (I.told incumbent.old) (I.top incumbent.old) found.old }
     ensures walked { IsWalked problem.now prefix nodes (I.told incumbent.old) (I.top incumbent.old)
         (I.told incumbent.new) (I.top incumbent.new) found.old found.new result }
     ensures kept { I.kept incumbent.new ≡ I.kept incumbent.old }
+    ensures days { KeepsDays relaxed.now (length prefix) trail.old trail.new }
 {
     dam_blocks::laws::ranking();
     dam_bound::laws::completions();
@@ -157,32 +156,28 @@ fn explore<A: Allocator, B: Allocator, I: Incumbent>(
     }
     found.visited += 1;
     if prefix.depth() == problem.block_count() {
-        try_selection(problem, relaxed, &prefix, day, bounded, incumbent, found);
+        try_selection(problem, relaxed, &prefix, trail, total, incumbent, found);
         return true;
     }
     found.read = incumbent.read();
-    let Some(open) = prefix.opened(day, bounded, found.read) else {
+    let Some(bound) = prefix.open_bound(total, found.read) else {
         return true;
     };
-    let Some((next, below)) = below.split_first_mut() else {
-        unreachable!();
-    };
-    relaxed.copy_day(day, next);
-    let first = equals(day.total, found.read);
+    let first = equals(bound, found.read);
     if !decide(
-        problem, relaxed, nodes, &open, first, next, below, incumbent, found,
+        problem, relaxed, nodes, &prefix, first, trail, bound, incumbent, found,
     ) {
         return false;
     }
     decide(
-        problem, relaxed, nodes, &open, !first, day, below, incumbent, found,
+        problem, relaxed, nodes, &prefix, !first, trail, bound, incumbent, found,
     )
 }
 
 /// Explores the extension of a prefix by this decision on the next block, as `explore` does.
 ///
 /// If the links and the groups don't admit it, it is passed over without a visit. Its day is made of the
-/// prefix's, and no further than until its bound is under what was read: it isn't `bounded` then.
+/// prefix's, and no further than until its bound is under what was read: none is told then.
 #[cycle(explore)]
 fn decide<A: Allocator, B: Allocator, I: Incumbent>(
     problem: &Problem<A>,
@@ -190,30 +185,30 @@ fn decide<A: Allocator, B: Allocator, I: Incumbent>(
     nodes: u32,
     prefix: &Prefix,
     accept: bool,
-    day: &mut Day,
-    below: &mut [Day],
+    trail: &mut Trail,
+    total: i64,
     incumbent: &mut I,
     found: &mut Found,
 ) -> bool
     requires same { relaxed.now ≡ without_rows problem.now }
     requires depth { length prefix.now < length problem.now.blocks }
-    requires day { IsDay relaxed.now prefix.now day.old }
+    requires day { IsDayIn relaxed.now prefix.now trail.old total }
     requires admissible { IsAdmissible problem.now.blocks (padded prefix.now) }
-    requires days { length problem.now.blocks ≤ length prefix.now + 1 + length below.old }
     requires going { IsGoing problem.now nodes (I.told incumbent.old) (I.top incumbent.old) found.old }
     ensures walked { IsWalked problem.now (prefix.now ++ accept ∷ []) nodes
         (I.told incumbent.old) (I.top incumbent.old) (I.told incumbent.new) (I.top incumbent.new)
         found.old found.new result }
     ensures kept { I.kept incumbent.new ≡ I.kept incumbent.old }
+    ensures days { KeepsDays relaxed.now (length prefix.now) trail.old trail.new }
 {
     let _kept = problem.periods(); // for the proof: what every problem keeps
     let extended = prefix.extended(accept);
     if accept && !extended.is_still_admissible(problem) {
         return true;
     }
-    let bounded = relaxed.extend(day, prefix.depth(), accept, found.read);
+    let next = relaxed.extend(trail, prefix.depth(), accept, total, found.read);
     explore(
-        problem, relaxed, nodes, extended, day, bounded, below, incumbent, found,
+        problem, relaxed, nodes, extended, trail, next, incumbent, found,
     )
 }
 
@@ -266,15 +261,15 @@ pub fn search_piece<A: Allocator, B: Allocator, I: Incumbent>(
             done: true,
         };
     }
-    let (mut day, bounded) = prefix.bounded_day(relaxed);
+    let mut trail = Trail::empty();
+    let total = prefix.walked(relaxed, &mut trail);
     let mut found = Found {
         best: None,
         read: 0,
         visited: 0,
     };
-    let mut below = [Day::empty(); MOST_BLOCKS];
     let done = explore(
-        problem, relaxed, nodes, prefix, &mut day, bounded, &mut below, incumbent, &mut found,
+        problem, relaxed, nodes, prefix, &mut trail, total, incumbent, &mut found,
     );
     PieceAnswer {
         piece,

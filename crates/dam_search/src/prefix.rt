@@ -1,5 +1,5 @@
 ghost use Rattle.std.specs.Prelude.{◌≡◌, ◌+◌, ◌-◌, ◌^◌, ◌<◌, ◌≤◌, ℤ, pos, ◌<ℤ◌, true, false, Some};
-ghost use Rattle.std.specs.Prelude.{ℕ, List, Bool, [], ◌∷◌, ◌++◌, length, slice_get, slice_set, slice_index_or, not, IsTrue, ◌↔◌, MatchBool, MatchOption};
+ghost use Rattle.std.specs.Prelude.{ℕ, List, Bool, [], ◌∷◌, ◌++◌, length, slice_get, slice_set, slice_index_or, not, IsTrue, ◌↔◌, MatchOption};
 ghost use Rattle.dam_book.specs.Limits.{most_blocks};
 ghost use Rattle.dam_blocks.specs.Problem.{ProblemState};
 ghost use Rattle.dam_blocks.specs.Selection.{choice, padded, IsAdmissible};
@@ -7,10 +7,12 @@ ghost use Rattle.dam_blocks.specs.Eligible.{ArePrices, HasNoLoss, selection_welf
 ghost use Rattle.dam_bound.specs.Prefix.{IsCompletion};
 ghost use Rattle.dam_bound.specs.Relaxed.{relaxed_welfare, reaches};
 ghost use Rattle.dam_bound.specs.Day.{IsDay, IsUnder};
+ghost use Rattle.dam_bound.specs.Trail.{IsDayIn};
+ghost use Rattle.dam_bound.specs.declared.trail.Trail.{Trail};
 ghost use Rattle.dam_search.specs.inside.Walk.{IsDayFrom};
 
 use dam_blocks::{Problem, Selection, admissible, is_allowed};
-use dam_bound::{Day, Relaxed};
+use dam_bound::{Day, Relaxed, Trail};
 use std::alloc::Allocator;
 use std::marker::Model;
 
@@ -132,31 +134,39 @@ impl Prefix {
         is_allowed(problem, self.taken, last)
     }
 
-    /// The prefix's day; `None` only where it has no bound or one below 0.
-    pub(crate) fn day<A: Allocator>(&self, relaxed: &Relaxed<A>) -> Option<Day>
+    /// Makes the days of the prefix and of the shorter ones, and returns its bound; `None` only where it
+    /// has no bound or one below 0.
+    pub(crate) fn walked<A: Allocator>(
+        &self,
+        relaxed: &Relaxed<A>,
+        trail: &mut Trail,
+    ) -> Option<i64>
         requires { length self.now ≤ length relaxed.now.blocks }
-        ensures { IsDayFrom relaxed.now self.now 0 result }
+        ensures { MatchOption result (IsUnder relaxed.now self.now 0)
+            (IsDayIn relaxed.now self.now trail.new) }
     {
         dam_bound::laws::extension();
-        let mut day = relaxed.root()?;
+        let mut total = relaxed.begin(trail);
         for place in 0..self.depth {
-            if !relaxed.extend(&mut day, place, self.taken.has(place), 0) {
+            let next = relaxed.extend(trail, place, self.taken.has(place), total, 0);
+            let Some(next) = next else {
                 return None;
-            }
+            };
+            total = next;
         }
-        Some(day)
+        Some(total)
     }
 
-    /// The prefix's day, and true; or some day, and false where it has no bound or one below 0.
-    pub(crate) fn bounded_day<A: Allocator>(&self, relaxed: &Relaxed<A>) -> (Day, bool)
-        requires { length self.now ≤ length relaxed.now.blocks }
-        ensures { MatchBool result.1 (IsDay relaxed.now self.now result.0)
-            (IsUnder relaxed.now self.now 0) }
+    /// The day of the prefix, which decides every block; `None` only where it has no bound or one below 0.
+    /// It is made in the slots.
+    pub(crate) fn day<A: Allocator>(&self, relaxed: &Relaxed<A>, trail: &mut Trail) -> Option<Day>
+        requires { length self.now ≡ length relaxed.now.blocks }
+        ensures { IsDayFrom relaxed.now self.now 0 result }
     {
-        match self.day(relaxed) {
-            Some(day) => (day, true),
-            None => (Day::empty(), false),
-        }
+        let Some(total) = self.walked(relaxed, trail) else {
+            return None;
+        };
+        Some(relaxed.day_at(trail, total))
     }
 
     /// Whether the block at the place is accepted.
@@ -198,25 +208,24 @@ impl Prefix {
         false
     }
 
-    /// The prefix, where its bound is at least the value; nothing where it has no bound or a lesser
-    /// one, and so each of its completions has less welfare than the value. The day is the prefix's if
-    /// it is `bounded`; else the bound is known to be under what was read before.
-    pub(crate) fn opened(self, day: &Day, bounded: bool, least: u64) -> Option<Prefix>
-        ensures { (relaxed : ProblemState) (low : ℕ) → low ≤ least
-            → MatchBool bounded (IsDay relaxed self day.now) (IsUnder relaxed self low)
+    /// The prefix's bound, where it is at least the value; nothing where it has no bound or a lesser
+    /// one, and so each of its completions has less welfare than the value. If none is told, it is known
+    /// to be under what was read before.
+    pub(crate) fn open_bound(&self, total: Option<i64>, least: u64) -> Option<i64>
+        ensures { (relaxed : ProblemState) (trail : Trail) (low : ℕ) → low ≤ least
+            → MatchOption total (IsUnder relaxed self.now low) (IsDayIn relaxed self.now trail)
             → MatchOption result
-            ((sel : List Bool) (w : ℤ) → IsCompletion self sel
+            ((sel : List Bool) (w : ℤ) → IsCompletion self.now sel
             → selection_welfare relaxed sel ≡ Some w → w <ℤ pos least)
-            (λ prefix. (prefix ≡ self)
-            × (reaches (relaxed_welfare relaxed self) least ≡ true)
-            × IsDay relaxed self day.now) }
+            (λ bound. (reaches (relaxed_welfare relaxed self.now) least ≡ true)
+            × IsDayIn relaxed self.now trail bound) }
     {
         dam_bound::laws::bound();
-        if !bounded {
+        let Some(total) = total else {
             return None;
-        }
-        if reaches(day.total, least) {
-            Some(self)
+        };
+        if reaches(total, least) {
+            Some(total)
         } else {
             None
         }

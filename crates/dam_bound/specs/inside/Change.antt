@@ -1,5 +1,5 @@
 -- What becomes of a day where one block is decided, or decided the other way.
-use Rattle.std.specs.Prelude.{◌≡◌, ◌⊎◌, ℕ, ◌+◌, Bool, true, false, ℤ, pos, neg_ℤ, ◌<◌, ◌+ℤ◌, ◌≤ℤ◌, Option, Some, None, List, ◌++◌, length, drop, slice_get}
+use Rattle.std.specs.Prelude.{◌≡◌, ◌⊎◌, ℕ, ◌+◌, Bool, true, false, ℤ, pos, neg_ℤ, ◌<◌, ◌+ℤ◌, ◌≤ℤ◌, Some, None, List, ◌++◌, length, drop, slice_get}
 use Rattle.dam_hour.specs.declared.step.Step.{Step}
 use Rattle.dam_stack.specs.declared.row.Row.{Row}
 use Rattle.dam_stack.specs.declared.stacks.Span.{Span}
@@ -42,10 +42,8 @@ NeverRises blocks before after = (t : ℕ) (ss : List Step) (w : ℤ) → period
     → (r : ℤ) × (period_welfare blocks before t (ss ++ as_steps t (drop (length before) blocks)) ≡ Some r) × (w ≤ℤ r)
 
 -- some period doesn't balance; or the relaxed welfare is under what is asked for, provided that no period's rises
-abbrev pub IsGivenUp : ProblemState → Option ℕ → List Bool → List Bool → Type 0
-IsGivenUp problem None before after = relaxed_welfare problem after ≡ None
-IsGivenUp problem (Some least) before after =
-    (relaxed_welfare problem after ≡ None) ⊎ (NeverRises problem.blocks before after → IsUnder problem after least)
+abbrev pub IsGivenUp : ProblemState → ℕ → List Bool → List Bool → Type 0
+IsGivenUp problem least before after = (relaxed_welfare problem after ≡ None) ⊎ (NeverRises problem.blocks before after → IsUnder problem after least)
 
 -- ---- one of the block's periods
 -- what is changed: these steps of the period, this block and its decision, and the decisions before and after

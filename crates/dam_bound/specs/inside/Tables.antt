@@ -1,5 +1,5 @@
 -- What the walk keeps: the stacks of the periods, and what each block is in each of its periods.
-use Rattle.std.specs.Prelude.{◌≡◌, ℕ, ◌+◌, ◌<◌, ◌≤◌, Some, List, ◌++◌, length, map, drop, slice_get, slice_index_or, IsPermutation}
+use Rattle.std.specs.Prelude.{◌≡◌, ℕ, ◌+◌, ◌*◌, ◌<◌, ◌≤◌, Some, List, ◌++◌, length, map, drop, slice_get, slice_index_or, IsPermutation}
 use Rattle.dam_book.specs.Limits.{last_period, most_blocks}
 use Rattle.dam_book.specs.Volumes.{Pair}
 use Rattle.dam_book.specs.declared.order.Side.{Side}
@@ -10,6 +10,7 @@ use Rattle.dam_stack.specs.Rows.{IsStackAt, IsCutOff}
 use Rattle.dam_blocks.specs.declared.problem.Block.{Block}
 use Rattle.dam_blocks.specs.Problem.{AreBlocks}
 use Rattle.dam_bound.specs.Relaxed.{step_of, as_steps}
+use Rattle.dam_bound.specs.Trail.{slot_at}
 use Rattle.dam_bound.specs.declared.tables.Touch.{Touch}
 
 -- for each period the stack of its hourly orders, and after them of the blocks that so many decisions leave undecided
@@ -30,8 +31,15 @@ pub record IsTouch (hours : List (List Step)) (blocks : List Block) (rows : List
   pub at_is : p.0 ≡ touch.at + 1
   pub volume_is : p.1 ≡ touch.cut.volume
   pub inside : touch.at < length hours
+  pub from_is : touch.from ≡ slot_at blocks touch.at place
+  pub to_is : touch.to ≡ (place + 1) * last_period + touch.at
   pub cut_is : (ss : List Step) → slice_get hours touch.at ≡ Some ss
       → IsCutOff rows (step_of p.0 b.order) (ss ++ as_steps p.0 (drop (place + 1) blocks)) touch.cut
+
+-- the slot in which each period stands once so many blocks are decided
+pub record ArePlaces (blocks : List Block) (depth : ℕ) (places : List ℕ) : Type 0 where
+  pub long : length places ≡ last_period
+  pub each : (i d : ℕ) → i < last_period → slice_index_or places i d ≡ slot_at blocks i depth
 
 -- a block's side and its touches, one for each of its volumes, in any order
 pub record LotState : Type 0 where

@@ -12,7 +12,7 @@ loop-period-init g c = record {
   keeps = keeps_none c.args.stacks.now;
   so_far = λ hours blocks k at are spans. (
     spans_begun hours blocks c.args.stacks.now k c.args.block.now c.args.spans.now.items at spans,
-    subst (AreTouchesSoFar hours blocks c.args.stacks.now k c.args.block.now 0) (sym c.in_ok-touches.ensures.items)
+    λ places own. subst (AreTouchesSoFar hours blocks c.args.stacks.now k c.args.block.now 0) (sym c.in_ok-touches.ensures.items)
         (no_touch hours blocks c.args.stacks.now k c.args.block.now),
   );
 }
@@ -22,21 +22,21 @@ touch_of-requires-clause-inside g c =
     let pairs = c.pairs-pairs.ensures.value ∙ c.volumes.ensures in
     let read = slice_get_read _ _ c.loop-period.period-index _ (search rules) c.loop-period-test.true c.loop-period-item.is in
     let pair = ap (λ (ps : List Pair). slice_get ps c.loop-period.period-index) (sym pairs) ∙ read in
-    let so_far = c.loop-period.invariant.so_far c.requires.0 c.requires.1 c.requires.2 c.requires.3 c.requires.4 c.requires.5 in
-    (next_touch c.requires.0 c.requires.1 c.loop-period.stacks c.requires.2 c.loop-period.period-index c.args.block.now
+    let so_far = c.loop-period.invariant.so_far c.requires.day.0 c.requires.day.1 c.requires.day.2 c.requires.day.3 c.requires.day.4 c.requires.day.5 in
+    (next_touch c.requires.day.0 c.requires.day.1 c.loop-period.stacks c.requires.day.2 c.loop-period.period-index c.args.block.now
     c.loop-period-item.result c.loop-period.spans.items
-    c.requires.3 c.requires.4 pair so_far.0).inside
+    c.requires.day.3 c.requires.day.4 pair so_far.0).inside
 
 pub touch_of-requires-clause-stack : goal.touch_of-requires-clause-stack
 touch_of-requires-clause-stack g c =
     let pairs = c.pairs-pairs.ensures.value ∙ c.volumes.ensures in
     let read = slice_get_read _ _ c.loop-period.period-index _ (search rules) c.loop-period-test.true c.loop-period-item.is in
     let pair = ap (λ (ps : List Pair). slice_get ps c.loop-period.period-index) (sym pairs) ∙ read in
-    let so_far = c.loop-period.invariant.so_far c.requires.0 c.requires.1 c.requires.2 c.requires.3 c.requires.4 c.requires.5 in
-    let next = next_touch c.requires.0 c.requires.1 c.loop-period.stacks c.requires.2 c.loop-period.period-index c.args.block.now
+    let so_far = c.loop-period.invariant.so_far c.requires.day.0 c.requires.day.1 c.requires.day.2 c.requires.day.3 c.requires.day.4 c.requires.day.5 in
+    let next = next_touch c.requires.day.0 c.requires.day.1 c.loop-period.stacks c.requires.day.2 c.loop-period.period-index c.args.block.now
     c.loop-period-item.result
-    c.loop-period.spans.items c.requires.3 c.requires.4 pair so_far.0 in
-    (next.steps, as_steps c.loop-period-item.result.0 (drop (c.requires.2 + 1) c.requires.1), no_span, next.stack no_span)
+    c.loop-period.spans.items c.requires.day.3 c.requires.day.4 pair so_far.0 in
+    (next.steps, as_steps c.loop-period-item.result.0 (drop (c.requires.day.2 + 1) c.requires.day.1), no_span, next.stack no_span)
 
 pub returns-in_err-touch-clause-kept : goal.returns-in_err-touch-clause-kept
 returns-in_err-touch-clause-kept g c = keeps_on c.args.stacks.now c.loop-period.stacks c.touch_of.new.stacks c.loop-period.invariant.keeps
@@ -69,22 +69,23 @@ loop-period-preserved g c =
                 (next_span hours blocks c.loop-period.stacks c.touch_of.new.stacks k c.args.block.now c.loop-period-item.result
                 c.loop-period.spans.items c.in_ok-touch.touch next cut)
                 c.in_ok-touch.ensures.spans so_far.0,
-            touch_more hours blocks c.loop-period.stacks c.touch_of.new.stacks k c.args.block.now c.loop-period.period-index
+            λ places own. touch_more hours blocks c.loop-period.stacks c.touch_of.new.stacks k c.args.block.now c.loop-period.period-index
                 c.loop-period-item.result c.loop-period.touches.items
                 c.push.new.self.items c.in_ok-touch.touch c.touch_of.ensures.kept pair
-                (is_touch hours blocks c.loop-period.stacks c.touch_of.new.stacks k c.args.block.now c.loop-period-item.result
-                c.loop-period.spans.items c.in_ok-touch.touch next long
-                c.in_ok-touch.ensures.at cut) c.in_ok-push.ensures.items so_far.1,
+                (is_touch hours blocks c.loop-period.stacks c.touch_of.new.stacks k c.args.row c.args.block.now c.loop-period-item.result
+                c.loop-period.spans.items c.args.places.now c.in_ok-touch.touch next long c.in_ok-touch.ensures.small places own
+                c.in_ok-touch.ensures.at c.in_ok-touch.ensures.from c.in_ok-touch.ensures.to cut) c.in_ok-push.ensures.items
+                (so_far.1 places own),
           ));
     }
 
 pub returns-clause-lot : goal.returns-clause-lot
-returns-clause-lot g c hours blocks k at are spans =
+returns-clause-lot g c hours blocks k at are spans places own =
     let long = ap (λ (ps : List Pair). length ps) (c.pairs-pairs.ensures.value ∙ c.volumes.ensures) in
     let past = c.loop-period-test.false in let most = c.loop-period.auto.period-index-end in
     whole_lot hours blocks c.loop-period.stacks k c.args.block.now
     c.loop-period.period-index c.loop-period.touches.items (record { side = c.side.result; touches = c.by_stake.result.items })
-    c.side.ensures c.by_stake.ensures (omega (arith, long, past)) (c.loop-period.invariant.so_far hours blocks k at are spans).1
+    c.side.ensures c.by_stake.ensures (omega (arith, long, past)) ((c.loop-period.invariant.so_far hours blocks k at are spans).1 places own)
 
 pub returns-clause-spans : goal.returns-clause-spans
 returns-clause-spans g c hours blocks k at are spans =

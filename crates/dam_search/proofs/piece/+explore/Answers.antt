@@ -1,17 +1,19 @@
 -- One node, and the walks from its two extensions.
-use Rattle.std.proofs.Common.{◌≡◌, ◌≢◌, inl, inr, Some, MatchBool, ℕ, ◌+◌, ◌-◌, ◌≤◌, ◌<◌, true, false, not, List, Bool, [], ◌∷◌, ◌++◌}
+use Rattle.std.proofs.Common.{◌≡◌, ◌≢◌, inl, inr, Option, Some, MatchOption, ℤ, ℕ, ◌+◌, ◌-◌, ◌≤◌, ◌<◌, true, false, not, List, Bool, [], ◌∷◌, ◌++◌}
 use Rattle.std.proofs.Common.{length, length-append, ◌∙◌, ap, sym, subst, refl, rules, arith}
 use Rattle.dam_book.specs.Limits.{most_blocks}
 use Rattle.dam_blocks.specs.Problem.{ProblemState}
-use Rattle.dam_bound.specs.declared.day.Day.{Day}
+use Rattle.dam_bound.specs.declared.trail.Trail.{Trail}
 use Rattle.dam_blocks.specs.declared.problem.Block.{Block}
 use Rattle.dam_blocks.specs.Selection.{padded, IsAdmissible}
 use Rattle.dam_blocks.specs.Eligible.{selection_welfare}
 use Rattle.dam_bound.specs.Prefix.{IsCompletion}
-use Rattle.dam_bound.specs.Day.{IsDay, IsUnder}
+use Rattle.dam_bound.specs.Day.{IsUnder}
+use Rattle.dam_bound.specs.Trail.{IsDayIn}
 use Rattle.dam_bound.specs.Relaxed.{without_rows, relaxed_welfare, reaches}
 use Rattle.dam_search.specs.inside.Walk.{Finds, Covers, Spends, Reads, IsGoing, IsWalked}
 use Rattle.dam_search.proofs.Ranks.{found_after, finds_nothing, finds_shorter, finds_twice, covers_both, welfare_rises}
+use Rattle.dam_search.proofs.Leaf.{as_passed}
 use Rattle.dam_search.proofs.LastBlock.{still_rejected}
 use Rattle.dam_search.proofs.Walks.{spends_none, spends_nothing, spends_one, spends_first, spends_both, reads_nothing, reads_asked}
 use Rattle.dam_search.proofs.piece.+explore.Goals.{decide-else-accept-via-then-accept+else-not-is_still_admissible}
@@ -32,12 +34,13 @@ unmet : (visited nodes : ℕ) → visited ≤ nodes → visited ≢ nodes → vi
 unmet visited nodes h more = omega (arith, more)
 
 -- the day of the prefix with a decision
-next_day : (problem : ProblemState) (next prefix : List Bool) (accept : Bool) (place low : ℕ) (bounded : Bool) (day : Day)
+next_day : (problem : ProblemState) (next prefix : List Bool) (accept : Bool) (place low : ℕ) (total : Option ℤ) (trail : Trail)
     → next ≡ prefix ++ accept ∷ [] → place ≡ length prefix
-    → (length prefix ≡ place → MatchBool bounded (IsDay problem (prefix ++ accept ∷ []) day) (IsUnder problem (prefix ++ accept ∷ []) low))
-    → MatchBool bounded (IsDay problem next day) (IsUnder problem next low)
-next_day problem next prefix accept place low bounded day e is g =
-    subst (λ (xs : List Bool). MatchBool bounded (IsDay problem xs day) (IsUnder problem xs low)) (sym e) (g (sym is))
+    → (length prefix ≡ place
+    → MatchOption total (IsUnder problem (prefix ++ accept ∷ []) low) (IsDayIn problem (prefix ++ accept ∷ []) trail))
+    → MatchOption total (IsUnder problem next low) (IsDayIn problem next trail)
+next_day problem next prefix accept place low total trail e is g =
+    subst (λ (xs : List Bool). MatchOption total (IsUnder problem xs low) (IsDayIn problem xs trail)) (sym e) (g (sym is))
 
 -- a rejected block changes nothing of what the links and the groups admit
 rejected_here : (blocks : List Block) (next prefix : List Bool) (accept : Bool) → next ≡ prefix ++ accept ∷ [] → accept ≡ false
@@ -68,13 +71,14 @@ pub decide-explore-requires : goal.decide-explore-requires
 decide-explore-requires g t c =
     let blocks = c.args.problem.now.blocks in let relaxed = c.args.relaxed.now in let prefix = c.args.prefix.now in
     let next = c.extended-extended.result in let is = c.extended-extended.ensures in let read = c.args.found.now.read in
-    let bounded = c.extend-bounded.result in let day = c.extend-bounded.new.day in
+    let total = c.extend-next.result in let trail = c.extend-next.new.trail in
     let long : length next ≡ length prefix + 1 =
     omega (arith, ap (λ (xs : List Bool). length xs) is, length-append prefix (c.args.accept ∷ [])) in
     let few : length prefix < most_blocks = omega (arith, c.requires.depth, c.periods-kept.ensures.valid.few_blocks) in
-    let is_day : MatchBool bounded (IsDay relaxed next day) (IsUnder relaxed next read) =
-    next_day relaxed next prefix c.args.accept c.depth.result read bounded day is c.depth.ensures.value
-    (λ e. c.extend-bounded.ensures prefix e c.requires.day) in
+    let is_day : MatchOption total (IsUnder relaxed next read) (IsDayIn relaxed next trail) =
+    next_day relaxed next prefix c.args.accept c.depth.result read total trail is c.depth.ensures.value
+    (λ e. c.extend-next.ensures.day prefix e
+    (as_passed relaxed prefix c.args.trail.now c.args.total (search rules) c.requires.day)) in
     let admissible : IsAdmissible blocks (padded next) = elim c.else-accept.branch [
       | decide-else-accept-via-then-accept+else-not-is_still_admissible w ↦ w.is_still_admissible.ensures.value.0 (search rules)
       | decide-else-accept-via-else-accept w ↦
@@ -87,6 +91,14 @@ decide-returns-clause-walked g t c =
     let told = g.I.Incumbent.told in let top = g.I.Incumbent.top in let before = c.args.incumbent.now in let after = c.explore.new.incumbent in
     subst (λ (xs : List Bool). IsWalked c.args.problem.now xs c.args.nodes (told before) (top before) (told after) (top after) c.args.found.now
     c.explore.new.found c.explore.result) c.extended-extended.ensures c.explore.ensures.walked
+
+pub decide-returns-clause-days : goal.decide-returns-clause-days
+decide-returns-clause-days g t c prefix total few day =
+    let depth = c.depth.ensures.value in
+    let long = ap (λ (xs : List Bool). length xs) c.extended-extended.ensures in
+    let more = length-append c.args.prefix.now (c.args.accept ∷ []) in
+    c.explore.ensures.days prefix total (omega (arith, few, long, more))
+    (c.extend-next.ensures.kept prefix total (omega (arith, few, depth)) day)
 
 -- ---- the node
 
@@ -138,7 +150,7 @@ explore-returns-in_default-clause-walked g t c =
       finds = finds_nothing problem prefix found.best;
       covers = λ done sel w whole e.
           (let welfare = subst (λ (p : ProblemState). selection_welfare p sel ≡ Some w) (sym c.requires.same) e.welfare_is in
-          inl (c.in_default.ensures relaxed found.read low c.requires.day sel w whole welfare));
+          inl (c.in_default.ensures relaxed c.args.trail.now found.read low c.requires.day sel w whole welfare));
       spends =
           spends_one problem prefix left (told c.args.incumbent.now) c.args.nodes found.visited
           (unmet found.visited c.args.nodes going.room c.if-found-nodes.false);
@@ -152,18 +164,13 @@ explore-returns-in_default-clause-walked g t c =
 
 pub explore-decide-requires : goal.explore-decide-requires
 explore-decide-requires g t c =
-    let problem = c.args.problem.now in let relaxed = c.args.relaxed.now in let prefix = c.args.prefix in let opened = c.in-Some.open in
+    let problem = c.args.problem.now in let relaxed = c.args.relaxed.now in let prefix = c.args.prefix in
     let low : c.args.found.now.read ≤ c.read-found.result = omega (arith, c.requires.going.read, c.read-found.ensures.rises) in
-    let is = c.in-Some.ensures relaxed c.args.found.now.read low c.requires.day in
-    let long = ap (λ (xs : List Bool). length xs) is.0 in
-    let inside =
+    let is = c.in-Some.ensures relaxed c.args.trail.now c.args.found.now.read low c.requires.day in
+    let depth : length prefix < length problem.blocks =
     undecided prefix c.depth.result c.block_count.result (length problem.blocks) c.depth.ensures.value c.block_count.ensures.value
     c.requires.depth c.if-depth-block_count.false in
-    let depth : length opened < length problem.blocks = omega (arith, long, inside) in
-    let day : IsDay relaxed opened c.args.day.now = subst (λ (xs : List Bool). IsDay relaxed xs c.args.day.now) (sym is.0) is.2 in
-    let admissible : IsAdmissible problem.blocks (padded opened) =
-    subst (λ (xs : List Bool). IsAdmissible problem.blocks (padded xs)) (sym is.0) c.requires.admissible in
-    let next : IsDay relaxed opened c.copy_day.new.to = c.copy_day.ensures opened day in
+    let day : IsDayIn relaxed prefix c.args.trail.now c.in-Some.bound = is.1 in
     let going : IsGoing problem c.args.nodes (g.I.Incumbent.told c.read-found.new.self) (g.I.Incumbent.top c.read-found.new.self)
     (record { best = c.args.found.now.best; read = c.read-found.result; visited = c.args.found.now.visited + 1 }) =
     let offered = c.requires.going.offered in
@@ -181,16 +188,12 @@ explore-returns-then-not-decide-clause-walked g t c =
     let problem = c.args.problem.now in let prefix = c.args.prefix in let n = length problem.blocks in let first = c.equals-first.result in
     let nodes = c.args.nodes in let told = g.I.Incumbent.told in
     let low : c.args.found.now.read ≤ c.read-found.result = omega (arith, c.requires.going.read, c.read-found.ensures.rises) in
-    let is = c.in-Some.ensures c.args.relaxed.now c.args.found.now.read low c.requires.day in
+    let is = c.in-Some.ensures c.args.relaxed.now c.args.trail.now c.args.found.now.read low c.requires.day in
     let inside =
     undecided prefix c.depth.result c.block_count.result n c.depth.ensures.value c.block_count.ensures.value
     c.requires.depth c.if-depth-block_count.false in
     let least = c.read-found.result in let before = c.args.found.now.visited in let after = c.decide.new.found.visited in
-    let here =
-    subst (λ (xs : List Bool).
-    Spends problem (xs ++ first ∷ []) (n - length (xs ++ first ∷ [])) (told c.read-found.new.self) nodes (before + 1) after
-    c.decide.result)
-    is.0 c.decide.ensures.walked.spends in
+    let here = c.decide.ensures.walked.spends in
     let read =
     subst (λ (v : ℕ). Spends problem (prefix ++ first ∷ []) (n - length (prefix ++ first ∷ [])) v nodes (before + 1) after c.decide.result)
     c.read-found.ensures.told here in
@@ -201,11 +204,11 @@ explore-returns-then-not-decide-clause-walked g t c =
     let offered = walked.offered in let grows = walked.reads.grows in let reads = walked.reads.told in let more = walked.spends.grows in
     record {
       finds =
-          finds_shorter problem prefix (first ∷ []) a b (subst (λ (xs : List Bool). Finds problem (xs ++ first ∷ []) a b) is.0 walked.finds);
+          finds_shorter problem prefix (first ∷ []) a b walked.finds;
       covers = λ done. absurd (cc);
       spends =
           spends_first problem prefix first n (told c.args.incumbent.now) least nodes before after inside c.read-found.ensures.rises
-          (alive_here problem c.args.relaxed.now prefix least c.requires.same is.1) unfinished;
+          (alive_here problem c.args.relaxed.now prefix least c.requires.same is.0) unfinished;
       reads =
           reads_asked (n - length prefix) before after c.args.found.now.read c.decide.new.found.read (told c.args.incumbent.now)
           (told c.decide.new.incumbent) (omega (arith, inside)) (omega (arith, more)) c.requires.going.read
@@ -215,23 +218,19 @@ explore-returns-then-not-decide-clause-walked g t c =
 
 pub explore-decide-requires-2 : goal.explore-decide-requires-2
 explore-decide-requires-2 g t c =
-    let problem = c.args.problem.now in let relaxed = c.args.relaxed.now in let prefix = c.args.prefix in let opened = c.in-Some.open in
+    let problem = c.args.problem.now in let relaxed = c.args.relaxed.now in let prefix = c.args.prefix in
     let low : c.args.found.now.read ≤ c.read-found.result = omega (arith, c.requires.going.read, c.read-found.ensures.rises) in
-    let is = c.in-Some.ensures relaxed c.args.found.now.read low c.requires.day in
-    let long = ap (λ (xs : List Bool). length xs) is.0 in
-    let inside =
+    let is = c.in-Some.ensures relaxed c.args.trail.now c.args.found.now.read low c.requires.day in
+    let depth : length prefix < length problem.blocks =
     undecided prefix c.depth.result c.block_count.result (length problem.blocks) c.depth.ensures.value c.block_count.ensures.value
     c.requires.depth c.if-depth-block_count.false in
-    let depth : length opened < length problem.blocks = omega (arith, long, inside) in
-    let day : IsDay relaxed opened c.args.day.now = subst (λ (xs : List Bool). IsDay relaxed xs c.args.day.now) (sym is.0) is.2 in
-    let admissible : IsAdmissible problem.blocks (padded opened) =
-    subst (λ (xs : List Bool). IsAdmissible problem.blocks (padded xs)) (sym is.0) c.requires.admissible in
+    let day : IsDayIn relaxed prefix c.decide.new.trail c.in-Some.bound = c.decide.ensures.days prefix c.in-Some.bound (omega arith) is.1 in
     let now = c.decide.new.found in let incumbent = c.decide.new.incumbent in
     let walked = c.decide.ensures.walked in let told = walked.reads.told in let top = walked.offered in
     let going : IsGoing problem c.args.nodes (g.I.Incumbent.told incumbent) (g.I.Incumbent.top incumbent) now = record {
       room = walked.spends.within;
       read = omega (arith, told);
-      best = found_after problem (opened ++ c.equals-first.result ∷ []) c.args.found.now.best now.best c.requires.going.best walked.finds;
+      best = found_after problem (prefix ++ c.equals-first.result ∷ []) c.args.found.now.best now.best c.requires.going.best walked.finds;
       offered = omega (arith, top);
     } in
     search rules
@@ -241,34 +240,26 @@ explore-returns-clause-walked g t c =
     let problem = c.args.problem.now in let prefix = c.args.prefix in let n = length problem.blocks in let first = c.equals-first.result in
     let nodes = c.args.nodes in let told = g.I.Incumbent.told in
     let low : c.args.found.now.read ≤ c.read-found.result = omega (arith, c.requires.going.read, c.read-found.ensures.rises) in
-    let is = c.in-Some.ensures c.args.relaxed.now c.args.found.now.read low c.requires.day in
+    let is = c.in-Some.ensures c.args.relaxed.now c.args.trail.now c.args.found.now.read low c.requires.day in
     let inside =
     undecided prefix c.depth.result c.block_count.result n c.depth.ensures.value c.block_count.ensures.value
     c.requires.depth c.if-depth-block_count.false in
     let least = c.read-found.result in let later = told c.decide.new.incumbent in
     let before = c.args.found.now.visited in let middle = c.decide.new.found.visited in let after = c.decide-2.new.found.visited in
     let asked = c.read-found.ensures.told in let raised = c.decide.ensures.walked.reads.told in
-    let at_open =
+    let here =
     subst (λ (b : Bool).
-    Spends problem (c.in-Some.open ++ first ∷ []) (n - length (c.in-Some.open ++ first ∷ [])) (told c.read-found.new.self) nodes
+    Spends problem (prefix ++ first ∷ []) (n - length (prefix ++ first ∷ [])) (told c.read-found.new.self) nodes
     (before + 1) middle b)
     c.if-not-decide.false c.decide.ensures.walked.spends in
-    let here =
-    subst (λ (xs : List Bool).
-    Spends problem (xs ++ first ∷ []) (n - length (xs ++ first ∷ [])) (told c.read-found.new.self) nodes (before + 1) middle true)
-    is.0 at_open in
     let one =
     subst (λ (v : ℕ). Spends problem (prefix ++ first ∷ []) (n - length (prefix ++ first ∷ [])) v nodes (before + 1) middle true)
     asked here in
-    let other =
-    subst (λ (xs : List Bool).
-    Spends problem (xs ++ not first ∷ []) (n - length (xs ++ not first ∷ [])) later nodes middle after c.decide-2.result)
-    is.0 c.decide-2.ensures.walked.spends in
+    let other = c.decide-2.ensures.walked.spends in
     let a = c.args.found.now.best in let b = c.decide.new.found.best in let z = c.decide-2.new.found.best in
     let w = c.decide.ensures.walked in let v = c.decide-2.ensures.walked in
     let few : length prefix < most_blocks = omega (arith, inside, c.block_count.ensures.valid.few_blocks) in
-    let here = subst (λ (xs : List Bool). Finds problem (xs ++ first ∷ []) a b) is.0 w.finds in
-    let there = subst (λ (xs : List Bool). Finds problem (xs ++ not first ∷ []) b z) is.0 v.finds in
+    let here = w.finds in let there = v.finds in
     let grows = w.reads.grows in let grows' = v.reads.grows in let raised' = v.reads.told in
     let more = w.spends.grows in let more' = v.spends.grows in
     let top = w.offered in let top' = v.offered in
@@ -279,12 +270,11 @@ explore-returns-clause-walked g t c =
       covers = λ done.
           covers_both problem prefix first a b z c.decide.new.found.read c.decide-2.new.found.read c.ranking.ensures.transitive
           c.completions.ensures.extended few c.requires.going.best here
-          (subst (λ (xs : List Bool). Covers problem (xs ++ first ∷ []) b c.decide.new.found.read) is.0 (w.covers c.if-not-decide.false)) there
-          (subst (λ (xs : List Bool). Covers problem (xs ++ not first ∷ []) z c.decide-2.new.found.read) is.0 (v.covers done)) grows';
+          (w.covers c.if-not-decide.false) there (v.covers done) grows';
       spends =
           spends_both problem prefix first n (told c.args.incumbent.now) least later nodes before middle after c.decide-2.result inside
           c.read-found.ensures.rises (omega (arith, asked, raised))
-          (alive_here problem c.args.relaxed.now prefix least c.requires.same is.1) one other;
+          (alive_here problem c.args.relaxed.now prefix least c.requires.same is.0) one other;
       reads =
           reads_asked (n - length prefix) before after c.args.found.now.read c.decide-2.new.found.read (told c.args.incumbent.now)
           (told c.decide-2.new.incumbent) (omega (arith, inside)) (omega (arith, more, more')) c.requires.going.read
@@ -292,3 +282,6 @@ explore-returns-clause-walked g t c =
       offered =
           let rises = welfare_rises b z v.finds.rises in omega (arith, rises, top, top', c.requires.going.offered, c.read-found.ensures.top);
     }
+
+pub explore-returns-clause-days : goal.explore-returns-clause-days
+explore-returns-clause-days g t c prefix total few day = c.decide-2.ensures.days prefix total few (c.decide.ensures.days prefix total few day)

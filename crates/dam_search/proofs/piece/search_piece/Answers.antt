@@ -19,8 +19,8 @@ sound problem prefix best read done f covers = record {
   others = covers;
 }
 
-pub bounded_day-bounded-requires : goal.bounded_day-bounded-requires
-bounded_day-bounded-requires g c =
+pub walked-total-requires : goal.walked-total-requires
+walked-total-requires g c =
     let long = as_long c.of_piece-prefix.result c.args.depth c.args.piece c.of_piece-prefix.ensures in
     let blocks = ap (λ (p : ProblemState). length p.blocks) c.requires.same in
     omega (arith, long, blocks, c.requires.depth)

@@ -7,11 +7,10 @@ use Rattle.dam_bound.proofs.Extending.{turning}
 use Rattle.dam_bound.proofs.Deciding.{turned_answer}
 use Rattle.dam_bound.proofs.relaxed.Relaxed.turn.Goals as goal
 
-pub change_day-requires : goal.change_day-requires
-change_day-requires g c =
+pub turn_block-requires : goal.turn_block-requires
+turn_block-requires g c =
     let prefix = c.requires.day.0 in (
       problem_kept c.self.inside.periods.items c.self.inside.blocks.items,
-      length c.self.inside.blocks.items,
       prefix,
       slice_set prefix c.args.place c.args.accept,
       c.self.invariant.3,
@@ -23,9 +22,9 @@ change_day-requires g c =
 
 pub returns : goal.returns
 returns g c prefix long is day =
-    turned_answer c.change_day.result (problem_kept c.self.inside.periods.items c.self.inside.blocks.items) c.args.self.now prefix
-    (slice_set prefix c.args.place c.args.accept) c.change_day.new.day c.self.view_is
-    (c.change_day.ensures (problem_kept c.self.inside.periods.items c.self.inside.blocks.items) (length c.self.inside.blocks.items) prefix
+    turned_answer c.turn_block.result (problem_kept c.self.inside.periods.items c.self.inside.blocks.items) c.args.self.now
+    (slice_set prefix c.args.place c.args.accept) c.turn_block.new.day c.self.view_is
+    (c.turn_block.ensures (problem_kept c.self.inside.periods.items c.self.inside.blocks.items) prefix
     (slice_set prefix c.args.place c.args.accept) c.self.invariant.3
     (subst (λ (p : ProblemState). c.args.place < length p.blocks) (sym c.self.view_is) c.requires.place)
     (turning c.self.inside.blocks.items prefix c.args.place c.args.accept

@@ -1,0 +1,38 @@
+-- The days of a walk, in slots: what a decision writes is read by the prefixes that extend it alone.
+use Rattle.std.specs.Prelude.{◌≡◌, ℕ, zero, suc, ◌+◌, ◌*◌, ◌<◌, ◌≤◌, ◌==◌, if◌then◌else◌, Bool, ℤ, Option, Some, None, List, length, slice_get, slice_index_or}
+use Rattle.dam_book.specs.Limits.{last_period, most_blocks}
+use Rattle.dam_stack.specs.declared.taken.Taken.{Taken}
+use Rattle.dam_blocks.specs.declared.problem.Block.{Block}
+use Rattle.dam_blocks.specs.Problem.{ProblemState}
+use Rattle.dam_blocks.specs.Selection.{volume_in}
+use Rattle.dam_bound.specs.declared.day.Day.{Day}
+use Rattle.dam_bound.specs.declared.trail.Trail.{Trail}
+use Rattle.dam_bound.specs.Day.{IsDay}
+
+-- a row of slots for the root, and one for each block
+abbrev pub slot_count : ℕ
+slot_count = (most_blocks + 1) * last_period
+
+-- a block writes its own row, in its own periods alone
+abbrev pub slot_after : Option Block → ℕ → ℕ → ℕ → ℕ
+slot_after None i k before = before
+slot_after (Some b) i k before = if volume_in b.order.volumes (i + 1) == 0 then before else suc k * last_period + i
+
+-- the slot in which the period at the place stands once so many blocks are decided
+unfoldable pub slot_at : List Block → ℕ → ℕ → ℕ
+slot_at blocks i zero = i
+slot_at blocks i (suc k) = slot_after (slice_get blocks k) i k (slot_at blocks i k)
+
+-- the slots hold the day of the prefix, whose relaxed welfare this is
+pub record IsDayIn (problem : ProblemState) (prefix : List Bool) (trail : Trail) (total : ℤ) : Type 0 where
+  pub room : length trail.slots ≡ slot_count
+  pub day : Day
+  pub day_is : IsDay problem prefix day
+  pub total_is : day.total ≡ total
+  pub stands : (i : ℕ) (d : Taken) → i < length problem.hours
+      → slice_index_or day.periods i d ≡ slice_index_or trail.slots (slot_at problem.blocks i (length prefix)) d
+
+-- the day of each prefix of at most this length is still there
+abbrev pub KeepsDays : ProblemState → ℕ → Trail → Trail → Type 0
+KeepsDays problem depth before after = (prefix : List Bool) (total : ℤ) → length prefix ≤ depth
+    → IsDayIn problem prefix before total → IsDayIn problem prefix after total

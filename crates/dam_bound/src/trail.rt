@@ -1,0 +1,145 @@
+//! The days of a walk, in slots that are neither copied nor undone.
+
+ghost use Rattle.std.specs.Prelude.{◌≡◌, ◌*◌, ◌+◌, ◌<◌, ◌≤◌, ℕ, ℤ, pos, ◌^◌, ◌<ℤ◌, ◌≤ℤ◌, ◌↔◌, List, Bool, length, slice_index_or, IsTrue, MatchOption};
+ghost use Rattle.dam_book.specs.Limits.{last_period};
+ghost use Rattle.dam_stack.specs.declared.taken.Taken.{Taken};
+ghost use Rattle.dam_blocks.specs.Problem.{ProblemState};
+ghost use Rattle.dam_blocks.specs.Magnitude.{IsWithin};
+ghost use Rattle.dam_bound.specs.inside.Levels.{greatest_period_bound};
+ghost use Rattle.dam_bound.specs.Trail.{slot_count, IsDayIn};
+ghost use Rattle.dam_bound.specs.inside.Change.{IsChange, IsGivenUp};
+ghost use Rattle.dam_bound.specs.declared.day.Change.TheVariants.{Decide};
+ghost use Rattle.dam_bound.specs.inside.Tables.{AreTables};
+
+use crate::day::{Change, Day, is_served, moved};
+use crate::tables::Tables;
+use dam_blocks::MOST_PERIODS;
+use dam_book::MOST_BLOCKS;
+use dam_stack::Taken;
+use std::alloc::Allocator;
+
+/// A row of slots for the root, and one for each block.
+const SLOTS: usize = (MOST_BLOCKS + 1) * MOST_PERIODS;
+
+/// The days of the prefixes on a walk's way, from the one that decides nothing to the one that it is at.
+///
+/// What a decision makes of a period is written to a slot of its own, and read where a later block has a
+/// volume in the period; so the days of the shorter prefixes stay, and the other decision on the same block
+/// begins from the same day.
+#[derive(Drop)]
+pub struct Trail {
+    pub(crate) slots: [Taken; SLOTS],
+}
+
+impl Trail {
+    /// Slots with no supply taken, to be written over; they need not hold the day of any prefix.
+    pub fn empty() -> Trail
+        ensures { length result.slots ≡ slot_count }
+    {
+        Trail {
+            slots: [Taken::none(); SLOTS],
+        }
+    }
+}
+
+/// Writes the first `count` periods of the root's day to their slots.
+pub(crate) fn write_root(root: &Day, trail: &mut Trail, count: usize)
+    requires { count ≤ last_period }
+    ensures periods { (i : ℕ) (own : Taken) → i < count
+        → slice_index_or trail.new.slots i own ≡ slice_index_or root.now.periods i own }
+    ensures room { length trail.new.slots ≡ slot_count }
+{
+    trail.slots[..count].copy_from_slice(&root.periods[..count]);
+}
+
+/// The least total that isn't under what is asked for.
+fn floor_of(least: u64) -> i64
+    ensures floor { (total : ℤ) → IsWithin (last_period * greatest_period_bound) total
+        → (total <ℤ result) ↔ (total <ℤ pos least) }
+    ensures at_least { pos 0 ≤ℤ result }
+    ensures at_most { result <ℤ pos (2 ^ 63) }
+{
+    i64::try_from(least).unwrap_or(i64::MAX)
+}
+
+/// Whether the total is under the floor.
+fn is_under(total: i64, floor: i64) -> bool
+    ensures { IsTrue result ↔ (total <ℤ floor) }
+{
+    total < floor
+}
+
+/// Decides the block at the place in each of its periods; the new total, or `None` where some period
+/// doesn't balance or the total is at some time under `least`.
+///
+/// The slots below the block's row stay as they are.
+pub(crate) fn decide_block<A: Allocator>(
+    tables: &Tables<A>,
+    trail: &mut Trail,
+    place: usize,
+    accept: bool,
+    total: i64,
+    least: u64,
+) -> Option<i64>
+    requires { (problem : ProblemState) × (before : List Bool) × (after : List Bool)
+        × AreTables problem.hours problem.blocks tables.now.stacks
+        tables.now.ends.items tables.now.lots.items
+        × (place < length problem.blocks)
+        × IsChange problem.blocks place Decide accept (place + 1) before after
+        × IsDayIn problem before trail.old total }
+    ensures day { (problem : ProblemState) (before after : List Bool)
+        → AreTables problem.hours problem.blocks tables.now.stacks
+        tables.now.ends.items tables.now.lots.items
+        → place < length problem.blocks
+        → IsChange problem.blocks place Decide accept (place + 1) before after
+        → IsDayIn problem before trail.old total
+        → MatchOption result (IsGivenUp problem least before after)
+        (IsDayIn problem after trail.new) }
+    ensures below { (i : ℕ) (own : Taken) → i < (place + 1) * last_period
+        → slice_index_or trail.new.slots i own ≡ slice_index_or trail.old.slots i own }
+    ensures room { length trail.new.slots ≡ slot_count }
+{
+    dam_hour::laws::welfare();
+    let lot = &tables.lots[place];
+    let is_served = is_served(lot.side(), accept);
+    let floor = floor_of(least);
+    let mut left = total;
+    for touch in lot.touches() {
+        let own = trail.slots[touch.from as usize];
+        let next = moved(
+            &tables.stacks,
+            tables.ends[touch.at as usize],
+            *touch,
+            own,
+            Change::Decide,
+            is_served,
+        );
+        let Some((next, gained)) = next else {
+            return None;
+        };
+        trail.slots[touch.to as usize] = next;
+        left += gained;
+        if is_under(left, floor) {
+            return None;
+        }
+    }
+    Some(left)
+}
+
+/// The day that stands in the slots, where the period at each place stands in the slot of the list.
+pub(crate) fn day_of(trail: &Trail, places: &[u32], count: usize, total: i64) -> Day
+    requires count { count ≤ last_period }
+    requires places { (i d : ℕ) → i < count → slice_index_or places.now i d < slot_count }
+    requires long { length places.now ≡ last_period }
+    ensures periods { (i : ℕ) (own : Taken) → i < count → slice_index_or result.periods i own
+        ≡ slice_index_or trail.now.slots (slice_index_or places.now i 0) own }
+    ensures total { result.total ≡ total }
+    ensures long { length result.periods ≡ last_period }
+{
+    let mut day = Day::empty();
+    for at in 0..count {
+        day.periods[at] = trail.slots[places[at] as usize];
+    }
+    day.total = total;
+    day
+}

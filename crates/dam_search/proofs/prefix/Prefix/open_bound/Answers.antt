@@ -1,0 +1,44 @@
+-- Less than the value by the bound law, where the prefix isn't opened.
+use Rattle.std.proofs.Common.{◌≡◌, ℕ, ◌<◌, ℤ, pos, negsuc, ◌≤ℤ◌, ◌<ℤ◌, Option, Some, List, Bool, false, ◌∙◌, ap, sym, subst, refl, true, rules, arith}
+use Rattle.std.proofs.lemmas.Bool.Decides.{nat_tests}
+use Rattle.std.proofs.lemmas.Int.{ints, to_z-of_z}
+use mir.Syntax.{w64}
+use mir.Val.{SFits}
+use Rattle.dam_blocks.specs.Problem.{ProblemState}
+use Rattle.dam_bound.specs.declared.trail.Trail.{Trail}
+use Rattle.dam_bound.specs.Relaxed.{relaxed_welfare, reaches}
+use Rattle.dam_bound.specs.Trail.{IsDayIn}
+use Rattle.dam_search.proofs.Leaf.{as_passed, if_told, unless_told}
+use Rattle.dam_search.proofs.prefix.Prefix.open_bound.Goals as goal
+
+-- what is at most a bound that doesn't reach the value is less than the value
+less : (w bound : ℤ) (value : ℕ) → w ≤ℤ bound → reaches (Some bound) value ≡ false → w <ℤ pos value
+less w (pos n) value h e = let under : n < value = grind (arith, nat_tests) in omega (arith, ints)
+less w (negsuc n) value h e = omega (arith, ints)
+
+-- the total that stands in the slots is the bound
+bound_is : (relaxed : ProblemState) (prefix : List Bool) (trail : Trail) (total : ℤ) → IsDayIn relaxed prefix trail total → Some total ≡ relaxed_welfare relaxed prefix
+bound_is relaxed prefix trail total is = ap (λ (z : ℤ). Some z) (sym is.total_is) ∙ is.day_is.total_is
+
+pub returns-in_default : goal.returns-in_default
+returns-in_default c relaxed trail low few day sel w whole e =
+    let most = c.bound.ensures.most relaxed c.args.self.now sel w whole e in
+    let at_most = most.2 in
+    let under = unless_told c.args.total relaxed c.args.self.now trail low c.in_default.is day most.0 most.1 in
+    omega (arith, ints, few, at_most, under)
+
+pub returns-then-reaches : goal.returns-then-reaches
+returns-then-reaches c relaxed trail low few day =
+    let own = if_told c.args.total c.in-Some.total relaxed c.args.self.now trail low c.in-Some.is day in
+    let fits : SFits w64 c.in-Some.total = search rules in (
+      subst (λ (bound : Option ℤ). reaches bound c.args.least ≡ true) (ap (λ (z : ℤ). Some z) (to_z-of_z w64 c.in-Some.total fits) ∙ bound_is relaxed c.args.self.now trail c.in-Some.total own) (sym c.reaches.ensures ∙ c.if-reaches.true),
+      as_passed relaxed c.args.self.now trail c.in-Some.total fits own,
+    )
+
+pub returns-else-reaches : goal.returns-else-reaches
+returns-else-reaches c relaxed trail low few day sel w whole e =
+    let own = if_told c.args.total c.in-Some.total relaxed c.args.self.now trail low c.in-Some.is day in
+    let fits : SFits w64 c.in-Some.total = search rules in
+    let most = c.bound.ensures.most relaxed c.args.self.now sel w whole e in
+    let is = ap (λ (z : ℤ). Some z) (to_z-of_z w64 c.in-Some.total fits) ∙ bound_is relaxed c.args.self.now trail c.in-Some.total own ∙ most.1 in
+    less w most.0 c.args.least most.2 (subst (λ (bound : Option ℤ). reaches bound c.args.least ≡ false) is (sym c.reaches.ensures ∙ c.if-reaches.false))
