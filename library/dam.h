@@ -8,8 +8,9 @@
  *
  *   1  the text isn't a journal, or its book can't be cleared because it is still open
  *   3  the search reached its limit on nodes
- *   4  memory ran out; then the length may be 0
- *   5  the program contradicts itself; no run is known to end like this
+ *   4  memory ran out
+ *
+ * No other status of `dam` comes. The line of a fault is there even if memory ran out.
  *
  * `length` is the length of the whole answer in bytes; there is no zero byte after it. If the buffer has less room, it holds the first
  * bytes of the answer, and a second call with more room gives all of them. What lies in the buffer after the answer stays as it was.
@@ -41,7 +42,8 @@ struct dam_answer {
 struct dam_answer dam_replay(const uint8_t *text, size_t text_length, uint8_t *buffer, size_t buffer_length);
 
 /* What `dam clear` prints: the price and volume of each period, and the result of each order. The calling thread searches alone, and
- * visits at most `nodes` nodes of the whole search. */
+ * visits at most `nodes` nodes of the whole search. If `nodes` is 0, it visits none, and a closed book is answered with status 3; from
+ * DAM_MOST_NODES on, no book is. */
 struct dam_answer dam_clear(const uint8_t *text, size_t text_length, uint32_t nodes, uint8_t *buffer, size_t buffer_length);
 
 /* The same two, for journals from people who are not trusted. Names are hashed with the first 16 bytes of the secret. For the two above
