@@ -16,7 +16,9 @@
  *   3  the search reached its limit on nodes
  *   4  memory ran out
  *
- * `length` is the length of the whole answer in bytes; no zero byte follows it. It is 0 if there was no memory for the line of a fault.
+ * No other status of `dam` comes. The line of a fault is there even if memory ran out.
+ *
+ * `length` is the length of the whole answer in bytes; no zero byte follows it.
  *
  * What a caller owes, since no proof can see it: `text` and `secret` point to as many bytes that may be read as their lengths say, and
  * `buffer` to as many that may be written; none of these is NULL, even if its length is 0; the buffer overlaps neither of the others; and
@@ -54,8 +56,8 @@ struct dam_answer dam_replay(const uint8_t *text, size_t text_length, uint8_t *b
 /* What `dam clear` prints: the price and volume of each period, and the result of each order.
  *
  * The calling thread searches alone and can't be stopped; `nodes` is the only limit on its time. The search ends with status 3 if it
- * would visit more nodes. Any number will do: 0 ends each search, and from DAM_MOST_NODES on none is ended. A node takes some 50 to
- * 150 ns. */
+ * would visit more nodes. Any number will do: 0 ends the search of each closed book, and from DAM_MOST_NODES on no search is ended. A
+ * node takes some 50 to 150 ns. */
 struct dam_answer dam_clear(const uint8_t *text, size_t text_length, uint32_t nodes, uint8_t *buffer, size_t buffer_length);
 
 /* The same two, for journals from people who are not trusted. Names are hashed with the first 16 bytes of the secret. For the two above

@@ -1,5 +1,5 @@
 /* refusals replay|clear FILE: calls the library with memory that is counted. First with each request for memory refused in turn: the
- * status is 4, the answer is the line of want of memory or none, and every block is given back. Then 10,000 times, and no block is left.
+ * status is 4, the answer is the line of want of memory, and every block is given back. Then 10,000 times, and no block is left.
  * The last line is 'N passed, M failed'. */
 #include "dam.h"
 
@@ -54,7 +54,7 @@ static struct dam_answer call(void) {
 }
 
 static bool is_want_of_memory(struct dam_answer answer) {
-    return answer.status == 4 && (answer.length == 0 || (answer.length == 7 && memcmp(buffer, "memory\n", 7) == 0));
+    return answer.status == 4 && answer.length == 7 && memcmp(buffer, "memory\n", 7) == 0;
 }
 
 int main(int count, char **words) {

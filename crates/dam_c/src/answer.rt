@@ -1,9 +1,8 @@
-ghost use Rattle.std.specs.Prelude.{◌≡◌, ◌⊎◌, ◌++◌, codes, MatchResult};
+ghost use Rattle.std.specs.Prelude.{◌≡◌, ◌++◌, codes, MatchResult};
 ghost use Rattle.dam_engines.specs.Fault.{fault_status, fault_text};
 ghost use Rattle.dam_c.specs.Answer.{Holds};
 
-use dam_engines::{RunFault, fault_line, status};
-use std::alloc::Global;
+use dam_engines::{RunFault, short_line, status};
 
 /// What an export answers.
 #[repr(C)]
@@ -15,21 +14,22 @@ pub struct DamAnswer {
     pub length: usize,
 }
 
-/// Copies as much of the text as there is room for. Returns the length of the whole.
+/// Copies as much of the text as there is room for, and leaves the rest of the buffer. Returns the length of the whole text.
 fn put(text: &[u8], buffer: &mut [u8]) -> usize
-    ensures { Holds buffer.new result text.now }
+    ensures { Holds buffer.old buffer.new result text.now }
 {
     let count = text.len().min(buffer.len());
     buffer[..count].copy_from_slice(&text[..count]);
     text.len()
 }
 
-/// The answer of a text, or of a fault.
-pub(crate) fn answer(alloc: Global, made: Result<Vec<u8>, RunFault>, buffer: &mut [u8]) -> DamAnswer
+/// The answer of a text, or of a fault, whose line needs no memory.
+pub(crate) fn answer(made: Result<Vec<u8>, RunFault>, buffer: &mut [u8]) -> DamAnswer
     ensures { MatchResult made
-        (λ text. (result.status ≡ 0) × Holds buffer.new result.length text.items)
-        (λ fault. (result.status ≡ fault_status fault) × ((result.length ≡ 0)
-        ⊎ Holds buffer.new result.length (fault_text fault ++ codes "\n"))) }
+        (λ text. (result.status ≡ 0)
+        × Holds buffer.old buffer.new result.length text.items)
+        (λ fault. (result.status ≡ fault_status fault)
+        × Holds buffer.old buffer.new result.length (fault_text fault ++ codes "\n")) }
 {
     match made {
         Ok(text) => DamAnswer {
@@ -38,10 +38,7 @@ pub(crate) fn answer(alloc: Global, made: Result<Vec<u8>, RunFault>, buffer: &mu
         },
         Err(fault) => DamAnswer {
             status: status(&fault),
-            length: match fault_line(alloc, &fault) {
-                Ok(line) => put(&line, buffer),
-                Err(_) => 0,
-            },
+            length: put(short_line(&fault).as_str().as_bytes(), buffer),
         },
     }
 }

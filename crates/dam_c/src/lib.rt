@@ -2,7 +2,7 @@
 //! `dam` prints for it in a buffer of the caller's.
 //!
 //! They start no thread, keep nothing between calls, and read and write nothing but memory, so any number of threads may call them
-//! at the same time. Where memory runs out, that is a status. `include/dam.h` is the header; it says what a caller owes.
+//! at the same time. If memory runs out, that is a status. `library/dam.h` is the header; it says what a caller owes.
 //!
 //! The crate knows nothing of rules: it hands a text to an engine of `dam_engines`, and copies what that makes.
 #![tactic(auto)]
@@ -10,10 +10,10 @@
 mod answer;
 mod given;
 
-ghost use Rattle.dam_engines.specs.Clear.{AreResultsTo, IsClearTextFault};
+ghost use Rattle.dam_engines.specs.Clear.{AreResultsTo, IsClearTextFault, terms_alone};
 ghost use Rattle.dam_engines.specs.Engine.{IsTextFault};
 ghost use Rattle.dam_engines.specs.Replay.{AreRepliesTo};
-ghost use Rattle.dam_c.specs.Answer.{IsAnswered};
+ghost use Rattle.dam_c.specs.Answer.{IsReturned};
 
 pub use answer::DamAnswer;
 use answer::answer;
@@ -25,9 +25,9 @@ use std::alloc::Global;
 /// What `dam replay` prints for the text. The book hashes names by the seed that everybody knows.
 #[unsafe(no_mangle)]
 pub extern "C" fn dam_replay(alloc: Global, text: &[u8], buffer: &mut [u8]) -> DamAnswer
-    ensures { IsAnswered (AreRepliesTo text.now) (IsTextFault text.now) result buffer.new }
+    ensures { IsReturned (AreRepliesTo text.now) (IsTextFault text.now) result buffer.old buffer.new }
 {
-    answer(alloc, replies_of(alloc, Seed::fixed(), text), buffer)
+    answer(replies_of(alloc, Seed::fixed(), text), buffer)
 }
 
 /// The same, but the book hashes names by a seed that is drawn from the caller's secret, at least 16 random bytes.
@@ -38,23 +38,20 @@ pub extern "C" fn dam_replay_seeded(
     text: &[u8],
     buffer: &mut [u8],
 ) -> DamAnswer
-    ensures { IsAnswered (AreRepliesTo text.now) (IsTextFault text.now) result buffer.new }
+    ensures { IsReturned (AreRepliesTo text.now) (IsTextFault text.now) result buffer.old buffer.new }
 {
-    answer(alloc, replies_of(alloc, drawn_from(secret), text), buffer)
+    answer(replies_of(alloc, drawn_from(secret), text), buffer)
 }
 
-/// What `dam clear` prints for the text. The search visits at most so many nodes; 67,108,864 are enough for any book.
+/// What `dam clear` prints for the text. The search visits at most `nodes` nodes: 0 leaves every search unfinished, and from
+/// 67,108,864 on none is.
 #[unsafe(no_mangle)]
 pub extern "C" fn dam_clear(alloc: Global, text: &[u8], nodes: u32, buffer: &mut [u8]) -> DamAnswer
-    ensures { IsAnswered (AreResultsTo text.now)
-        (IsClearTextFault (record { workers = 1; cut = 0; nodes = nodes }) text.now)
-        result buffer.new }
+    ensures { IsReturned (AreResultsTo text.now)
+        (IsClearTextFault (terms_alone nodes) text.now)
+        result buffer.old buffer.new }
 {
-    answer(
-        alloc,
-        clear_text_alone(alloc, Seed::fixed(), text, nodes),
-        buffer,
-    )
+    answer(clear_text_alone(alloc, Seed::fixed(), text, nodes), buffer)
 }
 
 /// The same, but the book hashes names by a seed that is drawn from the caller's secret, at least 16 random bytes.
@@ -66,12 +63,11 @@ pub extern "C" fn dam_clear_seeded(
     nodes: u32,
     buffer: &mut [u8],
 ) -> DamAnswer
-    ensures { IsAnswered (AreResultsTo text.now)
-        (IsClearTextFault (record { workers = 1; cut = 0; nodes = nodes }) text.now)
-        result buffer.new }
+    ensures { IsReturned (AreResultsTo text.now)
+        (IsClearTextFault (terms_alone nodes) text.now)
+        result buffer.old buffer.new }
 {
     answer(
-        alloc,
         clear_text_alone(alloc, drawn_from(secret), text, nodes),
         buffer,
     )

@@ -1,8 +1,9 @@
 -- By cases on the fault: what a failed write says, and how a run with another fault ends.
-use Rattle.std.proofs.Common.{ℕ, List, Option}
+use Rattle.std.proofs.Common.{◌≤◌, ℕ, List, length, Option}
 use Rattle.dam_engines.specs.declared.fault.RunFault.{RunFault}
 use Rattle.dam_engines.specs.declared.fault.RunFault.TheVariants.{Read, Input, TooManyCommands, CloseGiven, TooManyParticipants, StillOpen, Mismatch, Unfinished, Collected, Memory, Write}
-use Rattle.dam_engines.specs.Engine.{EndsIn, IsCutOff, IsReadingFault}
+use Rattle.dam_engines.specs.Engine.{EndsIn, IsCutOff}
+use Rattle.dam_engines.specs.inside.Reading.{IsReadingFault}
 
 -- what holds of each failed write holds of a text's that was cut off
 pub cut-told : (Q : RunFault → Type 0) (old new : Option (List ℕ)) (sent : List ℕ) → ((written : ℕ) → Q (Write written))
@@ -20,50 +21,50 @@ cut-told Q old new sent told Memory cut = absurd cut
 cut-told Q old new sent told (Write written) cut = told written
 
 -- a text that may be printed was cut off
-pub cut-ends : (IsPrinted : List ℕ → Type 0) (IsFault : RunFault → Type 0) (old new : Option (List ℕ)) (printed : List ℕ) → IsPrinted printed
-    → (fault : RunFault) → IsCutOff old new printed fault → EndsIn IsPrinted IsFault old new fault
-cut-ends IsPrinted IsFault old new printed is Read cut = absurd cut
-cut-ends IsPrinted IsFault old new printed is (Input why) cut = absurd cut
-cut-ends IsPrinted IsFault old new printed is TooManyCommands cut = absurd cut
-cut-ends IsPrinted IsFault old new printed is (CloseGiven at) cut = absurd cut
-cut-ends IsPrinted IsFault old new printed is (TooManyParticipants at) cut = absurd cut
-cut-ends IsPrinted IsFault old new printed is StillOpen cut = absurd cut
-cut-ends IsPrinted IsFault old new printed is (Mismatch why) cut = absurd cut
-cut-ends IsPrinted IsFault old new printed is (Unfinished piece visited) cut = absurd cut
-cut-ends IsPrinted IsFault old new printed is (Collected piece) cut = absurd cut
-cut-ends IsPrinted IsFault old new printed is Memory cut = absurd cut
-cut-ends IsPrinted IsFault old new printed is (Write written) cut = (printed, is, cut)
+pub cut-ends : (IsPrinted : List ℕ → Type 0) (IsFault : RunFault → Type 0) (old new : Option (List ℕ)) (asked : ℕ) (printed : List ℕ) → IsPrinted printed
+    → asked ≤ length printed → (fault : RunFault) → IsCutOff old new printed fault → EndsIn IsPrinted IsFault old new asked fault
+cut-ends IsPrinted IsFault old new asked printed is few Read cut = absurd cut
+cut-ends IsPrinted IsFault old new asked printed is few (Input why) cut = absurd cut
+cut-ends IsPrinted IsFault old new asked printed is few TooManyCommands cut = absurd cut
+cut-ends IsPrinted IsFault old new asked printed is few (CloseGiven at) cut = absurd cut
+cut-ends IsPrinted IsFault old new asked printed is few (TooManyParticipants at) cut = absurd cut
+cut-ends IsPrinted IsFault old new asked printed is few StillOpen cut = absurd cut
+cut-ends IsPrinted IsFault old new asked printed is few (Mismatch why) cut = absurd cut
+cut-ends IsPrinted IsFault old new asked printed is few (Unfinished piece visited) cut = absurd cut
+cut-ends IsPrinted IsFault old new asked printed is few (Collected piece) cut = absurd cut
+cut-ends IsPrinted IsFault old new asked printed is few Memory cut = absurd cut
+cut-ends IsPrinted IsFault old new asked printed is few (Write written) cut = (printed, is, cut, few)
 
 -- a fault that may be answered, and is no failed write
-pub fault-ends : (IsPrinted : List ℕ → Type 0) (IsFault : RunFault → Type 0) (old new : Option (List ℕ)) → ((written : ℕ) → ¬ (IsFault (Write written)))
-    → (fault : RunFault) → IsFault fault → EndsIn IsPrinted IsFault old new fault
-fault-ends IsPrinted IsFault old new none Read is = tt
-fault-ends IsPrinted IsFault old new none (Input why) is = is
-fault-ends IsPrinted IsFault old new none TooManyCommands is = is
-fault-ends IsPrinted IsFault old new none (CloseGiven at) is = is
-fault-ends IsPrinted IsFault old new none (TooManyParticipants at) is = is
-fault-ends IsPrinted IsFault old new none StillOpen is = is
-fault-ends IsPrinted IsFault old new none (Mismatch why) is = is
-fault-ends IsPrinted IsFault old new none (Unfinished piece visited) is = is
-fault-ends IsPrinted IsFault old new none (Collected piece) is = is
-fault-ends IsPrinted IsFault old new none Memory is = is
-fault-ends IsPrinted IsFault old new none (Write written) is = absurd (none written is)
+pub fault-ends : (IsPrinted : List ℕ → Type 0) (IsFault : RunFault → Type 0) (old new : Option (List ℕ)) (asked : ℕ) → ((written : ℕ) → ¬ (IsFault (Write written)))
+    → (fault : RunFault) → IsFault fault → EndsIn IsPrinted IsFault old new asked fault
+fault-ends IsPrinted IsFault old new asked none Read is = tt
+fault-ends IsPrinted IsFault old new asked none (Input why) is = is
+fault-ends IsPrinted IsFault old new asked none TooManyCommands is = is
+fault-ends IsPrinted IsFault old new asked none (CloseGiven at) is = is
+fault-ends IsPrinted IsFault old new asked none (TooManyParticipants at) is = is
+fault-ends IsPrinted IsFault old new asked none StillOpen is = is
+fault-ends IsPrinted IsFault old new asked none (Mismatch why) is = is
+fault-ends IsPrinted IsFault old new asked none (Unfinished piece visited) is = is
+fault-ends IsPrinted IsFault old new asked none (Collected piece) is = is
+fault-ends IsPrinted IsFault old new asked none Memory is = is
+fault-ends IsPrinted IsFault old new asked none (Write written) is = absurd (none written is)
 
 -- what is weaker ends a run too
-pub ends-weaker : (IsPrinted IsText : List ℕ → Type 0) (IsFault IsOther : RunFault → Type 0) (old new : Option (List ℕ))
+pub ends-weaker : (IsPrinted IsText : List ℕ → Type 0) (IsFault IsOther : RunFault → Type 0) (old new : Option (List ℕ)) (asked : ℕ)
     → ((printed : List ℕ) → IsPrinted printed → IsText printed) → ((fault : RunFault) → IsFault fault → IsOther fault)
-    → (fault : RunFault) → EndsIn IsPrinted IsFault old new fault → EndsIn IsText IsOther old new fault
-ends-weaker IsPrinted IsText IsFault IsOther old new text other Read is = tt
-ends-weaker IsPrinted IsText IsFault IsOther old new text other (Input why) is = other (Input why) is
-ends-weaker IsPrinted IsText IsFault IsOther old new text other TooManyCommands is = other TooManyCommands is
-ends-weaker IsPrinted IsText IsFault IsOther old new text other (CloseGiven at) is = other (CloseGiven at) is
-ends-weaker IsPrinted IsText IsFault IsOther old new text other (TooManyParticipants at) is = other (TooManyParticipants at) is
-ends-weaker IsPrinted IsText IsFault IsOther old new text other StillOpen is = other StillOpen is
-ends-weaker IsPrinted IsText IsFault IsOther old new text other (Mismatch why) is = other (Mismatch why) is
-ends-weaker IsPrinted IsText IsFault IsOther old new text other (Unfinished piece visited) is = other (Unfinished piece visited) is
-ends-weaker IsPrinted IsText IsFault IsOther old new text other (Collected piece) is = other (Collected piece) is
-ends-weaker IsPrinted IsText IsFault IsOther old new text other Memory is = other Memory is
-ends-weaker IsPrinted IsText IsFault IsOther old new text other (Write written) is = (is.0, text is.0 is.1, is.2)
+    → (fault : RunFault) → EndsIn IsPrinted IsFault old new asked fault → EndsIn IsText IsOther old new asked fault
+ends-weaker IsPrinted IsText IsFault IsOther old new asked text other Read is = tt
+ends-weaker IsPrinted IsText IsFault IsOther old new asked text other (Input why) is = other (Input why) is
+ends-weaker IsPrinted IsText IsFault IsOther old new asked text other TooManyCommands is = other TooManyCommands is
+ends-weaker IsPrinted IsText IsFault IsOther old new asked text other (CloseGiven at) is = other (CloseGiven at) is
+ends-weaker IsPrinted IsText IsFault IsOther old new asked text other (TooManyParticipants at) is = other (TooManyParticipants at) is
+ends-weaker IsPrinted IsText IsFault IsOther old new asked text other StillOpen is = other StillOpen is
+ends-weaker IsPrinted IsText IsFault IsOther old new asked text other (Mismatch why) is = other (Mismatch why) is
+ends-weaker IsPrinted IsText IsFault IsOther old new asked text other (Unfinished piece visited) is = other (Unfinished piece visited) is
+ends-weaker IsPrinted IsText IsFault IsOther old new asked text other (Collected piece) is = other (Collected piece) is
+ends-weaker IsPrinted IsText IsFault IsOther old new asked text other Memory is = other Memory is
+ends-weaker IsPrinted IsText IsFault IsOther old new asked text other (Write written) is = (is.0, text is.0 is.1, is.2, is.3)
 
 -- what holds of both faults of reading
 pub reading-told : (Q : RunFault → Type 0) → Q Read → Q Memory → (fault : RunFault) → IsReadingFault fault → Q fault

@@ -1,18 +1,13 @@
 -- The faults of a day: of a front and its text, of a book and its commands, and where the refused command stands.
-use Rattle.std.proofs.Common.{◌≡◌, ◌<◌, ◌≤◌, ◌+◌, ◌-◌, ℕ, Bool, true, false, nat_lt, if◌then◌else◌, List, [], ◌∷◌, ◌++◌, length, take, Option, Some, None, Result, IfErr, subst, sym, ap, ◌∙◌, refl, arith}
-use Rattle.std.proofs.lemmas.Bool.{ltb-false}
+use Rattle.std.proofs.Common.{◌≡◌, ℕ, Bool, true, false, List, [], ◌∷◌, ◌++◌, take, Result, IfErr, subst, sym, ap, ◌∙◌, refl}
 use Rattle.std.proofs.lemmas.Result.{IfErr-weaker}
-use Rattle.dam_book.specs.Limits.{most_entries}
 use Rattle.dam_book.specs.Book.{BookState, book_after, commands_of, run, run_from}
 use Rattle.dam_book.specs.declared.command.Command.{Command}
 use Rattle.dam_book.specs.declared.command.Command.TheVariants.{Close}
 use Rattle.dam_book.specs.declared.command.Entry.{Entry}
-use Rattle.dam_gate.specs.Limits.{most_participants}
 use Rattle.dam_gate.specs.Journal.{IsJournal, JournalState}
 use Rattle.dam_gate.specs.Day.{AreTaken, IsDayRun}
-use Rattle.dam_gate.specs.declared.day.DayFault.{DayFault}
-use Rattle.dam_gate.specs.declared.day.DayFault.TheVariants.{TooManyCommands as ManyCommands, CloseGiven as CloseAt, TooManyParticipants as ManyAt}
-use Rattle.dam_search.specs.Plan.{PlanTerms}
+use Rattle.dam_plan.specs.Plan.{PlanTerms}
 use Rattle.dam_results.specs.Journal.{IsMadeFrom}
 use Rattle.dam_engines.specs.declared.fault.RunFault.{RunFault}
 use Rattle.dam_engines.specs.declared.fault.RunFault.TheVariants.{Read, Input, TooManyCommands, CloseGiven, TooManyParticipants, StillOpen, Mismatch, Unfinished, Collected, Memory, Write}

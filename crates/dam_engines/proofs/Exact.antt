@@ -2,7 +2,7 @@
 use Rattle.std.proofs.Common.{◌≡◌, ℕ, false, List, Option, Result, subst}
 use Rattle.dam_book.specs.Book.{run}
 use Rattle.dam_book.specs.declared.command.Command.{Command}
-use Rattle.dam_search.specs.Plan.{PlanTerms}
+use Rattle.dam_plan.specs.Plan.{PlanTerms}
 use Rattle.dam_results.specs.declared.journal.JournalFault.{JournalFault}
 use Rattle.dam_results.specs.declared.journal.JournalFault.TheVariants.{Memory as NoMemory}
 use Rattle.dam_results.specs.Faults.{IsFaultOf}
@@ -78,22 +78,22 @@ day-fault law plan text periods commands reads (Collected piece) is = made-one l
 day-fault law plan text periods commands reads Memory is = tt
 day-fault law plan text periods commands reads (Write written) is = made-one law (IsCommandsFault plan) text periods commands reads (Write written) is
 
-pub replay-exact : AreRead → (text : List ℕ) (periods : ℕ) (commands : List Command) (old new : Option (List ℕ)) (result : Result (Unit {0}) RunFault)
-    → ReadsAs text periods commands → Ends (AreRepliesTo text) (IsTextFault text) old new result → Ends (AreReplies periods commands) (λ fault. fault ≡ Memory) old new result
-replay-exact law text periods commands old new result reads =
-    result-weaker (AreRepliesTo text) (AreReplies periods commands) (IsTextFault text) (λ fault. fault ≡ Memory) old new
+pub replay-exact : AreRead → (text : List ℕ) (periods : ℕ) (commands : List Command) (old new : Option (List ℕ)) (asked : ℕ) (result : Result (Unit {0}) RunFault)
+    → ReadsAs text periods commands → Ends (AreRepliesTo text) (IsTextFault text) old new asked result → Ends (AreReplies periods commands) (λ fault. fault ≡ Memory) old new asked result
+replay-exact law text periods commands old new asked result reads =
+    result-weaker (AreRepliesTo text) (AreReplies periods commands) (IsTextFault text) (λ fault. fault ≡ Memory) old new asked
     (made-one law AreReplies text periods commands reads) (replay-fault law text periods commands reads) result
 
-pub clearing-exact : AreRead → (plan : PlanTerms) (text : List ℕ) (periods : ℕ) (commands : List Command) (old new : Option (List ℕ)) (result : Result (Unit {0}) RunFault)
-    → ReadsAs text periods commands → Ends (AreResultsTo text) (IsClearTextFault plan text) old new result
-    → Ends (AreResults periods commands) (IsBookFault plan (run periods commands)) old new result
-clearing-exact law plan text periods commands old new result reads =
-    result-weaker (AreResultsTo text) (AreResults periods commands) (IsClearTextFault plan text) (IsBookFault plan (run periods commands)) old new
+pub clearing-exact : AreRead → (plan : PlanTerms) (text : List ℕ) (periods : ℕ) (commands : List Command) (old new : Option (List ℕ)) (asked : ℕ) (result : Result (Unit {0}) RunFault)
+    → ReadsAs text periods commands → Ends (AreResultsTo text) (IsClearTextFault plan text) old new asked result
+    → Ends (AreResults periods commands) (IsBookFault plan (run periods commands)) old new asked result
+clearing-exact law plan text periods commands old new asked result reads =
+    result-weaker (AreResultsTo text) (AreResults periods commands) (IsClearTextFault plan text) (IsBookFault plan (run periods commands)) old new asked
     (made-one law AreResults text periods commands reads) (clear-fault law plan text periods commands reads) result
 
-pub day-exact : AreRead → (plan : PlanTerms) (text : List ℕ) (periods : ℕ) (commands : List Command) (old new : Option (List ℕ)) (result : Result (Unit {0}) RunFault)
-    → ReadsAs text periods commands → Ends (IsDayTextTo text) (IsDayTextFault plan text) old new result
-    → Ends (IsDayText periods commands) (IsCommandsFault plan periods commands) old new result
-day-exact law plan text periods commands old new result reads =
-    result-weaker (IsDayTextTo text) (IsDayText periods commands) (IsDayTextFault plan text) (IsCommandsFault plan periods commands) old new
+pub day-exact : AreRead → (plan : PlanTerms) (text : List ℕ) (periods : ℕ) (commands : List Command) (old new : Option (List ℕ)) (asked : ℕ) (result : Result (Unit {0}) RunFault)
+    → ReadsAs text periods commands → Ends (IsDayTextTo text) (IsDayTextFault plan text) old new asked result
+    → Ends (IsDayText periods commands) (IsCommandsFault plan periods commands) old new asked result
+day-exact law plan text periods commands old new asked result reads =
+    result-weaker (IsDayTextTo text) (IsDayText periods commands) (IsDayTextFault plan text) (IsCommandsFault plan periods commands) old new asked
     (made-one law IsDayText text periods commands reads) (day-fault law plan text periods commands reads) result

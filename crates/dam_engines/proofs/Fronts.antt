@@ -3,7 +3,7 @@ use Rattle.std.proofs.Common.{◌≡◌, ◌≤◌, ℕ, true, min, List, length
 use Rattle.std.proofs.lemmas.List.{take_all, length-take}
 use Rattle.dam_book.specs.Book.{BookState, run}
 use Rattle.dam_blocks.specs.Problem.{problem_of}
-use Rattle.dam_search.specs.Plan.{PlanTerms}
+use Rattle.dam_plan.specs.Plan.{PlanTerms}
 use Rattle.dam_search.specs.Search.{IsUnfinished}
 use Rattle.dam_search.specs.declared.fault.SearchFault.{SearchFault}
 use Rattle.dam_search.specs.declared.fault.SearchFault.TheVariants.{Memory as NoSpace, Collected as IsFaulty, Unfinished as IsCut}

@@ -1,12 +1,12 @@
 -- No search of a book has more nodes than the greatest limit allows.
-use Rattle.std.proofs.Common.{◌≡◌, ℕ, ◌+◌, ◌-◌, ◌^◌, ◌<◌, ◌≤◌, min, length, arith}
+use Rattle.std.proofs.Common.{ℕ, ◌+◌, ◌-◌, ◌^◌, ◌<◌, ◌≤◌, min, length, arith}
 use lib.Pow.{pow_mono}
 use Rattle.dam_book.specs.Limits.{most_blocks}
 use Rattle.dam_book.specs.Book.{BookState}
 use Rattle.dam_blocks.specs.Problem.{ProblemState, IsProblem, problem_of}
-use Rattle.dam_search.specs.Limits.{most_nodes}
+use Rattle.dam_plan.specs.Limits.{most_nodes}
 use Rattle.dam_search.specs.Piece.{all_nodes}
-use Rattle.dam_search.specs.Plan.{PlanTerms}
+use Rattle.dam_plan.specs.Plan.{PlanTerms}
 use Rattle.dam_engines.specs.Clear.{IsCutShort}
 
 nodes_within : (left : ℕ) → left ≤ most_blocks → all_nodes left ≤ most_nodes
@@ -18,7 +18,7 @@ nodes_within left few =
 pub nodes_of_problem : (problem : ProblemState) → IsProblem problem → all_nodes (length problem.blocks) ≤ most_nodes
 nodes_of_problem problem is = nodes_within (length problem.blocks) is.few_blocks
 
-pub not_cut_short : (plan : PlanTerms) (book : BookState) (piece visited : ℕ) → IsProblem (problem_of book) → plan.nodes ≡ most_nodes
+pub not_cut_short : (plan : PlanTerms) (book : BookState) (piece visited : ℕ) → IsProblem (problem_of book) → most_nodes ≤ plan.nodes
     → ¬ (IsCutShort plan book piece visited)
 not_cut_short plan book piece visited is limit cut =
     let blocks = length (problem_of book).blocks in

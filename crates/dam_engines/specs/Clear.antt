@@ -3,7 +3,7 @@ use Rattle.std.specs.Prelude.{◌≡◌, ℕ, min, true, false, List, length}
 use Rattle.dam_book.specs.Book.{BookState, run}
 use Rattle.dam_book.specs.declared.command.Command.{Command}
 use Rattle.dam_blocks.specs.Problem.{problem_of}
-use Rattle.dam_search.specs.Plan.{PlanTerms}
+use Rattle.dam_plan.specs.Plan.{PlanTerms}
 use Rattle.dam_search.specs.Search.{IsUnfinished}
 use Rattle.dam_results.specs.declared.published.PeriodResult.{PeriodResult}
 use Rattle.dam_results.specs.declared.published.RowResult.{RowResult}
@@ -38,6 +38,10 @@ IsOpenJournal text = (periods : ℕ) × (commands : List Command) × ReadsAs tex
 pub record IsCutShort (plan : PlanTerms) (book : BookState) (piece visited : ℕ) : Type 0 where
   pub closed : book.closed ≡ true
   pub unfinished : IsUnfinished (problem_of book) (min plan.cut (length (problem_of book).blocks)) plan.nodes piece visited
+
+-- the terms of a search by one worker that cuts nothing; they are those of a plan only if a plan may have this limit on nodes
+abbrev pub terms_alone : ℕ → PlanTerms
+terms_alone nodes = record { workers = 1; cut = 0; nodes = nodes }
 
 -- what a book can be answered: that it is open, if it is; that the search of a closed one didn't finish, if that can be; or that memory ran out
 abbrev pub IsBookFault : PlanTerms → BookState → RunFault → Type 0

@@ -1,17 +1,20 @@
 -- The reader and the writer of a run, and how they end it.
-use Rattle.std.specs.Prelude.{◌≡◌, ℕ, Bool, true, List, Option}
+use Rattle.std.specs.Prelude.{◌≡◌, ◌≤◌, ℕ, Bool, true, false, List, length, take, Option, IfSome}
+use Rattle.std.specs.Io.KnownBytes.{Consumes}
 use Rattle.dam_engines.specs.declared.fault.RunFault.{RunFault}
-use Rattle.dam_engines.specs.declared.fault.RunFault.TheVariants.{Read, Write}
+use Rattle.dam_engines.specs.declared.fault.RunFault.TheVariants.{Read, Memory, Write}
+use Rattle.dam_engines.specs.Engine.{most_read}
 
--- a reader: the bytes that it has left, if it tells them; how often it was asked for some; whether it has failed
+-- a reader: the bytes that it has left, if it tells them; how often it was asked for some; whether it failed, after which it
+-- isn't asked again
 pub record SourceState (R : Type 0) : Type 0 where
   pub inner : R
   pub given : Option (List ℕ)
   pub asked : ℕ
   pub failed : Bool
 
--- a writer: the bytes that it took, if it tells them; how often it was asked to take some; whether it has failed; and whether
--- it was flushed after all that it took
+-- a writer: the bytes that it took, if it tells them; how often it was asked to take some; whether it failed, after which it
+-- isn't asked again; and whether it was flushed after all that it took
 pub record SinkState (W : Type 0) : Type 0 where
   pub inner : W
   pub taken : Option (List ℕ)
@@ -19,22 +22,38 @@ pub record SinkState (W : Type 0) : Type 0 where
   pub failed : Bool
   pub flushed : Bool
 
--- a reader before and after it was read from: it failed if the fault is that, and only then
+-- the reader gave all its bytes, or the first of them, as many as are read at most
+abbrev pub GivesAll : Option (List ℕ) → Option (List ℕ) → Type 0
+GivesAll old new = IfSome old (λ given. Consumes old new (take most_read given))
+
+-- the reader gave some of its first bytes, and no more than are read at most
+pub record GivesFront (old new : Option (List ℕ)) : Type 0 where
+  pub front : List ℕ
+  pub few : length front ≤ most_read
+  pub given : Consumes old new front
+
+-- a reader from which all was read: it didn't fail
+abbrev pub HasServed : {R : Type 0} → SourceState R → SourceState R → Type 0
+HasServed old new = (new.failed ≡ false) × GivesAll old.given new.given
+
+-- a reader that hadn't failed before a run: it failed if the fault is that, and only then; and it gave all, unless it failed or
+-- memory ran out
 abbrev pub HasRead : {R : Type 0} → SourceState R → SourceState R → RunFault → Type 0
-HasRead old new Read = new.failed ≡ true
-HasRead old new fault = new.failed ≡ old.failed
+HasRead old new Read = (new.failed ≡ true) × GivesFront old.given new.given
+HasRead old new Memory = (new.failed ≡ false) × GivesFront old.given new.given
+HasRead old new fault = HasServed old new
 
--- a writer before and after it was written to: it failed if the fault is that, and only then
-abbrev pub HasWritten : {W : Type 0} → SinkState W → SinkState W → RunFault → Type 0
-HasWritten old new (Write written) = new.failed ≡ true
-HasWritten old new fault = new.failed ≡ old.failed
+-- a writer after a run, before which it hadn't failed: it failed if the fault is that, and only then
+abbrev pub HasWritten : {W : Type 0} → SinkState W → RunFault → Type 0
+HasWritten new (Write written) = new.failed ≡ true
+HasWritten new fault = new.failed ≡ false
 
--- the devices of a run without a fault: neither failed, and the writer was flushed after all that it took
-abbrev pub HaveServed : {R W : Type 0} → SourceState R → SourceState R → SinkState W → SinkState W → Type 0
-HaveServed reader_old reader_new writer_old writer_new =
-    (reader_new.failed ≡ reader_old.failed) × (writer_new.failed ≡ writer_old.failed) × (writer_new.flushed ≡ true)
+-- the devices of a run without a fault: neither failed, the reader gave all, and the writer was flushed after all that it took
+abbrev pub HaveServed : {R W : Type 0} → SourceState R → SourceState R → SinkState W → Type 0
+HaveServed reader_old reader_new writer_new =
+    HasServed reader_old reader_new × (writer_new.failed ≡ false) × (writer_new.flushed ≡ true)
 
 -- the devices of a run with this fault: each failed if the fault is its own, and only then
-abbrev pub HaveFailed : {R W : Type 0} → SourceState R → SourceState R → SinkState W → SinkState W → RunFault → Type 0
-HaveFailed reader_old reader_new writer_old writer_new fault =
-    HasRead reader_old reader_new fault × HasWritten writer_old writer_new fault
+abbrev pub HaveFailed : {R W : Type 0} → SourceState R → SourceState R → SinkState W → RunFault → Type 0
+HaveFailed reader_old reader_new writer_new fault =
+    HasRead reader_old reader_new fault × HasWritten writer_new fault

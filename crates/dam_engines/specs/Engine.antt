@@ -20,29 +20,25 @@ abbrev pub IsCutOff : Option (List ℕ) → Option (List ℕ) → List ℕ → R
 IsCutOff old new text (Write written) = TakesFront old new written text
 IsCutOff old new text fault = ⊥
 
--- memory ran out, or the reader failed
-abbrev pub IsReadingFault : RunFault → Type 0
-IsReadingFault Read = Unit {0}
-IsReadingFault Memory = Unit {0}
-IsReadingFault fault = ⊥
-
 -- what a text can be answered that was read: its first fault, or that memory ran out
 abbrev pub IsTextFault : List ℕ → RunFault → Type 0
 IsTextFault text (Input fault) = IsFaultOf text fault × (fault ≢ NoMemory)
 IsTextFault text Memory = Unit {0}
 IsTextFault text fault = ⊥
 
--- how a run with this fault ends: if the writer failed, it took just the first bytes of a text that may be printed, as many as
--- the fault says; otherwise the reader failed, or the fault is one that may be answered
-abbrev pub EndsIn : (List ℕ → Type 0) → (RunFault → Type 0) → Option (List ℕ) → Option (List ℕ) → RunFault → Type 0
-EndsIn IsPrinted IsFault old new Read = Unit {0}
-EndsIn IsPrinted IsFault old new (Write written) =
-    (printed : List ℕ) × IsPrinted printed × TakesFront old new written printed
-EndsIn IsPrinted IsFault old new fault = IsFault fault
+-- how a run with this fault ends, in which the writer was asked so many times: if the writer failed, it took just the first bytes
+-- of a text that may be printed, as many as the fault says, and was asked at most once for each byte of the text; otherwise the
+-- reader failed, or the fault is one that may be answered
+abbrev pub EndsIn : (List ℕ → Type 0) → (RunFault → Type 0) → Option (List ℕ) → Option (List ℕ) → ℕ → RunFault → Type 0
+EndsIn IsPrinted IsFault old new asked Read = Unit {0}
+EndsIn IsPrinted IsFault old new asked (Write written) =
+    (printed : List ℕ) × IsPrinted printed × TakesFront old new written printed × (asked ≤ length printed)
+EndsIn IsPrinted IsFault old new asked fault = IsFault fault
 
--- how a run ends: the writer took just one text that may be printed; or the run has a fault, as above
-abbrev pub Ends : (List ℕ → Type 0) → (RunFault → Type 0) → Option (List ℕ) → Option (List ℕ) → Result (Unit {0}) RunFault → Type 0
-Ends IsPrinted IsFault old new result =
+-- how a run ends, in which the writer was asked so many times: it took just one text that may be printed, and was asked at most
+-- once for each byte of it; or the run has a fault, as above
+abbrev pub Ends : (List ℕ → Type 0) → (RunFault → Type 0) → Option (List ℕ) → Option (List ℕ) → ℕ → Result (Unit {0}) RunFault → Type 0
+Ends IsPrinted IsFault old new asked result =
     MatchResult result
-    (λ _. (printed : List ℕ) × IsPrinted printed × Appends old new printed)
-    (EndsIn IsPrinted IsFault old new)
+    (λ _. (printed : List ℕ) × IsPrinted printed × Appends old new printed × (asked ≤ length printed))
+    (EndsIn IsPrinted IsFault old new asked)

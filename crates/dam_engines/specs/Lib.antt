@@ -1,6 +1,7 @@
 pub mod Fault
-pub mod Device
 pub mod Engine
+pub mod Device
 pub mod Replay
 pub mod Clear
 pub mod Day
+pub mod inside

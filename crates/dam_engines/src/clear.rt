@@ -1,4 +1,4 @@
-ghost use Rattle.std.specs.Prelude.{◌≡◌, ◌≢◌, ◌≤◌, ◌+◌, ◌↔◌, ℕ, List, false, IfOk, IfErr, IfSome, IsErrOf, MatchResult};
+ghost use Rattle.std.specs.Prelude.{◌≡◌, ◌≢◌, ◌≤◌, ◌+◌, ◌-◌, ◌↔◌, ℕ, List, false, IfOk, IfErr, IfSome, IsErrOf, MatchResult};
 ghost use Rattle.dam_book.specs.Book.{run};
 ghost use Rattle.dam_book.specs.declared.command.Command.{Command};
 ghost use Rattle.dam_results.specs.Journal.{ReadsAs};
@@ -23,12 +23,12 @@ use std::thread::Threads;
 /// Reads a journal, runs its commands on the empty book of its day, clears the book that they close,
 /// and writes the results: the price and volume of each period, and what becomes of each order.
 ///
-/// The whole text is made before its first byte is written. Where the input is longer than a journal
-/// may be, not all of it is read. `StillOpen` comes where the book is open behind the last command. The
-/// plan changes no results, but by its limit on nodes the search may end `Unfinished`. The book hashes names by the seed.
+/// The whole text is made before its first byte is written. If the input is longer than a journal may be, not all of it is
+/// read. `StillOpen` comes if the book is open after the last command. The plan changes no results, but by its limit on nodes
+/// the search may end `Unfinished`. The book hashes names by the seed.
 ///
-/// Of a reader that doesn't tell its bytes nothing is said, and of a writer that doesn't tell its bytes
-/// nothing is said of what it took. Standard input and output tell no bytes. Whether a device failed, how often the reader
+/// Neither device may have failed before. Nothing is said of the bytes of a reader or a writer that doesn't show them, nor of
+/// what is printed if the reader doesn't: standard input and output show none. Whether a device failed, how often the reader
 /// was asked, and that the writer was flushed is said of every reader and writer.
 pub fn run_clear<H: Threads + Sync, R: Read, W: Write, T: Watch + Sync>(
     rt: &H,
@@ -39,14 +39,16 @@ pub fn run_clear<H: Threads + Sync, R: Read, W: Write, T: Watch + Sync>(
     plan: Plan,
     turnstile: &T,
 ) -> Result<(), RunFault>
+    requires reads { reader.old.failed ≡ false }
+    requires writes { writer.old.failed ≡ false }
     ensures ends { IfSome reader.old.given (λ given.
         Ends (AreResultsTo given) (IsClearTextFault plan given)
-        writer.old.taken writer.new.taken result) }
+        writer.old.taken writer.new.taken (writer.new.asked - writer.old.asked) result) }
     ensures unwritten { IfErr result (λ fault.
         ((written : ℕ) → fault ≢ RunFault.Write written) → writer.new ≡ writer.old) }
     ensures devices { MatchResult result
-        (λ _. HaveServed reader.old reader.new writer.old writer.new)
-        (HaveFailed reader.old reader.new writer.old writer.new) }
+        (λ _. HaveServed reader.old reader.new writer.new)
+        (HaveFailed reader.old reader.new writer.new) }
     ensures asked { reader.new.asked ≤ reader.old.asked + most_read }
 {
     let text = read_input(alloc, reader)?;
@@ -71,7 +73,7 @@ fn clear_text<H: Threads + Sync, T: Watch + Sync>(
     clear_book(rt, alloc, &run.book, plan, turnstile)
 }
 
-/// The run of a journal's text. The text may have been cut behind the first byte too many.
+/// The run of a journal's text. The text may have been cut after the first byte too many.
 fn run_journal(alloc: Global, seed: Seed, text: &[u8]) -> Result<Run, RunFault>
     ensures done { IfOk result (λ found. (periods : ℕ) × (commands : List Command)
         × ReadsAs text.now periods commands × (found.book ≡ run periods commands)) }
@@ -80,8 +82,7 @@ fn run_journal(alloc: Global, seed: Seed, text: &[u8]) -> Result<Run, RunFault>
     Ok(run_of_text(alloc, seed, text)?)
 }
 
-/// The results text of a closed book. An open one is answered `StillOpen`, before any memory is asked
-/// for.
+/// The results text of a closed book. The answer to an open one is `StillOpen`, before any memory is asked for.
 pub fn clear_book<H: Threads + Sync, T: Watch + Sync>(
     rt: &H,
     alloc: Global,

@@ -1,4 +1,4 @@
-ghost use Rattle.std.specs.Prelude.{◌≡◌, ◌≢◌, ◌≤◌, ◌+◌, ℕ, List, None, true, IfOk, IfErr, IfSome, OnOk, MatchResult};
+ghost use Rattle.std.specs.Prelude.{◌≡◌, ◌≢◌, ◌≤◌, ◌+◌, ◌-◌, ℕ, List, None, true, false, IfOk, IfErr, IfSome, OnOk, MatchResult};
 ghost use Rattle.dam_book.specs.Book.{is_day};
 ghost use Rattle.dam_gate.specs.Day.{AreTaken, IsDayRun};
 ghost use Rattle.dam_gate.specs.Journal.{IsJournal};
@@ -23,7 +23,7 @@ use std::sync::Wait;
 use std::thread::Threads;
 
 /// Reads a journal without a close, has each of its participants enter its commands at one gate, in
-/// their order and on a thread of its own where one can be started, closes and clears the book, and
+/// their order and on a thread of its own if one can be started, closes and clears the book, and
 /// writes the journal of that day, the line `results`, and the results.
 ///
 /// Commands of two participants may come to the gate in either order, and so two runs may write two
@@ -45,14 +45,16 @@ pub fn run_day<H: Threads + Wait + Sync, R: Read, W: Write, T: Watch + Sync, U: 
     turnstile: &T,
     entrance: &U,
 ) -> Result<(), RunFault>
+    requires reads { reader.old.failed ≡ false }
+    requires writes { writer.old.failed ≡ false }
     ensures ends { IfSome reader.old.given (λ given.
         Ends (IsDayTextTo given) (IsDayTextFault plan given)
-        writer.old.taken writer.new.taken result) }
+        writer.old.taken writer.new.taken (writer.new.asked - writer.old.asked) result) }
     ensures unwritten { IfErr result (λ fault.
         ((written : ℕ) → fault ≢ RunFault.Write written) → writer.new ≡ writer.old) }
     ensures devices { MatchResult result
-        (λ _. HaveServed reader.old reader.new writer.old writer.new)
-        (HaveFailed reader.old reader.new writer.old writer.new) }
+        (λ _. HaveServed reader.old reader.new writer.new)
+        (HaveFailed reader.old reader.new writer.new) }
     ensures asked { reader.new.asked ≤ reader.old.asked + most_read }
 {
     let text = read_input(alloc, reader)?;

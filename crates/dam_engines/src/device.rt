@@ -1,5 +1,5 @@
 //! A reader and a writer that keep how often they were asked and whether they failed, so that contracts can say it. What is
-//! wrapped is reached through the three calls below and by nothing else.
+//! wrapped is reached through the three calls below and by nothing else, and none of them may come after a failure.
 ghost use Rattle.std.specs.Prelude.{◌≡◌, ◌<◌, ◌≤◌, ◌+◌, ◌-◌, ◌^◌, true, false, min, length, MatchResult, IfOk, OnOk};
 ghost use Rattle.std.specs.Io.KnownBytes.{ReadConsumes, WriteAppends, Keeps};
 
@@ -11,6 +11,8 @@ use std::marker::Model;
 pub(crate) struct DeviceFailed;
 
 /// A reader, of which an engine's contract also says how often it was asked and whether it failed.
+///
+/// It serves any number of runs until it fails. After that it isn't asked again: a further run needs a new `Source`.
 #[derive(Drop)]
 pub struct Source<R: Read> {
     inner: R,
@@ -50,12 +52,13 @@ impl<R: Read> Source<R> {
 
     /// One read. Any error is a failure, one that asks to try again too.
     pub(crate) fn read(&mut self, buf: &mut [u8]) -> Result<usize, DeviceFailed>
+        requires { self.old.failed ≡ false }
         ensures bound { IfOk result (λ count. count ≤ length buf.new) }
         ensures room { length buf.new ≡ length buf.old }
         ensures bytes { ReadConsumes self.old.given self.new.given result buf.new }
         ensures asked { self.new.asked ≡ min (self.old.asked + 1) (2 ^ 64 - 1) }
         ensures cause { MatchResult result
-            (λ _. self.new.failed ≡ self.old.failed)
+            (λ _. self.new.failed ≡ false)
             (λ _. self.new.failed ≡ true) }
     {
         self.asked = self.asked.saturating_add(1);
@@ -69,7 +72,10 @@ impl<R: Read> Source<R> {
     }
 }
 
-/// A writer, of which an engine's contract also says whether it failed, and whether it was flushed after all that it took.
+/// A writer, of which an engine's contract also says how often it was asked, whether it failed, and whether it was flushed after
+/// all that it took.
+///
+/// It serves any number of runs until it fails. After that it isn't asked again: a further run needs a new `Sink`.
 #[derive(Drop)]
 pub struct Sink<W: Write> {
     inner: W,
@@ -113,12 +119,13 @@ impl<W: Write> Sink<W> {
 
     /// One write. Any error is a failure, and so is an answer that no byte was taken.
     pub(crate) fn write(&mut self, buf: &[u8]) -> Result<usize, DeviceFailed>
-        requires { 0 < length buf.now }
+        requires unfailed { self.old.failed ≡ false }
+        requires some { 0 < length buf.now }
         ensures bound { IfOk result (λ count. (0 < count) × (count ≤ length buf.now)) }
         ensures bytes { WriteAppends self.old.taken self.new.taken result buf.now }
         ensures asked { self.new.asked ≡ min (self.old.asked + 1) (2 ^ 64 - 1) }
         ensures cause { MatchResult result
-            (λ _. self.new.failed ≡ self.old.failed)
+            (λ _. self.new.failed ≡ false)
             (λ _. self.new.failed ≡ true) }
     {
         self.asked = self.asked.saturating_add(1);
@@ -134,10 +141,11 @@ impl<W: Write> Sink<W> {
 
     /// One flush, which has the writer pass on what it holds back.
     pub(crate) fn flush(&mut self) -> Result<(), DeviceFailed>
+        requires { self.old.failed ≡ false }
         ensures bytes { Keeps self.old.taken self.new.taken }
         ensures asked { self.new.asked ≡ self.old.asked }
         ensures cause { MatchResult result
-            (λ _. self.new.failed ≡ self.old.failed)
+            (λ _. self.new.failed ≡ false)
             (λ _. self.new.failed ≡ true) }
         ensures flushed { OnOk result (self.new.flushed ≡ true) }
     {

@@ -1,6 +1,7 @@
 ghost use Rattle.std.specs.Prelude.{◌≡◌, ◌++◌, codes, IfOk};
 ghost use Rattle.dam_engines.specs.Fault.{fault_status, fault_text, run_fault_of};
 
+use crate::line::text_of;
 use dam_blocks::ProblemFault;
 use dam_gate::Mismatch;
 use dam_results::JournalFault;
@@ -14,7 +15,7 @@ use std::fmt;
 pub enum RunFault {
     /// The reader failed.
     Read,
-    /// What was read is no journal. Where memory ran out, the answer is `Memory` of this type.
+    /// What was read is no journal. If memory ran out, the fault is `Memory` of this type.
     Input(JournalFault),
     /// The journal has more commands than a day's participants may give.
     TooManyCommands,
@@ -25,7 +26,7 @@ pub enum RunFault {
     /// The journal's commands leave the book open, so there is nothing to clear.
     StillOpen,
     /// The journal of a day's gate and the receipts of its participants don't fit together. No run is
-    /// known to meet it. Where memory ran out, the answer is `Memory` of this type.
+    /// known to meet it. If memory ran out, the fault is `Memory` of this type.
     Mismatch(Mismatch),
     /// The search visited as many nodes of this piece, the least such, as the plan allows, and needed
     /// another.
@@ -35,7 +36,7 @@ pub enum RunFault {
     Collected { piece: u32 },
     /// Memory ran out.
     Memory,
-    /// The writer failed when it had taken so many bytes of the text: all, where it failed to flush them.
+    /// The writer failed after it had taken this many bytes of the text: all of them, if it failed to flush them.
     Write { written: usize },
 }
 
@@ -46,47 +47,7 @@ impl fmt::Display for RunFault {
     ghost output = { λ fault. Some (fault_text fault) };
 
     fn fmt<W: fmt::Write>(&self, f: &mut fmt::Formatter<W>) -> fmt::Result {
-        match self {
-            RunFault::Read => f.write_str("device: read"),
-            RunFault::Input(JournalFault::TooLong) => f.write_str("input: TooLong"),
-            RunFault::Input(JournalFault::NotAscii(offset)) => write!(
-                f,
-                "input: NotAscii at {offset}"
-            ),
-            RunFault::Input(JournalFault::TooManyRecords) => f.write_str("input: TooManyRecords"),
-            RunFault::Input(JournalFault::NotDay) => f.write_str("input: NotDay"),
-            RunFault::Input(JournalFault::FieldCount(record)) => {
-                write!(f, "input: FieldCount in record {record}")
-            }
-            RunFault::Input(JournalFault::BadField(record, field)) => {
-                write!(f, "input: BadField in record {record} field {field}")
-            }
-            RunFault::TooManyCommands => f.write_str("input: TooManyCommands"),
-            RunFault::CloseGiven(record) => write!(f, "input: CloseGiven in record {record}"),
-            RunFault::TooManyParticipants(record) => {
-                write!(f, "input: TooManyParticipants in record {record}")
-            }
-            RunFault::StillOpen => f.write_str("input: StillOpen"),
-            RunFault::Mismatch(Mismatch::StillOpen) => f.write_str("mismatch: StillOpen"),
-            RunFault::Mismatch(Mismatch::Missing(number)) => {
-                write!(f, "mismatch: Missing {number}")
-            }
-            RunFault::Mismatch(Mismatch::Doubled(number)) => {
-                write!(f, "mismatch: Doubled {number}")
-            }
-            RunFault::Mismatch(Mismatch::Differs(number)) => {
-                write!(f, "mismatch: Differs {number}")
-            }
-            RunFault::Mismatch(Mismatch::Extra(number)) => write!(f, "mismatch: Extra {number}"),
-            RunFault::Unfinished { piece, visited } => {
-                write!(f, "unfinished: piece {piece} after {visited} nodes")
-            }
-            RunFault::Collected { piece } => write!(f, "mismatch: Collected {piece}"),
-            RunFault::Input(JournalFault::Memory)
-            | RunFault::Mismatch(Mismatch::Memory)
-            | RunFault::Memory => f.write_str("memory"),
-            RunFault::Write { written } => write!(f, "device: write after {written} bytes"),
-        }
+        f.write_str(text_of(self).as_str())
     }
 }
 

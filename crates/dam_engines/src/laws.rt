@@ -3,9 +3,9 @@ ghost use Rattle.std.specs.Prelude.{◌≡◌, ◌≤◌, ℕ, List, length, Opt
 ghost use Rattle.dam_book.specs.Book.{BookState, run};
 ghost use Rattle.dam_book.specs.declared.command.Command.{Command};
 ghost use Rattle.dam_blocks.specs.Problem.{ProblemState, IsProblem, problem_of};
-ghost use Rattle.dam_search.specs.Limits.{most_nodes};
+ghost use Rattle.dam_plan.specs.Limits.{most_nodes};
 ghost use Rattle.dam_search.specs.Piece.{all_nodes};
-ghost use Rattle.dam_search.specs.Plan.{PlanTerms};
+ghost use Rattle.dam_plan.specs.Plan.{PlanTerms};
 ghost use Rattle.dam_results.specs.Journal.{ReadsAs};
 ghost use Rattle.dam_results.specs.Replies.{AreReplies};
 ghost use Rattle.dam_engines.specs.declared.fault.RunFault.{RunFault};
@@ -29,10 +29,10 @@ pub fn cleared_text_is_one()
 /// If the text is a journal, a replay ends with the replies to its commands, or memory runs out.
 pub fn replay_is_exact()
     ensures { (text : List ℕ) (periods : ℕ) (commands : List Command)
-        (old new : Option (List ℕ)) (result : Result (Unit {0}) RunFault)
+        (old new : Option (List ℕ)) (asked : ℕ) (result : Result (Unit {0}) RunFault)
         → ReadsAs text periods commands
-        → Ends (AreRepliesTo text) (IsTextFault text) old new result
-        → Ends (AreReplies periods commands) (λ fault. fault ≡ Memory) old new result }
+        → Ends (AreRepliesTo text) (IsTextFault text) old new asked result
+        → Ends (AreReplies periods commands) (λ fault. fault ≡ Memory) old new asked result }
 {
     text_is_one_journal();
     fault_is_no_journal();
@@ -41,11 +41,11 @@ pub fn replay_is_exact()
 /// If the text is a journal, a clearing ends with the results of the book that its commands make, or with a fault of that book.
 pub fn clearing_is_exact()
     ensures { (plan : PlanTerms) (text : List ℕ) (periods : ℕ) (commands : List Command)
-        (old new : Option (List ℕ)) (result : Result (Unit {0}) RunFault)
+        (old new : Option (List ℕ)) (asked : ℕ) (result : Result (Unit {0}) RunFault)
         → ReadsAs text periods commands
-        → Ends (AreResultsTo text) (IsClearTextFault plan text) old new result
+        → Ends (AreResultsTo text) (IsClearTextFault plan text) old new asked result
         → Ends (IsClearedAs (run periods commands)) (IsBookFault plan (run periods commands))
-        old new result }
+        old new asked result }
 {
     text_is_one_journal();
     fault_is_no_journal();
@@ -54,22 +54,22 @@ pub fn clearing_is_exact()
 /// If the text is a journal, a day ends with the text of a day of its commands, or with a fault of these.
 pub fn day_is_exact()
     ensures { (plan : PlanTerms) (text : List ℕ) (periods : ℕ) (commands : List Command)
-        (old new : Option (List ℕ)) (result : Result (Unit {0}) RunFault)
+        (old new : Option (List ℕ)) (asked : ℕ) (result : Result (Unit {0}) RunFault)
         → ReadsAs text periods commands
-        → Ends (IsDayTextTo text) (IsDayTextFault plan text) old new result
+        → Ends (IsDayTextTo text) (IsDayTextFault plan text) old new asked result
         → Ends (IsDayText periods commands) (IsCommandsFault plan periods commands)
-        old new result }
+        old new asked result }
 {
     text_is_one_journal();
     fault_is_no_journal();
 }
 
-/// The greatest limit on nodes, which stands where the words give none, covers any book: a search over all its blocks has at most
-/// 2 to the power of one more than their number, less 1, and so that limit cuts no search short.
+/// The greatest limit on nodes of a plan, which stands if the words give none, covers any book: a search over all its blocks has at
+/// most 2 to the power of one more than their number, less 1. So neither that limit nor a greater one cuts a search short.
 pub fn greatest_limit_cuts_no_search()
     ensures covers { (problem : ProblemState) → IsProblem problem
         → all_nodes (length problem.blocks) ≤ most_nodes }
     ensures whole { (plan : PlanTerms) (book : BookState) (piece visited : ℕ)
-        → IsProblem (problem_of book) → plan.nodes ≡ most_nodes
+        → IsProblem (problem_of book) → most_nodes ≤ plan.nodes
         → ¬ (IsCutShort plan book piece visited) }
 {}

@@ -3,8 +3,8 @@
 //!
 //! [`run_replay`] prints the reply of the order book to each command, [`run_clear`] the results of the closed book, and
 //! [`run_day`] the journal of a day whose participants enter their commands side by side, and its results. If a run prints
-//! nothing or only the front of its text, its [`RunFault`] says why; [`fault_line`] is the line that a person is told, and
-//! [`status`] the number that a program ends with.
+//! nothing or only the front of its text, its [`RunFault`] says why; [`fault_line`] is the line that a person is told,
+//! [`short_line`] the same without an allocation, and [`status`] the number that a program ends with.
 //!
 //! ```
 //! let plan = Plan::new(2, 3, MOST_NODES)?; // workers, depth of the cutting, nodes of a piece
@@ -22,9 +22,10 @@
 //!
 //! A reader comes as a [`Source`] and a writer as a [`Sink`], which keep whether they failed, how often they were asked, and
 //! whether the writer was flushed after all that it took. So the contracts say, of any reader and writer, that an engine
-//! reports each failure of a device and no other, flushes its text, and asks the reader at most once for each byte up to the
-//! first beyond the limit. Only tested is that the few lines of the two types keep this rightly, that a [`Watch`] is called, and
-//! that memory isn't said to have run out if it hasn't.
+//! reports each failure of a device and no other, asks no device again that failed, flushes its text, asks the reader at most once
+//! for each byte up to the first beyond the limit, and the writer at most once for each byte of its text. Only tested is that the
+//! few lines of the two types keep this rightly, that a [`Watch`] is called, and that memory isn't said to have run out if it
+//! hasn't.
 //!
 //! The crate knows nothing of the command line, nor of terminals.
 #![tactic(auto)]
@@ -36,6 +37,7 @@ mod device;
 mod fault;
 mod input;
 pub mod laws;
+mod line;
 mod output;
 mod replay;
 mod watch;
@@ -45,6 +47,7 @@ pub use clear::run_clear;
 pub use day::run_day;
 pub use device::{Sink, Source};
 pub use fault::{RunFault, fault_line, status};
+pub use line::short_line;
 pub use output::write_text;
 pub use replay::{replies_of, run_replay};
 pub use watch::Watch;

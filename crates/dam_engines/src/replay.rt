@@ -1,4 +1,4 @@
-ghost use Rattle.std.specs.Prelude.{◌≡◌, ◌≢◌, ◌≤◌, ◌+◌, ℕ, IfOk, IfErr, IfSome, MatchResult};
+ghost use Rattle.std.specs.Prelude.{◌≡◌, ◌≢◌, ◌≤◌, ◌+◌, ◌-◌, ℕ, false, IfOk, IfErr, IfSome, MatchResult};
 ghost use Rattle.dam_engines.specs.Device.{HaveFailed, HaveServed};
 ghost use Rattle.dam_engines.specs.Engine.{Ends, IsTextFault, most_read};
 ghost use Rattle.dam_engines.specs.Replay.{AreRepliesTo};
@@ -15,26 +15,26 @@ use std::io::{Read, Write};
 /// Reads a journal, runs its commands on the empty book of its day, and writes the day and the reply
 /// to each.
 ///
-/// The whole text is made before its first byte is written. Where the input is longer than a journal
-/// may be, not all of it is read. The book hashes names by the seed.
+/// The whole text is made before its first byte is written. If the input is longer than a journal may be, not all of it is
+/// read. The book hashes names by the seed.
 ///
-/// Of a reader that doesn't tell its bytes nothing is said, and of a writer that doesn't tell its bytes
-/// nothing is said of what it took. Standard input and output tell no bytes. Whether a device failed, how often the reader
-/// was asked, and that the writer was flushed is said of every reader and writer.
+/// What `run_clear` says of readers and writers holds here too.
 pub fn run_replay<R: Read, W: Write>(
     alloc: Global,
     seed: Seed,
     reader: &mut Source<R>,
     writer: &mut Sink<W>,
 ) -> Result<(), RunFault>
+    requires reads { reader.old.failed ≡ false }
+    requires writes { writer.old.failed ≡ false }
     ensures ends { IfSome reader.old.given (λ given.
         Ends (AreRepliesTo given) (IsTextFault given)
-        writer.old.taken writer.new.taken result) }
+        writer.old.taken writer.new.taken (writer.new.asked - writer.old.asked) result) }
     ensures unwritten { IfErr result (λ fault.
         ((written : ℕ) → fault ≢ RunFault.Write written) → writer.new ≡ writer.old) }
     ensures devices { MatchResult result
-        (λ _. HaveServed reader.old reader.new writer.old writer.new)
-        (HaveFailed reader.old reader.new writer.old writer.new) }
+        (λ _. HaveServed reader.old reader.new writer.new)
+        (HaveFailed reader.old reader.new writer.new) }
     ensures asked { reader.new.asked ≤ reader.old.asked + most_read }
 {
     let text = read_input(alloc, reader)?;

@@ -5,7 +5,7 @@ pub trait Watch: Turnstile {
     /// Called by `run_clear` before its book is cleared, with how many of the journal's commands the book refused.
     fn refused(&self, commands: u32);
 
-    /// Called before a search of so many pieces.
+    /// Called before a search, with the number of its pieces.
     fn begin(&self, pieces: u32);
 
     /// Called after the search, whatever it answers.

@@ -1,5 +1,5 @@
 -- The text so far is within the bound, and is what the reader's bytes have lost; each turn so far gave it a byte or more.
-use Rattle.std.proofs.Common.{◌≡◌, ◌≤◌, ◌+◌, ◌-◌, length}
+use Rattle.std.proofs.Common.{◌≡◌, ◌≤◌, ◌+◌, ◌-◌, false, length}
 use Rattle.std.specs.Io.KnownBytes.{Consumes}
 use Rattle.dam_engines.specs.declared.input.TheConstants.{CHUNK}
 use Rattle.dam_engines.specs.Engine.{most_read}
@@ -11,7 +11,7 @@ invariant-loop-chunk g l = record {
   taken : Consumes l.initial.reader.given l.reader.given l.text.items;
   chunk : length l.chunk ≡ CHUNK;
   asked : l.reader.asked ≤ l.initial.reader.asked + length l.text.items;
-  failed : l.reader.failed ≡ l.initial.reader.failed;
+  failed : l.reader.failed ≡ false;
 }
 
 abbrev pub decreases-loop-chunk : goal.decreases-loop-chunk

@@ -17,5 +17,5 @@ loop-written-preserved g c =
     record {
       taken = (omega (arith, fits), subst (Appends _ _) joined (Appends-trans _ _ _ _ _ before.taken.1 c.in-Ok.ensures.bytes));
       asked = omega (arith, before.asked, c.write.ensures.asked, fits);
-      failed = c.in-Ok.ensures.cause ∙ before.failed;
+      failed = c.in-Ok.ensures.cause;
     }

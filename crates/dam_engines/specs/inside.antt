@@ -1,0 +1,2 @@
+-- What only contracts inside this crate cite.
+pub mod Reading
