@@ -37,6 +37,7 @@ mod fault;
 mod input;
 pub mod laws;
 mod output;
+mod packed;
 mod replay;
 mod watch;
 
