@@ -3,11 +3,10 @@
 levels that give a search its bounds.
 
 The baseline is a plain Rust program with std only: a hash map, and a list of orders with gaps. For a day it has a thread for each
-participant and one `Mutex`; it settles and prints the day, and clears nothing. A day of `dam` holds each command three times: as it was
-read, in the journal and as a receipt. The input is freed before the commands are entered, and the room for journal and receipts is made
-once. A settlement is compared with a plain pass that compares each receipt with its entry. An hour finds the end of the best execution
-by one bisection over the buys' own limits, with one over the sells inside, and then both ends of the price by two look-ups among the
-sells."""
+participant and one `Mutex`; it settles and prints the day, and clears nothing. A day of `dam` holds each command as it was read and as a
+receipt, both packed, and whole in the journal. The input is freed before the commands are entered, and the room for journal and receipts is
+made once. A settlement is compared with a plain pass that compares each receipt with its entry. An hour finds the end of the best execution
+by one bisection over the buys' own limits, with one over the sells inside, and then both ends of the price by two look-ups among the sells."""
 
 import statistics
 import sys
@@ -37,7 +36,7 @@ def journals():
     baseline = [BASELINE, "day"]
     compare("dam day compared with the baseline with threads, 9,999 commands", [DAM, "day"], baseline, DAY, 2)
     what = "dam day compared with the baseline with threads, peak memory"
-    note = "the baseline keeps one book, and a gate that shows versions two; each command and order has room for 100 volumes"
+    note = "the baseline keeps one book, and a gate that shows versions two; each entry and order has room for 100 volumes"
     ratio(what, [peak([DAM, "day"], DAY)], [peak(baseline, DAY)], 1.5, shown=MIB, note=note)
     compare("dam day compared with dam replay, 9,999 commands", [DAM, "day"], [DAM, "replay"], DAY, None)
 

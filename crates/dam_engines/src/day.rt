@@ -12,10 +12,11 @@ use crate::device::{Sink, Source};
 use crate::fault::RunFault;
 use crate::input::read_input;
 use crate::output::write_text;
+use crate::packed::PackedJournal;
 use crate::watch::Watch;
-use dam_book::{Command, Seed};
-use dam_gate::{DayFault, Doorkeeper, Journal, Settled, run_commands};
-use dam_results::{journal_text, read_journal};
+use dam_book::Seed;
+use dam_gate::{DayFault, Doorkeeper, Journal, PackedCommand, Settled, run_packed};
+use dam_results::{journal_text, read_into};
 use dam_search::{Plan, Turnstile};
 use std::alloc::Global;
 use std::io::{Read, Write};
@@ -76,7 +77,8 @@ fn day_text<H: Threads + Wait + Sync, T: Watch + Sync, U: Turnstile + Sync>(
     ensures done { IfOk result (λ day. IsDayTextTo text.items day.items) }
     ensures fault { IfErr result (IsDayTextFault plan text.items) }
 {
-    let journal = read_journal(alloc, text.as_slice())?;
+    // No book is made of it here, and this seed is for nothing.
+    let journal: PackedJournal = read_into(alloc, Seed::fixed(), text.as_slice())?;
     drop(text);
     let commands = journal.commands.as_slice();
     day_of_commands(
@@ -97,7 +99,7 @@ fn day_of_commands<H: Threads + Wait + Sync, T: Watch + Sync, U: Turnstile + Syn
     alloc: Global,
     seed: Seed,
     periods: u8,
-    commands: &[Command],
+    commands: &[PackedCommand],
     plan: Plan,
     turnstile: &T,
     entrance: &U,
@@ -133,7 +135,7 @@ fn settled_day<H: Threads + Wait + Sync, U: Turnstile + Sync>(
     alloc: Global,
     seed: Seed,
     periods: u8,
-    commands: &[Command],
+    commands: &[PackedCommand],
     entrance: &U,
 ) -> Result<Settled, RunFault>
     requires { is_day periods ≡ true }
@@ -146,7 +148,7 @@ fn settled_day<H: Threads + Wait + Sync, U: Turnstile + Sync>(
     let door = Door {
         turnstile: entrance,
     };
-    match run_commands(rt, alloc, periods, seed, commands, &door) {
+    match run_packed(rt, alloc, periods, seed, commands, &door) {
         Ok(day) => Ok(day.settled),
         Err(DayFault::TooManyCommands) => Err(RunFault::TooManyCommands),
         Err(DayFault::CloseGiven(place)) => Err(RunFault::CloseGiven(place + 2)),

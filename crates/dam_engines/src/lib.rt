@@ -39,6 +39,7 @@ mod input;
 pub mod laws;
 mod line;
 mod output;
+mod packed;
 mod replay;
 mod watch;
 

@@ -2,7 +2,7 @@
 use Rattle.std.proofs.Common.{All, slice_get, ◌≡◌, ◌≢◌, ℕ, zero, suc, ◌+◌, ◌<◌, ◌≤◌, ◌==◌, ◌⊎◌, inl, inr, Bool, true, false, cond, if◌then◌else◌, ◌||◌, List, [], ◌∷◌, ◌++◌, length, get_or, map, take, drop, Option, Some, None, refl, sym, ap, ap₂, subst, ◌∙◌, append-nil, length-append, arith}
 use Rattle.std.specs.List.{filter}
 use Rattle.std.specs.Bool.{Decides}
-use Rattle.std.proofs.lemmas.Bool.{eqb-true, eqb-false, cases_lt, le-ltb, or_parts}
+use Rattle.std.proofs.lemmas.Bool.{eqb-true, eqb-false, cases_lt, or_parts}
 use Rattle.std.proofs.lemmas.Bool.Decides.{Decides-eqb}
 use Rattle.std.proofs.lemmas.List.{length-map, take-append-drop, get_or-map}
 use Rattle.std.proofs.lemmas.List.Elements.{filter-append}
@@ -19,7 +19,6 @@ use Rattle.dam_gate.specs.inside.Tally.{AreReceipts}
 use Rattle.dam_gate.specs.inside.Entering.{AreApart, AreGivers, AreServed, Enters, HasAll, HasEntered, IsRefusalAt, own_commands}
 use Rattle.dam_gate.specs.declared.day.DayFault.{DayFault}
 use Rattle.dam_gate.specs.declared.day.DayFault.TheVariants.{TooManyCommands, CloseGiven, TooManyParticipants, NotSettled, Memory}
-use Rattle.dam_gate.specs.declared.settlement.Mismatch.{Mismatch}
 use Rattle.dam_book.specs.Limits.{most_entries}
 use Rattle.dam_gate.specs.Limits.{most_participants}
 use Rattle.std.proofs.lemmas.Grind.{flat_map-append}

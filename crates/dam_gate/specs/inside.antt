@@ -5,3 +5,4 @@ pub mod Books
 pub mod Shown
 pub mod Tally
 pub mod Entering
+pub mod Packed

@@ -1,7 +1,8 @@
 ghost use Rattle.std.specs.Prelude.{◌≡◌};
 ghost use Rattle.dam_gate.specs.Pass.{IsPass, is_from, is_own};
 
-use dam_book::{Command, Entry, Participant};
+use crate::packed::Receipt;
+use dam_book::{Command, Participant};
 use std::marker::Model;
 
 /// What is left of a pass after its day: its holder, how many entries of the journal it had seen, and a receipt of each
@@ -13,7 +14,7 @@ use std::marker::Model;
 pub struct Account {
     holder: Option<Participant>,
     seen: u32,
-    receipts: Vec<Entry>,
+    receipts: Vec<Receipt>,
 }
 
 impl Model for Account {
@@ -59,7 +60,7 @@ pub(crate) fn copy_of(holder: &Option<Participant>) -> Option<Participant>
 }
 
 impl Account {
-    pub(crate) fn new(holder: Option<Participant>, seen: u32, receipts: Vec<Entry>) -> Account
+    pub(crate) fn new(holder: Option<Participant>, seen: u32, receipts: Vec<Receipt>) -> Account
         requires { IsPass (record { holder = holder; seen = seen; receipts = receipts.items }) }
         ensures { result ≡ record { holder = holder; seen = seen; receipts = receipts.items } }
     {
@@ -85,7 +86,7 @@ impl Account {
     }
 
     /// The entries that its calls were answered with, by increasing number.
-    pub fn receipts(&self) -> &[Entry]
+    pub fn receipts(&self) -> &[Receipt]
         ensures value { result.now ≡ self.now.receipts }
         ensures valid { IsPass self.now }
     {

@@ -9,12 +9,13 @@ ghost use Rattle.dam_gate.specs.Headline.{IsWholeAccount};
 ghost use Rattle.dam_gate.specs.Day.{AreTaken, IsDayFault, IsDayRun, day_holders, giver, givers_of, is_one_of};
 ghost use Rattle.dam_gate.specs.inside.Entering.{AreGivers, AreServed, Enters, HasAll, IsClosedDay, IsLateFault, IsRefusalAt, Takes, own_commands};
 
-use crate::account::{Account, owns};
+use crate::account::Account;
 use crate::doorkeeper::Doorkeeper;
 use crate::gate::{Gate, GateFault, PassFault};
 use crate::history::{Naming, Opening};
 use crate::keeper::{BeginFault, Journal};
 use crate::limits::MOST_PARTICIPANTS;
+use crate::packed::{PackedCommand, pack};
 use crate::pass::Pass;
 use crate::settlement::{Mismatch, Settled, settle};
 use crate::version::{Change, Shown};
@@ -105,15 +106,15 @@ fn enter<J: Naming, H: Wait + Drop>(
     rt: &impl Wait,
     gate: &Gate<J, H>,
     pass: &mut Pass<J>,
-    commands: &[Command],
+    commands: &[PackedCommand],
 )
     ensures { Enters commands.now pass.old.account pass.new.account }
 {
     for given in commands {
-        if !pass.owns(given) {
+        if !pass.owns_packed(given) {
             continue;
         }
-        let Ok(_entry) = gate.enter(rt, pass, given) else {
+        let Ok(_answer) = gate.enter(rt, pass, &given.command()) else {
             return;
         };
     }
@@ -126,7 +127,7 @@ fn attend<J: Naming, H: Wait + Drop, D: Doorkeeper>(
     doorkeeper: &D,
     participant: u32,
     pass: &mut Pass<J>,
-    commands: &[Command],
+    commands: &[PackedCommand],
 )
     ensures { Enters commands.now pass.old.account pass.new.account }
 {
@@ -141,7 +142,7 @@ fn enter_all<J: Naming + Send + Sync, R: Threads + Wait + Sync, D: Doorkeeper + 
     gate: &Gate<J, &R>,
     doorkeeper: &D,
     passes: &mut [Pass<J>],
-    commands: &[Command],
+    commands: &[PackedCommand],
 )
     requires { length passes.old ≤ most_participants }
     ensures { (i : ℕ) (d : Knowledge) → i < length passes.old
@@ -156,12 +157,12 @@ fn enter_all<J: Naming + Send + Sync, R: Threads + Wait + Sync, D: Doorkeeper + 
     );
 }
 
-fn count_own(holder: &Option<Participant>, commands: &[Command]) -> usize
+fn count_own(holder: &Option<Participant>, commands: &[PackedCommand]) -> usize
     ensures { result ≡ length (own_commands holder.now commands.now) }
 {
     let mut count = 0;
     for command in commands {
-        if owns(holder, command) {
+        if command.is_own(holder) {
             count += 1;
         }
     }
@@ -169,7 +170,7 @@ fn count_own(holder: &Option<Participant>, commands: &[Command]) -> usize
 }
 
 /// Whether no call was refused: each holder has as many receipts as commands of its own.
-fn have_all_entered(passes: &[Account], commands: &[Command]) -> bool
+fn have_all_entered(passes: &[Account], commands: &[PackedCommand]) -> bool
     ensures { result ≡ true → All (HasAll commands.now) passes.now }
 {
     for pass in passes {
@@ -178,18 +179,6 @@ fn have_all_entered(passes: &[Account], commands: &[Command]) -> bool
         }
     }
     true
-}
-
-/// Who gives the command; a close is nobody's.
-fn giver(command: &Command) -> Option<&Participant>
-    ensures { option_copied result ≡ giver command.now }
-{
-    match command {
-        Command::Submit { who, .. } | Command::Amend { who, .. } | Command::Cancel { who, .. } => {
-            Some(who)
-        }
-        Command::Close => None,
-    }
 }
 
 fn is_one_of(participants: &[Participant], who: &Participant) -> bool
@@ -201,7 +190,7 @@ fn is_one_of(participants: &[Participant], who: &Participant) -> bool
 /// Takes the giver of the command at this place among the participants.
 fn take_giver(
     participants: &mut Vec<Participant>,
-    command: &Command,
+    command: &PackedCommand,
     place: usize,
 ) -> Result<(), DayFault>
     requires { length participants.old.items ≤ most_participants }
@@ -209,7 +198,7 @@ fn take_giver(
     ensures giver { OnOk result (Takes command.now participants.old.items participants.new.items) }
     ensures refused { IfErr result (IsRefusalAt place participants.old.items command.now) }
 {
-    let Some(who) = giver(command) else {
+    let Some(who) = command.giver() else {
         return Err(DayFault::CloseGiven(place));
     };
     if is_one_of(participants, who) {
@@ -223,7 +212,7 @@ fn take_giver(
 }
 
 /// The participants who give the commands, by first occurrence.
-fn givers(alloc: Global, commands: &[Command]) -> Result<Vec<Participant>, DayFault>
+fn givers(alloc: Global, commands: &[PackedCommand]) -> Result<Vec<Participant>, DayFault>
     requires { length commands.now < most_entries }
     ensures ok { IfOk result (λ participants. AreGivers participants.items commands.now) }
     ensures order { IfOk result (λ participants. participants.items ≡ givers_of commands.now) }
@@ -243,7 +232,7 @@ fn pass_for<J: Naming, H: Wait + Drop>(
     rt: &impl Wait,
     gate: &Gate<J, H>,
     who: &Participant,
-    commands: &[Command],
+    commands: &[PackedCommand],
 ) -> Result<Pass<J>, DayFault>
     ensures ok { IfOk result (λ pass. pass ≡ knowing_nothing (Some who.now)) }
     ensures err { IfErr result (λ fault. fault ≡ DayFault.Memory) }
@@ -259,7 +248,7 @@ fn passes_for<J: Naming, H: Wait + Drop>(
     alloc: Global,
     gate: &Gate<J, H>,
     participants: &[Participant],
-    commands: &[Command],
+    commands: &[PackedCommand],
 ) -> Result<Vec<Pass<J>>, DayFault>
     ensures ok { IfOk result (λ passes.
         passes.items ≡ map (λ who. knowing_nothing (Some who)) participants.now) }
@@ -306,7 +295,7 @@ fn enter_day<J: Naming + Send + Sync, R: Threads + Wait + Sync, D: Doorkeeper + 
     gate: &Gate<J, &R>,
     doorkeeper: &D,
     participants: &[Participant],
-    commands: &[Command],
+    commands: &[PackedCommand],
 ) -> Result<Vec<Account>, DayFault>
     requires { length participants.now ≤ most_participants }
     ensures ok { IfOk result (λ passes. AreServed commands.now participants.now passes.items) }
@@ -343,7 +332,7 @@ fn run_day<J: Naming + Send + Sync, R: Threads + Wait + Sync, D: Doorkeeper + Sy
     seed: Seed,
     doorkeeper: &D,
     participants: &[Participant],
-    commands: &[Command],
+    commands: &[PackedCommand],
 ) -> Result<SettledDay, DayFault>
     requires name { opening ≡ J.opening }
     requires day { is_day opening.periods ≡ true }
@@ -400,6 +389,31 @@ pub fn run_commands<R: Threads + Wait + Sync, D: Doorkeeper + Sync>(
     periods: u8,
     seed: Seed,
     commands: &[Command],
+    doorkeeper: &D,
+) -> Result<SettledDay, DayFault>
+    requires { is_day periods ≡ true }
+    ensures periods { IfOk result (λ day. day.settled.book.periods ≡ periods) }
+    ensures journal { IfOk result (λ day. IsJournal day.settled) }
+    ensures day { IfOk result (λ day. IsDayRun periods commands.now day.settled.entries) }
+    ensures account { IfOk result (λ day. IsWholeAccount day.settled day.passes.items) }
+    ensures passes { IfOk result (λ day. holders day.passes.items ≡ day_holders commands.now) }
+    ensures taken { OnOk result (AreTaken commands.now) }
+    ensures fault { IfErr result (IsDayFault commands.now) }
+{
+    if commands.len() >= MOST_ENTRIES {
+        return Err(DayFault::TooManyCommands);
+    }
+    let packed = pack(alloc, commands)?;
+    run_packed(rt, alloc, periods, seed, &packed, doorkeeper)
+}
+
+/// Runs a day as `run_commands` does, of packed commands.
+pub fn run_packed<R: Threads + Wait + Sync, D: Doorkeeper + Sync>(
+    rt: &R,
+    alloc: Global,
+    periods: u8,
+    seed: Seed,
+    commands: &[PackedCommand],
     doorkeeper: &D,
 ) -> Result<SettledDay, DayFault>
     requires { is_day periods ≡ true }

@@ -5,7 +5,7 @@ ghost use Rattle.dam_gate.specs.Journal.{IsJournal, empty_journal, is_full, jour
 ghost use Rattle.dam_gate.specs.Limits.{most_passes};
 ghost use Rattle.dam_gate.specs.Pass.{knowing_nothing};
 ghost use Rattle.dam_gate.specs.Gate.{IsBeginFault};
-ghost use Rattle.dam_gate.specs.inside.Desk.{IsPassFault};
+ghost use Rattle.dam_gate.specs.inside.Desk.{IsPassFault, entry_of};
 ghost use Rattle.dam_gate.specs.inside.Shown.{IsAtMostNext, IsNext};
 ghost use Rattle.left_right.specs.Handles.{pending, published};
 
@@ -15,7 +15,7 @@ use crate::keeper::{BeginFault, Journal, Keeper, Ready};
 use crate::limits::MOST_PASSES;
 use crate::pass::Pass;
 use crate::version::{Change, Place, Shown, Version};
-use dam_book::{Command, Entry, Participant, Seed};
+use dam_book::{Command, Participant, Reply, Seed};
 use left_right::{Absorb, WriteHandle};
 use std::alloc::{AllocError, Global};
 use std::marker::Model;
@@ -238,7 +238,8 @@ impl<J: Naming, R: Wait + Drop> Desk<J, R> {
         Ok(pass)
     }
 
-    /// Journals the command, and shows the version after it. It answers the entry and the history that it ends.
+    /// Journals the command, and shows the version after it. It answers the entry's number and reply, and the history that it
+    /// ends.
     ///
     /// All that may be refused comes first. What a refused call has left at the writer the next one takes.
     pub(crate) fn enter(
@@ -246,10 +247,12 @@ impl<J: Naming, R: Wait + Drop> Desk<J, R> {
         seen: &Front<J>,
         told: &Front<J>,
         command: &Command,
-    ) -> Result<(Entry, Front<J>), GateFault>
+    ) -> Result<((u32, Reply), Front<J>), GateFault>
         requires { is_full (length self.old.journal.entries) command.now ≡ false }
-        ensures entry { IfOk result (λ r. r.0 ≡ next_entry self.old.journal command.now) }
-        ensures history { IfOk result (λ r. r.1 ≡ self.old.journal.entries ++ r.0 ∷ []) }
+        ensures entry { IfOk result (λ r.
+            entry_of command.now r.0 ≡ next_entry self.old.journal command.now) }
+        ensures history { IfOk result (λ r.
+            r.1 ≡ self.old.journal.entries ++ entry_of command.now r.0 ∷ []) }
         ensures journal { OnOk result
             (self.new.journal ≡ journal_after self.old.journal command.now) }
         ensures passes { self.new.passes ≡ self.old.passes }
@@ -269,8 +272,10 @@ impl<J: Naming, R: Wait + Drop> Desk<J, R> {
         }
         let_go(&mut self.writer);
         self.next = None;
-        let entry = self.keeper.put(ready);
+        let entry = ready.entry();
+        let answer = (entry.number, entry.reply);
+        self.keeper.take(ready);
         self.front = front.again();
-        Ok((entry, front))
+        Ok((answer, front))
     }
 }

@@ -3,13 +3,14 @@ ghost use Rattle.dam_book.specs.Book.{is_day};
 ghost use Rattle.dam_gate.specs.Journal.{IsJournal};
 ghost use Rattle.dam_gate.specs.Pass.{after_call, is_own, knowing_nothing};
 ghost use Rattle.dam_gate.specs.Gate.{IsAnswered, IsBeginFault, IsGateFault};
+ghost use Rattle.dam_gate.specs.inside.Desk.{entry_of};
 
 use crate::desk::Desk;
 use crate::history::{Naming, Opening};
 use crate::keeper::{BeginFault, Journal, KeeperFault};
 use crate::pass::Pass;
 use crate::version::{Change, Shown};
-use dam_book::{Command, Entry, Participant, Seed};
+use dam_book::{Command, Entry, Participant, Reply, Seed};
 use left_right::Absorb;
 use std::alloc::{AllocError, Global};
 use std::sync::{Mutex, Wait};
@@ -162,22 +163,26 @@ impl<J: Naming, R: Wait + Drop> Gate<J, R> {
         ensures err { OnErr result (pass.new ≡ pass.old) }
         ensures fault { IfErr result (IsGateFault pass.old.account command) }
     {
-        self.enter(rt, pass, &command)
+        let (number, reply) = self.enter(rt, pass, &command)?;
+        Ok(Entry {
+            number,
+            command,
+            reply,
+        })
     }
 
-    /// Makes the call of a command that its caller keeps.
+    /// Makes the call of a command that its caller keeps. It answers the number and the reply of the entry.
     pub(crate) fn enter(
         &self,
         rt: &impl Wait,
         pass: &mut Pass<J>,
         command: &Command,
-    ) -> Result<Entry, GateFault>
-        ensures command { IfOk result (λ entry. entry.command ≡ command.now) }
-        ensures later { IfOk result (λ entry. pass.old.account.seen < entry.number) }
-        ensures receipt { IfOk result (λ entry.
-            pass.new ≡ after_call pass.old pass.new.history entry) }
-        ensures history { IfOk result
-            (IsAnswered J.opening.periods pass.old pass.new.history) }
+    ) -> Result<(u32, Reply), GateFault>
+        ensures later { IfOk result (λ answer. pass.old.account.seen < answer.0) }
+        ensures receipt { IfOk result (λ answer.
+            pass.new ≡ after_call pass.old pass.new.history (entry_of command.now answer)) }
+        ensures history { IfOk result (λ answer.
+            IsAnswered J.opening.periods pass.old pass.new.history (entry_of command.now answer)) }
         ensures own { OnOk result (is_own pass.old.account.holder command.now ≡ true) }
         ensures err { OnErr result (pass.new ≡ pass.old) }
         ensures fault { IfErr result (IsGateFault pass.old.account command.now) }

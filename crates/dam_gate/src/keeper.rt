@@ -231,11 +231,21 @@ impl<A: Allocator + Copy> Keeper<A> {
         ensures step { self.new.journal ≡ journal_after self.old.journal ready.entry.command }
         ensures day { self.new.journal.book.periods ≡ self.old.journal.book.periods }
     {
+        let entry = ready.entry().copy();
+        self.take(ready);
+        entry
+    }
+
+    /// Takes the step as `put` does, and answers no copy of its entry.
+    pub(crate) fn take(&mut self, ready: Ready<A>)
+        requires { IsReadyFor self.old ready.entry.command ready }
+        ensures step { self.new.journal ≡ journal_after self.old.journal ready.entry.command }
+        ensures day { self.new.journal.book.periods ≡ self.old.journal.book.periods }
+    {
         let Ready { entry, book } = ready;
         let held = self.len();
-        self.entries.push_reserved(entry.copy());
         self.books.follow(book, &entry, held as usize);
-        entry
+        self.entries.push_reserved(entry);
     }
 
     /// Journals the command with the book's reply to it, also where the book refuses it.

@@ -21,7 +21,7 @@
 //! A contract sees a journal and a [`Settled`] as their entries with the book that these make, a [`Keeper`] as its journal
 //! and the room in it, and a [`Pass`] as what it knows: its account, that is its holder, the number of entries that it
 //! has seen, and its receipts; the history that it has seen, the longest that it was told of, and the one that its last
-//! call made. What these words mean stands in `specs/`. What two passes have seen is one history ([`laws::one_history`]).
+//! call made. It sees a [`PackedCommand`] as the command and a [`Receipt`] as the entry. What these words mean stands in `specs/`. What two passes have seen is one history ([`laws::one_history`]).
 //!
 //! Of what lies under the lock a contract sees only what is true of any gate whenever the lock is free: the journal is a legal
 //! one of the day of the gate's name, and as many entries are shown as it has.
@@ -43,18 +43,20 @@ mod history;
 mod keeper;
 pub mod laws;
 mod limits;
+mod packed;
 mod pass;
 mod settlement;
 mod tally;
 mod version;
 
 pub use account::Account;
-pub use day::{DayFault, SettledDay, run_commands};
+pub use day::{DayFault, SettledDay, run_commands, run_packed};
 pub use doorkeeper::{Doorkeeper, OpenDoor};
 pub use gate::{Gate, GateFault, PassFault};
 pub use history::{Naming, Opening};
 pub use keeper::{BeginFault, Journal, Keeper, KeeperFault, Ready};
 pub use limits::{MOST_PARTICIPANTS, MOST_PASSES};
+pub use packed::{PackedCommand, Receipt};
 pub use pass::{Look, Note, Pass};
 pub use settlement::{Mismatch, Settled, Unsettled, settle};
 pub use version::{Change, Shown};

@@ -5,15 +5,16 @@ ghost use Rattle.dam_book.specs.Limits.{most_entries};
 ghost use Rattle.dam_gate.specs.Journal.{journal_after, next_entry};
 ghost use Rattle.dam_gate.specs.Pass.{IsKnowledge, after_call, after_learning, after_look, is_own, knowing_nothing};
 ghost use Rattle.dam_gate.specs.Gate.{BeginsWithAll, IsAnswered, IsLook};
-ghost use Rattle.dam_gate.specs.inside.Desk.{IsFaultAt};
+ghost use Rattle.dam_gate.specs.inside.Desk.{IsFaultAt, entry_of};
 
 use crate::account::{Account, copy_of, owns};
 use crate::desk::Desk;
 use crate::gate::GateFault;
 use crate::history::{Front, Naming};
 use crate::keeper::is_full;
+use crate::packed::{PackedCommand, Receipt};
 use crate::version::{Change, Shown};
-use dam_book::{Command, Entry, Name, Order, Participant};
+use dam_book::{Command, Name, Order, Participant, Reply};
 use left_right::{Absorb, ReadHandle};
 use std::alloc::{AllocError, Global};
 use std::marker::Model;
@@ -51,7 +52,7 @@ impl<J: Naming> Note<J> {
 #[derive(Drop)]
 pub struct Pass<J: Naming> {
     holder: Option<Participant>,
-    receipts: Vec<Entry>,
+    receipts: Vec<Receipt>,
     history: Front<J>,
     told: Front<J>,
     note: Option<Note<J>>,
@@ -127,7 +128,7 @@ impl<J: Naming> Pass<J> {
     }
 
     /// The entries that its calls were answered with, by increasing number.
-    pub fn receipts(&self) -> &[Entry]
+    pub fn receipts(&self) -> &[Receipt]
         ensures value { result.now ≡ self.now.account.receipts }
         ensures valid { IsKnowledge self.now }
     {
@@ -139,6 +140,13 @@ impl<J: Naming> Pass<J> {
         ensures { result ≡ is_own self.now.account.holder command.now }
     {
         owns(&self.holder, command)
+    }
+
+    /// The same of a packed command.
+    pub(crate) fn owns_packed(&self, command: &PackedCommand) -> bool
+        ensures { result ≡ is_own self.now.account.holder command.now }
+    {
+        command.is_own(&self.holder)
     }
 
     /// The participant's order of that name, and whether the book is closed, in the version that is shown. It takes no
@@ -199,24 +207,25 @@ impl<J: Naming> Pass<J> {
         self.receipts.reserve(receipts)
     }
 
-    /// A call's step under the lock.
+    /// A call's step under the lock. It answers the number and the reply of the entry.
     ///
     /// The room for the receipt is made before the journal's step, so that a refused call changes nothing.
     pub(crate) fn step<R: Wait + Drop>(
         &mut self,
         desk: &mut Desk<J, R>,
         command: &Command,
-    ) -> Result<Entry, GateFault>
+    ) -> Result<(u32, Reply), GateFault>
         requires { is_own self.old.account.holder command.now ≡ true }
-        ensures entry { IfOk result (λ entry. entry ≡ next_entry desk.old.journal command.now) }
+        ensures entry { IfOk result (λ answer.
+            entry_of command.now answer ≡ next_entry desk.old.journal command.now) }
         ensures journal { OnOk result
             (desk.new.journal ≡ journal_after desk.old.journal command.now) }
         ensures passes { desk.new.passes ≡ desk.old.passes }
-        ensures answered { IfOk result
-            (IsAnswered J.opening.periods self.old self.new.history) }
-        ensures later { IfOk result (λ entry. self.old.account.seen < entry.number) }
-        ensures pass { IfOk result (λ entry.
-            self.new ≡ after_call self.old self.new.history entry) }
+        ensures answered { IfOk result (λ answer.
+            IsAnswered J.opening.periods self.old self.new.history (entry_of command.now answer)) }
+        ensures later { IfOk result (λ answer. self.old.account.seen < answer.0) }
+        ensures pass { IfOk result (λ answer.
+            self.new ≡ after_call self.old self.new.history (entry_of command.now answer)) }
         ensures err { OnErr result ((desk.new ≡ desk.old) × (self.new ≡ self.old)) }
         ensures fault { IfErr result
             (IsFaultAt (length desk.old.journal.entries) self.old.account command.now) }
@@ -227,13 +236,15 @@ impl<J: Naming> Pass<J> {
             return Err(GateFault::JournalFull { held });
         }
         self.receipts.reserve(1)?;
-        let (entry, front) = desk.enter(&self.history, &self.told, command)?;
-        self.receipts.push_reserved(entry.copy());
+        let packed = PackedCommand::of(*self.receipts.allocator(), command)?;
+        let (answer, front) = desk.enter(&self.history, &self.told, command)?;
+        self.receipts
+            .push_reserved(Receipt::new(answer.0, packed, answer.1));
         self.note = Some(Note {
             front: front.again(),
         });
         self.history = front;
-        Ok(entry)
+        Ok(answer)
     }
 
     /// What is left of it once its gate was finished.

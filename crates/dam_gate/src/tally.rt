@@ -7,6 +7,7 @@ ghost use Rattle.dam_gate.specs.Settled.{receipts_of};
 ghost use Rattle.dam_gate.specs.inside.Tally.{IsFirstFault, IsTally, first_fault, found_with, lesser};
 
 use crate::account::Account;
+use crate::packed::Receipt;
 use crate::settlement::Mismatch;
 use dam_book::Entry;
 use dam_book::laws::equality;
@@ -45,11 +46,11 @@ pub(crate) struct Tally<A: Allocator> {
     extra: Option<u32>,
 }
 
-fn is_same(receipt: &Entry, entry: &Entry) -> bool
+fn is_same(receipt: &Receipt, entry: &Entry) -> bool
     ensures { MatchBool result (receipt.now ≡ entry.now) (receipt.now ≢ entry.now) }
 {
     equality();
-    *receipt == *entry
+    receipt.entry() == *entry
 }
 
 fn lesser(extra: Option<u32>, number: u32) -> Option<u32>
@@ -76,7 +77,7 @@ impl<A: Allocator> Tally<A> {
     }
 
     /// Counts one receipt.
-    fn count(&mut self, entries: &[Entry], receipt: &Entry)
+    fn count(&mut self, entries: &[Entry], receipt: &Receipt)
         requires positive { 0 < receipt.now.number }
         requires as_long { length self.old.found.items ≡ length entries.now }
         ensures as_long { length self.new.found.items ≡ length entries.now }
@@ -84,15 +85,16 @@ impl<A: Allocator> Tally<A> {
             → IsTally entries.now self.old.found.items self.old.extra before
             → IsTally entries.now self.new.found.items self.new.extra (before ++ receipt.now ∷ []) }
     {
-        let place = receipt.number as usize - 1;
+        let number = receipt.number();
+        let place = number as usize - 1;
         match entries.get(place) {
             Some(entry) => self.found[place] = self.found[place].with(is_same(receipt, entry)),
-            None => self.extra = lesser(self.extra, receipt.number),
+            None => self.extra = lesser(self.extra, number),
         }
     }
 
     /// Counts the receipts of one pass.
-    fn count_pass(&mut self, entries: &[Entry], receipts: &[Entry])
+    fn count_pass(&mut self, entries: &[Entry], receipts: &[Receipt])
         requires positive { (seen : ℕ) × AreInOrder 0 seen receipts.now }
         requires as_long { length self.old.found.items ≡ length entries.now }
         ensures as_long { length self.new.found.items ≡ length entries.now }

@@ -89,7 +89,10 @@ impl<J: Naming> Round<J> {
         for _ in 0..TRIES {
             match gate.call(rt, pass, command.copy()) {
                 Ok(entry) => {
-                    let is_last = pass.receipts().last() == Some(&entry);
+                    let is_last = pass
+                        .receipts()
+                        .last()
+                        .is_some_and(|receipt| receipt.entry() == entry);
                     let is_shown = entries_shown(pass) == Some(entry.number);
                     return if is_last && is_shown {
                         Ok(())

@@ -8,7 +8,7 @@ use dam_book::{Command, Seed};
 use std::alloc::{AllocError, Global};
 
 /// What is made of the commands of a journal, one after another.
-pub(crate) trait FromJournal: Drop {
+pub trait FromJournal: Drop {
     /// It is what these commands make of a day of so many periods.
     ghost made_of: { ℕ → List Command → Self → Type 0 };
 

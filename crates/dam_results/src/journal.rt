@@ -271,11 +271,7 @@ fn read_text<T: FromJournal>(alloc: Global, seed: Seed, text: &[u8]) -> Result<T
 
 /// What the journal that a text says makes, or the first fault of the text. Nothing is kept of the
 /// records past the first faulty one.
-pub(crate) fn read_into<T: FromJournal>(
-    alloc: Global,
-    seed: Seed,
-    text: &[u8],
-) -> Result<T, JournalFault>
+pub fn read_into<T: FromJournal>(alloc: Global, seed: Seed, text: &[u8]) -> Result<T, JournalFault>
     ensures ok { IfOk result (IsMadeFrom T.made_of text.now) }
     ensures fault { IfErr result (IsFaultOf text.now) }
 

@@ -1,8 +1,9 @@
 //! The texts that the auction reads and prints, and what is published of a selection of blocks.
 //!
 //! A journal's text is read into its commands (`read_journal`), its book (`book_of_text`), its book and how
-//! many commands that refused (`run_of_text`), or the replies to its commands (`replay_text`), each with the
-//! first fault where the text is no journal. `results` finds what is published of an eligible selection;
+//! many commands that refused (`run_of_text`), the replies to its commands (`replay_text`), or what else is
+//! made of its commands one by one (`read_into`), each with the first fault where the text is no journal.
+//! `results` finds what is published of an eligible selection;
 //! `results_text`, `replies_text` and `journal_text` write.
 //!
 //! ```
@@ -37,7 +38,8 @@ pub mod spelling_laws;
 mod text;
 mod writer;
 
-pub use journal::{JournalFault, JournalRead, read_journal};
+pub use from_journal::FromJournal;
+pub use journal::{JournalFault, JournalRead, read_into, read_journal};
 pub use limits::{MOST_BYTES, MOST_RECORDS};
 pub use publish::results;
 pub use published::{PeriodResult, Results, RowResult};

@@ -1,6 +1,8 @@
 -- What lies under the lock, and why it gives no pass and takes no command.
 use Rattle.std.specs.Prelude.{◌≡◌, ℕ, ◌<◌, ◌≤◌, true, false}
 use Rattle.dam_book.specs.declared.command.Command.{Command}
+use Rattle.dam_book.specs.declared.command.Entry.{Entry}
+use Rattle.dam_book.specs.declared.command.Reply.{Reply}
 use Rattle.dam_gate.specs.declared.gate.GateFault.{GateFault}
 use Rattle.dam_gate.specs.declared.gate.GateFault.TheVariants.{NotYours, JournalFull, Memory as GateMemory, NoVersion}
 use Rattle.dam_gate.specs.declared.gate.PassFault.{PassFault}
@@ -27,3 +29,7 @@ IsFaultAt held p c NotYours = is_own p.holder c ≡ false
 IsFaultAt held p c (JournalFull n) = (is_own p.holder c ≡ true) × (n ≡ held) × (is_full held c ≡ true)
 IsFaultAt held p c GateMemory = (is_own p.holder c ≡ true) × (is_full held c ≡ false)
 IsFaultAt held p c NoVersion = (is_own p.holder c ≡ true) × (is_full held c ≡ false)
+
+-- the entry of the command, with this number and this reply
+abbrev pub entry_of : Command → ℕ × Reply → Entry
+entry_of c answer = record { number = answer.0; command = c; reply = answer.1 }

@@ -2,7 +2,7 @@ use Rattle.std.proofs.Common.{◌≡◌, ℕ, false, length, Result, Ok, Err, On
 use Rattle.dam_book.specs.Book.{BookState, book_after}
 use Rattle.dam_book.specs.declared.command.Entry.{Entry}
 use Rattle.dam_gate.specs.Journal.{JournalState, is_full, journal_after, next_entry}
-use Rattle.dam_gate.specs.inside.Desk.{DeskState}
+use Rattle.dam_gate.specs.inside.Desk.{DeskState, entry_of}
 use Rattle.dam_gate.proofs.Histories.{book_after-periods, journal_after_is}
 use Rattle.dam_gate.proofs.desk.Desk.enter.Goals as goal
 
@@ -27,15 +27,17 @@ go_on-requires-clause-day g c =
 
 pub returns-clause-entry : goal.returns-clause-entry
 returns-clause-entry g c =
-    c.put-entry.ensures.entry
-    ∙ (c.in_ok-ready.ensures.ready.entry ∙ ap (λ (x : JournalState). next_entry x c.args.command.now) (c.ready.ensures.journal ∙ ap (λ (d : DeskState). d.journal) c.self.view_is))
+    let command = c.args.command.now in
+    ap (λ (e : Entry). entry_of command (e.number, e.reply))
+    (c.entry-entry.ensures ∙ (c.in_ok-ready.ensures.ready.entry ∙ ap (λ (x : JournalState). next_entry x command) (c.ready.ensures.journal ∙ ap (λ (d : DeskState). d.journal) c.self.view_is)))
 
 pub returns-clause-history : goal.returns-clause-history
-returns-clause-history g c = rw (← c.self.view_is, c.put-entry.ensures.entry, c.in_ok-front.ensures.history, c.self.invariant.0)
+returns-clause-history g c =
+    rw (← c.self.view_is, c.in_ok-front.ensures.history, c.self.invariant.0, c.entry-entry.ensures, c.in_ok-ready.ensures.ready.entry)
 
 pub returns-clause-journal : goal.returns-clause-journal
 returns-clause-journal g c =
-    c.put-entry.ensures.step
+    c.take.ensures.step
     ∙ ap₂ journal_after (c.ready.ensures.journal ∙ ap (λ (d : DeskState). d.journal) c.self.view_is) (ap (λ (e : Entry). e.command) c.in_ok-ready.ensures.ready.entry)
 
 pub returns-clause-passes : goal.returns-clause-passes

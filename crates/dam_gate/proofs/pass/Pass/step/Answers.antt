@@ -1,9 +1,9 @@
-use Rattle.std.proofs.Common.{◌≡◌, ◌-◌, ◌++◌, ◌∷◌, [], ℕ, true, false, length, refl, sym, ap, ap₂, subst, ◌∙◌, arith, length-append}
+use Rattle.std.proofs.Common.{◌≡◌, ◌-◌, ◌++◌, ◌∷◌, [], ℕ, true, false, length, refl, sym, ap, subst, ◌∙◌, arith, length-append}
 use mathlib.Core.List.{IsPrefix}
-use Rattle.dam_book.specs.declared.command.Command.{Command}
 use Rattle.dam_book.specs.declared.command.Entry.{Entry}
 use Rattle.dam_gate.specs.Journal.{IsHistory, is_full}
 use Rattle.dam_gate.specs.Pass.{Knowledge, AreInOrder, is_own}
+use Rattle.dam_gate.specs.inside.Desk.{entry_of}
 use Rattle.dam_gate.proofs.Beginnings.{prefix_length}
 use Rattle.dam_gate.proofs.Receipts.{AreInOrder-snoc, AreOwn-snoc}
 use Rattle.dam_gate.proofs.Histories.{history-after}
@@ -11,21 +11,20 @@ use Rattle.dam_gate.proofs.pass.Pass.step.Goals as goal
 
 pub invariant_of-self-2 : goal.invariant_of-self-2
 invariant_of-self-2 g c =
-    let e = c.in_ok-entry.entry in
+    let e = entry_of c.args.command.now c.in_ok-answer.answer in
     let held = c.args.desk.now.journal.entries in
     let holder = c.self.inside.holder in
     let receipts = c.self.inside.receipts.items in
-    let number = ap (λ (x : Entry). x.number) c.in_ok-entry.ensures.entry in
-    let command = ap (λ (x : Entry). x.command) c.in_ok-entry.ensures.entry in
-    let whole : e.number ≡ length c.in_ok-entry.front = omega (arith, number, ap length c.in_ok-entry.ensures.history, length-append held (e ∷ [])) in
+    let number = ap (λ (x : Entry). x.number) c.in_ok-answer.ensures.entry in
+    let whole : e.number ≡ length c.in_ok-answer.front = omega (arith, number, ap length c.in_ok-answer.ensures.history, length-append held (e ∷ [])) in
     let before : e.number - 1 ≡ length held = omega (arith, number) in
     let mine : is_own holder e.command ≡ true =
-    ap (is_own holder) command ∙ (ap (λ (k : Knowledge). is_own k.account.holder c.args.command.now) c.self.view_is ∙ c.requires) in
+    ap (λ (k : Knowledge). is_own k.account.holder c.args.command.now) c.self.view_is ∙ c.requires in
     let left : is_full (length held) c.args.command.now ≡ false =
     ap (λ (n : ℕ). is_full n c.args.command.now) (sym c.len-held.ensures.value) ∙ (sym c.is_full.ensures ∙ c.if-is_full.false) in
-    let room : is_full (e.number - 1) e.command ≡ false = ap₂ (λ (n : ℕ) (d : Command). is_full n d) before command ∙ left in
-    let earlier = prefix_length c.self.inside.history held c.in_ok-entry.ensures.seen in
-    rw (c.push_reserved.ensures.items, c.reserve.ensures.items, c.copy.ensures)
+    let room : is_full (e.number - 1) e.command ≡ false = ap (λ (n : ℕ). is_full n c.args.command.now) before ∙ left in
+    let earlier = prefix_length c.self.inside.history held c.in_ok-answer.ensures.seen in
+    rw (c.push_reserved.ensures.items, c.reserve.ensures.items, c.new.ensures, c.in_ok-packed.ensures)
     (record {
       account = record {
         in_order = subst (λ (n : ℕ). AreInOrder 0 n (receipts ++ e ∷ [])) whole
@@ -37,32 +36,32 @@ invariant_of-self-2 g c =
 
 pub returns-clause-answered : goal.returns-clause-answered
 returns-clause-answered g c =
-    let e = c.in_ok-entry.entry in
+    let e = entry_of c.args.command.now c.in_ok-answer.answer in
     let j = c.args.desk.now.journal in
-    let number = ap (λ (x : Entry). x.number) c.in_ok-entry.ensures.entry in
+    let number = ap (λ (x : Entry). x.number) c.in_ok-answer.ensures.entry in
     let left : is_full (length j.entries) c.args.command.now ≡ false =
     ap (λ (n : ℕ). is_full n c.args.command.now) (sym c.len-held.ensures.value) ∙ (sym c.is_full.ensures ∙ c.if-is_full.false) in
     record {
       before = j.entries;
-      legal = subst (λ (n : ℕ). IsHistory n c.in_ok-entry.front) c.len-held.ensures.day
-          (subst (IsHistory j.book.periods) (sym (c.in_ok-entry.ensures.history ∙ ap (λ (x : Entry). j.entries ++ x ∷ []) c.in_ok-entry.ensures.entry))
+      legal = subst (λ (n : ℕ). IsHistory n c.in_ok-answer.front) c.len-held.ensures.day
+          (subst (IsHistory j.book.periods) (sym (c.in_ok-answer.ensures.history ∙ ap (λ (x : Entry). j.entries ++ x ∷ []) c.in_ok-answer.ensures.entry))
           (history-after j c.args.command.now c.len-held.ensures.valid left));
-      last = c.in_ok-entry.ensures.history;
-      number = omega (arith, number, ap length c.in_ok-entry.ensures.history, length-append j.entries (e ∷ []));
-      seen = subst (λ (k : Knowledge). IsPrefix k.history j.entries) c.self.view_is c.in_ok-entry.ensures.seen;
-      told = subst (λ (k : Knowledge). IsPrefix k.told j.entries) c.self.view_is c.in_ok-entry.ensures.told;
+      last = c.in_ok-answer.ensures.history;
+      number = omega (arith, number, ap length c.in_ok-answer.ensures.history, length-append j.entries (e ∷ []));
+      seen = subst (λ (k : Knowledge). IsPrefix k.history j.entries) c.self.view_is c.in_ok-answer.ensures.seen;
+      told = subst (λ (k : Knowledge). IsPrefix k.told j.entries) c.self.view_is c.in_ok-answer.ensures.told;
     }
 
 pub returns-clause-later : goal.returns-clause-later
 returns-clause-later g c =
-    let number = ap (λ (x : Entry). x.number) c.in_ok-entry.ensures.entry in
-    let earlier = prefix_length c.self.inside.history c.args.desk.now.journal.entries c.in_ok-entry.ensures.seen in
+    let number = ap (λ (x : Entry). x.number) c.in_ok-answer.ensures.entry in
+    let earlier = prefix_length c.self.inside.history c.args.desk.now.journal.entries c.in_ok-answer.ensures.seen in
     omega (arith, number, earlier, ap (λ (k : Knowledge). k.account.seen) c.self.view_is)
 
 pub returns-clause-pass : goal.returns-clause-pass
 returns-clause-pass g c =
-    let e = c.in_ok-entry.entry in
+    let e = entry_of c.args.command.now c.in_ok-answer.answer in
     let held = c.args.desk.now.journal.entries in
-    let number = ap (λ (x : Entry). x.number) c.in_ok-entry.ensures.entry in
-    let whole : length c.in_ok-entry.front ≡ e.number = omega (arith, number, ap length c.in_ok-entry.ensures.history, length-append held (e ∷ [])) in
-    rw (← c.self.view_is, c.push_reserved.ensures.items, c.reserve.ensures.items, c.copy.ensures, c.again.ensures, whole)
+    let number = ap (λ (x : Entry). x.number) c.in_ok-answer.ensures.entry in
+    let whole : length c.in_ok-answer.front ≡ e.number = omega (arith, number, ap length c.in_ok-answer.ensures.history, length-append held (e ∷ [])) in
+    rw (← c.self.view_is, c.push_reserved.ensures.items, c.reserve.ensures.items, c.new.ensures, c.in_ok-packed.ensures, c.again.ensures, whole)

@@ -2,7 +2,7 @@ use Rattle.std.proofs.Common.{◌≡◌, false, length, sym, ap, ◌∙◌}
 use Rattle.dam_gate.specs.Journal.{JournalState, is_full, next_entry}
 use Rattle.dam_gate.specs.Keeper.{KeeperState, ReadyState}
 use Rattle.dam_gate.proofs.Histories.{book_after-periods, journal_after_is}
-use Rattle.dam_gate.proofs.keeper.Keeper.put.Goals as goal
+use Rattle.dam_gate.proofs.keeper.Keeper.take.Goals as goal
 
 pub invariant_of-self : goal.invariant_of-self
 invariant_of-self g c =
@@ -14,8 +14,8 @@ invariant_of-self g c =
     ap (λ (k : KeeperState). is_full (length k.journal.entries) command) c.self.view_is ∙ c.requires.left in
     let held : length j.entries ≡ c.len-held.result =
     ap (λ (k : KeeperState). length k.journal.entries) c.self.view_is ∙ sym c.len-held.ensures.value in (
-      rw (c.push_reserved.ensures.items, c.copy.ensures, c.follow.ensures.book, entry) (journal_after_is j command c.self.invariant.0 left),
-      rw (c.push_reserved.ensures.items, c.copy.ensures) (c.follow.ensures.steps c.self.inside.entries.items held c.self.invariant.1),
+      rw (c.push_reserved.ensures.items, c.follow.ensures.book, entry) (journal_after_is j command c.self.invariant.0 left),
+      rw (c.push_reserved.ensures.items) (c.follow.ensures.steps c.self.inside.entries.items held c.self.invariant.1),
     )
 
 pub returns-clause-day : goal.returns-clause-day
