@@ -1,6 +1,8 @@
 """What the tools' command lines share: reading files, reporting faults, and finding packages that aren't in the standard
 library."""
 
+import argparse
+import errno
 import importlib.util
 import os
 import subprocess
@@ -35,6 +37,7 @@ class Stop(Exception):
 
 def run(name, main):
     """Runs a tool's `main`, and ends with its status. A fault, or Ctrl-C, is one line on standard error."""
+    hold_streams()
     try:
         sys.exit(main())
     except Stop as stop:
@@ -44,8 +47,33 @@ def run(name, main):
         print(f"{name}: interrupted", file=sys.stderr)
         sys.exit(INTERRUPTED)
     except BrokenPipeError:
-        os.dup2(os.open(os.devnull, os.O_WRONLY), sys.stdout.fileno())
+        discard_output()
         sys.exit(NO_INPUT)
+
+
+def hold_streams():
+    """Lets no other file take the number of a closed standard stream. Python has None for such a stream, and would print to standard
+    output what is meant for a closed standard error."""
+    while (number := os.open(os.devnull, os.O_RDWR)) <= 2:
+        pass
+    os.close(number)
+    sys.stderr = sys.stderr or open(os.devnull, "w")
+
+
+class Parser(argparse.ArgumentParser):
+    """A tool's command line, with no shortened options. Its help is written as all output is."""
+
+    def __init__(self, prog, description, epilog):
+        form = argparse.RawDescriptionHelpFormatter
+        super().__init__(prog=prog, description=description, epilog=epilog, formatter_class=form, allow_abbrev=False)
+
+    def print_help(self, file=None):
+        write_output(self.format_help().encode())
+
+
+def discard_output():
+    """Discards what couldn't be written, so that Python doesn't try again at its end."""
+    os.dup2(os.open(os.devnull, os.O_WRONLY), sys.stdout.fileno())
 
 
 def shown(path):
@@ -53,26 +81,48 @@ def shown(path):
     return "standard input" if path == "-" else path
 
 
+def bytes_of(stream):
+    """The bytes of standard input or output, which Python has as None if it is closed."""
+    if stream is None:
+        raise OSError(errno.EBADF, os.strerror(errno.EBADF))
+    return stream.buffer
+
+
 def read_bytes(path):
     """The bytes of a file; `-` is standard input."""
     try:
-        return sys.stdin.buffer.read() if path == "-" else Path(path).read_bytes()
+        return bytes_of(sys.stdin).read() if path == "-" else Path(path).read_bytes()
     except OSError as fault:
         raise Stop(f"{shown(path)} can't be read: {fault.strerror}") from None
 
 
-def write_bytes(path, data):
-    """Writes a file, or standard output if the path is `-`."""
+def write_output(data):
+    """Writes to standard output."""
     try:
-        if path == "-":
-            sys.stdout.buffer.write(data)
-            sys.stdout.buffer.flush()
-        else:
-            Path(path).write_bytes(data)
+        bytes_of(sys.stdout).write(data)
+        sys.stdout.flush()
     except BrokenPipeError:
         raise
     except OSError as fault:
-        raise Stop(f"{'standard output' if path == '-' else path} can't be written: {fault.strerror}") from None
+        if sys.stdout is not None:
+            discard_output()
+        raise Stop(f"standard output can't be written: {fault.strerror}") from None
+
+
+def say(lines):
+    """Prints lines on standard output."""
+    write_output("".join(f"{line}\n" for line in lines).encode(errors="surrogateescape"))
+
+
+def write_bytes(path, data):
+    """Writes a file, or standard output if the path is `-`."""
+    if path == "-":
+        write_output(data)
+        return
+    try:
+        Path(path).write_bytes(data)
+    except OSError as fault:
+        raise Stop(f"{path} can't be written: {fault.strerror}") from None
 
 
 def read_texts(path, results_path):

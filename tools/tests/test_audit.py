@@ -5,6 +5,7 @@ import random
 import re
 import tempfile
 import unittest
+import unittest.mock
 from fractions import Fraction
 from pathlib import Path
 
@@ -12,7 +13,8 @@ import support
 from support import AUCTION, cleared_cases, journal_of, printed, problem, results_of, tool
 
 import days
-from lib import best, book, check, command, journal, period, rules, selection
+from lib import best, book, check, command, journal, period, results, rules, selection
+from lib.progress import Progress
 from lib.text import exact_euros
 from small_days import ranked, small_problems
 
@@ -275,7 +277,7 @@ class Best(unittest.TestCase):
         tried = 0
         for day, selections in [*small_problems(80), *self.equal_prices()]:
             for rank, (welfare, accepted) in enumerate(selections[:4]):
-                found, _ = solver.better(day, accepted, welfare, 60)
+                found, _ = solver.better(day, accepted, welfare, Progress("audit", 60))
                 self.assertEqual(found is None, rank == 0)
                 if found:
                     self.assertIn((found.welfare, found.accepted), selections[:rank])
@@ -371,10 +373,34 @@ class CommandLine(unittest.TestCase):
         self.assertEqual(audit(data, text, "--best")[0], wanted)
 
     def test_too_little_time(self):
-        if not command.has("scipy"):
-            self.skipTest("scipy is missing (Debian's python3-scipy)")
-        status, out, err = audit(AUCTION.read_bytes(), printed(AUCTION), "--best", "--by", "highs", "--seconds", "0")
-        self.assertEqual((status, out, "HiGHS still offers others" in err), (command.UNDECIDED, b"", True))
+        """The other rules have been checked, and it is said how far the search is."""
+        methods = {"enumeration": "0 of 512 selections have been tried"}
+        if command.has("scipy"):
+            methods["highs"] = "HiGHS isn't done"
+        for method, far in methods.items():
+            status, out, err = audit(AUCTION.read_bytes(), printed(AUCTION), "--best", "--by", method, "--seconds", "0")
+            said = f"audit: the results obey the other rules, but after 0 seconds, {far}: --seconds gives more time\n"
+            self.assertEqual((status, out, err), (command.UNDECIDED, b"", said))
+
+    @unittest.skipUnless(command.has("scipy"), "scipy is missing (Debian's python3-scipy)")
+    def test_the_words_for_what_highs_offers(self):
+        from lib import solver
+
+        day = problem(AUCTION.read_bytes())
+        accepted = frozenset(results.read_results(day, printed(AUCTION))[0].accepted)
+        welfare = selection.eligible(day, accepted)
+        for offers, said in (
+            ([None], "HiGHS offers no other"),
+            ([{0}, None], "HiGHS offers 1 other, which breaks a rule or ranks below"),
+            ([{0}, {1}, None], "HiGHS offers 2 others, which break a rule or rank below"),
+        ):
+            answers = itertools.chain(offers, itertools.repeat(None))
+            told = []
+            with unittest.mock.patch.object(solver.Model, "next", lambda *_: next(answers)):
+                self.assertEqual(solver.better(day, accepted, welfare, Progress("audit", 60), told.append), (None, said))
+            many = "HiGHS has offered 2 other selections and isn't done"
+            words = ["HiGHS isn't done", "HiGHS has offered 1 other selection and isn't done", many]
+            self.assertEqual(told, words[: len(offers)])
 
     def test_lines_that_end_with_two_bytes(self):
         """One line says it, of results, replies and days; and what else is wrong is said too."""
