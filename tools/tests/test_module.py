@@ -57,6 +57,8 @@ class Module(unittest.TestCase):
             dam_tools.read_results(AUCTION, b"day,24\n")
         with self.assertRaises(dam_tools.Fault):
             dam_tools.journal_of_orders(b"x\n")
+        with self.assertRaisesRegex(dam_tools.Fault, "a day has 23, 24, 25, 92, 96 or 100 periods, not 26"):
+            dam_tools.journal_of_orders(tables.written([tables.ORDER]).encode(), periods=26)
         day = dam_tools.read_results(AUCTION, AUCTION.with_suffix(".stdout"))
         for words in ({"table": "none"}, {"table": "curves", "long": True}):
             with self.assertRaises(ValueError):
