@@ -114,8 +114,8 @@ def say(lines):
     write_output("".join(f"{line}\n" for line in lines).encode(errors="surrogateescape"))
 
 
-def write_bytes(path, data):
-    """Writes a file, or standard output if the path is `-`."""
+def write_bytes(tool, path, data):
+    """Writes a file, and at a terminal says so; or standard output if the path is `-`."""
     if path == "-":
         write_output(data)
         return
@@ -123,6 +123,22 @@ def write_bytes(path, data):
         Path(path).write_bytes(data)
     except OSError as fault:
         raise Stop(f"{path} can't be written: {fault.strerror}") from None
+    if sys.stderr.isatty():
+        print(f"{tool}: {path} was written", file=sys.stderr)
+
+
+def is_same(path, other):
+    """Whether a file that a tool is to write is one that it reads; `-` is standard input."""
+    try:
+        return os.path.isfile(path) and os.path.samestat(os.stat(path), os.fstat(0) if other == "-" else os.stat(other))
+    except OSError:
+        return False
+
+
+def refuse_inputs(path, *inputs):
+    """Ends the tool if it is to write over a file that it reads; the inputs that aren't given are None."""
+    if any(other is not None and is_same(path, other) for other in inputs):
+        raise Stop(f"{path} is one of the inputs, and would be lost: write to another file", COMMAND_LINE)
 
 
 def read_texts(path, results_path):
@@ -165,10 +181,17 @@ class Day:
         if not self.book.closed:
             raise Stop(f"no command of {shown(path)} closes the book, so it has no results")
         self.problem = selection.Problem(self.book)
-        self.said, self.wrong = check.differences(self.problem, results_data)
+        data, odd = results.plain(results_data)
+        self.said, wrong = check.differences(self.problem, data)
         if self.said is None:
-            raise Stop(f"{shown(results_path)} has no results of this journal: {self.wrong[0]}")
+            raise Stop(f"{shown(results_path)} has no results of this journal: {wrong[0]}")
+        self.wrong = odd + wrong
         self.outcome = selection.outcome(self.problem, self.said.accepted)
+
+    def tell_wrong(self, tool):
+        """Says on standard error if the results break the rules."""
+        if self.wrong:
+            print(f"{tool}: the results break the rules ({self.wrong[0]}): see tools/audit", file=sys.stderr)
 
 
 def has(module):

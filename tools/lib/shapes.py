@@ -96,7 +96,7 @@ def typed(kind, name, cell, row):
     if kind == "integer":
         return int(cell)
     if kind == "number":
-        return float(cell)
+        return cell if isinstance(cell, int) else float(cell)
     return cell == "yes" if kind == "boolean" else cell
 
 

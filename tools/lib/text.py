@@ -84,6 +84,11 @@ def name(text):
     return text.decode() if NAME.fullmatch(text) else None
 
 
+def counted(count, one, several=None):
+    """A number of things, such as `1 block` or `2 blocks`."""
+    return f"{count} {one if count == 1 else several or one + 's'}"
+
+
 def fixed(value, digits, thousands=""):
     """A number with this many digits after the point, which it must not exceed."""
     whole, rest = divmod(abs(value) * 10**digits, 10**digits)

@@ -151,11 +151,11 @@ class Enumeration(unittest.TestCase):
         day = problem((TOP / "examples" / "auction-day.csv").read_bytes())
         found, _ = best.enumerate_all(day)
         _, how = self.better(day, found.accepted, found.welfare)
-        self.assertIn("; 1 would be better if no block of them lost", how)
+        self.assertIn("; 1 would be better if none of its blocks lost", how)
 
     def test_time_is_over(self):
         day = problem(family("spread", "200"))
-        with self.assertRaisesRegex(TimeoutError, "after 0 seconds not every selection has been tried"):
+        with self.assertRaisesRegex(TimeoutError, "after 0 seconds, 0 of 0 selections have been tried"):
             from lib import enumeration
 
             enumeration.better(day, frozenset(), selection.eligible(day, frozenset()), Progress("test", 0), jobs=2)

@@ -257,6 +257,12 @@ class CommandLine(unittest.TestCase):
         self.assertIn("STAD,LOAD-1,hour,buy,300.00,1,375.0,,,93.750,93.750,in full,,-4687.50000", orders)
         self.assertIn("GAS,FLEX-60,hour,sell,98.00,60,205.0,,,51.250,3.750,in part,,367.50000", orders)
 
+    def test_some_periods(self):
+        texts = [AUCTION, AUCTION.with_suffix(".stdout")]
+        for words in ("1,3,5-7", "1;3;5-7"):
+            rows = tool("table", *texts, "--only", words)[1].decode().splitlines()[1:]
+            self.assertEqual([row.split(",")[0] for row in rows], ["1", "3", "5", "6", "7"])
+
     def test_a_table_without_orders(self):
         status, out, err = tool("table", "--journal", "-", data=f"{HEADER}\n".encode())
         self.assertEqual((status, out), (0, b"day,24,,,,,,,\nclose,,,,,,,,\n"))
@@ -278,6 +284,10 @@ class CommandLine(unittest.TestCase):
         ):
             status, out, err = tool("table", *words)
             self.assertEqual((status, out, "has no use with" in err), (command.COMMAND_LINE, b"", True), words)
+        said = "table: --periods has no use with tables of results: it belongs to --journal\n"
+        self.assertEqual(tool("table", *texts, "--periods", "24"), (command.COMMAND_LINE, b"", said))
+        said = "table: --only 99: it should be periods and runs of them, such as 8, 8-20 or 1,3,5-7, from 1 to 24\n"
+        self.assertEqual(tool("table", *texts, "--only", "99"), (command.COMMAND_LINE, b"", said))
         for words in ([*texts, "--row", "orders"], ["--journ", AUCTION], ["--journal", "-", "--period", "24"]):
             status, out, err = tool("table", *words)
             self.assertEqual((status, "unrecognized arguments" in err), (command.COMMAND_LINE, True), words)
