@@ -14,7 +14,10 @@ def answer(call, progress, words):
     context = multiprocessing.get_context("fork")
     ours, theirs = context.Pipe(duplex=False)
     process = context.Process(target=work, args=(call, theirs), daemon=True)
+    # The other process keeps Ctrl-C blocked: this one ends it.
+    before = signal.pthread_sigmask(signal.SIG_BLOCK, {signal.SIGINT})
     process.start()
+    signal.pthread_sigmask(signal.SIG_SETMASK, before)
     theirs.close()
     try:
         return received(ours, progress, words)
@@ -26,7 +29,6 @@ def answer(call, progress, words):
 
 def work(call, pipe):
     """Sends what the call reports, and then what it returns or how it fails."""
-    signal.signal(signal.SIGINT, signal.SIG_IGN)  # this process is ended by the one that started it
     if hasattr(system := ctypes.CDLL(None), "prctl"):
         system.prctl(DEATH, signal.SIGKILL)
     try:
@@ -41,7 +43,10 @@ def received(pipe, progress, words):
         if not pipe.poll(PAUSE):
             progress.look(words)
             continue
-        kind, value = pipe.recv()
+        try:
+            kind, value = pipe.recv()
+        except EOFError:
+            raise TimeoutError("the search ended without an answer: memory may have run out") from None
         if kind == "answer":
             return value
         if kind == "fault":

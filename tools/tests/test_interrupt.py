@@ -12,10 +12,12 @@ import tempfile
 import time
 import unittest
 from pathlib import Path
+from unittest import mock
 
 from support import AUCTION, TOOLS
 
-from lib import command
+from lib import aside, command
+from lib.progress import Progress
 
 SECONDS = 60
 PACKAGES = {"audit": [], "lint": [], "plot": ["matplotlib"], "report": ["matplotlib", "jinja2"], "table": []}
@@ -97,6 +99,21 @@ class Interrupted(unittest.TestCase):
             running.communicate()
         self.assertEqual((running.returncode, err), (command.INTERRUPTED, "audit: interrupted\n"))
         self.assertFalse(Path(f"/proc/{child}").exists())
+
+
+    def test_a_call_that_dies(self):
+        with self.assertRaisesRegex(TimeoutError, "^the search ended without an answer: memory may have run out$"):
+            aside.answer(lambda tell: os._exit(1), Progress("audit", SECONDS), "")
+
+    def test_what_a_call_returns_reports_and_raises(self):
+        progress = Progress("audit", SECONDS)
+        with mock.patch.object(progress, "look") as look:
+            self.assertEqual(aside.answer(lambda tell: tell("half") or 7, progress, ""), 7)
+        look.assert_any_call("half")
+        with self.assertRaises(ZeroDivisionError):
+            aside.answer(lambda tell: 1 // 0, progress, "")
+        with self.assertRaisesRegex(TimeoutError, "^after 0 seconds, it isn't done: --seconds gives more time$"):
+            aside.answer(lambda tell: time.sleep(SECONDS), Progress("audit", 0), "it isn't done")
 
 
 class Written(unittest.TestCase):
