@@ -6,7 +6,6 @@ from typing import NamedTuple
 from . import text
 from .lines import matched, moved, shown
 
-MARK = b"\xef\xbb\xbf"  # a byte order mark
 ANOTHER = "these seem to be the results of another journal"
 
 # No welfare, surplus or volume of a result is as large.
@@ -72,14 +71,14 @@ def beginning(line):
 def plain(data):
     """The text without what other programs add to each line, or before the first one; and what is wrong if something was there."""
     wrong = []
-    if data.startswith(MARK):
+    if data.startswith(text.MARK):
         wrong.append("the text begins with a byte order mark")
     if b"\r\n" in data:
         wrong.append("the lines end with CR LF instead of LF alone")
-    return data.removeprefix(MARK).replace(b"\r\n", b"\n"), wrong
+    return data.removeprefix(text.MARK).replace(b"\r\n", b"\n"), wrong
 
 
-def foreign(problem, wanted, beginnings):
+def foreign(wanted, beginnings):
     """Says so if most lines of orders are of none of this journal's."""
     orders = [begin for begin in beginnings if begin[0] in (b"hour", b"block")]
     others = len(orders) - len(set(orders) & set(wanted))
@@ -110,13 +109,14 @@ def read_results(problem, data):
         return None, [none_belongs(found[0]) if data else "the results are empty"]
     pairs = matched(wanted, beginnings)
     away = moved(wanted, beginnings, pairs)
+    elsewhere = set(away.values())
     for at, place in pairs:
         last = last if place is None else place + 1
         if place in away:
             wrong.append(f"results line {last}: {moved_line(expected, away[place])}")
         elif at is None:
             wrong.append(f"results line {last}: {stray_line(found[place])}")
-        if at is None or at in away.values():
+        if at is None or at in elsewhere:
             continue
         about, known, behind = expected[at]
         if place is None or place in away:
@@ -129,7 +129,7 @@ def read_results(problem, data):
             wrong.append(f"results line {last}: {about} should be '{form}' and is '{shown(found[place])}'")
         values.append(read)
     if wrong:
-        return None, foreign(problem, wanted, beginnings) + wrong
+        return None, foreign(wanted, beginnings) + wrong
     return gather(problem, values, lines), wrong
 
 

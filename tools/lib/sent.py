@@ -5,7 +5,7 @@ import re
 from collections import Counter, defaultdict, deque
 from typing import NamedTuple
 
-from . import journal, kinds, lint, order_table, text
+from . import journal, lint, order_table, text
 
 WORDS = re.compile(rb'[\s"]*(?:day|submit|amend|cancel|close)\b', re.IGNORECASE)
 
@@ -32,7 +32,7 @@ class Published(NamedTuple):
 def read_sent(data, who, periods):
     """The commands of a list, all of one participant: records as in a journal, with the records `day` and `close` or without
     them, or a table of orders."""
-    has_records = WORDS.match(data.removeprefix(kinds.MARK))
+    has_records = WORDS.match(data.removeprefix(text.MARK))
     commands = list(read_records(data, periods) if has_records else read_table(data, periods))
     for sent in commands:
         if sent.command.who != who:

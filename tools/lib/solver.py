@@ -10,7 +10,6 @@ that what it finds is better is checked."""
 import contextlib
 import itertools
 import os
-import time
 
 import numpy
 from scipy import optimize, sparse

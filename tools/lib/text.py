@@ -6,6 +6,7 @@ from fractions import Fraction
 
 from . import rules
 
+MARK = b"\xef\xbb\xbf"  # a byte order mark
 LINE_END = re.compile(rb"\r\n|\r|\n")
 LINE_ENDS = re.compile(rb"[\r\n]*")
 

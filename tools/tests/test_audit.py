@@ -461,7 +461,8 @@ class CommandLine(unittest.TestCase):
         self.assertEqual(
             told(*every[:5], 6, 5, *every[7:]), ["results line 6: the line for period 5 stands here and belongs after that for period 4"]
         )
-        self.assertEqual(told(1, 0, *every[2:]), ["results line 1: the line for the welfare stands here and belongs after that for the day"])
+        first = told(1, 0, *every[2:])
+        self.assertEqual(first, ["results line 1: the line for the welfare stands here and belongs after that for the day"])
         self.assertEqual(
             told(*every[:3], 20, *every[4:20], 3, *every[21:]),
             [
@@ -483,7 +484,8 @@ class CommandLine(unittest.TestCase):
         self.assertEqual((status, out.decode().splitlines()[0]), (command.DIFFERS, said))
         another = re.sub(rb"^((?:welfare|period|hour|block),(?:.*,)?)-?(\d+)$", rb"\g<1>1\2", text, flags=re.MULTILINE)
         status, out, _ = audit(data, another)
-        self.assertRegex(out.decode().splitlines()[0], r"^these seem to be the results of another journal: \d+ of their 115 lines are wrong$")
+        said = r"^these seem to be the results of another journal: \d+ of their 115 lines are wrong$"
+        self.assertRegex(out.decode().splitlines()[0], said)
         for word, other in ((b"STAY,accepted", b"STAY,rejected"), (b"UNIT-7,rejected", b"UNIT-7,accepted")):
             self.assertNotIn(b"another journal", audit(data, text.replace(word, other))[1])
 

@@ -83,7 +83,10 @@ class Module(unittest.TestCase):
                 lambda: dam_tools.records(day, "orders", date="2026-11-25"),
                 "a date has no use with orders, which has no column of periods: long=True",
             ),
-            (lambda: dam_tools.records(day, "figures", date="2026-11-25"), "a date has no use with figures, which has no column of periods"),
+            (
+                lambda: dam_tools.records(day, "figures", date="2026-11-25"),
+                "a date has no use with figures, which has no column of periods",
+            ),
         ):
             if "date" in said and not command.has_zone(shapes.ZONE):
                 continue

@@ -114,7 +114,10 @@ class Worked(unittest.TestCase):
                 "line 2, price: '2.00': it should be whole cents per MWh from -50000 to 400000: write 200 for 2.00 EUR/MWh",
             ),
             ([OWN[0], "day,24,,,,,,,"], "line 2: the day appears twice: a journal has one, as its first line"),
-            (["\ufeff" + OWN[0]], "line 1: the text begins with a byte order mark: save it as plain CSV, in ASCII or UTF-8 without the mark"),
+            (
+                ["\ufeff" + OWN[0]],
+                "line 1: the text begins with a byte order mark: save it as plain CSV, in ASCII or UTF-8 without the mark",
+            ),
             ([OWN[0].replace(",", ";")], "line 1: the fields are separated by semicolons: separate them by commas"),
             (
                 ["Submit" + OWN[0].removeprefix("submit"), "cancel;A;H1;;;;;;"],
