@@ -41,14 +41,25 @@ def run(name, main):
     try:
         sys.exit(main())
     except Stop as stop:
-        print(f"{name}: {stop}", file=sys.stderr)
+        tell(name, stop)
         sys.exit(stop.status)
     except KeyboardInterrupt:
-        print(f"{name}: interrupted", file=sys.stderr)
+        tell(name, "interrupted")
         sys.exit(INTERRUPTED)
     except BrokenPipeError:
-        discard_output()
+        discard(sys.stdout)
         sys.exit(NO_INPUT)
+    except OSError as fault:
+        tell(name, f"a device failed: {fault.strerror}")
+        sys.exit(NO_INPUT)
+
+
+def tell(tool, words):
+    """Says something on standard error; if that can't be written, the status alone says it."""
+    try:
+        print(f"{tool}: {words}", file=sys.stderr, flush=True)
+    except OSError:
+        discard(sys.stderr)
 
 
 def hold_streams():
@@ -71,9 +82,9 @@ class Parser(argparse.ArgumentParser):
         write_output(self.format_help().encode())
 
 
-def discard_output():
+def discard(stream):
     """Discards what couldn't be written, so that Python doesn't try again at its end."""
-    os.dup2(os.open(os.devnull, os.O_WRONLY), sys.stdout.fileno())
+    os.dup2(os.open(os.devnull, os.O_WRONLY), stream.fileno())
 
 
 def shown(path):
@@ -105,7 +116,7 @@ def write_output(data):
         raise
     except OSError as fault:
         if sys.stdout is not None:
-            discard_output()
+            discard(sys.stdout)
         raise Stop(f"standard output can't be written: {fault.strerror}") from None
 
 
@@ -124,7 +135,7 @@ def write_bytes(tool, path, data):
     except OSError as fault:
         raise Stop(f"{path} can't be written: {fault.strerror}") from None
     if sys.stderr.isatty():
-        print(f"{tool}: {path} was written", file=sys.stderr)
+        tell(tool, f"{path} was written")
 
 
 def is_same(path, other):
@@ -191,7 +202,7 @@ class Day:
     def tell_wrong(self, tool):
         """Says on standard error if the results break the rules."""
         if self.wrong:
-            print(f"{tool}: the results break the rules ({self.wrong[0]}): see tools/audit", file=sys.stderr)
+            tell(tool, f"the results break the rules ({self.wrong[0]}): see tools/audit")
 
 
 def has(module):

@@ -140,7 +140,13 @@ class Written(unittest.TestCase):
         words = [sys.executable, TOOLS / "lint", "-"]
         said = "lint: standard input can't be read: Bad file descriptor"
         self.assertEqual(self.ends(words, "<&-"), (command.NO_INPUT, "", [said]))
-        self.assertEqual(self.ends([sys.executable, TOOLS / "lint", "/nowhere/a.csv"], "2>&-"), (command.NO_INPUT, "", []))
+        for redirection in ("2>&-", "2>/dev/full"):
+            for given in (["/nowhere/a.csv"], ["--none"]):
+                status, out, _ = self.ends([sys.executable, TOOLS / "lint", *given], redirection)
+                self.assertEqual((status in (command.COMMAND_LINE, command.NO_INPUT), out), (True, ""))
+            words = [sys.executable, TOOLS / "table", AUCTION, AUCTION.with_suffix(".stdout")]
+            status, out, _ = self.ends(words, redirection)
+            self.assertEqual((status, len(out.splitlines())), (0, 25))
         self.assertEqual(self.ends([sys.executable, TOOLS / "lint", "--quiet", AUCTION], ">&-"), (command.DIFFERS, "", []))
 
 
