@@ -1,7 +1,8 @@
 #!/usr/bin/env python3
-"""make_family.py FAMILY HOURLY [BLOCKS [PARTS]]: prints the journal of a closed day of 24 hours, with HOURLY hourly orders and BLOCKS
-blocks (24). Each hour has PARTS periods, 1 or 4 (1), so with 4 the day has 96. The families are hard in different ways for a search
-over selections of blocks. Every run with the same arguments prints the same bytes.
+"""make_family.py FAMILY HOURLY [BLOCKS [PARTS]]: prints the journal of a closed day of 24 hours, with HOURLY hourly orders (at most
+4000) and BLOCKS blocks (at most 24, which is the default). Each hour has PARTS periods, 1 or 4 (default: 1), so with 4 the day has
+96. The families are hard in different ways for a search over selections of blocks. Every run with the same arguments prints the same
+bytes.
 
 market    hourly orders around a daily curve of prices, and blocks around it
 paradox   blocks that gain alone and lose together, because each moves the price
@@ -17,7 +18,7 @@ import sys
 from dataclasses import dataclass, field
 
 HOURS = 24
-BLOCKS = 24
+BLOCKS, MOST_HOURLY = 24, 4_000  # what a book may have
 parts = 1  # of an hour, each of them a period
 PARTICIPANTS = ["ALPHA", "BRAVO", "CHARLIE", "DELTA", "ECHO", "FOXTROT", "GOLF", "HOTEL"]
 SEED = 20_251_001
@@ -134,14 +135,21 @@ def flat(number, _rng):
 FAMILIES = {"market": market, "paradox": paradox, "spread": spread, "nearties": nearties, "links": links, "groups": groups, "ties": ties}
 
 
+def number_of(name, word, allowed, of):
+    """A number on the command line."""
+    if not (word.isascii() and word.isdecimal()) or int(word) not in allowed:
+        sys.exit(f"make_family.py: {name} is '{word}' and should be {of}")
+    return int(word)
+
+
 def main():
     global parts
     words = sys.argv[1:]
     if not 2 <= len(words) <= 4 or words[0] not in FAMILIES:
         sys.exit(__doc__)
-    family, orders = words[0], int(words[1])
-    count = int(words[2]) if len(words) > 2 else BLOCKS
-    parts = int(words[3]) if len(words) > 3 else 1
+    family, orders = words[0], number_of("HOURLY", words[1], range(MOST_HOURLY + 1), f"a number from 0 to {MOST_HOURLY}")
+    count = number_of("BLOCKS", words[2], range(BLOCKS + 1), f"a number from 0 to {BLOCKS}") if len(words) > 2 else BLOCKS
+    parts = number_of("PARTS", words[3], (1, 4), "1 or 4") if len(words) > 3 else 1
     rng = random.Random(f"{SEED} {family} {orders}")
     order = flat if family == "ties" else hourly
     # a tenth of what stands on one side of a period

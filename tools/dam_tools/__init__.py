@@ -11,6 +11,7 @@
 The tables and their columns are those of tools/table, which docs/TABLES.md describes. Results are checked against the journal as
 they are read: `Day.wrong` lists what breaks the market rules, and is empty for every result of the program."""
 
+import contextlib
 import ctypes
 import os
 import shutil
@@ -36,33 +37,40 @@ MOST_NODES = 67_108_864
 
 
 class Fault(Exception):
-    """A text that can't be read, or a run of the program that failed: `status` is the program's, or None."""
+    """A file, text or date that can't be read, or a run of the program that failed: `status` is the program's, or None."""
 
     def __init__(self, words, status=None):
         super().__init__(words)
         self.status = status
 
 
+@contextlib.contextmanager
+def as_faults():
+    """What the tools say of a text, a table or a date is a fault here."""
+    try:
+        yield
+    except (command.Stop, order_table.Wrong, shapes.Wrong) as fault:
+        raise Fault(str(fault)) from None
+
+
 def bytes_of(source):
     """The bytes of a file, or of a text that was given."""
-    return source if isinstance(source, bytes) else Path(source).read_bytes()
+    try:
+        return source if isinstance(source, bytes) else Path(source).read_bytes()
+    except OSError as fault:
+        raise Fault(f"{source} can't be read: {fault.strerror}") from None
 
 
 def read_journal(source):
     """The journal of a file, or of bytes."""
-    data = bytes_of(source)
-    try:
-        return command.parse_journal("the text" if isinstance(source, bytes) else str(source), data)
-    except command.Stop as stop:
-        raise Fault(str(stop)) from None
+    with as_faults():
+        return command.parse_journal("the text" if isinstance(source, bytes) else str(source), bytes_of(source))
 
 
 def journal_of_orders(source, periods=24, close=True):
     """The journal of a table of orders, a file or bytes, as tools/table --journal makes it."""
-    try:
+    with as_faults():
         return order_table.read_orders(bytes_of(source), periods, close)
-    except order_table.Wrong as fault:
-        raise Fault(str(fault)) from None
 
 
 def as_journal(source):
@@ -71,10 +79,8 @@ def as_journal(source):
 
 def read_results(source, results):
     """The day of a journal and its results: files, bytes, or a journal that was read."""
-    try:
+    with as_faults():
         return Day.of(as_journal(source), bytes_of(results))
-    except command.Stop as stop:
-        raise Fault(str(stop)) from None
 
 
 def program_of(program):
@@ -123,7 +129,12 @@ def clear(source, program=None, workers=None, cut=None, nodes=None, timeout=None
         return read_results(read, cleared_by_library(journal.journal_text(read).encode()))
     options = [f"--{name}={value}" for name, value in (("workers", workers), ("cut", cut), ("nodes", nodes)) if value is not None]
     words = [os.fspath(program_of(program)), "clear", *options]
-    ran = subprocess.run(words, input=journal.journal_text(read).encode(), capture_output=True, timeout=timeout)
+    try:
+        ran = subprocess.run(words, input=journal.journal_text(read).encode(), capture_output=True, timeout=timeout)
+    except subprocess.TimeoutExpired:
+        raise Fault(f"{words[0]} took longer than {timeout:g} seconds") from None
+    except OSError as fault:
+        raise Fault(f"{words[0]} can't be run: {fault.strerror}") from None
     if ran.returncode:
         raise Fault(ran.stderr.decode(errors="replace").strip(), ran.returncode)
     return read_results(read, ran.stdout)
@@ -139,12 +150,21 @@ def rows_of(day, table, long, date):
     else:
         rows = (tables.LONG if long else tables.TABLES)[table](day)
     periods = day.periods if isinstance(day, Journal) else day.problem.periods
-    return shapes.with_times(rows, date, periods) if date else rows
+    return rows if date is None else with_times(table, list(rows), date, periods)
+
+
+def with_times(table, rows, date, periods):
+    """A table with the times at which its periods begin."""
+    if "period" not in rows[0]:
+        raise Fault(f"a date has no use with {table}, which has no column of periods" + (": long=True" if table in tables.LONG else ""))
+    with as_faults():
+        command.need_zone(shapes.ZONE)
+        return list(shapes.with_times(rows, shapes.as_date(date), periods))
 
 
 def records(day, table="periods", long=False, date=None):
-    """The rows of a table, each a dictionary by column. With a date, a `datetime.date`, periods have the time at which they
-    begin."""
+    """The rows of a table, each a dictionary by column. With a date, a `datetime.date` or a text such as 2026-11-25, periods have the
+    time at which they begin."""
     return list(shapes.records(rows_of(day, table, long, date)))
 
 
@@ -157,6 +177,9 @@ def frame(day, table="periods", long=False, date=None):
         raise Fault(f"frames need pandas, which Debian has in the package {package}: apt-get install {package}") from None
     rows = list(rows_of(day, table, long, date))
     made = pandas.DataFrame(list(shapes.records(rows)), columns=rows[0])
+    for name in rows[0]:
+        if shapes.column(name, rows[0])["type"] == "number":
+            made[name] = made[name].astype(float)  # also if each cell is empty
     if "begins" in made:
         made["begins"] = pandas.to_datetime(made["begins"], utc=True).dt.tz_convert(shapes.ZONE)
     return made

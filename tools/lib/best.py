@@ -126,11 +126,11 @@ def enumerate_all(problem, progress=None):
 
 
 def tried(blocks, admitted, losing=0):
-    """How many selections were tried, and how many of them links and groups admit; and, if none is better, how many would be if no
-    block of them lost."""
+    """How many selections were tried, and how many of them links and groups admit; and, if none is better, how many would be if none
+    of their blocks lost."""
     if blocks == 0:
         return "there is no block to select"
     whole = f"each of {2**blocks:,} selections was tried"
     if admitted < 2**blocks:
         whole += f", of which links and groups admit {admitted:,}"
-    return whole + (f"; {losing:,} would be better if no block of them lost" if losing else "")
+    return whole + (f"; {losing:,} would be better if none of {'its' if losing == 1 else 'their'} blocks lost" if losing else "")

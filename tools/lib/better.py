@@ -1,6 +1,6 @@
 """How a better selection of blocks is looked for, and what is said about one."""
 
-from . import best, command, selection
+from . import aside, best, command, selection
 
 ENUMERATION, HIGHS = METHODS = ["enumeration", "highs"]
 
@@ -13,7 +13,7 @@ def look(problem, said, method, progress, jobs):
     try:
         return {ENUMERATION: enumerate_all, HIGHS: ask_highs}[method](problem, said, progress, jobs)
     except TimeoutError as fault:
-        raise command.Stop(fault, command.UNDECIDED) from None
+        raise command.Stop(f"the results obey the other rules, but {fault}", command.UNDECIDED) from None
 
 
 def enumerate_all(problem, said, progress, jobs, few=FEW_BLOCKS):
@@ -33,9 +33,16 @@ def enumerate_all(problem, said, progress, jobs, few=FEW_BLOCKS):
 
 def ask_highs(problem, said, progress, _):
     command.need("scipy")
-    from . import solver
 
-    return solver.better(problem, frozenset(said.accepted), said.welfare, progress.seconds)
+    def ask(tell):
+        from . import solver
+
+        try:
+            return solver.better(problem, frozenset(said.accepted), said.welfare, progress, tell)
+        except solver.GaveUp as fault:
+            raise TimeoutError(f"HiGHS gave up (its status is {fault}): without --by highs every selection is tried") from None
+
+    return aside.answer(ask, progress, "HiGHS isn't done")
 
 
 def named(problem, places):

@@ -2,6 +2,10 @@
 
 from . import results, selection
 
+# If more than this part of the lines is wrong, the results seem to be of another journal. A block that is accepted and should not be
+# makes many lines wrong.
+MOST, MOST_WITH_A_FAULT = 1 / 2, 3 / 4
+
 
 def better_word(row, price):
     """How an hourly order's limit compares with the price."""
@@ -20,16 +24,26 @@ def differences(problem, data):
         return None, wrong
     follows = selection.outcome(problem, said.accepted)
     wrong += selection_faults(problem, said, follows)
+    most = MOST_WITH_A_FAULT if wrong else MOST
     wrong += welfare_difference(said, follows)
     wrong += period_differences(problem, said, follows)
     wrong += hourly_differences(problem, said, follows)
     wrong += surplus_differences(problem, said, follows)
-    return said, wrong
+    return said, foreign(said, wrong, most) + wrong
+
+
+def foreign(said, wrong, most):
+    """Says so if more than this part of the lines is wrong."""
+    lines = {line.partition(": ")[0] for line in wrong}
+    if len(lines) <= most * len(said.lines):
+        return []
+    return [f"{results.ANOTHER}: {len(lines)} of their {len(said.lines)} lines are wrong"]
 
 
 def selection_faults(problem, said, follows):
     """Why the selection isn't eligible."""
-    yield from selection.link_faults(problem, said.accepted)
+    for place, words in selection.link_faults(problem, said.accepted):
+        yield f"results line {said.lines[f'block {problem.blocks[place]}']}: {words}"
     for place, loss in selection.losing(problem, said.accepted, follows.surpluses).items():
         block = problem.blocks[place]
         line = said.lines[f"block {block}"]
@@ -48,6 +62,13 @@ def welfare_difference(said, follows):
         yield f"results line {line}: the welfare is {said.welfare}, and {right}"
 
 
+def right_price(found):
+    """Which price a period has, and why."""
+    if found.low == found.high:
+        return f"the only supporting price is {found.price}"
+    return f"the supporting prices go from {found.low} to {found.high}, and the rule takes {found.price}, {found.case}"
+
+
 def period_differences(problem, said, follows):
     for number, found in follows.cleared.items():
         if found is None:
@@ -55,8 +76,7 @@ def period_differences(problem, said, follows):
         at = f"results line {said.lines[f'period {number}']}: period {number}"
         price, volume = said.prices[number - 1], said.volumes[number - 1]
         if price != found.price:
-            ends = f"the supporting prices go from {found.low} to {found.high}"
-            yield f"{at}: the price is {price}; {ends}, and the rule takes {found.price}, {found.case}"
+            yield f"{at}: the price is {price}; {right_price(found)}"
         if volume != follows.bought[number]:
             yield f"{at}: the volume is {volume}, and the executed buys make {follows.bought[number]}"
 

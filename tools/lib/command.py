@@ -1,6 +1,8 @@
 """What the tools' command lines share: reading files, reporting faults, and finding packages that aren't in the standard
 library."""
 
+import argparse
+import errno
 import importlib.util
 import os
 import subprocess
@@ -35,17 +37,54 @@ class Stop(Exception):
 
 def run(name, main):
     """Runs a tool's `main`, and ends with its status. A fault, or Ctrl-C, is one line on standard error."""
+    hold_streams()
     try:
         sys.exit(main())
     except Stop as stop:
-        print(f"{name}: {stop}", file=sys.stderr)
+        tell(name, stop)
         sys.exit(stop.status)
     except KeyboardInterrupt:
-        print(f"{name}: interrupted", file=sys.stderr)
+        tell(name, "interrupted")
         sys.exit(INTERRUPTED)
     except BrokenPipeError:
-        os.dup2(os.open(os.devnull, os.O_WRONLY), sys.stdout.fileno())
+        discard(sys.stdout)
         sys.exit(NO_INPUT)
+    except OSError as fault:
+        tell(name, f"a device failed: {fault.strerror}")
+        sys.exit(NO_INPUT)
+
+
+def tell(tool, words):
+    """Says something on standard error; if that can't be written, the status alone says it."""
+    try:
+        print(f"{tool}: {words}", file=sys.stderr, flush=True)
+    except OSError:
+        discard(sys.stderr)
+
+
+def hold_streams():
+    """Lets no other file take the number of a closed standard stream. Python has None for such a stream, and would print to standard
+    output what is meant for a closed standard error."""
+    while (number := os.open(os.devnull, os.O_RDWR)) <= 2:
+        pass
+    os.close(number)
+    sys.stderr = sys.stderr or open(os.devnull, "w")
+
+
+class Parser(argparse.ArgumentParser):
+    """A tool's command line, with no shortened options. Its help is written as all output is."""
+
+    def __init__(self, prog, description, epilog):
+        form = argparse.RawDescriptionHelpFormatter
+        super().__init__(prog=prog, description=description, epilog=epilog, formatter_class=form, allow_abbrev=False)
+
+    def print_help(self, file=None):
+        write_output(self.format_help().encode())
+
+
+def discard(stream):
+    """Discards what couldn't be written, so that Python doesn't try again at its end."""
+    os.dup2(os.open(os.devnull, os.O_WRONLY), stream.fileno())
 
 
 def shown(path):
@@ -53,26 +92,64 @@ def shown(path):
     return "standard input" if path == "-" else path
 
 
+def bytes_of(stream):
+    """The bytes of standard input or output, which Python has as None if it is closed."""
+    if stream is None:
+        raise OSError(errno.EBADF, os.strerror(errno.EBADF))
+    return stream.buffer
+
+
 def read_bytes(path):
     """The bytes of a file; `-` is standard input."""
     try:
-        return sys.stdin.buffer.read() if path == "-" else Path(path).read_bytes()
+        return bytes_of(sys.stdin).read() if path == "-" else Path(path).read_bytes()
     except OSError as fault:
         raise Stop(f"{shown(path)} can't be read: {fault.strerror}") from None
 
 
-def write_bytes(path, data):
-    """Writes a file, or standard output if the path is `-`."""
+def write_output(data):
+    """Writes to standard output."""
     try:
-        if path == "-":
-            sys.stdout.buffer.write(data)
-            sys.stdout.buffer.flush()
-        else:
-            Path(path).write_bytes(data)
+        bytes_of(sys.stdout).write(data)
+        sys.stdout.flush()
     except BrokenPipeError:
         raise
     except OSError as fault:
-        raise Stop(f"{'standard output' if path == '-' else path} can't be written: {fault.strerror}") from None
+        if sys.stdout is not None:
+            discard(sys.stdout)
+        raise Stop(f"standard output can't be written: {fault.strerror}") from None
+
+
+def say(lines):
+    """Prints lines on standard output."""
+    write_output("".join(f"{line}\n" for line in lines).encode(errors="surrogateescape"))
+
+
+def write_bytes(tool, path, data):
+    """Writes a file, and at a terminal says so; or standard output if the path is `-`."""
+    if path == "-":
+        write_output(data)
+        return
+    try:
+        Path(path).write_bytes(data)
+    except OSError as fault:
+        raise Stop(f"{path} can't be written: {fault.strerror}") from None
+    if sys.stderr.isatty():
+        tell(tool, f"{path} was written")
+
+
+def is_same(path, other):
+    """Whether a file that a tool is to write is one that it reads; `-` is standard input."""
+    try:
+        return os.path.isfile(path) and os.path.samestat(os.stat(path), os.fstat(0) if other == "-" else os.stat(other))
+    except OSError:
+        return False
+
+
+def refuse_inputs(path, *inputs):
+    """Ends the tool if it is to write over a file that it reads; the inputs that aren't given are None."""
+    if any(other is not None and is_same(path, other) for other in inputs):
+        raise Stop(f"{path} is one of the inputs, and would be lost: write to another file", COMMAND_LINE)
 
 
 def read_texts(path, results_path):
@@ -115,10 +192,17 @@ class Day:
         if not self.book.closed:
             raise Stop(f"no command of {shown(path)} closes the book, so it has no results")
         self.problem = selection.Problem(self.book)
-        self.said, self.wrong = check.differences(self.problem, results_data)
+        data, odd = results.plain(results_data)
+        self.said, wrong = check.differences(self.problem, data)
         if self.said is None:
-            raise Stop(f"{shown(results_path)} has no results of this journal: {self.wrong[0]}")
+            raise Stop(f"{shown(results_path)} has no results of this journal: {wrong[0]}")
+        self.wrong = odd + wrong
         self.outcome = selection.outcome(self.problem, self.said.accepted)
+
+    def tell_wrong(self, tool):
+        """Says on standard error if the results break the rules."""
+        if self.wrong:
+            tell(tool, f"the results break the rules ({self.wrong[0]}): see tools/audit")
 
 
 def has(module):

@@ -70,7 +70,8 @@ class Judge:
         helping = selection.helping(self.problem, self.accepted, place)
         if surplus < 0 and helping:
             together = selection.answers_for(self.problem, self.accepted, place, self.surpluses)
-            why += f" by itself, and with {self.names(helping)} it gains {self.eur(together)}"
+            does = "loses" if together < 0 else "gains"
+            why += f" by itself, and with {self.names(helping)} it {does} {self.eur(abs(together))}"
         return why + (f", and its parent {self.name(parent)} is accepted" if parent is not None else "")
 
     def never_why(self, place, upper, lower):
@@ -104,7 +105,7 @@ class Judge:
             parent = self.problem.parents[place]
             return why + (f"; its parent {self.name(parent)} is rejected" if parent in family.needed else "")
         count = len(family.members)
-        word = {1: "it", 2: "both"}.get(count, f"all {count}")
+        word = {1: "it", 2: "both,"}.get(count, f"all {count},")
         join = "; " if family.losers() else ", but " if family.gain() else ", and "
         return f"{why}{join}with {word} {self.consequence(place, other)}"
 

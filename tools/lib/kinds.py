@@ -2,14 +2,19 @@
 
 import re
 
-JOURNAL, RESULTS, REPLIES, DAY = "a journal", "results", "replies", "the text of a day"
+from . import text
+
+JOURNAL, RESULTS, REPLIES, DAY, ORDERS = "a journal", "results", "replies", "the text of a day", "a table of orders"
+COLUMNS = {b"participant", b"order", b"periods", b"volume_mw"}  # some that each table of orders has
 
 REPLY = re.compile(rb"\d+,(?:done|refused,)")
 
 
 def kind_of(data):
     """The kind of text that these bytes look like by their first lines; None for any other."""
-    first, second = (data.split(b"\n", 2) + [b"", b""])[:2]
+    first, second = (data.removeprefix(text.MARK).split(b"\n", 2) + [b"", b""])[:2]
+    if COLUMNS <= {cell.strip(b' \r"') for cell in re.split(rb"[,;\t]", first.lower())}:
+        return ORDERS
     if not first.startswith(b"day,"):
         return None
     if first.count(b",") == 8:

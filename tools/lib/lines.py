@@ -8,6 +8,14 @@ def shown(line):
     return line[:60].decode("latin-1").encode("unicode_escape").decode()
 
 
+def moved(wanted, found, pairs):
+    """The lines of `matched` that stand in the place of none and are missing in another: from the place found to the one wanted."""
+    apart = [(at, place) for at, place in pairs if at is None or place is None or wanted[at] != found[place]]
+    missing = {wanted[at]: at for at, _ in apart if at is not None}
+    strays = {found[place]: place for _, place in reversed(apart) if place is not None}
+    return {place: missing[line] for line, place in strays.items() if line in missing}
+
+
 def matched(wanted, found):
     """The places of the lines that are wanted and of those found, in their order, as pairs; None stands for the other place of a
     line that is missing, or that is found and not wanted. Lines are given by what they are about, so that a stray line is one pair."""

@@ -6,13 +6,19 @@ that the commands after it are judged as well, also those that the book would re
 import re
 from typing import NamedTuple
 
-from . import book, fields, journal, rules, text
+from . import book, fields, journal, kinds, rules, text
 
 DAY = "day,24,,,,,,,"
 CLOSE = "close,,,,,,,,"
 RESULTS = ([b"results"],)  # the line before the results in what `dam day` prints
 MOST_LINES = 20  # of those with characters that aren't ASCII
 FEW = 5  # faults that other tools report
+# What a text of another kind is for.
+OTHERS = {
+    kinds.ORDERS: "this seems to be a table of orders: tools/table --journal makes a journal of it",
+    kinds.RESULTS: "these seem to be results, which aren't a journal: tools/audit reads them with their journal",
+    kinds.REPLIES: "these seem to be replies of `dam replay`, which aren't a journal: tools/audit --replies reads them with their journal",
+}
 BYTE_ORDER_MARKS = {b"\xef\xbb\xbf": "utf-8-sig", b"\xff\xfe": "utf-16", b"\xfe\xff": "utf-16"}
 
 
@@ -27,10 +33,11 @@ class Found(NamedTuple):
 
 
 class Lint:
-    """Gathers the faults of a text that should be a journal for a command of the program."""
+    """Gathers the faults of a text that should be a journal for a command of the program. If `periods` are given, the text may lack
+    the day, which has so many."""
 
-    def __init__(self, data, command):
-        self.command = command
+    def __init__(self, data, command, periods=None):
+        self.command, self.periods = command, periods
         self.found, self.held = [], None
         self.lines = {}  # of each order of the book that was submitted, by participant and name
         self.unclear = set()  # participants and names of submits that couldn't be read
@@ -43,7 +50,13 @@ class Lint:
         self.found.append(Found(line, field, words, refusal))
 
     def run(self):
+        other = OTHERS.get(kinds.kind_of(self.data))
+        if other:
+            self.tell(1, other)
+            return self.found
         data, comma = self.readable(self.data)
+        if self.periods and first_word(data, comma) != "day":
+            self.held = book.Book(self.periods)
         line, behind, number = 1, 0, 0
         for number, (at, record) in enumerate(text.placed_records(data, comma), 1):
             line += len(text.LINE_END.findall(data, behind, at))
@@ -114,7 +127,7 @@ class Lint:
             do = f"write {whole}" if whole else "add what is missing at its end"
             self.tell(line, f"it has {count} field{'s' * (count > 1)} and should have {most}, so {commas}: {do}")
         elif missing < 0:
-            do = "no field has a comma in it, and no number has a decimal comma"
+            do = "a field can't contain a comma"
             if not any(record[most:]):
                 do = f"remove {-missing} comma{'s' * (missing < -1)} at its end"
             self.tell(line, f"it has {count} fields and should have {most}: {do}")
@@ -253,6 +266,11 @@ class Lint:
                 self.tell(line, f"`dam day` takes at most {rules.MOST_DAY_PARTICIPANTS} participants, but there are {count}")
 
 
+def first_word(data, comma=b","):
+    """The first field of a text, as a word that a journal may begin with."""
+    return next(text.placed_records(data, comma), (0, [b""]))[1][0].strip().lower().decode(errors="replace")
+
+
 def faults(data, command="clear"):
     """What is wrong with a text as a journal for `dam clear`, `dam replay` or `dam day`, by line."""
     return Lint(data, command).run()
@@ -265,8 +283,9 @@ def counted(found):
     return ", ".join(f"{count} {name}{'s' * (count > 1)}" for count, name in counts if count) or "nothing is wrong"
 
 
-def in_few_words(data):
-    """The first faults of a text that can't be read as a journal, each on a line of its own."""
-    lines = [str(fault) for fault in faults(data, "replay") if not fault.refusal]
+def in_few_words(data, periods=None):
+    """The first faults of a text that can't be read as a journal, each on a line of its own; or as the commands of a day of so many
+    periods, with the day or without it."""
+    lines = [str(fault) for fault in Lint(data, "replay", periods).run() if not fault.refusal]
     more = [f"and {len(lines) - FEW} more: see tools/lint"] if len(lines) > FEW else []
     return "".join(f"\n  {line}" for line in lines[:FEW] + more)

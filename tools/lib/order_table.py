@@ -6,25 +6,22 @@ import io
 import re
 from fractions import Fraction
 
-from . import book, journal, rules, spans, text
+from . import book, fields, journal, rules, spans, text
 from .tables import ORDER, RESULT
 
 # The columns that a row may leave empty, or a table out.
 OPTIONAL = ["parent", "group"]
 MOST_ERRORS = 20
 
-REASONS = {
-    "PeriodOutOfDay": "the day doesn't have that period",
-    "NameTaken": "the participant has an order of that name in a line above",
-    "UnknownParent": "the participant has no order of the parent's name in a line above",
-    "ParentNotBlock": "the parent is not a block",
+# Why the book refuses an order that is right in itself.
+FULL = {
     "HourlyFull": f"a book holds at most {rules.MOST_HOURLY} hourly orders",
     "BlocksFull": f"a book holds at most {rules.MOST_BLOCKS} blocks",
 }
-# The column that a refusal is about.
-COLUMN_OF = {"PeriodOutOfDay": "periods", "NameTaken": "order", "UnknownParent": "parent", "ParentNotBlock": "parent"}
+DAYS = [str(periods) for periods in rules.DAYS]
 
-DECIMAL = re.compile(r"(-?)([0-9]{1,9})(?:\.([0-9]+))?")
+# By whether a comma may be the decimal point.
+DECIMAL = {comma: re.compile(rf"(-?)([0-9]{{1,9}})(?:[{points}]([0-9]+))?") for comma, points in ((False, "."), (True, ".,"))}
 
 
 class Wrong(Exception):
@@ -76,9 +73,9 @@ def columns_of(header):
     return places
 
 
-def scaled(cell, factor, least, greatest, unit):
+def scaled(cell, factor, least, greatest, unit, decimal_comma):
     """A decimal number times a factor, which must be whole and in a range."""
-    found = DECIMAL.fullmatch(cell)
+    found = DECIMAL[decimal_comma].fullmatch(cell)
     if not found:
         raise Wrong(f"'{cell}' should be a number of {unit}, such as 92.5")
     sign, whole, rest = found.groups()
@@ -96,8 +93,8 @@ def parts(cell):
     return [part for part in re.split(r"[;\s]+", cell) if part]
 
 
-def read_periods(cell):
-    """Periods and runs of periods by increasing number, such as `8`, `8-20` or `1;3;5-7`."""
+def read_periods(cell, periods):
+    """Periods and runs of periods of the day by increasing number, such as `8`, `8-20` or `1;3;5-7`."""
     if not parts(cell):
         raise Wrong("it should name a period, such as 8, or several, such as 8-20 or 1;3;5-7")
     try:
@@ -106,13 +103,15 @@ def read_periods(cell):
         raise Wrong(f"'{cell}' should be {fault}") from None
     if any(one >= other for one, other in zip(numbers, numbers[1:])):
         raise Wrong(f"the periods '{cell}' should increase")
+    if numbers[-1] > periods:
+        late = next(number for number in numbers if number > periods)
+        raise Wrong(f"the day has periods 1 to {periods}, so there is no period {late} (PeriodOutOfDay)")
     return numbers
 
 
 def read_volumes(cell, numbers, decimal_comma):
     """One volume for all periods, or one for each, separated by `;`."""
-    shown = cell.replace(",", ".") if decimal_comma else cell
-    values = [scaled(part, 10, 1, rules.GREATEST_VOLUME, "MW") for part in parts(shown)]
+    values = [scaled(part, 10, 1, rules.GREATEST_VOLUME, "MW", decimal_comma) for part in parts(cell)]
     if len(values) == 1:
         values *= len(numbers)
     if len(values) != len(numbers):
@@ -143,15 +142,15 @@ def read_name(cell):
     return cell
 
 
-def read_price(cell):
-    return scaled(cell, 100, rules.LEAST_PRICE, rules.GREATEST_PRICE, "EUR/MWh")
+def read_price(cell, decimal_comma):
+    return scaled(cell, 100, rules.LEAST_PRICE, rules.GREATEST_PRICE, "EUR/MWh", decimal_comma)
 
 
 class Row:
-    """A row of the table: what is wrong with it is gathered by column."""
+    """A row of the table of a day of `periods` periods: what is wrong with it is gathered by column."""
 
-    def __init__(self, cells, places, decimal_comma):
-        self.cells, self.places, self.decimal_comma = cells, places, decimal_comma
+    def __init__(self, cells, places, decimal_comma, periods):
+        self.cells, self.places, self.decimal_comma, self.periods = cells, places, decimal_comma, periods
         self.wrong = []
 
     def cell(self, name):
@@ -172,6 +171,14 @@ class Row:
             return None
         return self.read(name, lambda cell: cell and read_name(cell))
 
+    def many(self, cell):
+        """As many periods as there are volumes, if the periods can't be read."""
+        return range(1, 1 + max(len(parts(cell)), 1))
+
+    def meant(self, name):
+        """A name, or what one that breaks its rule was probably meant to be, so that other lines that name it aren't wrong too."""
+        return fields.read(name, self.cell(name))[0]
+
     def command(self):
         """The submit that the row is; of no use if something is wrong."""
         if len(self.cells) > len(self.places):
@@ -179,34 +186,56 @@ class Row:
         who, name = self.read("participant", read_participant), self.read("order", read_name)
         kind = self.read("kind", read_word("hour", "block"))
         side = self.read("side", read_word("buy", "sell"))
-        decimal = (lambda cell: read_price(cell.replace(",", "."))) if self.decimal_comma else read_price
-        price, numbers = self.read("price_eur_mwh", decimal), self.read("periods", read_periods)
+        price = self.read("price_eur_mwh", lambda cell: read_price(cell, self.decimal_comma))
+        numbers = self.read("periods", lambda cell: read_periods(cell, self.periods))
         if kind == "hour" and numbers and len(numbers) != 1:
             self.wrong.append(f"column periods: an hourly order has one period, not {len(numbers)}")
-        volumes = self.read("volume_mw", lambda cell: read_volumes(cell, numbers or [1], self.decimal_comma))
+        volumes = self.read("volume_mw", lambda cell: read_volumes(cell, numbers or self.many(cell), self.decimal_comma))
         parent, group = (self.read_link(name, kind) for name in OPTIONAL)
         return journal.Submit(who, name, journal.Order(kind, side, price, volumes, parent, group))
+
+
+class Entered:
+    """The orders of the lines so far, also of those that can't be read: what links the next line to them."""
+
+    def __init__(self, periods):
+        self.held = book.Book(periods)
+        self.lines = {}  # the line and the kind of each order, by participant and name
+
+    def enter(self, line, row, command):
+        """Adds to what is wrong with a row why the book would refuse it."""
+        who, name, parent = row.meant("participant"), row.meant("order"), command.order.parent
+        if who and name and (who, name) in self.lines:
+            row.wrong.append(f"column order: {who} has an order {name} in line {self.lines[who, name][0]} (NameTaken)")
+        if who and parent:
+            above, kind = self.lines.get((who, parent), (None, None))
+            if above is None:
+                row.wrong.append(f"column parent: {who} has no order {parent} in a line above (UnknownParent)")
+            elif kind == "hour":
+                row.wrong.append(f"column parent: {parent} of line {above} is an hourly order, not a block (ParentNotBlock)")
+        reason = None if row.wrong else self.held.apply(command)
+        if reason in FULL:
+            row.wrong.append(f"{FULL[reason]} ({reason})")
+        self.lines.setdefault((who, name), (line, command.order.kind))
 
 
 def read_orders(data, periods, closing):
     """The journal of a table of orders for a day of `periods` periods, with or without a close; if not, all that is wrong, one
     line each."""
+    if periods not in rules.DAYS:
+        raise Wrong(f"a day has {', '.join(DAYS[:-1])} or {DAYS[-1]} periods, not {periods}")
     rows, decimal_comma = rows_of(data)
     if not rows or not trimmed(rows[0][1]):
         raise Wrong(f"the table is empty: its first line should name the columns {', '.join(ORDER)}")
     places = columns_of(trimmed(rows[0][1]))
-    wrong, held, commands = [], book.Book(periods), []
+    wrong, entered, commands = [], Entered(periods), []
     for number, cells in rows[1:]:
         if not any(cell.strip() for cell in cells):
             continue
-        row = Row(trimmed(cells), places, decimal_comma)
+        row = Row(trimmed(cells), places, decimal_comma, periods)
         command = row.command()
-        if not row.wrong:
-            commands.append(command)
-            reason = held.apply(command)
-            if reason:
-                column = COLUMN_OF.get(reason)
-                row.wrong.append((f"column {column}: " if column else "") + f"{REASONS[reason]} ({reason})")
+        commands.append(command)
+        entered.enter(number, row, command)
         wrong += [f"line {number}, {line}" for line in row.wrong]
     if wrong:
         more = len(wrong) - MOST_ERRORS

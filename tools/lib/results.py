@@ -4,7 +4,9 @@ import re
 from typing import NamedTuple
 
 from . import text
-from .lines import matched, shown
+from .lines import matched, moved, shown
+
+ANOTHER = "these seem to be the results of another journal"
 
 # No welfare, surplus or volume of a result is as large.
 LARGE = 10**16
@@ -66,6 +68,33 @@ def beginning(line):
     return tuple(fields[: {b"day": 2, b"welfare": 1, b"period": 2}.get(fields[0], 3)])
 
 
+def plain(data):
+    """The text without what other programs add to each line, or before the first one; and what is wrong if something was there."""
+    wrong = []
+    if data.startswith(text.MARK):
+        wrong.append("the text begins with a byte order mark")
+    if b"\r\n" in data:
+        wrong.append("the lines end with CR LF instead of LF alone")
+    return data.removeprefix(text.MARK).replace(b"\r\n", b"\n"), wrong
+
+
+def foreign(wanted, beginnings):
+    """Says so if most lines of orders are of none of this journal's."""
+    orders = [begin for begin in beginnings if begin[0] in (b"hour", b"block")]
+    others = len(orders) - len(set(orders) & set(wanted))
+    if 2 * others <= len(orders):
+        return []
+    return [f"{ANOTHER}: {others} of their {len(orders)} lines of orders are of no order of this one"]
+
+
+def none_belongs(line):
+    """What is said of results of which no line is one of this journal's."""
+    for comma, name in ((b";", "semicolons"), (b"\t", "tabs")):
+        if comma in line:
+            return f"the fields of the results are separated by {name} instead of commas: the first line is '{shown(line)}'"
+    return f"none of the lines of the results belongs to this journal: the first is '{shown(line)}'"
+
+
 def read_results(problem, data):
     """The results that a text is for this problem, and what is wrong with its form; results are None if something is."""
     wrong, lines, values = [], {}, []
@@ -77,16 +106,21 @@ def read_results(problem, data):
     wanted = [tuple(field.encode() for field in known) for _, known, _ in expected]
     beginnings = [beginning(line) for line in found]
     if set(wanted).isdisjoint(beginnings):
-        none = f"none of its lines belongs to these results: the first is '{shown(found[0])}'"
-        return None, [none if data else "the results are empty"]
-    for at, place in matched(wanted, beginnings):
+        return None, [none_belongs(found[0]) if data else "the results are empty"]
+    pairs = matched(wanted, beginnings)
+    away = moved(wanted, beginnings, pairs)
+    elsewhere = set(away.values())
+    for at, place in pairs:
         last = last if place is None else place + 1
-        if at is None:
-            wrong.append(f"results line {last}: '{shown(found[place])}' doesn't belong there")
+        if place in away:
+            wrong.append(f"results line {last}: {moved_line(expected, away[place])}")
+        elif at is None:
+            wrong.append(f"results line {last}: {stray_line(found[place])}")
+        if at is None or at in elsewhere:
             continue
         about, known, behind = expected[at]
-        if place is None:
-            wrong.append(f"results line {last + 1}: there is no line for {about}")
+        if place is None or place in away:
+            wrong.append(f"results line {last + (place is None)}: there is no line for {about}")
             continue
         read = line_values(found[place], known, behind)
         lines[about] = last
@@ -94,7 +128,19 @@ def read_results(problem, data):
             form = ",".join(known + [{"n": "<number>", "a": "accepted|rejected"}[kind] for kind in behind])
             wrong.append(f"results line {last}: {about} should be '{form}' and is '{shown(found[place])}'")
         values.append(read)
-    return (None if wrong else gather(problem, values, lines)), wrong
+    if wrong:
+        return None, foreign(wanted, beginnings) + wrong
+    return gather(problem, values, lines), wrong
+
+
+def moved_line(expected, at):
+    """What is said of a line that stands in another place than its own."""
+    after = f"after that for {expected[at - 1][0]}" if at else "before all others"
+    return f"the line for {expected[at][0]} stands here and belongs {after}"
+
+
+def stray_line(line):
+    return f"'{shown(line)}' doesn't belong there" if line else "the line is empty, and should not be there"
 
 
 def gather(problem, values, lines):

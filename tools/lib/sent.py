@@ -1,12 +1,13 @@
 """What a participant sent, compared with its commands in the published journal: each there once, in its order, and no others."""
 
 import difflib
+import re
 from collections import Counter, defaultdict, deque
 from typing import NamedTuple
 
-from . import journal, order_table, text
+from . import journal, lint, order_table, text
 
-KINDS = {b"day", b"submit", b"amend", b"cancel", b"close"}
+WORDS = re.compile(rb'[\s"]*(?:day|submit|amend|cancel|close)\b', re.IGNORECASE)
 
 
 class Wrong(Exception):
@@ -31,8 +32,8 @@ class Published(NamedTuple):
 def read_sent(data, who, periods):
     """The commands of a list, all of one participant: records as in a journal, with the records `day` and `close` or without
     them, or a table of orders."""
-    first = next(text.records(data), [b""])[0]
-    commands = list(read_records(data, periods) if first in KINDS else read_table(data, periods))
+    has_records = WORDS.match(data.removeprefix(text.MARK))
+    commands = list(read_records(data, periods) if has_records else read_table(data, periods))
     for sent in commands:
         if sent.command.who != who:
             raise Wrong(f"record {sent.record} is of {sent.command.who}: the file should have commands of {who} alone")
@@ -40,22 +41,15 @@ def read_sent(data, who, periods):
 
 
 def read_records(data, periods):
-    if not data.isascii():
-        raise Wrong("it has a byte above 127")
-    for number, fields in enumerate(text.records(data), 1):
-        if len(fields) != 9:
-            raise Wrong(f"record {number} has {len(fields)} field{'s' * (len(fields) != 1)} and should have 9")
-        try:
-            if number == 1 and fields[0] == b"day":
-                day = journal.read_day(fields)
-                if day != periods:
-                    raise Wrong(f"it is for a day of {day} periods, but the journal is for one of {periods}")
-                continue
-            command = journal.read_command(fields)
-        except journal.BadField as bad:
-            raise Wrong(f"field {bad} of record {number} breaks its rule") from None
-        if not isinstance(command, journal.Close):
-            yield Sent(number, command)
+    own = data if lint.first_word(data) == "day" else b"day,%d,,,,,,,\n" % periods + data
+    try:
+        read = journal.read_journal(own)
+    except journal.Fault:
+        raise Wrong(lint.in_few_words(data, periods).lstrip()) from None
+    if read.periods != periods:
+        raise Wrong(f"it is for a day of {read.periods} periods, but the journal is for one of {periods}")
+    first = 2 if own is data else 1
+    return [Sent(at, command) for at, command in enumerate(read.commands, first) if not isinstance(command, journal.Close)]
 
 
 def read_table(data, periods):

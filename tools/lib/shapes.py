@@ -27,6 +27,13 @@ def date_of(words):
     raise Wrong(f"{words}: it should be a day, such as 2026-11-25")
 
 
+def as_date(date):
+    """A date, or that of a text."""
+    if not isinstance(date, (datetime.date, str)):
+        raise Wrong(f"{date!r}: it should be a datetime.date, or a text such as 2026-11-25")
+    return date_of(date) if isinstance(date, str) else date
+
+
 def begins(date, periods):
     """When each period of a delivery day begins, and when the last one ends, in Central European Time."""
     zone, utc = zoneinfo.ZoneInfo(ZONE), datetime.timezone.utc
@@ -96,7 +103,7 @@ def typed(kind, name, cell, row):
     if kind == "integer":
         return int(cell)
     if kind == "number":
-        return float(cell)
+        return cell if isinstance(cell, int) else float(cell)
     return cell == "yes" if kind == "boolean" else cell
 
 

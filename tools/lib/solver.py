@@ -10,8 +10,6 @@ that what it finds is better is checked."""
 import contextlib
 import itertools
 import os
-import sys
-import time
 
 import numpy
 from scipy import optimize, sparse
@@ -26,13 +24,13 @@ EUR, MW = 100, 10  # cents and tenths: the program is reckoned in EUR per MWh an
 HALF, ROUNDING, ROOM, TOO_MANY = 0.5 / (EUR * MW), 1e-11, 1_000, 100
 
 
-NO_SOLUTION = 2  # a status of scipy's
+LIMIT, NO_SOLUTION = 1, 2  # statuses of scipy's
 
 
 @contextlib.contextmanager
 def quiet():
     """Discards what HiGHS itself prints on standard output."""
-    sys.stdout.flush()
+    print(end="", flush=True)
     kept, nowhere = os.dup(1), os.open(os.devnull, os.O_WRONLY)
     os.dup2(nowhere, 1)
     try:
@@ -41,6 +39,10 @@ def quiet():
         os.dup2(kept, 1)
         os.close(kept)
         os.close(nowhere)
+
+
+class GaveUp(Exception):
+    """HiGHS says neither a solution nor that there is none; with its status as scipy numbers it."""
 
 
 class Program:
@@ -182,8 +184,10 @@ class Model:
             answer = self.program.solve(seconds, presolve)
             if answer.x is not None:
                 return frozenset(place for place, column in enumerate(self.accepted) if answer.x[column] > 0.5)
+            if answer.status == LIMIT:
+                raise TimeoutError("the time is over")
             if answer.status != NO_SOLUTION:
-                raise TimeoutError(f"HiGHS gave up: {answer.message}")
+                raise GaveUp(answer.status)
         return None
 
 
@@ -219,24 +223,40 @@ def questions(accepted, welfare, blocks):
             yield welfare, flags[:place] + [1]
 
 
-def better(problem, accepted, welfare, seconds):
-    """A selection that ranks above this eligible one, or None if HiGHS has none; and how that was found."""
-    until = time.monotonic() + seconds
+def better(problem, accepted, welfare, progress, tell=lambda words: None):
+    """A selection that ranks above this eligible one, or None if HiGHS has none; and how that was found. `tell` gets in words how far
+    the search is."""
     model = Model(problem)
     model.forbid(accepted)
     looked = 0
+    tell(offered(looked))
     for least, fixed in questions(accepted, welfare, len(problem.blocks)):
-        for offered in itertools.count():
-            model.ask(least, fixed, ROOM if offered < TOO_MANY else 1)
-            left = until - time.monotonic()
-            if left <= 0:
-                raise TimeoutError(f"after {seconds:g} seconds and {looked} selections HiGHS still offers others")
-            other = model.next(left)
+        for count in itertools.count():
+            model.ask(least, fixed, ROOM if count < TOO_MANY else 1)
+            other = asked(model, progress, looked)
             if other is None:
                 break
             looked += 1
+            tell(offered(looked))
             value = selection.eligible(problem, other)
             if value is not None and selection.ranks_above(len(problem.blocks), value, other, welfare, accepted):
                 return best.Found(other, value), "found by HiGHS"
             model.forbid(other)
-    return None, f"HiGHS offers no other, except {looked} that aren't eligible or rank below" if looked else "HiGHS offers no other"
+    kind = "which breaks a rule or ranks below" if looked == 1 else "which break a rule or rank below"
+    return None, f"HiGHS offers {looked or 'no'} other{'s' * (looked > 1)}" + (f", {kind}" if looked else "")
+
+
+def offered(looked):
+    """How far the search is, in words, as long as nothing better was offered."""
+    return f"HiGHS has offered {looked} other selection{'s' * (looked > 1)} and isn't done" if looked else "HiGHS isn't done"
+
+
+def asked(model, progress, looked):
+    """The next selection that HiGHS offers, or None. Fails if no time is left."""
+    left = progress.left()
+    try:
+        if left > 0:
+            return model.next(left)
+    except TimeoutError:
+        pass
+    raise TimeoutError(progress.over(offered(looked)))

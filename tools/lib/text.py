@@ -6,6 +6,7 @@ from fractions import Fraction
 
 from . import rules
 
+MARK = b"\xef\xbb\xbf"  # a byte order mark
 LINE_END = re.compile(rb"\r\n|\r|\n")
 LINE_ENDS = re.compile(rb"[\r\n]*")
 
@@ -82,6 +83,11 @@ def participant(text):
 
 def name(text):
     return text.decode() if NAME.fullmatch(text) else None
+
+
+def counted(count, one, several=None):
+    """A number of things, such as `1 block` or `2 blocks`."""
+    return f"{count} {one if count == 1 else several or one + 's'}"
 
 
 def fixed(value, digits, thousands=""):

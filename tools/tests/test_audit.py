@@ -5,6 +5,7 @@ import random
 import re
 import tempfile
 import unittest
+import unittest.mock
 from fractions import Fraction
 from pathlib import Path
 
@@ -12,7 +13,8 @@ import support
 from support import AUCTION, cleared_cases, journal_of, printed, problem, results_of, tool
 
 import days
-from lib import best, book, check, command, journal, period, rules, selection
+from lib import best, book, check, command, journal, period, results, rules, selection, tables
+from lib.progress import Progress
 from lib.text import exact_euros
 from small_days import ranked, small_problems
 
@@ -86,9 +88,9 @@ class Results(unittest.TestCase):
 
     def test_links_groups_and_losses_are_named(self):
         wrong = "\n".join(differences(AUCTION.read_bytes(), printed(AUCTION).replace(b"STAY,accepted", b"STAY,rejected")))
-        self.assertIn("block GAS,EVENING is accepted and its parent GAS,STAY isn't", wrong)
+        self.assertIn("results line 111: block GAS,EVENING is accepted and its parent GAS,STAY isn't", wrong)
         wrong = "\n".join(differences(AUCTION.read_bytes(), printed(AUCTION).replace(b"NOON,rejected", b"NOON,accepted")))
-        self.assertIn("group FILL of PUMP has 2 accepted blocks: PUMP,DAWN PUMP,NOON", wrong)
+        self.assertRegex(wrong, r"results line \d+: group FILL of PUMP has 2 accepted blocks: PUMP,DAWN PUMP,NOON")
         wrong = "\n".join(differences(AUCTION.read_bytes(), printed(AUCTION).replace(b"UNIT-7,rejected", b"UNIT-7,accepted")))
         self.assertIn("block OLD,UNIT-7: it is accepted and loses 270000", wrong)
         wrong = "\n".join(differences(AUCTION.read_bytes(), printed(AUCTION).replace(b"EVENING,accepted", b"EVENING,rejected")))
@@ -120,14 +122,14 @@ class Results(unittest.TestCase):
         self.assertRegex(lines[0], r"^results line 75: block A,K: it is accepted and loses \d+$")
         self.assertRegex(lines[1], r"^results line 2: the welfare is ")
         self.assertRegex(lines[2], r"^results line 3: period 1: the price is ")
-        self.assertRegex(lines[-1], r"^and \d+ more$")
+        self.assertRegex(lines[-1], r"^and \d+ more: --all prints every line$")
 
     def test_faults_come_in_their_order(self):
         """Links and groups, losses, the welfare, periods, hourly orders, surpluses."""
         data, text = AUCTION.read_bytes(), printed(AUCTION)
         text = text.replace(b"STAY,accepted", b"STAY,rejected").replace(b"UNIT-7,rejected", b"UNIT-7,accepted")
         kinds = [
-            r"^block GAS,EVENING is accepted and its parent",
+            r"^results line 111: block GAS,EVENING is accepted and its parent",
             r"it is accepted and loses",
             r"the welfare is",
             r"(the price is|the volume is)",
@@ -275,7 +277,7 @@ class Best(unittest.TestCase):
         tried = 0
         for day, selections in [*small_problems(80), *self.equal_prices()]:
             for rank, (welfare, accepted) in enumerate(selections[:4]):
-                found, _ = solver.better(day, accepted, welfare, 60)
+                found, _ = solver.better(day, accepted, welfare, Progress("audit", 60))
                 self.assertEqual(found is None, rank == 0)
                 if found:
                     self.assertIn((found.welfare, found.accepted), selections[:rank])
@@ -371,10 +373,34 @@ class CommandLine(unittest.TestCase):
         self.assertEqual(audit(data, text, "--best")[0], wanted)
 
     def test_too_little_time(self):
-        if not command.has("scipy"):
-            self.skipTest("scipy is missing (Debian's python3-scipy)")
-        status, out, err = audit(AUCTION.read_bytes(), printed(AUCTION), "--best", "--by", "highs", "--seconds", "0")
-        self.assertEqual((status, out, "HiGHS still offers others" in err), (command.UNDECIDED, b"", True))
+        """The other rules have been checked, and it is said how far the search is."""
+        methods = {"enumeration": "0 of 512 selections have been tried"}
+        if command.has("scipy"):
+            methods["highs"] = "HiGHS isn't done"
+        for method, far in methods.items():
+            status, out, err = audit(AUCTION.read_bytes(), printed(AUCTION), "--best", "--by", method, "--seconds", "0")
+            said = f"audit: the results obey the other rules, but after 0 seconds, {far}: --seconds gives more time\n"
+            self.assertEqual((status, out, err), (command.UNDECIDED, b"", said))
+
+    @unittest.skipUnless(command.has("scipy"), "scipy is missing (Debian's python3-scipy)")
+    def test_the_words_for_what_highs_offers(self):
+        from lib import solver
+
+        day = problem(AUCTION.read_bytes())
+        accepted = frozenset(results.read_results(day, printed(AUCTION))[0].accepted)
+        welfare = selection.eligible(day, accepted)
+        for offers, said in (
+            ([None], "HiGHS offers no other"),
+            ([{0}, None], "HiGHS offers 1 other, which breaks a rule or ranks below"),
+            ([{0}, {1}, None], "HiGHS offers 2 others, which break a rule or rank below"),
+        ):
+            answers = itertools.chain(offers, itertools.repeat(None))
+            told = []
+            with unittest.mock.patch.object(solver.Model, "next", lambda *_: next(answers)):
+                self.assertEqual(solver.better(day, accepted, welfare, Progress("audit", 60), told.append), (None, said))
+            many = "HiGHS has offered 2 other selections and isn't done"
+            words = ["HiGHS isn't done", "HiGHS has offered 1 other selection and isn't done", many]
+            self.assertEqual(told, words[: len(offers)])
 
     def test_lines_that_end_with_two_bytes(self):
         """One line says it, of results, replies and days; and what else is wrong is said too."""
@@ -388,10 +414,16 @@ class CommandLine(unittest.TestCase):
         day = (AUCTION.read_bytes() + b"results\n" + printed(AUCTION)).replace(b"\n", b"\r\n")
         self.assertEqual(tool("audit", "-", data=day), (command.DIFFERS, said, ""))
         self.assertEqual(audit(AUCTION.read_bytes().replace(b"\n", b"\r\n"), printed(AUCTION))[0], command.DONE)
+        mark = b"\xef\xbb\xbf"
+        said = b"the text begins with a byte order mark\n"
+        self.assertEqual(audit(AUCTION.read_bytes(), mark + printed(AUCTION)), (command.DIFFERS, said, ""))
+        said = b"results line 4: the line is empty, and should not be there\n"
+        self.assertEqual(audit(AUCTION.read_bytes(), printed(AUCTION).replace(b"period,2,", b"\nperiod,2,")), (command.DIFFERS, said, ""))
 
     def test_a_text_in_the_place_of_another_is_named(self):
         journal_data, text = AUCTION.read_bytes(), printed(AUCTION)
         replies, day = b"day,24\n1,done\n", journal_data + b"results\n" + text
+        orders = tables.written([tables.ORDER]).encode()
         for words, one, other, said in (
             ([], text, journal_data, "journal has results instead of a journal"),
             ([], journal_data, journal_data, "results has a journal instead of results"),
@@ -399,6 +431,7 @@ class CommandLine(unittest.TestCase):
             ([], journal_data, replies, "results has replies instead of results; --replies checks replies"),
             ([], journal_data, day, "results has the text of a day instead of results; give it as the only file"),
             (["--replies"], journal_data, text, "results has results instead of replies"),
+            ([], orders, text, "journal has a table of orders instead of a journal; tools/table --journal makes a journal of it"),
         ):
             status, out, err = audit(one, other, *words)
             self.assertEqual((status, out), (command.NO_INPUT, b""))
@@ -417,14 +450,76 @@ class CommandLine(unittest.TestCase):
         twice = b"".join(lines[:5] + lines[4:])
         self.assertEqual(audit(data, twice)[1].count(b"\n"), 1)
 
+    def test_lines_in_another_order_are_said_to_be(self):
+        """Which line stands where, and where it belongs: once for a line that moved, twice for two that were swapped."""
+        data, lines = AUCTION.read_bytes(), printed(AUCTION).splitlines(keepends=True)
+
+        def told(*places):
+            return audit(data, b"".join(lines[place] for place in places))[1].decode().splitlines()
+
+        every = list(range(len(lines)))
+        self.assertEqual(
+            told(*every[:5], 6, 5, *every[7:]), ["results line 6: the line for period 5 stands here and belongs after that for period 4"]
+        )
+        first = told(1, 0, *every[2:])
+        self.assertEqual(first, ["results line 1: the line for the welfare stands here and belongs after that for the day"])
+        self.assertEqual(
+            told(*every[:3], 20, *every[4:20], 3, *every[21:]),
+            [
+                "results line 4: the line for period 19 stands here and belongs after that for period 18",
+                "results line 21: the line for period 2 stands here and belongs after that for period 1",
+            ],
+        )
+        last = "results line 1: the line for block OLD,UNIT-7 stands here and belongs after that for block PUMP,"
+        self.assertTrue(told(every[-1], *every[:-1])[0].startswith(last[:80]), told(every[-1], *every[:-1]))
+        first = told(*every[1:], 0)
+        self.assertEqual(first, [f"results line {len(lines)}: the line for the day stands here and belongs before all others"])
+
+    def test_results_of_another_journal_are_said_to_be(self):
+        """First of all, for other orders and for other numbers; and not for one wrong block."""
+        data, text = AUCTION.read_bytes(), printed(AUCTION)
+        renamed = re.sub(rb"^(hour|block),([A-Z]+),", rb"\1,\2X,", text, flags=re.MULTILINE)
+        status, out, _ = audit(data, renamed)
+        said = "these seem to be the results of another journal: 89 of their 89 lines of orders are of no order of this one"
+        self.assertEqual((status, out.decode().splitlines()[0]), (command.DIFFERS, said))
+        another = re.sub(rb"^((?:welfare|period|hour|block),(?:.*,)?)-?(\d+)$", rb"\g<1>1\2", text, flags=re.MULTILINE)
+        status, out, _ = audit(data, another)
+        said = r"^these seem to be the results of another journal: \d+ of their 115 lines are wrong$"
+        self.assertRegex(out.decode().splitlines()[0], said)
+        for word, other in ((b"STAY,accepted", b"STAY,rejected"), (b"UNIT-7,rejected", b"UNIT-7,accepted")):
+            self.assertNotIn(b"another journal", audit(data, text.replace(word, other))[1])
+
+    def test_a_price_without_a_choice(self):
+        status, out, _ = audit(AUCTION.read_bytes(), printed(AUCTION).replace(b"period,19,16500,", b"period,19,16501,"))
+        self.assertIn(b"the price is 16501; the only supporting price is 16500\n", out)
+
+    def test_no_better_selection_is_looked_for_if_the_results_are_wrong(self):
+        wrong = printed(AUCTION).replace(b"welfare,3", b"welfare,4")
+        status, out, err = audit(AUCTION.read_bytes(), wrong, "--best")
+        self.assertEqual((status, out.count(b"\n"), err), (command.DIFFERS, 2, ""))
+        self.assertTrue(out.endswith(b"\nno better selection was looked for, since the results break other rules\n"), out)
+        self.assertNotIn(b"no better selection", audit(AUCTION.read_bytes(), wrong)[1])
+
+    def test_one_of_each_is_counted_so(self):
+        data = journal_of("submit,A,B,hour,buy,1,24:1,,", "submit,A,K,block,buy,1,24:1,,")
+        status, out, _ = audit(data, results_of(data, frozenset()))
+        self.assertIn(b"24 periods, 1 hourly order, 0 of 1 block accepted,", out)
+        self.assertEqual(audit(journal_of(), b"day,24\n1,done\n", "--replies")[1], b"as the rules say: 1 reply\n")
+
     def test_no_more_than_twenty_lines_are_told(self):
         data = AUCTION.read_bytes()
         junk = b"".join(b"%d\n" % number for number in range(500))
         status, out, _ = audit(data, printed(AUCTION) + junk)
         lines = out.decode().splitlines()
-        self.assertEqual((status, len(lines), lines[-1]), (command.DIFFERS, 21, "and 480 more"))
-        said = b"none of its lines belongs to these results: the first is '0'\n"
+        self.assertEqual((status, len(lines), lines[-1]), (command.DIFFERS, 21, "and 480 more: --all prints every line"))
+        self.assertEqual(len(audit(data, printed(AUCTION) + junk, "--all")[1].splitlines()), 500)
+        said = b"none of the lines of the results belongs to this journal: the first is '0'\n"
         self.assertEqual(audit(data, junk), (command.DIFFERS, said, ""))
+        for comma, name in (b";", b"semicolons"), (b"\t", b"tabs"):
+            other = printed(AUCTION).replace(b",", comma)
+            shown = other.split(b"\n")[0].replace(b"\t", b"\\t")
+            said = b"the fields of the results are separated by %s instead of commas: the first line is '%s'\n" % (name, shown)
+            self.assertEqual(audit(data, other), (command.DIFFERS, said, ""))
         self.assertEqual(audit(data, b""), (command.DIFFERS, b"the results are empty\n", ""))
         self.assertEqual(len(audit(data, b"day,24\n" + junk, "--replies")[1].splitlines()), 21)
 
@@ -475,8 +570,9 @@ class CommandLine(unittest.TestCase):
     def test_the_words_for_what_was_tried(self):
         self.assertEqual(best.tried(0, 1), "there is no block to select")
         self.assertEqual(best.tried(1, 2), "each of 2 selections was tried")
-        whole = "each of 16,777,216 selections was tried; 1 would be better if no block of them lost"
+        whole = "each of 16,777,216 selections was tried; 1 would be better if none of its blocks lost"
         self.assertEqual(best.tried(24, 2**24, 1), whole)
+        self.assertEqual(best.tried(1, 2, 2), "each of 2 selections was tried; 2 would be better if none of their blocks lost")
         self.assertEqual(best.tried(11, 7), "each of 2,048 selections was tried, of which links and groups admit 7")
 
     def test_quiet_and_help(self):

@@ -42,18 +42,21 @@ class Hand(unittest.TestCase):
             "submit,A,RUN,block,sell,12000,1:490,START,",
         )
         self.assertEqual(best_of(data), frozenset())
+        # If both are accepted nevertheless, START loses.
+        said = "loses at the prices by itself, and with RUN it loses 1060.00 EUR"
+        self.assertEqual(told(data, {0, 1})[0], (decisions.ACCEPTED, said))
         end = "though the welfare would be 1740.00 EUR greater"
         self.assertEqual(
             told(data, ()),
             [
                 (
                     decisions.PARADOX,
-                    "with RUN it would gain 2440.00 EUR at the prices, but with both the block itself would lose 1060.00 EUR"
+                    "with RUN it would gain 2440.00 EUR at the prices, but with both, the block itself would lose 1060.00 EUR"
                     f" together with its accepted descendants and A,RUN would lose 980.00 EUR, {end}",
                 ),
                 (
                     decisions.PARADOX,
-                    "with START it would gain 2440.00 EUR at the prices, but with both the block itself would lose 980.00 EUR and"
+                    "with START it would gain 2440.00 EUR at the prices, but with both, the block itself would lose 980.00 EUR and"
                     f" A,START would lose 1060.00 EUR together with its accepted descendants, {end}",
                 ),
             ],
@@ -87,7 +90,7 @@ class Hand(unittest.TestCase):
                 (
                     decisions.REJECTED,
                     "would gain 250.00 EUR at the prices, but its parent P, without which it can't be accepted, would lose 50.00"
-                    " EUR even with it; with both A,P would lose 250.00 EUR together with its accepted descendants, and the"
+                    " EUR even with it; with both, A,P would lose 250.00 EUR together with its accepted descendants, and the"
                     " welfare would be 250.00 EUR less",
                 ),
             ],
@@ -108,10 +111,10 @@ class Hand(unittest.TestCase):
             "submit,A,D,block,sell,6800,3:100,P,",
         )
         found = told(data, ())
-        self.assertTrue(found[0][1].startswith("with C2 and D it would gain 70.00 EUR at the prices, but with all 3 "), found[0])
+        self.assertTrue(found[0][1].startswith("with C2 and D it would gain 70.00 EUR at the prices, but with all 3, "), found[0])
         # C1 with P and D would lose 30 EUR.
         self.assertIn("would gain 50.00 EUR at the prices, but its parent P, without which it can't be", found[1][1])
-        self.assertIn("accepted, would lose 30.00 EUR even with C1 and D; with all 3 ", found[1][1])
+        self.assertIn("accepted, would lose 30.00 EUR even with C1 and D; with all 3, ", found[1][1])
 
     def test_a_rival_of_the_parent(self):
         # R saves 400 EUR; P would lose 300 EUR at the price of 70, and C gain 500: 200 EUR, and with C at 60 EUR nothing.

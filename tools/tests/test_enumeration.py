@@ -11,7 +11,7 @@ from support import TOP, journal_of, problem, results_of, tool
 from test_audit import audit
 
 import days
-from lib import best, command, period, rules, selection
+from lib import best, book, command, journal, period, rules, selection
 from lib.progress import Progress
 from small_days import ranked, small_problems
 
@@ -21,6 +21,22 @@ MAKE_FAMILY = TOP / "bench" / "make_family.py"
 def family(name, orders, *more):
     """The journal of a book that is hard for a search."""
     return subprocess.run([sys.executable, MAKE_FAMILY, name, orders, *more], capture_output=True, check=True).stdout
+
+
+class Family(unittest.TestCase):
+    def test_arguments_that_make_no_day_are_refused(self):
+        for words, said in (
+            (["ties", "x"], "HOURLY is 'x' and should be a number from 0 to 4000"),
+            (["ties", "4001"], "HOURLY is '4001' and should be a number from 0 to 4000"),
+            (["ties", "10", "25"], "BLOCKS is '25' and should be a number from 0 to 24"),
+            (["ties", "10", "-1"], "BLOCKS is '-1' and should be a number from 0 to 24"),
+            (["ties", "10", "24", "3"], "PARTS is '3' and should be 1 or 4"),
+        ):
+            ran = subprocess.run([sys.executable, MAKE_FAMILY, *words], capture_output=True, text=True)
+            self.assertEqual((ran.returncode, ran.stdout, ran.stderr), (1, "", f"make_family.py: {said}\n"))
+        for words, periods in (["links", "0", "0"], 24), (["links", "4000", "24", "4"], 96):
+            read = journal.read_journal(family(*words))
+            self.assertEqual((read.periods, set(book.run(read)[1])), (periods, {None}))
 
 
 @unittest.skipUnless(command.has("numpy"), "numpy is missing (Debian's python3-numpy)")
@@ -151,11 +167,11 @@ class Enumeration(unittest.TestCase):
         day = problem((TOP / "examples" / "auction-day.csv").read_bytes())
         found, _ = best.enumerate_all(day)
         _, how = self.better(day, found.accepted, found.welfare)
-        self.assertIn("; 1 would be better if no block of them lost", how)
+        self.assertIn("; 1 would be better if none of its blocks lost", how)
 
     def test_time_is_over(self):
         day = problem(family("spread", "200"))
-        with self.assertRaisesRegex(TimeoutError, "after 0 seconds not every selection has been tried"):
+        with self.assertRaisesRegex(TimeoutError, "after 0 seconds, 0 of 0 selections have been tried"):
             from lib import enumeration
 
             enumeration.better(day, frozenset(), selection.eligible(day, frozenset()), Progress("test", 0), jobs=2)

@@ -42,6 +42,13 @@ class Help(unittest.TestCase):
                     # The lint finds what the examples' books refuse.
                     self.assertEqual(ran.returncode, command.DIFFERS if name == "lint" else 0, f"{line}\n{ran.stderr}")
 
+    def test_defaults_are_said_to_be(self):
+        for name, packages in {**TOOLS, "audit": []}.items():
+            text = re.sub(r"\s+", " ", tool(name, "--help")[1].decode().partition("options:")[2].partition("statuses:")[0])
+            with self.subTest(name):
+                self.assertIn("(default: ", text)
+                self.assertEqual([words for words in re.findall(r"\(([^)]*)\)", text) if not words.startswith("default: ")], [])
+
 
 if __name__ == "__main__":
     unittest.main()

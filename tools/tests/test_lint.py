@@ -57,8 +57,24 @@ class Hand(unittest.TestCase):
     def test_results_are_no_journal(self):
         text = support.printed(AUCTION)
         self.check(GOOD + b"results\n" + text, ("line 5", "the results of a day begin here, which aren't part of a journal"))
-        found = told(text)
-        self.assertEqual((len(found), found[1]), (3, "line 2: these are results, which aren't part of a journal: tools/audit reads both"))
+        self.check(b"day,24,,,,,,,\n" + text[7:], ("line 2", "these are results"), ("line 2", "no command closes the book"))
+
+    def test_other_kinds_of_files(self):
+        """One line says what the file seems to be, and which tool reads it."""
+        orders = tool("table", "--rows", "orders", AUCTION, AUCTION.with_suffix(".stdout"))[1]
+        replies = book.replies_text(journal.read_journal(AUCTION.read_bytes())).encode()
+        for data, part in (
+            (support.printed(AUCTION), "these seem to be results, which aren't a journal: tools/audit reads them"),
+            (replies, "these seem to be replies of `dam replay`, which aren't a journal: tools/audit --replies reads them"),
+            (orders, "this seems to be a table of orders: tools/table --journal makes a journal of it"),
+            (b"\xef\xbb\xbf" + orders.replace(b";", b" ").replace(b",", b";"), "this seems to be a table of orders"),
+        ):
+            self.check(data, ("line 1", part))
+
+    def test_a_field_with_a_comma(self):
+        data = GOOD.replace(b"6800,8:200;9:200,,", b"68,00,8:200;9:200,,G")
+        found = told(data)
+        self.assertEqual(found[0], "line 3: it has 10 fields and should have 9: a field can't contain a comma")
 
     def test_records(self):
         self.check(GOOD.replace(b"day,24,,,,,,,", b"day,24"), ("line 1", "it has 2 fields and should have 9, so 7 commas are"

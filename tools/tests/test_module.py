@@ -57,12 +57,54 @@ class Module(unittest.TestCase):
             dam_tools.read_results(AUCTION, b"day,24\n")
         with self.assertRaises(dam_tools.Fault):
             dam_tools.journal_of_orders(b"x\n")
+        with self.assertRaisesRegex(dam_tools.Fault, "a day has 23, 24, 25, 92, 96 or 100 periods, not 26"):
+            dam_tools.journal_of_orders(tables.written([tables.ORDER]).encode(), periods=26)
         day = dam_tools.read_results(AUCTION, AUCTION.with_suffix(".stdout"))
         for words in ({"table": "none"}, {"table": "curves", "long": True}):
             with self.assertRaises(ValueError):
                 dam_tools.records(day, **words)
         with self.assertRaises(ValueError):
             dam_tools.records(opened)
+
+    def test_faults_of_files_programs_and_dates(self):
+        day = dam_tools.read_results(AUCTION, AUCTION.with_suffix(".stdout"))
+        slow = Path(self.program.parent, "slow")
+        slow.write_text("#!/bin/sh\nexec sleep 60\n")
+        slow.chmod(0o755)
+        for call, said in (
+            (lambda: dam_tools.read_journal("/nowhere/a.csv"), "/nowhere/a.csv can't be read: No such file or directory"),
+            (lambda: dam_tools.read_results(AUCTION, "/nowhere/a.txt"), "/nowhere/a.txt can't be read: No such file or directory"),
+            (lambda: dam_tools.clear(AUCTION, program="/nowhere/dam"), "/nowhere/dam can't be run: No such file or directory"),
+            (lambda: dam_tools.clear(AUCTION, program=slow, timeout=0.5), f"{slow} took longer than 0.5 seconds"),
+            (lambda: dam_tools.records(day, date="25.11.2026"), "25.11.2026: it should be a day, such as 2026-11-25"),
+            (lambda: dam_tools.records(day, date=20261125), "20261125: it should be a datetime.date, or a text such as 2026-11-25"),
+            (lambda: dam_tools.records(day, date="2026-03-29"), "2026-03-29 has 23 hours, so 23 or 92 periods, but the day has 24"),
+            (
+                lambda: dam_tools.records(day, "orders", date="2026-11-25"),
+                "a date has no use with orders, which has no column of periods: long=True",
+            ),
+            (
+                lambda: dam_tools.records(day, "figures", date="2026-11-25"),
+                "a date has no use with figures, which has no column of periods",
+            ),
+        ):
+            if "date" in said and not command.has_zone(shapes.ZONE):
+                continue
+            with self.assertRaises(dam_tools.Fault) as fault:
+                call()
+            self.assertEqual(str(fault.exception), said)
+        text = printed(AUCTION)
+        for other, said in (
+            (text.replace(b"\n", b"\r\n"), "the lines end with CR LF instead of LF alone"),
+            (b"\xef\xbb\xbf" + text, "the text begins with a byte order mark"),
+        ):
+            self.assertEqual(dam_tools.read_results(AUCTION, other).wrong, [said])
+
+    def test_what_is_a_number_is_one_everywhere(self):
+        """A whole number in the figures of JSON, in its rows, and in records."""
+        day = dam_tools.read_results(AUCTION, AUCTION.with_suffix(".stdout"))
+        (row,) = (row for row in dam_tools.records(day, "figures") if row["figure"] == "traded_periods")
+        self.assertEqual(repr(row["value"]), repr(tables.figure_values(day)["traded_periods"]))
 
     @unittest.skipUnless(dam_tools.LIBRARY.exists(), "the library for C isn't built (library/build)")
     def test_the_library_for_c(self):
@@ -81,6 +123,7 @@ class Module(unittest.TestCase):
         day = dam_tools.read_results(AUCTION, AUCTION.with_suffix(".stdout"))
         rows = dam_tools.records(day, "orders", long=True, date=datetime.date(2026, 7, 1))
         self.assertEqual(rows[0]["begins"], "2026-07-01T00:00:00+02:00")
+        self.assertEqual(dam_tools.records(day, "orders", long=True, date="2026-07-01"), rows)
 
     @unittest.skipUnless(command.has("pandas"), "pandas is missing (Debian's python3-pandas)")
     def test_frames(self):
@@ -88,6 +131,13 @@ class Module(unittest.TestCase):
         frame = dam_tools.frame(day, "periods", date=datetime.date(2026, 11, 25))
         self.assertEqual((len(frame), frame["price_eur_mwh"].max()), (24, 165.0))
         self.assertEqual(str(frame["begins"][0]), "2026-11-25 00:00:00+01:00")
+        self.assertEqual([str(frame[name].dtype) for name in ("period", "traded", "price_eur_mwh")], ["int64", "bool", "float64"])
+        orders = dam_tools.frame(day, "orders")
+        self.assertEqual((orders["periods"][0], orders["volume_mw"][0]), ([1], [orders["offered_mwh"][0]]))
+        self.assertEqual((orders["parent"][0], str(orders["surplus_eur"][0])), (None, "nan"))
+        self.assertIsNone(dam_tools.records(day, "orders")[0]["surplus_eur"])
+        without = dam_tools.read_results(FIRST, support.results_of(FIRST, frozenset()))
+        self.assertEqual(str(dam_tools.frame(without, "orders")["surplus_eur"].dtype), "float64")
         frame = dam_tools.frame(day, "orders", long=True)
         self.assertAlmostEqual(frame["amount_eur"].sum(), 0)
 

@@ -37,12 +37,29 @@ class Told(unittest.TestCase):
 
 class Time(unittest.TestCase):
     def test_no_step_is_made_when_the_time_is_over(self):
-        with self.assertRaisesRegex(TimeoutError, "^after 0 seconds "):
+        with self.assertRaisesRegex(TimeoutError, "^after 0 seconds, 0 of 0 selections have been tried: --seconds gives"):
             Progress("audit", 0).step()
         progress = Progress("audit", 60)
         progress.step()
-        with mock.patch("time.monotonic", lambda: progress.begun + 60), self.assertRaisesRegex(TimeoutError, "^after 60 seconds "):
+        with mock.patch("time.monotonic", lambda: progress.begun + 60), self.assertRaisesRegex(TimeoutError, "^after 60 seconds, "):
             progress.step()
+
+    def test_the_share_of_selections_that_were_tried_is_said(self):
+        for steps, done, said in (8, 2, "2 of 8"), (16, 4, "about 2 of 8"), (16, 0, "0 of 8"):
+            progress = Progress("audit", 60, whole=8)
+            progress.expect(steps)
+            progress.step(done)
+            progress.stopped = True
+            with self.assertRaisesRegex(TimeoutError, f"^after 60 seconds, {said} selections have been tried: --seconds gives more time$"):
+                progress.step()
+
+    def test_words_and_the_time_are_shown(self):
+        with mock.patch("sys.stderr", Terminal()) as stream:
+            progress = Progress("audit", 60)
+            progress.look("HiGHS isn't done")
+        self.assertEqual(stream.getvalue(), "\raudit: HiGHS isn't done, 0 s")
+        with self.assertRaisesRegex(TimeoutError, "^after 0 seconds, HiGHS isn't done: --seconds gives more time$"):
+            Progress("audit", 0).look("HiGHS isn't done")
 
     def test_threads_end_when_it_is_over(self):
         progress, ended = Progress("audit", 60), []

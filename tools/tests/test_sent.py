@@ -105,10 +105,26 @@ class Worked(unittest.TestCase):
         for own, said in (
             ([OWN[0], "cancel,B,H1,,,,,,"], "record 2 is of B: the file should have commands of A alone"),
             (["day,23,,,,,,,", *OWN], "it is for a day of 23 periods, but the journal is for one of 24"),
-            ([OWN[0], "cancel,A,H1"], "record 2 has 3 fields and should have 9"),
-            ([OWN[0], OWN[1].replace("200", "2.00")], "field 6 of record 2 breaks its rule"),
-            ([OWN[0], "day,24,,,,,,,"], "field 1 of record 2 breaks its rule"),
-            (["cancel,A,H\u00e9,,,,,,"], "it has a byte above 127"),
+            (
+                [OWN[0], "cancel,A,H1"],
+                "line 2: it has 3 fields and should have 9, so 6 commas are missing: add what is missing at its end",
+            ),
+            (
+                [OWN[0], OWN[1].replace("200", "2.00")],
+                "line 2, price: '2.00': it should be whole cents per MWh from -50000 to 400000: write 200 for 2.00 EUR/MWh",
+            ),
+            ([OWN[0], "day,24,,,,,,,"], "line 2: the day appears twice: a journal has one, as its first line"),
+            (
+                ["\ufeff" + OWN[0]],
+                "line 1: the text begins with a byte order mark: save it as plain CSV, in ASCII or UTF-8 without the mark",
+            ),
+            ([OWN[0].replace(",", ";")], "line 1: the fields are separated by semicolons: separate them by commas"),
+            (
+                ["Submit" + OWN[0].removeprefix("submit"), "cancel;A;H1;;;;;;"],
+                "line 1, command: 'Submit': it should be submit, amend, cancel or close: write submit\n"
+                "  line 2: it has 1 field and should have 9, so 8 commas are missing: add what is missing at its end\n"
+                "  line 2, command: 'cancel;A;H1;;;;;;': it should be submit, amend, cancel or close",
+            ),
         ):
             self.assertEqual(audit(PUBLISHED, text_of(own)), (command.NO_INPUT, "", f"audit: sent isn't what A sent: {said}\n"))
         for own in (b"welfare,0\n", b"", b"\xff"):

@@ -125,8 +125,8 @@ class Orders(unittest.TestCase):
             (",8,", ",101,", "periods", "from 1 to 100"),
             (",8,", ",9-8,", "periods", "periods and runs of them"),
             (",8,", ",8-9,", "periods", "an hourly order has one period"),
-            (",8,", ",25,", "periods", "the day doesn't have that period"),
-            (",8,", ",100,", "periods", "the day doesn't have that period"),
+            (",8,", ",25,", "periods", "the day has periods 1 to 24, so there is no period 25 (PeriodOutOfDay)"),
+            (",8,", ",100,", "periods", "the day has periods 1 to 24, so there is no period 100 (PeriodOutOfDay)"),
             (",45,", ",,", "volume_mw", "there are 0 volumes for 1 period"),
             (",45,", ",0,", "volume_mw", "from 0.1 to 9999.9 MW"),
             (",45,", ",-1,", "volume_mw", "from 0.1 to 9999.9 MW"),
@@ -143,12 +143,50 @@ class Orders(unittest.TestCase):
                 self.assertIn(words, line)
 
     def test_what_the_book_would_refuse(self):
-        self.assertIn("line 3, column order: the participant has an order of that name", self.wrong(HOUR, HOUR))
+        self.assertEqual("line 3, column order: NORD has an order WIND-8 in line 2 (NameTaken)", self.wrong(HOUR, HOUR))
         line = self.wrong("A,K2,block,buy,1,1,5,K1,", "A,K1,block,buy,1,1,5,,")
-        self.assertTrue(line.startswith("line 2, column parent: the participant has no order of the parent's name"), line)
-        self.assertIn("line 3, column parent: the parent is not a block", self.wrong(HOUR, "NORD,K,block,buy,1,1,5,WIND-8,"))
+        self.assertEqual(line, "line 2, column parent: A has no order K1 in a line above (UnknownParent)")
+        said = "line 3, column parent: WIND-8 of line 2 is an hourly order, not a block (ParentNotBlock)"
+        self.assertEqual(said, self.wrong(HOUR, "NORD,K,block,buy,1,1,5,WIND-8,"))
         blocks = [f"A,K{number},block,buy,1,1,5,," for number in range(25)]
         self.assertIn("line 26, a book holds at most 24 blocks (BlocksFull)", self.wrong(*blocks))
+
+    def test_a_bad_line_makes_no_other_one_wrong(self):
+        """What names its order isn't wrong, and what else is wrong in it is said too."""
+        child, last = "A,K2,block,buy,1,1,5,K1,", "A,K3,block,buy,1,1,5,K2,"
+        for parent, column in (
+            ("A,K1,block,buy,x,1,5,,", "price_eur_mwh"),
+            ("a,K1,block,buy,1,1,5,,", "participant"),
+            ("A,k1,block,buy,1,1,5,,", "order"),
+            ("A,K1,Blok,buy,1,1,5,,", "kind"),
+            ("A,K1,block,buy,1,x,1;2,,", "periods"),
+        ):
+            line = self.wrong(parent, child, last)
+            self.assertTrue(line.startswith(f"line 2, column {column}: "), line)
+            self.assertNotIn("\n", line)
+        lines = self.wrong("A,K1,block,buy,x,25,5,K9,", "A,K1,block,buy,1,1,5,,").split("\n")
+        self.assertEqual(
+            lines[1:],
+            [
+                "line 2, column periods: the day has periods 1 to 24, so there is no period 25 (PeriodOutOfDay)",
+                "line 2, column parent: A has no order K9 in a line above (UnknownParent)",
+                "line 3, column order: A has an order K1 in line 2 (NameTaken)",
+            ],
+        )
+
+    def test_what_is_quoted_stands_in_the_table(self):
+        header = HEADER.replace(",", ";")
+        for row, words in (
+            ("A;H;hour;buy;68,005;1;5;;", "'68,005' has more than 2 digits after the decimal point"),
+            ("A;H;hour;buy;68,00;1;5,25;;", "'5,25' has more than 1 digit after the decimal point"),
+            ("A;H;hour;buy;4000,01;1;5;;", "'4000,01' should be from -500.00 to 4000.00 EUR/MWh"),
+            ("A;H;hour;buy;1,2,3;1;5;;", "'1,2,3' should be a number of EUR/MWh"),
+        ):
+            self.assertIn(words, self.wrong(row, header=header))
+
+    def test_days_that_are_none(self):
+        with self.assertRaisesRegex(order_table.Wrong, "^a day has 23, 24, 25, 92, 96 or 100 periods, not 26$"):
+            self.made(HOUR, periods=26)
 
     def test_tables_that_are_none(self):
         self.assertIn("line 1, column 3: 'typ' is not a column", self.wrong(header=HEADER.replace("kind", "typ")))
@@ -219,6 +257,12 @@ class CommandLine(unittest.TestCase):
         self.assertIn("STAD,LOAD-1,hour,buy,300.00,1,375.0,,,93.750,93.750,in full,,-4687.50000", orders)
         self.assertIn("GAS,FLEX-60,hour,sell,98.00,60,205.0,,,51.250,3.750,in part,,367.50000", orders)
 
+    def test_some_periods(self):
+        texts = [AUCTION, AUCTION.with_suffix(".stdout")]
+        for words in ("1,3,5-7", "1;3;5-7"):
+            rows = tool("table", *texts, "--only", words)[1].decode().splitlines()[1:]
+            self.assertEqual([row.split(",")[0] for row in rows], ["1", "3", "5", "6", "7"])
+
     def test_a_table_without_orders(self):
         status, out, err = tool("table", "--journal", "-", data=f"{HEADER}\n".encode())
         self.assertEqual((status, out), (0, b"day,24,,,,,,,\nclose,,,,,,,,\n"))
@@ -240,6 +284,10 @@ class CommandLine(unittest.TestCase):
         ):
             status, out, err = tool("table", *words)
             self.assertEqual((status, out, "has no use with" in err), (command.COMMAND_LINE, b"", True), words)
+        said = "table: --periods has no use with tables of results: it belongs to --journal\n"
+        self.assertEqual(tool("table", *texts, "--periods", "24"), (command.COMMAND_LINE, b"", said))
+        said = "table: --only 99: it should be periods and runs of them, such as 8, 8-20 or 1,3,5-7, from 1 to 24\n"
+        self.assertEqual(tool("table", *texts, "--only", "99"), (command.COMMAND_LINE, b"", said))
         for words in ([*texts, "--row", "orders"], ["--journ", AUCTION], ["--journal", "-", "--period", "24"]):
             status, out, err = tool("table", *words)
             self.assertEqual((status, "unrecognized arguments" in err), (command.COMMAND_LINE, True), words)

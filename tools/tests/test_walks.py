@@ -45,9 +45,11 @@ class Walk:
         for amount in amounts:
             self.assertIn(f"{amount:,}", self.text)
 
-    def says_euros(self, amount):
-        euros = float(Fraction(amount) * self.problem.hours / 1_000)
-        self.assertIn(f"{euros:,.2f} EUR".replace(".00 ", " "), self.text)
+    def says_euros(self, *amounts):
+        """That the page has these amounts in EUR, whole ones with two digits after the point or without."""
+        for amount in amounts:
+            said = f"{float(Fraction(amount) * self.problem.hours / 1_000):,.2f} EUR"
+            self.assertTrue(said in self.text or said.replace(".00 ", " ") in self.text, said)
 
     def test_the_day_is_the_example(self):
         self.assertIn(f"`examples/{self.example}`", self.text)
@@ -77,12 +79,12 @@ class SunnyDay(Walk, unittest.TestCase):
         ):
             with self.subTest(without=without, plus=plus):
                 found, losses = self.outcome(without, plus)
-                self.says(found.welfare)
+                self.says_euros(found.welfare)
                 self.assertEqual(list(losses), losing)
 
     def test_the_paradoxical_block(self):
         found, losses = self.outcome(plus=["UNIT-7"])
-        self.says(losses["UNIT-7"])
+        self.says_euros(losses["UNIT-7"])
         for number in range(19, 23):
             self.assertIn(f"{self.outcome()[0].cleared[number].price / 100:.2f}", self.text)
             self.assertIn(f"{found.cleared[number].price / 100:.2f}", self.text)
@@ -99,7 +101,7 @@ class QuarterHours(Walk, unittest.TestCase):
 
     def test_the_paradoxical_block(self):
         found, losses = self.outcome(plus=["UNIT-7"])
-        self.says(found.welfare, losses["UNIT-7"])
+        self.says_euros(found.welfare, losses["UNIT-7"])
         self.assertEqual(sorted(losses), ["PEAK", "RAMP", "RELEASE", "UNIT-7"])
         self.says_euros(self.outcome()[0].surpluses[self.names["UNIT-7"]])
 

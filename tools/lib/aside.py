@@ -1,0 +1,55 @@
+"""A long call in a process of its own. What is written in C may keep Python from everything else, Ctrl-C too; another process can be
+ended, and this one shows meanwhile how long it takes."""
+
+import ctypes
+import multiprocessing
+import signal
+
+PAUSE = 0.2  # seconds from one look at the time to the next
+DEATH = 1  # Linux's PR_SET_PDEATHSIG: which signal a process gets if the one that started it dies
+
+
+def answer(call, progress, words):
+    """What a call returns, in a process of its own. The words say how far it is; the call gets a function that reports others."""
+    context = multiprocessing.get_context("fork")
+    ours, theirs = context.Pipe(duplex=False)
+    process = context.Process(target=work, args=(call, theirs), daemon=True)
+    # The other process keeps Ctrl-C blocked: this one ends it.
+    before = signal.pthread_sigmask(signal.SIG_BLOCK, {signal.SIGINT})
+    process.start()
+    signal.pthread_sigmask(signal.SIG_SETMASK, before)
+    theirs.close()
+    try:
+        return received(ours, progress, words)
+    finally:
+        process.kill()
+        process.join()
+        progress.end()
+
+
+def work(call, pipe):
+    """Sends what the call reports, and then what it returns or how it fails."""
+    if hasattr(system := ctypes.CDLL(None), "prctl"):
+        system.prctl(DEATH, signal.SIGKILL)
+    try:
+        pipe.send(("answer", call(lambda words: pipe.send(("words", words)))))
+    except Exception as fault:
+        pipe.send(("fault", fault))
+
+
+def received(pipe, progress, words):
+    """The answer that comes; what is reported before it is shown."""
+    while True:
+        if not pipe.poll(PAUSE):
+            progress.look(words)
+            continue
+        try:
+            kind, value = pipe.recv()
+        except EOFError:
+            raise TimeoutError("the search ended without an answer: memory may have run out") from None
+        if kind == "answer":
+            return value
+        if kind == "fault":
+            raise value
+        words = value
+        progress.look(words)
