@@ -96,8 +96,7 @@ pub fn clear_book<H: Threads + Sync, T: Watch + Sync>(
 {
     published_results_are_clearings();
     let problem = Problem::of_book(alloc, book)?;
-    let depth = usize::from(plan.cut()).min(problem.block_count());
-    turnstile.begin(1 << depth);
+    turnstile.begin(1 << plan.depth(problem.block_count()));
     let best = search(rt, alloc, &problem, plan, turnstile);
     turnstile.end();
     let published = results(alloc, &problem, best?)?;

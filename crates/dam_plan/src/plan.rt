@@ -1,4 +1,5 @@
-ghost use Rattle.std.specs.Prelude.{◌≡◌, SomeIff};
+ghost use Rattle.std.specs.Prelude.{◌≡◌, ◌≤◌, min, SomeIff};
+ghost use Rattle.dam_plan.specs.Limits.{most_cut};
 ghost use Rattle.dam_plan.specs.Plan.{IsPlan};
 
 use std::marker::Model;
@@ -71,6 +72,15 @@ impl Plan {
         ensures valid { IsPlan self }
     {
         self.cut
+    }
+
+    /// How many of the first blocks the cutting of this number of blocks decides: 2 to the power of that is the number of
+    /// pieces.
+    pub fn depth(self, blocks: usize) -> usize
+        ensures value { result ≡ min self.cut blocks }
+        ensures shallow { result ≤ most_cut }
+    {
+        usize::from(self.cut).min(blocks)
     }
 
     /// How many nodes of one piece may be visited.

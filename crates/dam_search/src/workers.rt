@@ -229,7 +229,7 @@ pub fn search<R: Threads + Sync, T: Turnstile + Sync>(
         alloc,
         problem,
         relaxed: &relaxed,
-        depth: usize::from(plan.cut()).min(problem.block_count()),
+        depth: plan.depth(problem.block_count()),
         nodes: plan.nodes(),
         workers: plan.workers(),
         first: first_selection(problem, &relaxed).welfare,
