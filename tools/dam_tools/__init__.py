@@ -33,7 +33,7 @@ TABLES = tuple(tables.TABLES)
 BUILT = Path(__file__).resolve().parents[2] / "crates" / "dam_cli" / "out" / "dam_cli"
 # And where the library for C is, if library/build has made it.
 LIBRARY = Path(__file__).resolve().parents[2] / "library" / "out" / "libdam.so"
-MOST_NODES = 67_108_864
+MOST_NODES, MOST_ANSWER = 67_108_864, 300_000  # of library/dam.h
 
 
 class Fault(Exception):
@@ -96,36 +96,33 @@ class Answer(ctypes.Structure):
     _fields_ = [("status", ctypes.c_uint8), ("length", ctypes.c_size_t)]
 
 
+def has_library():
+    """Whether the library for C was built, and no source has changed since."""
+    if not LIBRARY.exists():
+        return False
+    sources = [LIBRARY.parents[1] / "heap.c", *(LIBRARY.parents[2] / "crates").glob("*/src/**/*.rt")]
+    return all(source.stat().st_mtime <= LIBRARY.stat().st_mtime for source in sources)
+
+
 def cleared_by_library(text):
     """What `dam clear` prints for the text, or the fault, by the library for C; names are hashed with random bytes."""
-    call = ctypes.CDLL(os.fspath(LIBRARY)).dam_clear_seeded
-    call.restype = Answer
-    secret = os.urandom(16)
-    given = *sized(secret), *sized(text), ctypes.c_uint32(MOST_NODES)
-    room = 1 << 16
-    while True:
-        buffer = ctypes.create_string_buffer(room)
-        answer = call(*given, buffer, ctypes.c_size_t(room))
-        if answer.length <= room:
-            break
-        room = answer.length
+    call, sized = ctypes.CDLL(os.fspath(LIBRARY)).dam_clear_seeded, [ctypes.c_char_p, ctypes.c_size_t]
+    call.restype, call.argtypes = Answer, [*sized, *sized, ctypes.c_uint32, *sized]
+    secret, buffer = os.urandom(16), ctypes.create_string_buffer(MOST_ANSWER)
+    answer = call(secret, len(secret), text, len(text), MOST_NODES, buffer, MOST_ANSWER)
+    shown = buffer.raw[: answer.length]
     if answer.status:
-        raise Fault(buffer.raw[: answer.length].decode(errors="replace").strip(), answer.status)
-    return buffer.raw[: answer.length]
-
-
-def sized(data):
-    """The arguments that stand for some bytes."""
-    return ctypes.c_char_p(data), ctypes.c_size_t(len(data))
+        raise Fault(shown.decode(errors="replace").strip(), answer.status)
+    return shown
 
 
 def clear(source, program=None, workers=None, cut=None, nodes=None, timeout=None):
     """The results of a journal, by a run of the program. The options are those of `dam clear`; none but a limit on nodes changes the
-    answer. If neither a program nor an option is named, and the library for C was built, the library is called instead: it gives the
-    same answer, on one thread."""
+    answer. If neither a program nor an option is named, and the library for C was built from the present sources, the library is called
+    instead: it gives the same answer, on one thread."""
     read = as_journal(source)
     is_free = (program, workers, cut, nodes, timeout) == (None,) * 5 and "DAM" not in os.environ
-    if is_free and LIBRARY.exists():
+    if is_free and has_library():
         return read_results(read, cleared_by_library(journal.journal_text(read).encode()))
     options = [f"--{name}={value}" for name, value in (("workers", workers), ("cut", cut), ("nodes", nodes)) if value is not None]
     words = [os.fspath(program_of(program)), "clear", *options]

@@ -106,7 +106,22 @@ class Module(unittest.TestCase):
         (row,) = (row for row in dam_tools.records(day, "figures") if row["figure"] == "traded_periods")
         self.assertEqual(repr(row["value"]), repr(tables.figure_values(day)["traded_periods"]))
 
-    @unittest.skipUnless(dam_tools.LIBRARY.exists(), "the library for C isn't built (library/build)")
+    def test_an_old_library_is_left_alone(self):
+        with tempfile.TemporaryDirectory() as folder:
+            source, heap = Path(folder, "crates", "dam_x", "src", "lib.rt"), Path(folder, "library", "heap.c")
+            library = Path(folder, "library", "out", "libdam.so")
+            for path in (source, heap, library):
+                path.parent.mkdir(parents=True, exist_ok=True)
+                path.write_bytes(b"")
+                os.utime(path, (1_000, 1_000))
+            with unittest.mock.patch.object(dam_tools, "LIBRARY", library):
+                self.assertTrue(dam_tools.has_library())
+                os.utime(source, (2_000, 2_000))
+                self.assertFalse(dam_tools.has_library())
+                library.unlink()
+                self.assertFalse(dam_tools.has_library())
+
+    @unittest.skipUnless(dam_tools.has_library(), "the library for C isn't built (library/build)")
     def test_the_library_for_c(self):
         with unittest.mock.patch.dict(os.environ), unittest.mock.patch.object(subprocess, "run", side_effect=AssertionError):
             os.environ.pop("DAM", None)
