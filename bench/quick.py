@@ -34,7 +34,7 @@ def journals():
     compare("dam replay compared with the baseline, 10,000 records", [DAM, "replay"], [BASELINE], JOURNAL, 1.2, same=True)
     compare("dam clear compared with dam replay, 4,000 hourly orders", [DAM, "clear"], [DAM, "replay"], HOURLY, 1.5)
     baseline = [BASELINE, "day"]
-    compare("dam day compared with the baseline with threads, 9,999 commands", [DAM, "day"], baseline, DAY, 2)
+    compare("dam day compared with the baseline with threads, 9,999 commands", [DAM, "day"], baseline, DAY, 1.2)
     what = "dam day compared with the baseline with threads, peak memory"
     note = "the baseline keeps one book, and a gate that shows versions two; each entry and order has room for 100 volumes"
     ratio(what, [peak([DAM, "day"], DAY)], [peak(baseline, DAY)], 1.5, shown=MIB, note=note)
