@@ -1,4 +1,4 @@
--- What a prefix makes of each period of the day, as it is carried from a prefix to its extensions.
+-- What a prefix makes of each period of the day.
 use Rattle.std.specs.Prelude.{◌≡◌, ℕ, ◌+◌, Bool, ℤ, pos, ◌<ℤ◌, Some, List, ◌++◌, length, drop, slice_get, slice_index_or}
 use Rattle.dam_book.specs.Limits.{last_period}
 use Rattle.dam_hour.specs.declared.step.Step.{Step}

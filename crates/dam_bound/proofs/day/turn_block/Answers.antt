@@ -1,5 +1,5 @@
 -- A touch more, and all of them.
-use Rattle.std.proofs.Common.{◌+◌, ℤ, ◌+ℤ◌, List, length, drop, get_or, slice_set, ap, ◌∙◌, sym, subst, refl, arith}
+use Rattle.std.proofs.Common.{◌+◌, List, length, drop, get_or, slice_set, ap, ◌∙◌, sym, subst, refl, arith}
 use Rattle.std.proofs.lemmas.Int.{ints}
 use Rattle.std.proofs.lemmas.List.{length-set, length-map, drop_all}
 use Rattle.dam_bound.specs.declared.day.Change.TheVariants.{Turn}

@@ -1,6 +1,4 @@
 -- The periods of the pairs so far stand in the row, and those of no pair where they stood.
-use Rattle.std.proofs.Common.{◌≡◌, ℕ, ◌+◌, ◌<◌, length, drop, get_or}
-use Rattle.dam_book.specs.Limits.{last_period}
 use Rattle.dam_bound.proofs.Places.{AreWrittenSoFar}
 use Rattle.dam_bound.proofs.tables.write_places.Given as goal
 

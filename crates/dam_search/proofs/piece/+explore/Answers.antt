@@ -11,7 +11,7 @@ use Rattle.dam_bound.specs.Prefix.{IsCompletion}
 use Rattle.dam_bound.specs.Day.{IsUnder}
 use Rattle.dam_bound.specs.Trail.{IsDayIn}
 use Rattle.dam_bound.specs.Relaxed.{without_rows, relaxed_welfare, reaches}
-use Rattle.dam_search.specs.inside.Walk.{Finds, Covers, Spends, Reads, IsGoing, IsWalked}
+use Rattle.dam_search.specs.inside.Walk.{Spends, Reads, IsGoing, IsWalked}
 use Rattle.dam_search.proofs.Ranks.{found_after, finds_nothing, finds_shorter, finds_twice, covers_both, welfare_rises}
 use Rattle.dam_search.proofs.Leaf.{as_passed}
 use Rattle.dam_search.proofs.LastBlock.{still_rejected}

@@ -1,5 +1,5 @@
 -- As many periods are written as the problem has.
-use Rattle.std.proofs.Common.{List, [], ℤ, length, ap, sym, subst, rules, arith}
+use Rattle.std.proofs.Common.{[], ℤ, length, ap, sym, subst, rules, arith}
 use Rattle.std.proofs.lemmas.Int.{to_z-of_z}
 use Rattle.std.proofs.lemmas.List.{length-map}
 use mir.Syntax.{w64}

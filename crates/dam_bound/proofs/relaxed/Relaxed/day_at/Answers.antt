@@ -1,9 +1,8 @@
 -- The periods are read where they stand with every block decided.
-use Rattle.std.proofs.Common.{List, length, ap, ◌∙◌, subst, rules, arith}
+use Rattle.std.proofs.Common.{length, ap, ◌∙◌, subst, rules, arith}
 use Rattle.std.proofs.lemmas.Int.{to_z-of_z}
 use Rattle.std.proofs.lemmas.List.{length-map}
 use mir.Syntax.{w64}
-use Rattle.dam_blocks.specs.declared.problem.Block.{Block}
 use Rattle.dam_blocks.specs.Problem.{ProblemState}
 use Rattle.dam_bound.specs.inside.Levels.{last_steps}
 use Rattle.dam_bound.specs.inside.Tables.{ArePlaces}

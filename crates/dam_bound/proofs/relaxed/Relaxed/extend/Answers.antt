@@ -1,5 +1,5 @@
 -- The extension is a change by which no period rises, and the shorter days stand below the block's row.
-use Rattle.std.proofs.Common.{◌≡◌, ◌<◌, ◌+◌, ℤ, List, Bool, [], ◌∷◌, ◌++◌, length, ap, sym, subst, rules, arith}
+use Rattle.std.proofs.Common.{◌≡◌, ◌<◌, ℤ, List, Bool, [], ◌∷◌, ◌++◌, length, ap, sym, subst, rules, arith}
 use Rattle.std.proofs.lemmas.Int.{to_z-of_z}
 use mir.Syntax.{w64}
 use mir.Val.{to_z, of_z, SFits}

@@ -1,5 +1,5 @@
 -- The tables, made block by block.
-use Rattle.std.proofs.Common.{ℕ, List, map, length, ap, sym, subst, refl, arith}
+use Rattle.std.proofs.Common.{ℕ, map, sym, subst, arith}
 use Rattle.std.proofs.lemmas.List.{length-map}
 use Rattle.dam_blocks.specs.Problem.{AreBlocks}
 use Rattle.dam_bound.specs.inside.Levels.{last_steps}

@@ -1,5 +1,5 @@
 -- One decision more, and where a bound of some of the decisions is under 0.
-use Rattle.std.proofs.Common.{◌≡◌, ◌+◌, ℤ, Some, None, Option, List, Bool, [], ◌∷◌, ◌++◌, take, drop, take-append-drop, ap, ◌∙◌, sym, subst, rules, arith}
+use Rattle.std.proofs.Common.{◌≡◌, ◌+◌, List, Bool, [], ◌∷◌, ◌++◌, take, drop, take-append-drop, ap, ◌∙◌, sym, subst, rules, arith}
 use Rattle.std.proofs.lemmas.Int.{ints}
 use Rattle.dam_bound.specs.Trail.{IsDayIn}
 use Rattle.dam_bound.specs.Relaxed.{relaxed_welfare}
