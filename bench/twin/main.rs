@@ -1,11 +1,16 @@
 //! The search for the best selection of blocks in plain Rust with std only, for comparison: it visits the same nodes, without any
 //! proof. `twin WORKERS CUT [TIMES] < JOURNAL` prints the welfare, the selection, and the nodes that the last of TIMES walks visited;
-//! and on standard error lines with what was timed and the nanoseconds that it took. It reads the journals of 24 periods that
-//! `make_family.py` prints, which have only submits that are accepted.
+//! and on standard error lines with what was timed and the nanoseconds that it took. It reads the journals that `make_family.py` prints,
+//! which have only submits that are accepted.
 //!
 //! A period's hourly orders and undecided blocks make one stack of supply by rising price: the sells, and for each buy the supply of
 //! what isn't served of it. If x units, all buys less the net volume, are taken from the bottom, the welfare is the value of all buys
-//! less the cost of these units. A node carries for each period the units taken, the row of the last one, and the period's worth.
+//! less the cost of these units. The state of a period is the units taken, their cost, and what is known of the units at the price of the
+//! last one. A decision that can be told from that looks no row up.
+//!
+//! The states are in slots, a row of them for the root and one for each block. A decision writes the slots of its own block and reads
+//! those of earlier ones, so nothing is copied and nothing undone. A block's periods are gone through in the order of what a decision may
+//! cost there. All this is as in `dam`; but links and groups are sets of bits here.
 //!
 //! Workers draw the pieces from one shared word and prune by another, the greatest welfare that any of them has found. So one worker
 //! visits them in turn, with one incumbent for all.
@@ -28,13 +33,13 @@ enum Side {
 struct Step {
     side: Side,
     price: i64,
-    volume: i64,
+    volume: u32,
 }
 
 struct Block {
     side: Side,
     price: i64,
-    volumes: Vec<(usize, i64)>,
+    volumes: Vec<(usize, u32)>,
     /// The parent, as a set of blocks by bits.
     parent: u32,
     /// The blocks whose chain of parents leads to it, in the same way.
@@ -48,82 +53,205 @@ struct Problem {
     blocks: Vec<Block>,
 }
 
-/// A row of a stack: the units and their cost before it, and its price.
+/// A row of a stack: the units and their cost before it, and its price, in cents above the least one.
 #[derive(Clone, Copy)]
 struct Row {
-    before: i64,
-    price: i64,
-    cost: i64,
+    before: u32,
+    height: u32,
+    cost: u64,
 }
 
-/// One period with the blocks that are undecided: rows by rising price, and a last one with all units.
-struct Stack {
+impl Row {
+    fn cost_of(self, units: u32) -> u64 {
+        self.cost + u64::from(self.height) * u64::from(units - self.before)
+    }
+}
+
+fn height(price: i64) -> u32 {
+    (price - LOWEST) as u32
+}
+
+fn price_at(height: u32) -> i64 {
+    LOWEST + i64::from(height)
+}
+
+/// A stack among the rows of all: a row for each step, and a last one with all units.
+#[derive(Clone, Copy)]
+struct Span {
+    first: u32,
+    steps: u32,
+    units: u32,
+}
+
+/// A block in one of its periods.
+#[derive(Clone, Copy)]
+struct Touch {
+    /// The period, and its slots before and after the block is decided.
+    at: u32,
+    from: u32,
+    to: u32,
+    volume: u32,
+    height: u32,
+    /// The stack without the block.
+    rest: Span,
+}
+
+impl Touch {
+    fn cost(self) -> u64 {
+        u64::from(self.height) * u64::from(self.volume)
+    }
+
+    /// What a decision against the price of the last unit taken would cost.
+    fn stake(self, root: &[Taken]) -> u64 {
+        u64::from(self.height.abs_diff(root[self.at as usize].height)) * u64::from(self.volume)
+    }
+}
+
+/// What is taken of a stack from the bottom.
+#[derive(Clone, Copy, Default)]
+struct Taken {
+    units: u32,
+    /// The price of the last unit, in cents above the least one.
+    height: u32,
+    /// Of the units at that price, as many as are known to be taken, and as many as are known not to be.
+    held: u32,
+    free: u32,
+    /// The row near which the last one is.
+    near: u32,
+    cost: u64,
+}
+
+impl Taken {
+    /// What is left once a step's units, which are among those taken, fall away; if that needs no look at the rows.
+    fn freed(self, touch: Touch) -> Option<Taken> {
+        if touch.height > self.height {
+            return None;
+        }
+        let held = if touch.height < self.height { self.held } else { self.held.checked_sub(touch.volume)? };
+        Some(Taken { units: self.units - touch.volume, held, cost: self.cost - touch.cost(), ..self })
+    }
+
+    /// The same units without a step, of which none is taken; if that needs no look at the rows.
+    fn kept(self, touch: Touch) -> Option<Taken> {
+        if touch.height < self.height {
+            return None;
+        }
+        let free = if touch.height > self.height { self.free } else { self.free.checked_sub(touch.volume)? };
+        Some(Taken { free, ..self })
+    }
+}
+
+/// The rows of all stacks.
+struct Stacks {
     rows: Vec<Row>,
-    all_buys: i64,
-    value: i64,
 }
 
-impl Stack {
-    fn of<'a>(steps: impl Iterator<Item = (Side, i64, i64)> + 'a) -> Stack {
-        let mut supply = Vec::new();
-        let (mut all_buys, mut value) = (0, 0);
-        for (side, price, volume) in steps {
-            if side == Side::Buy {
-                all_buys += volume;
-                value += price * volume;
-            }
-            supply.push((price, volume));
-        }
-        supply.sort();
-        let mut rows = Vec::with_capacity(supply.len() + 1);
+impl Stacks {
+    /// Adds the stack of these steps, by one sort.
+    fn add(&mut self, steps: impl Iterator<Item = (i64, u32)>) -> Span {
+        let mut supply: Vec<(u32, u32)> = steps.map(|(price, volume)| (height(price), volume)).collect();
+        supply.sort_unstable();
+        let first = self.rows.len() as u32;
         let (mut before, mut cost) = (0, 0);
-        for (price, volume) in supply {
-            rows.push(Row { before, price, cost });
+        for (height, volume) in &supply {
+            self.rows.push(Row { before, height: *height, cost });
             before += volume;
-            cost += price * volume;
+            cost += u64::from(*height) * u64::from(*volume);
         }
-        rows.push(Row { before, price: HIGHEST, cost });
-        Stack { rows, all_buys, value }
+        self.rows.push(Row { before, height: height(HIGHEST), cost });
+        Span { first, steps: supply.len() as u32, units: before }
     }
 
-    fn units(&self) -> i64 {
-        self.rows[self.rows.len() - 1].before
+    /// Adds the stack without one of its steps.
+    fn without(&mut self, span: Span, height: u32, volume: u32) -> Span {
+        let (from, end) = (span.first as usize, (span.first + span.steps) as usize + 1);
+        let stands = |at: &usize| self.rows[*at].height == height && self.rows[at + 1].before - self.rows[*at].before == volume;
+        let gone = (from..end - 1).find(stands).expect("the step");
+        let first = self.rows.len();
+        self.rows.extend_from_within(from..gone);
+        self.rows.extend_from_within(gone + 1..end);
+        for row in &mut self.rows[first + gone - from..] {
+            row.before -= volume;
+            row.cost -= u64::from(height) * u64::from(volume);
+        }
+        Span { first: first as u32, steps: span.steps - 1, units: span.units - volume }
     }
 
-    /// The row of unit x, counted from 1; the search begins at a row near by.
-    fn place(&self, x: i64, near: usize) -> usize {
-        let mut at = near.min(self.rows.len() - 2);
-        while self.rows[at].before >= x {
+    fn of(&self, span: Span) -> &[Row] {
+        &self.rows[span.first as usize..(span.first + span.steps) as usize + 1]
+    }
+
+    /// The row of a unit, counted from 1; the search begins at a row near by.
+    fn place(&self, span: Span, unit: u32, near: u32) -> usize {
+        let rows = self.of(span);
+        let mut at = (near as usize).min(rows.len() - 2);
+        while rows[at].before >= unit {
             at -= 1;
         }
-        while self.rows[at + 1].before < x {
+        while rows[at + 1].before < unit {
             at += 1;
         }
         at
     }
 
-    fn cost(&self, x: i64, at: usize) -> i64 {
-        self.rows[at].cost + self.rows[at].price * (x - self.rows[at].before)
+    /// The first units of a stack; None if it has fewer.
+    fn taken(&self, span: Span, units: u32, near: u32) -> Option<Taken> {
+        if units == 0 {
+            return Some(Taken::default());
+        }
+        if units > span.units {
+            return None;
+        }
+        let place = self.place(span, units, near);
+        let rows = self.of(span);
+        let (row, next) = (rows[place], rows[place + 1]);
+        let (held, free) = (units - row.before, next.before - units);
+        Some(Taken { units, height: row.height, held, free, near: place as u32, cost: row.cost_of(units) })
+    }
+
+    /// What a decision on a block makes of a period, and what the welfare gains by it. A sell that is accepted is served, and a buy that
+    /// is rejected takes nothing: then its units fall away.
+    fn decided(&self, taken: Taken, touch: Touch, is_served: bool) -> Option<(Taken, i64)> {
+        if is_served {
+            return match taken.freed(touch) {
+                Some(left) => Some((left, 0)),
+                None => self.fewer(touch.rest, taken, touch),
+            };
+        }
+        if let Some(left) = taken.kept(touch) {
+            return Some((left, 0));
+        }
+        let left = self.taken(touch.rest, taken.units, taken.near)?;
+        Some((left, taken.cost as i64 - left.cost as i64))
+    }
+
+    /// What the opposite decision makes of a period with every block decided, and what the welfare gains by it.
+    fn turned(&self, end: Span, taken: Taken, touch: Touch, is_served: bool) -> Option<(Taken, i64)> {
+        if is_served {
+            return self.fewer(end, taken, touch);
+        }
+        let all = self.taken(end, taken.units.checked_add(touch.volume)?, taken.near)?;
+        Some((all, (taken.cost + touch.cost()) as i64 - all.cost as i64))
+    }
+
+    fn fewer(&self, span: Span, taken: Taken, touch: Touch) -> Option<(Taken, i64)> {
+        let left = self.taken(span, taken.units.checked_sub(touch.volume)?, taken.near)?;
+        Some((left, taken.cost as i64 - (left.cost + touch.cost()) as i64))
     }
 
     /// The least and the greatest supporting price.
-    fn ends(&self, x: i64) -> (i64, i64) {
-        let low = if x == 0 { LOWEST } else { self.rows[self.place(x, 0)].price };
-        let high = if x == self.units() { HIGHEST } else { self.rows[self.place(x + 1, 0)].price };
+    fn ends(&self, span: Span, taken: Taken) -> (i64, i64) {
+        let price = |unit| price_at(self.of(span)[self.place(span, unit, taken.near)].height);
+        let low = if taken.units == 0 { LOWEST } else { price(taken.units) };
+        let high = if taken.units >= span.units { HIGHEST } else { price(taken.units + 1) };
         (low, high)
     }
 }
 
-#[derive(Clone, Copy, Default)]
-struct DayPeriod {
-    taken: i64,
-    row: u32,
-    worth: i64,
-}
-
+/// The states of all periods with every block decided, and their welfare.
 #[derive(Clone)]
 struct Day {
-    periods: [DayPeriod; 25],
+    periods: Vec<Taken>,
     total: i64,
 }
 
@@ -144,10 +272,13 @@ impl Best {
 /// What the nodes of a problem are computed from.
 struct Relaxed<'a> {
     problem: &'a Problem,
-    /// For each period its stacks, by how many of its blocks are decided.
-    stacks: Vec<Vec<Stack>>,
-    /// For each block and each of its periods, how many blocks of that period are decided before it.
-    levels: Vec<Vec<usize>>,
+    stacks: Stacks,
+    /// For each period the stack with every block decided.
+    ends: Vec<Span>,
+    touches: Vec<Vec<Touch>>,
+    /// The slot of each period with every block decided.
+    places: Vec<u32>,
+    root: Day,
 }
 
 fn price_between(low: i64, high: i64) -> i64 {
@@ -160,67 +291,96 @@ fn price_between(low: i64, high: i64) -> i64 {
     }
 }
 
+/// The orders of a period with no block decided: side, limit and volume.
+fn orders_of(problem: &Problem, at: usize) -> impl Iterator<Item = (Side, i64, u32)> + Clone + '_ {
+    let hourly = problem.hours[at].iter().map(|step| (step.side, step.price, step.volume));
+    hourly.chain(problem.blocks.iter().flat_map(move |block| {
+        block.volumes.iter().filter(move |pair| pair.0 == at).map(|pair| (block.side, block.price, pair.1))
+    }))
+}
+
 impl Relaxed<'_> {
     fn of(problem: &Problem) -> Relaxed<'_> {
-        let count = problem.blocks.len();
-        let mut levels = vec![Vec::new(); count];
-        let mut stacks = Vec::new();
-        for (period, steps) in problem.hours.iter().enumerate() {
-            let there: Vec<(usize, i64)> = problem.blocks.iter().enumerate()
-                .filter_map(|(place, block)| Some((place, block.volumes.iter().find(|pair| pair.0 == period)?.1)))
-                .collect();
-            stacks.push(
-                (0..=there.len())
-                    .map(|level| {
-                        let hourly = steps.iter().map(|step| (step.side, step.price, step.volume));
-                        let undecided = there[level..].iter().map(|(place, volume)| {
-                            (problem.blocks[*place].side, problem.blocks[*place].price, *volume)
-                        });
-                        Stack::of(hourly.chain(undecided))
-                    })
-                    .collect::<Vec<_>>(),
-            );
-            for (level, (place, _)) in there.iter().enumerate() {
-                levels[*place].push(level);
-            }
+        let count = problem.hours.len();
+        let mut stacks = Stacks { rows: Vec::new() };
+        let mut root = Day { periods: Vec::new(), total: 0 };
+        let mut ends = Vec::new();
+        for at in 0..count {
+            let orders = orders_of(problem, at);
+            let span = stacks.add(orders.clone().map(|order| (order.1, order.2)));
+            let buys = || orders.clone().filter(|order| order.0 == Side::Buy);
+            let taken = stacks.taken(span, buys().map(|order| order.2).sum(), 0).expect("all buys are supply too");
+            let value: i64 = buys().map(|order| i64::from(height(order.1)) * i64::from(order.2)).sum();
+            root.total += value - taken.cost as i64;
+            root.periods.push(taken);
+            ends.push(span);
         }
-        Relaxed { problem, stacks, levels }
+        let mut places: Vec<u32> = (0..count as u32).collect();
+        let mut touches = Vec::new();
+        for (place, block) in problem.blocks.iter().enumerate() {
+            let own = height(block.price);
+            let mut there = Vec::new();
+            for (at, volume) in &block.volumes {
+                let rest = stacks.without(ends[*at], own, *volume);
+                let to = ((place + 1) * count + at) as u32;
+                there.push(Touch { at: *at as u32, from: places[*at], to, volume: *volume, height: own, rest });
+                ends[*at] = rest;
+                places[*at] = to;
+            }
+            there.sort_unstable_by_key(|touch| u64::MAX - touch.stake(&root.periods));
+            touches.push(there);
+        }
+        Relaxed { problem, stacks, ends, touches, places, root }
     }
 
-    /// The day on which nothing is decided; None if some period doesn't balance.
-    fn root(&self) -> Option<Day> {
-        let mut day = Day { periods: [DayPeriod::default(); 25], total: 0 };
-        for (period, stacks) in self.stacks.iter().enumerate() {
-            let worth = evaluate(&stacks[0], stacks[0].all_buys, 0, 0)?;
-            day.total += worth.worth;
-            day.periods[period] = worth;
-        }
-        Some(day)
+    /// Slots with the root's states.
+    fn slots(&self) -> Vec<Taken> {
+        let mut slots = vec![Taken::default(); (self.problem.blocks.len() + 1) * self.problem.hours.len()];
+        slots[..self.root.periods.len()].copy_from_slice(&self.root.periods);
+        slots
     }
 
-    /// The day with one more block decided; None if a period doesn't balance or the total is under `least`.
-    fn child(&self, day: &Day, place: usize, accept: bool, least: i64) -> Option<Day> {
-        let block = &self.problem.blocks[place];
-        let mut child = day.clone();
-        for (index, (period, volume)) in block.volumes.iter().enumerate() {
-            let level = self.levels[place][index];
-            let (stack, above) = (&self.stacks[*period][level + 1], &self.stacks[*period][level]);
-            let held = day.periods[*period];
-            let falls = accept == (block.side == Side::Sell);
-            let taken = if falls { held.taken - volume } else { held.taken };
-            // what the accepted blocks are worth there
-            let mut blocks = held.worth - above.value + if held.taken == 0 { 0 } else { above.cost(held.taken, held.row as usize) };
-            if accept {
-                blocks += if block.side == Side::Buy { block.price * volume } else { -block.price * volume };
-            }
-            let now = evaluate(stack, taken, held.row as usize, blocks)?;
-            child.total += now.worth - held.worth;
-            child.periods[*period] = now;
-            if child.total < least {
+    /// Decides one more block; the total then, or None if a period doesn't balance or the total is under `least`.
+    fn extend(&self, slots: &mut [Taken], place: usize, accept: bool, total: i64, least: i64) -> Option<i64> {
+        let is_served = accept == (self.problem.blocks[place].side == Side::Sell);
+        let mut total = total;
+        for touch in &self.touches[place] {
+            let (next, gained) = self.stacks.decided(slots[touch.from as usize], *touch, is_served)?;
+            slots[touch.to as usize] = next;
+            total += gained;
+            if total < least {
                 return None;
             }
         }
-        Some(child)
+        Some(total)
+    }
+
+    /// The day in the slots, with every block decided.
+    fn day_in(&self, slots: &[Taken], total: i64) -> Day {
+        Day { periods: self.places.iter().map(|slot| slots[*slot as usize]).collect(), total }
+    }
+
+    /// The day of a selection; None if a period doesn't balance or the welfare is below 0.
+    fn day_of(&self, slots: &mut [Taken], accepted: u32) -> Option<Day> {
+        let mut total = self.root.total;
+        for place in 0..self.problem.blocks.len() {
+            total = self.extend(slots, place, accepted >> place & 1 == 1, total, 0)?;
+        }
+        Some(self.day_in(slots, total))
+    }
+
+    /// Makes `day` that of the selection with the decision on one block turned; whether every period balances.
+    fn turn(&self, day: &mut Day, place: usize, accept: bool) -> bool {
+        let is_served = accept == (self.problem.blocks[place].side == Side::Sell);
+        self.touches[place].iter().all(|touch| {
+            let at = touch.at as usize;
+            let Some((next, gained)) = self.stacks.turned(self.ends[at], day.periods[at], *touch, is_served) else {
+                return false;
+            };
+            day.periods[at] = next;
+            day.total += gained;
+            true
+        })
     }
 
     fn admits(&self, accepted: u32, place: usize) -> bool {
@@ -228,16 +388,18 @@ impl Relaxed<'_> {
         accepted & block.parent == block.parent && accepted & block.rivals == 0
     }
 
+    fn admits_all(&self, accepted: u32) -> bool {
+        (0..self.problem.blocks.len()).all(|place| accepted >> place & 1 == 0 || self.admits(accepted & ((1 << place) - 1), place))
+    }
+
     fn loses(&self, day: &Day, accepted: u32) -> bool {
-        let price = |period: usize| {
-            let stack = &self.stacks[period][self.stacks[period].len() - 1];
-            let (low, high) = stack.ends(day.periods[period].taken);
+        let price = |at: usize| {
+            let (low, high) = self.stacks.ends(self.ends[at], day.periods[at]);
             price_between(low, high)
         };
-        let surplus = |block: &Block| {
-            block.volumes.iter()
-                .map(|(period, volume)| volume * if block.side == Side::Buy { block.price - price(*period) } else { price(*period) - block.price })
-                .sum::<i64>()
+        let surplus = |block: &Block| -> i64 {
+            let gained = |at: usize| if block.side == Side::Buy { block.price - price(at) } else { price(at) - block.price };
+            block.volumes.iter().map(|(at, volume)| i64::from(*volume) * gained(*at)).sum()
         };
         let blocks = &self.problem.blocks;
         let among = |set: u32| (0..blocks.len()).filter(move |place| set >> place & 1 == 1);
@@ -247,44 +409,43 @@ impl Relaxed<'_> {
         })
     }
 
-    /// The welfare of a selection, if it is eligible.
-    fn score(&self, accepted: u32) -> Option<i64> {
-        let mut day = self.root()?;
-        for place in 0..self.problem.blocks.len() {
-            let accept = accepted & (1 << place) != 0;
-            if accept && !self.admits(accepted & ((1 << place) - 1), place) {
-                return None;
+    /// The best of what one turned decision makes of a selection, from the place on, or else `best`.
+    fn best_turn(&self, slots: &mut [Taken], best: Best, base: u32, from: usize, scores: &mut u64) -> Best {
+        let day = self.day_of(slots, base);
+        let mut turned = self.root.clone();
+        let mut greatest = best;
+        for place in from..self.problem.blocks.len() {
+            let accepted = base ^ 1 << place;
+            *scores += 1;
+            let is_made = match &day {
+                Some(day) => {
+                    turned.clone_from(day);
+                    self.turn(&mut turned, place, accepted >> place & 1 == 1)
+                }
+                None => self.day_of(slots, accepted).map(|made| turned = made).is_some(),
+            };
+            if is_made && turned.total > greatest.welfare && self.admits_all(accepted) && !self.loses(&turned, accepted) {
+                greatest = Best { accepted, welfare: turned.total };
             }
-            day = self.child(&day, place, accept, i64::MIN)?;
         }
-        if self.loses(&day, accepted) { None } else { Some(day.total) }
+        greatest
     }
 
     /// From the empty selection, repeats the flip that gains most or, if none gains, the best pair of flips.
     fn first_selection(&self) -> (i64, u64) {
-        let count = self.problem.blocks.len();
-        let mut best = Best { accepted: 0, welfare: self.score(0).unwrap_or(0) };
+        let mut slots = self.slots();
+        let empty = self.day_of(&mut slots, 0).expect("nothing accepted balances");
+        let mut best = Best { accepted: 0, welfare: empty.total };
         let mut scores = 1;
         loop {
             let from = best;
-            for first in 0..count {
-                scores += 1;
-                if let Some(welfare) = self.score(from.accepted ^ 1 << first) && welfare > best.welfare {
-                    best = Best { accepted: from.accepted ^ 1 << first, welfare };
+            best = self.best_turn(&mut slots, from, from.accepted, 0, &mut scores);
+            if best.welfare == from.welfare {
+                for first in 0..self.problem.blocks.len() {
+                    best = self.best_turn(&mut slots, best, from.accepted ^ 1 << first, first + 1, &mut scores);
                 }
             }
-            if best.accepted == from.accepted {
-                for first in 0..count {
-                    for second in first + 1..count {
-                        scores += 1;
-                        let flipped = from.accepted ^ 1 << first ^ 1 << second;
-                        if let Some(welfare) = self.score(flipped) && welfare > best.welfare {
-                            best = Best { accepted: flipped, welfare };
-                        }
-                    }
-                }
-            }
-            if best.accepted == from.accepted {
+            if best.welfare == from.welfare {
                 return (best.welfare, scores);
             }
         }
@@ -301,6 +462,7 @@ struct Shared {
 struct Walk<'a> {
     relaxed: &'a Relaxed<'a>,
     shared: &'a Shared,
+    slots: Vec<Taken>,
     /// The best of the present piece.
     best: Option<Best>,
     visited: u64,
@@ -311,33 +473,34 @@ impl Walk<'_> {
         self.shared.greatest.load(Ordering::SeqCst)
     }
 
-    fn explore(&mut self, day: &Day, accepted: u32, depth: usize) {
-        let count = self.relaxed.problem.blocks.len();
-        if depth == count {
-            self.leaf(day, accepted);
+    /// Visits what extends a node whose bound is at least the greatest welfare found.
+    fn explore(&mut self, total: i64, accepted: u32, depth: usize) {
+        if depth == self.relaxed.problem.blocks.len() {
+            self.leaf(total, accepted);
             return;
         }
         // if no completion has more than the greatest, only the order of ties counts, in which 'accepted' comes first
-        let first = day.total == self.greatest();
+        let first = total == self.greatest();
         for accept in [first, !first] {
             if accept && !self.relaxed.admits(accepted, depth) {
                 continue;
             }
             let next = if accept { accepted | 1 << depth } else { accepted };
             self.visited += 1;
-            // at full depth nothing is read: the score is asked for
-            let least = if depth + 1 == count { i64::MIN } else { self.greatest() };
-            if let Some(child) = self.relaxed.child(day, depth, accept, least) {
-                self.explore(&child, next, depth + 1);
+            let least = self.greatest();
+            if let Some(total) = self.relaxed.extend(&mut self.slots, depth, accept, total, least) {
+                self.explore(total, next, depth + 1);
             }
         }
     }
 
-    fn leaf(&mut self, day: &Day, accepted: u32) {
-        let found = Best { accepted, welfare: day.total };
-        if self.best.is_none_or(|best| found.ranks_above(best)) && !self.relaxed.loses(day, accepted) {
+    fn leaf(&mut self, total: i64, accepted: u32) {
+        let found = Best { accepted, welfare: total };
+        if self.best.is_none_or(|best| found.ranks_above(best))
+            && !self.relaxed.loses(&self.relaxed.day_in(&self.slots, total), accepted)
+        {
             self.best = Some(found);
-            self.shared.greatest.fetch_max(day.total, Ordering::SeqCst);
+            self.shared.greatest.fetch_max(total, Ordering::SeqCst);
         }
     }
 
@@ -346,16 +509,16 @@ impl Walk<'_> {
         self.best = None;
         let decided = |place: usize| number >> (depth - 1 - place) & 1 == 0;
         let accepted = (0..depth).filter(|place| decided(*place)).fold(0, |accepted, place| accepted | 1 << place);
-        if !(0..depth).all(|place| !decided(place) || self.relaxed.admits(accepted & ((1 << place) - 1), place)) {
+        if !self.relaxed.admits_all(accepted) {
             return None;
         }
         self.visited += 1;
-        let mut day = self.relaxed.root()?;
+        let mut total = self.relaxed.root.total;
         for place in 0..depth {
-            day = self.relaxed.child(&day, place, decided(place), i64::MIN)?;
+            total = self.relaxed.extend(&mut self.slots, place, decided(place), total, 0)?;
         }
-        if depth == self.relaxed.problem.blocks.len() || day.total >= self.greatest() {
-            self.explore(&day, accepted, depth);
+        if depth == self.relaxed.problem.blocks.len() || total >= self.greatest() {
+            self.explore(total, accepted, depth);
         }
         self.best
     }
@@ -379,7 +542,7 @@ impl Walk<'_> {
 fn search(relaxed: &Relaxed, workers: usize, depth: usize, first: i64) -> (Best, u64) {
     let shared = &Shared { drawn: AtomicU32::new(0), greatest: AtomicI64::new(first) };
     let work = || {
-        let mut walk = Walk { relaxed, shared, best: None, visited: 0 };
+        let mut walk = Walk { relaxed, shared, slots: relaxed.slots(), best: None, visited: 0 };
         (walk.pieces(depth), walk.visited)
     };
     let answers: Vec<(Option<Best>, u64)> = thread::scope(|scope| {
@@ -392,17 +555,6 @@ fn search(relaxed: &Relaxed, workers: usize, depth: usize, first: i64) -> (Best,
     (best.expect("some selection is eligible"), answers.iter().map(|answer| answer.1).sum())
 }
 
-fn evaluate(stack: &Stack, taken: i64, near: usize, blocks: i64) -> Option<DayPeriod> {
-    if taken < 0 || taken > stack.units() {
-        return None;
-    }
-    if taken == 0 {
-        return Some(DayPeriod { taken, row: 0, worth: stack.value + blocks });
-    }
-    let row = stack.place(taken, near);
-    Some(DayPeriod { taken, row: row as u32, worth: stack.value - stack.cost(taken, row) + blocks })
-}
-
 fn read(text: &str) -> Problem {
     let mut lines = text.lines().map(|line| line.split(',').collect::<Vec<_>>());
     let periods = lines.next().expect("a day")[1].parse().expect("periods");
@@ -411,7 +563,7 @@ fn read(text: &str) -> Problem {
     for fields in lines.filter(|fields| fields[0] == "submit") {
         let side = if fields[4] == "buy" { Side::Buy } else { Side::Sell };
         let price = fields[5].parse().expect("a price");
-        let volumes: Vec<(usize, i64)> = fields[6].split(';')
+        let volumes: Vec<(usize, u32)> = fields[6].split(';')
             .map(|pair| {
                 let (period, volume) = pair.split_once(':').expect("a pair");
                 (period.parse::<usize>().expect("a period") - 1, volume.parse().expect("a volume"))
