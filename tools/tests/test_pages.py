@@ -5,13 +5,25 @@ import unittest
 
 from support import TOP, book, cases, journal, printed, tool
 
-PAGES = [TOP / "README.md", TOP / "CHANGELOG.md", *sorted((TOP / "docs").glob("*.md"))]
+CRATES = sorted(path for path in (TOP / "crates").iterdir() if (path / "src").is_dir())
+PAGES = [TOP / "README.md", TOP / "CHANGELOG.md", *sorted((TOP / "docs").glob("*.md")), *(crate / "README.md" for crate in CRATES)]
 LINK = re.compile(r"\]\(([^)#\s]*)(?:#([^)\s]*))?\)")
 FENCE = re.compile(r"^```.*?^```$", re.MULTILINE | re.DOTALL)
 MOST = 200  # characters of a cell
 WIDEST = 140  # columns of a line that isn't of a table
 # What the house rule of English has other words for, apart from the table of that rule.
 OTHER_WORDS = re.compile(r"\b(anew|beside|dear|so many|want of|whoever)\b", re.IGNORECASE)
+# The headings of a crate's README.
+HEADINGS = ["For whom", "Use", "What its contracts promise", "What is only tested", "What it knows nothing of"]
+SCREEN = 45  # lines
+# Each word of the code and of the definitions.
+SOURCES = {
+    word
+    for crate in CRATES
+    for folder, ending in (("src", "rt"), ("specs", "antt"))
+    for path in (crate / folder).rglob(f"*.{ending}")
+    for word in re.findall(r"\w+", path.read_text())
+}
 EXAMPLE = re.compile(r"^```text\n(day,24\nwelfare.*?)^```$", re.MULTILINE | re.DOTALL)
 
 
@@ -62,6 +74,20 @@ class Pages(unittest.TestCase):
                 if not (page.name == "CONTRIBUTING.md" and line.startswith("|")):
                     with self.subTest(page=page.name, line=line[:40]):
                         self.assertIsNone(OTHER_WORDS.search(line))
+
+    def test_each_crate_has_a_readme_of_a_screen(self):
+        for crate in CRATES:
+            with self.subTest(crate=crate.name):
+                page = (crate / "README.md").read_text()
+                self.assertTrue(page.startswith(f"# {crate.name}: "))
+                self.assertEqual(re.findall(r"^## (.*)$", page, re.MULTILINE), HEADINGS)
+                self.assertLessEqual(len(page.splitlines()), SCREEN)
+
+    def test_what_a_crates_readme_names_is_there(self):
+        for crate in CRATES:
+            for word in re.findall(r"`(\w+(?:::\w+)*)`", (crate / "README.md").read_text()):
+                with self.subTest(crate=crate.name, word=word):
+                    self.assertTrue((TOP / "crates" / word).exists() or word.split("::")[-1] in SOURCES)
 
     def test_the_first_example_is_printed(self):
         (case,) = cases("clear-merit-order")
