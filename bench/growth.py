@@ -16,10 +16,11 @@ from figures import DAM, LIMIT, MEASURES, PART, by_turns, line, peak, run, secon
 BLOCKS = (8, 12, 16, 20, 24)
 PERIODS = {"24": "1", "96": "4"}  # and how many of them an hour has
 ORDERS = "500"
-# Of its books every selection is visited, so its time has a target of its own.
-LONG = "ties"
 # The seconds within which `dam clear` has to end.
 MOST = {"24": 0.15, "96": 0.7}
+# Of its books every selection is visited, so it has a target of its own for days of 24 periods, and none for the others.
+LONG = "ties"
+MOST_LONG = {"24": 0.9}
 PAGE, PICTURE = f"out/{PART}.md", "../docs/growth.svg"
 
 
@@ -45,11 +46,11 @@ class Book:
         return statistics.median(each.wall for each in runs), peak([DAM, "clear"], self.path)
 
     def print(self):
-        most = MOST[self.periods]
+        most = (MOST_LONG if self.family == LONG else MOST).get(self.periods)
         what = f"{self.family} {ORDERS}, {self.periods} periods, {self.blocks} blocks: dam clear"
         detail = f"{amount(self.nodes)} nodes, 2^n is {2 ** self.blocks:,}; {mebibytes(self.memory)}"
         shown = f"> {LIMIT:g} s" if self.seconds is None else seconds(self.seconds)
-        if self.family == LONG:
+        if most is None:
             line(what, shown, detail=detail)
         else:
             line(what, shown, f"at most {seconds(most)}", self.seconds is not None and self.seconds <= most, detail)

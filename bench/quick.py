@@ -11,13 +11,18 @@ by one bisection over the buys' own limits, with one over the sells inside, and 
 import statistics
 import sys
 
-from figures import BASELINE, DAM, MEASURES, at_most, by_turns, peak, ratio, run
+from figures import BASELINE, DAM, MEASURES, at_most, by_turns, peak, ratio, run, seconds
 
 JOURNAL, HOURLY, DAY = "out/journal.csv", "out/hourly.csv", "out/day.csv"
 MIB = "{:.1f} MiB".format
 
-# Books of 4,000 hourly orders and 24 blocks: name, periods of each block, periods with hourly orders.
-SPREADS = [("evenly, blocks of 6 periods", 6, 24), ("evenly, blocks of 24", 24, 24), ("all in one period, blocks of 24", 24, 1)]
+# Books of 4,000 hourly orders and 24 blocks: name, periods of each block, periods with hourly orders, periods of the day.
+SPREADS = [
+    ("evenly, blocks of 6 periods", 6, 24, 24),
+    ("evenly, blocks of 24", 24, 24, 24),
+    ("all in one period, blocks of 24", 24, 1, 24),
+    ("evenly, blocks of 96", 96, 96, 96),
+]
 
 
 def compare(what, words, other, journal, most, same=False):
@@ -55,14 +60,17 @@ def clears():
 
 
 def levels():
-    for name, periods, hours in SPREADS:
-        book = f"out/levels-{periods}-{hours}.csv"
+    """In a process of their own each time, so that their memory is fresh."""
+    for name, length, hours, periods in SPREADS:
+        book = f"out/levels-{length}-{hours}.csv"
         with open(book, "wb") as made:
-            made.write(run(["./make_clearing.py", "4000", "24", str(periods), str(hours)]).text)
-        what = f"levels of 4,000 hourly orders, {name}"
-        at_most(what, run([MEASURES, "levels", "9"], book).lap("levels"), 0.05)
+            made.write(run(["./make_clearing.py", "4000", "24", str(length), str(hours), str(periods)]).text)
+        what = f"levels and a first selection, 4,000 hourly orders, {name}"
+        runs = by_turns({"": [MEASURES, "nodes", "0", "0"]}, book, most=15)[""]
+        levels, first = (statistics.median(one.lap(part) for one in runs) for part in ("levels", "first"))
+        at_most(what, levels + first, 0.004, detail=f"{seconds(levels)} and {seconds(first)}")
         more = peak([MEASURES, "levels", "1"], book) - peak([MEASURES, "levels", "0"], book)
-        at_most(f"{what}, memory", more, 16, shown=MIB)
+        at_most(f"{what}, memory", more, 20, shown=MIB)
 
 
 journals()
