@@ -4,7 +4,8 @@ would try 2^n selections of n blocks.
 
 Nodes are those of one worker that walks without a cut. A node stands for the selections that agree in its first blocks, so a walk that
 leaves nothing out visits 2^(n+1) - 1 nodes. Time and memory are those of a whole `dam clear` by the default plan; the time is the median
-of up to nine runs."""
+of up to nine runs. With 24 blocks that is compared with one run of an enumeration with numpy, `tools/audit --best` by four threads, which
+also checks the results."""
 
 import os
 import statistics
@@ -21,6 +22,8 @@ MOST = {"24": 0.15, "96": 0.7}
 # Of its books every selection is visited, so it has a target of its own for days of 24 periods, and none for the others.
 LONG = "ties"
 MOST_LONG = {"24": 0.9}
+ENUMERATION = ["../tools/audit", "--best", "--quiet", "--jobs", "4"]
+MISSING = 5  # its status if numpy is missing
 PAGE, PICTURE = f"out/{PART}.md", "../docs/growth.svg"
 
 
@@ -34,6 +37,7 @@ class Book:
             made.write(run(["./make_family.py", family, ORDERS, str(blocks), PERIODS[periods]]).text)
         self.nodes = self.counted()
         self.seconds, self.memory = self.cleared()
+        self.enumeration = self.enumerated() if blocks == BLOCKS[-1] and self.seconds is not None else None
 
     def counted(self):
         walk = run([MEASURES, "nodes", "0", "1"], self.path)
@@ -45,15 +49,30 @@ class Book:
             return None, None
         return statistics.median(each.wall for each in runs), peak([DAM, "clear"], self.path)
 
+    def enumerated(self):
+        """The seconds of a trial of all selections; None if it didn't end, or a package is missing."""
+        results = f"{self.path}.txt"
+        with open(results, "wb") as text:
+            text.write(run([DAM, "clear"], self.path).text)
+        tried = run([*ENUMERATION, self.path, results], statuses=(0, MISSING))
+        return tried.wall if tried and not tried.stderr else None
+
     def print(self):
         most = (MOST_LONG if self.family == LONG else MOST).get(self.periods)
         what = f"{self.family} {ORDERS}, {self.periods} periods, {self.blocks} blocks: dam clear"
         detail = f"{amount(self.nodes)} nodes, 2^n is {2 ** self.blocks:,}; {mebibytes(self.memory)}"
-        shown = f"> {LIMIT:g} s" if self.seconds is None else seconds(self.seconds)
+        shown = lasted(self.seconds)
         if most is None:
             line(what, shown, detail=detail)
         else:
             line(what, shown, f"at most {seconds(most)}", self.seconds is not None and self.seconds <= most, detail)
+        if self.enumeration is not None:
+            is_ahead = None if most is None else self.seconds <= self.enumeration
+            line(f"{what} compared with an enumeration", shown, "" if most is None else "less", is_ahead, seconds(self.enumeration))
+
+
+def lasted(time):
+    return f"> {LIMIT:g} s" if time is None else seconds(time)
 
 
 def amount(count):
@@ -64,9 +83,9 @@ def mebibytes(size):
     return "?" if size is None else f"{size:.1f} MiB"
 
 
-def table(title, head, rows):
-    """A table with a row for each family and length of a day, and a column for each number of blocks."""
-    columns = [head, *(f"{blocks} blocks" for blocks in BLOCKS)]
+def table(title, head, rows, columns=tuple(f"{blocks} blocks" for blocks in BLOCKS)):
+    """A table with a row for each family and length of a day, and a column for each number of blocks or what else is named."""
+    columns = [head, *columns]
     lines = [f"| {' | '.join(cells)} |" for cells in (columns, *rows)]
     lines.insert(1, "|---" * len(columns) + "|")
     return f"### {title}\n\n" + "\n".join(lines) + "\n"
@@ -83,8 +102,14 @@ def page(books):
     all_selections = ["all selections, 2^n", *(f"{2 ** blocks:,}" for blocks in BLOCKS)]
     with open(PAGE, "w", encoding="utf-8") as text:
         text.write(table("Nodes", "Family", [all_selections, *rows_of(books, lambda book: amount(book.nodes))]) + "\n")
-        taken = rows_of(books, lambda book: f"> {LIMIT:g} s" if book.seconds is None else seconds(book.seconds))
+        taken = rows_of(books, lambda book: lasted(book.seconds))
         text.write(table("Time of `dam clear`", "Family", taken) + "\n")
+        compared = [
+            [f"{family}, {periods} periods", lasted(ones[-1].seconds), lasted(ones[-1].enumeration)]
+            for (family, periods), ones in books.items()
+        ]
+        heads = ["`dam clear`", "`tools/audit --best --jobs 4`"]
+        text.write(table("All selections of 24 blocks, tried one by one", "Family", compared, heads) + "\n")
         text.write(table("Peak memory of `dam clear`", "Family", rows_of(books, lambda book: mebibytes(book.memory))))
         if picture(books):
             text.write("\n![Nodes of each family by the number of blocks, compared with 2^n](growth.svg)\n")
