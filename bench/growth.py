@@ -75,6 +75,10 @@ def lasted(time):
     return f"> {LIMIT:g} s" if time is None else seconds(time)
 
 
+def tried(time):
+    return "?" if time is None else seconds(time)
+
+
 def amount(count):
     return "?" if count is None else f"{count:,}"
 
@@ -105,7 +109,7 @@ def page(books):
         taken = rows_of(books, lambda book: lasted(book.seconds))
         text.write(table("Time of `dam clear`", "Family", taken) + "\n")
         compared = [
-            [f"{family}, {periods} periods", lasted(ones[-1].seconds), lasted(ones[-1].enumeration)]
+            [f"{family}, {periods} periods", lasted(ones[-1].seconds), tried(ones[-1].enumeration)]
             for (family, periods), ones in books.items()
         ]
         heads = ["`dam clear`", "`tools/audit --best --jobs 4`"]
