@@ -1,2 +1,4 @@
+pub mod Accepted
 pub mod Numbers
 pub mod Program
+pub mod Ranges

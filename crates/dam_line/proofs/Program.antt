@@ -45,10 +45,12 @@ named_stop (Some p) found is = named_shape (built program).subs (inl refl, (inr 
 
 -- the words name one of the subcommands
 pub is_command : (words : List Text) (found : Text × List Row) → subcommand_of program words ≡ Some found → IsCommand found.0
-is_command words found is = named_stop (stop_after (built program).top.rules (names_of (built program)) (argument_words program words)) found is
+is_command words found is = named_stop (stop_after (built program).top.rules (names_of (built program)) (argument_words program words))
+    found is
 
 -- the fault that an error comes to, where its kind is one that the words have
-pub fault_by : {E : Type 0} (words : List Text) (kind : ErrorKind) (answer : Result (String Global) E) (fault : LineFault) → IsRefusal kind answer fault
+pub fault_by : {E : Type 0} (words : List Text) (kind : ErrorKind) (answer : Result (String Global) E) (fault : LineFault)
+    → IsRefusal kind answer fault
     → (kind ≡ OutOfMemory) ⊎ IsAmong kind (fault_of program words) → IsFaultOf words fault
 fault_by words kind answer (Refused help text) is (inl none) = absurd (is.0 none)
 fault_by words kind answer (Refused help text) is (inr among) = record { kind = kind; refuses = among; no_memory = is.0; is_help = is.1 }

@@ -1,5 +1,6 @@
 -- The command line: the program's command, and the job that words ask it for.
-use Rattle.std.specs.Prelude.{◌≡◌, ◌≢◌, ◌&&◌, ◌⊎◌, ℕ, pos, Bool, true, false, List, [], ◌∷◌, Option, Some, None, codes, decimal, length, nat_le, nat_lt, if◌then◌else◌}
+use Rattle.std.specs.Prelude.{◌≡◌, ◌≢◌, ◌&&◌, ◌⊎◌, ℕ, pos, Bool, true, false, List, [], ◌∷◌, Option, Some, None, codes, decimal, length}
+use Rattle.std.specs.Prelude.{nat_le, nat_lt, if◌then◌else◌}
 use Rattle.std.specs.Prelude.{Result, Ok, IsErr, option_and_then, unwrap_or}
 use Rattle.std.specs.declared.alloc.Global.{Global}
 use Rattle.std.specs.declared.string.String.{String}
@@ -7,7 +8,8 @@ use Rattle.std.specs.List.{list_all}
 use Rattle.std.specs.Char.{digit_value}
 use Rattle.std.specs.Str.{bytes_eq}
 use Rattle.std.specs.Str.Parse.{digits_value, without_leading_plus}
-use Rattle.clap.specs.Words.{App, IsAmong, Row, Rule, Shape, Text, fault_of, new_app, new_rule, one_of, subcommand_of, with_rule, with_subcommand}
+use Rattle.clap.specs.Words.{App, IsAmong, Row, Rule, Shape, Text, fault_of, new_app, new_rule, one_of, subcommand_of, with_rule}
+use Rattle.clap.specs.Words.{with_subcommand}
 use Rattle.clap.specs.declared.builder.ArgAction.TheVariants.{Set}
 use Rattle.clap.specs.declared.builder.value_parser.ValueParser.TheVariants.{Signed}
 use Rattle.clap.specs.declared.error.ErrorKind.{ErrorKind}
@@ -99,6 +101,21 @@ plan_of workers cut nodes = record { workers = workers; cut = cut; nodes = nodes
 
 abbrev pub plan_given : List Row → PlanTerms
 plan_given matches = plan_of (number_given workers matches) (number_given cut matches) (number_given nodes matches)
+
+-- one of the options of a plan
+abbrev pub IsOption : OptionTerms → Type 0
+IsOption option = (option ≡ workers) ⊎ ((option ≡ cut) ⊎ (option ≡ nodes))
+
+-- the name of a subcommand that takes a plan
+abbrev pub HasPlan : Text → Type 0
+HasPlan name = (name ≡ codes "clear") ⊎ (name ≡ codes "day")
+
+-- the matches give the option a text, and that is a number in its range
+pub record IsInItsRange (option : OptionTerms) (matches : List Row) : Type 0 where
+  pub text : Text
+  pub given : one_of option.name matches ≡ Some text
+  pub number : ℕ
+  pub read : read_number option text ≡ Some number
 
 -- the name of a subcommand
 abbrev pub IsCommand : Text → Type 0

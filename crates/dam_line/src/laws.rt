@@ -1,8 +1,8 @@
 //! Laws of the command line, each the contract of a function that does nothing.
-ghost use Rattle.std.specs.Prelude.{◌≡◌, ◌∷◌, [], true, false, codes};
-ghost use Rattle.clap.specs.Words.{is_simple};
+ghost use Rattle.std.specs.Prelude.{◌≡◌, ◌∷◌, [], List, Some, true, false, codes};
+ghost use Rattle.clap.specs.Words.{Row, Text, fault_of, is_simple, subcommand_of};
 ghost use Rattle.clap.specs.Faults.{is_simple_and_free};
-ghost use Rattle.dam_line.specs.Line.{AreRefused, AsksFor, plan_of, program};
+ghost use Rattle.dam_line.specs.Line.{AreRefused, AsksFor, HasPlan, IsInItsRange, IsOption, OptionTerms, plan_of, program};
 
 use crate::line::Job;
 
@@ -11,6 +11,14 @@ use crate::line::Job;
 pub fn exactness()
     ensures simple { is_simple program ≡ true }
     ensures free { is_simple_and_free program ≡ true }
+{}
+
+/// If `clap` takes the words of a subcommand that has a plan, then its matches give each option a number in the option's range: the
+/// number of the words, or the default. So no number of [`read_line`](crate::read_line) stands in for one outside the range.
+pub fn ranges()
+    ensures { (words : List Text) (found : Text × List Row) (option : OptionTerms)
+        → fault_of program words ≡ [] → subcommand_of program words ≡ Some found
+        → HasPlan found.0 → IsOption option → IsInItsRange option found.1 }
 {}
 
 /// Some words, and what they ask for.
