@@ -67,6 +67,13 @@ def run(words, given=os.devnull, statuses=(0,), limit=LIMIT, padding=0):
         return Run(printed.read(), errors.read(), wall, used.ru_utime + used.ru_stime)
 
 
+def write(path, *words):
+    """Writes what a program prints to a file, and returns its path."""
+    with open(path, "wb") as made:
+        made.write(run(words).text)
+    return path
+
+
 def by_turns(programs, given=os.devnull, most=31, seconds=5.0):
     """Runs programs in turns. Returns for each name its runs: at most `most`, and no further one after `seconds`. A program that didn't end
     in time has no runs. Each turn has their stacks at another place, because a walk's time varies with that by half."""

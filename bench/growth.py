@@ -12,7 +12,7 @@ import statistics
 import sys
 
 import make_family
-from figures import DAM, LIMIT, MEASURES, PART, by_turns, line, peak, run, seconds
+from figures import DAM, LIMIT, MEASURES, PART, by_turns, line, peak, run, seconds, write
 
 BLOCKS = (8, 12, 16, 20, 24)
 PERIODS = {"24": "1", "96": "4"}  # and how many of them an hour has
@@ -32,9 +32,8 @@ class Book:
 
     def __init__(self, family, periods, blocks):
         self.family, self.periods, self.blocks = family, periods, blocks
-        self.path = f"out/{family}-{ORDERS}-{periods}-{blocks}.csv"
-        with open(self.path, "wb") as made:
-            made.write(run(["./make_family.py", family, ORDERS, str(blocks), PERIODS[periods]]).text)
+        path, words = f"out/{family}-{ORDERS}-{periods}-{blocks}.csv", [family, ORDERS, str(blocks), PERIODS[periods]]
+        self.path = write(path, "./make_family.py", *words)
         self.nodes = self.counted()
         self.seconds, self.memory = self.cleared()
         self.enumeration = self.enumerated() if blocks == BLOCKS[-1] and self.seconds is not None else None

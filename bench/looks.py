@@ -7,7 +7,7 @@ of a gate whose looks took its lock."""
 
 import statistics
 
-from figures import DAM, MEASURES, at_most, by_turns, line, peak, ratio, run, seconds
+from figures import DAM, MEASURES, at_most, by_turns, line, peak, ratio, seconds, write
 
 PLAIN = "out/looks"
 DAY = "out/day.csv"
@@ -37,9 +37,7 @@ def looks():
 
 def calls():
     for orders in (100, 1_000, 4_000):
-        book = f"out/hourly-{orders}.csv"
-        with open(book, "wb") as made:
-            made.write(run(["./make_clearing.py", str(orders), "0"]).text)
+        book = write(f"out/hourly-{orders}.csv", "./make_clearing.py", str(orders), "0")
         runs = by_turns({"one": [MEASURES, "calls", str(CALLS)], "other": [PLAIN, "calls", str(CALLS)]}, book, most=5)
         one, other = (statistics.median(laps(runs[name], "calls", CALLS)) for name in ("one", "other"))
         what, detail = f"a call, {orders:,} orders held", f"a plain one {seconds(other)}"

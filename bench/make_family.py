@@ -19,7 +19,6 @@ from dataclasses import dataclass, field
 
 HOURS = 24
 BLOCKS, MOST_HOURLY = 24, 4_000  # what a book may have
-parts = 1  # of an hour, each of them a period
 PARTICIPANTS = ["ALPHA", "BRAVO", "CHARLIE", "DELTA", "ECHO", "FOXTROT", "GOLF", "HOTEL"]
 SEED = 20_251_001
 
@@ -39,71 +38,80 @@ class Block:
         return f"submit,{self.who},{self.name},block,{self.side},{self.price},{volumes},{self.parent},{self.group}"
 
 
-def periods_of_day():
-    return HOURS * parts
+class Day:
+    """The periods of a day, of which each hour has `parts`, and what draws its orders."""
+
+    def __init__(self, parts, rng):
+        self.parts, self.rng = parts, rng
+        self.count = HOURS * parts  # of periods
+
+    def curve(self, period):
+        """The price around which the hourly orders of a period lie, in cents per MWh."""
+        hour = 1 + (period - 1) // self.parts
+        return round(6_000 + 2_500 * math.sin((hour - 7) * math.pi / 12))
+
+    def periods_of(self, first, last):
+        """The periods of these hours, without the last one."""
+        return range(1 + self.parts * (first - 1), 1 + self.parts * (last - 1))
+
+    def span(self, least, most):
+        length = self.rng.randint(least, most)
+        first = self.rng.randint(1, HOURS - length + 1)
+        return self.periods_of(first, first + length)
+
+    def mean_price(self, periods):
+        return sum(map(self.curve, periods)) / len(periods)
 
 
-def curve(period):
-    """The price around which the hourly orders of a period lie, in cents per MWh."""
-    hour = 1 + (period - 1) // parts
-    return round(6_000 + 2_500 * math.sin((hour - 7) * math.pi / 12))
+def hourly(day, number):
+    period = 1 + number % day.count
+    side = "buy" if (number // day.count) % 2 == 0 else "sell"
+    price = day.curve(period) + round(day.rng.gauss(0, 1_500)) + (700 if side == "buy" else -700)
+    return f"submit,{day.rng.choice(PARTICIPANTS)},HOUR-{number},hour,{side},{price},{period}:{day.rng.randint(50, 500)},,"
 
 
-def hourly(number, rng):
-    period = 1 + number % periods_of_day()
-    side = "buy" if (number // periods_of_day()) % 2 == 0 else "sell"
-    price = curve(period) + round(rng.gauss(0, 1_500)) + (700 if side == "buy" else -700)
-    return f"submit,{rng.choice(PARTICIPANTS)},HOUR-{number},hour,{side},{price},{period}:{rng.randint(50, 500)},,"
+def flat(day, number):
+    """Of each period, one buy and one sell that leave much of both at 6,000 cents, and small ones that never matter."""
+    period, rank = 1 + number % day.count, number // day.count
+    side = "buy" if rank % 2 == 0 else "sell"
+    if rank < 2:
+        return f"submit,ALPHA,HOUR-{number},hour,{side},6000,{period}:{50_000},,"
+    return f"submit,ALPHA,HOUR-{number},hour,{side},{1_000 if side == 'buy' else 11_000},{period}:1,,"
 
 
-def periods_of(first, last):
-    """The periods of these hours, without the last one."""
-    return range(1 + parts * (first - 1), 1 + parts * (last - 1))
-
-
-def span(rng, least, most):
-    length = rng.randint(least, most)
-    first = rng.randint(1, HOURS - length + 1)
-    return periods_of(first, first + length)
-
-
-def mean_price(periods):
-    return sum(map(curve, periods)) / len(periods)
-
-
-def market(count, rng, volume):
+def market(day, count, volume):
     for _ in range(count):
-        periods = span(rng, 4, 12)
-        size = rng.randint(volume // 2, volume)
-        price = round(mean_price(periods) + rng.gauss(0, 450))
-        yield Block(rng.choice(["buy", "sell"]), price, {period: size for period in periods})
+        periods = day.span(4, 12)
+        size = day.rng.randint(volume // 2, volume)
+        price = round(day.mean_price(periods) + day.rng.gauss(0, 450))
+        yield Block(day.rng.choice(["buy", "sell"]), price, {period: size for period in periods})
 
 
-def paradox(count, rng, volume):
+def paradox(day, count, volume):
     for _ in range(count):
-        periods = span(rng, 3, 12)
-        size = rng.randint(volume // 2, volume)
-        price = round(mean_price(periods) - rng.uniform(0, 200))
+        periods = day.span(3, 12)
+        size = day.rng.randint(volume // 2, volume)
+        price = round(day.mean_price(periods) - day.rng.uniform(0, 200))
         yield Block("sell", price, {period: size for period in periods})
 
 
-def spread(count, rng, volume):
+def spread(day, count, volume):
     for _ in range(count):
-        periods = span(rng, 2, 24)
-        size = rng.randint(max(volume // 20, 1), max(volume // 4, 2))
-        price = round(mean_price(periods) + rng.uniform(-1_200, 1_200))
-        yield Block(rng.choice(["buy", "sell"]), price, {period: size for period in periods})
+        periods = day.span(2, 24)
+        size = day.rng.randint(max(volume // 20, 1), max(volume // 4, 2))
+        price = round(day.mean_price(periods) + day.rng.uniform(-1_200, 1_200))
+        yield Block(day.rng.choice(["buy", "sell"]), price, {period: size for period in periods})
 
 
-def nearties(count, rng, volume):
-    periods = periods_of(8, 21)
+def nearties(day, count, volume):
+    periods = day.periods_of(8, 21)
     for number in range(count):
-        price = round(mean_price(periods)) - 300 + 20 * number
+        price = round(day.mean_price(periods)) - 300 + 20 * number
         yield Block("sell", price, {period: volume // 4 for period in periods})
 
 
-def links(count, rng, volume):
-    blocks = list(market(count, rng, volume))
+def links(day, count, volume):
+    blocks = list(market(day, count, volume))
     for number, block in enumerate(blocks):
         block.side = "sell"
         if number % 6:
@@ -111,25 +119,16 @@ def links(count, rng, volume):
     return blocks
 
 
-def groups(count, rng, volume):
-    blocks = list(market(count, rng, 2 * volume))
+def groups(day, count, volume):
+    blocks = list(market(day, count, 2 * volume))
     for number, block in enumerate(blocks):
         block.group = f"GROUP-{number // 3}"
     return blocks
 
 
-def ties(count, rng, volume):
+def ties(day, count, _volume):
     for _ in range(count):
-        yield Block("sell", 6_000, {period: 1 for period in span(rng, 1, 6)})
-
-
-def flat(number, _rng):
-    """Of each period, one buy and one sell that leave much of both at 6,000 cents, and small ones that never matter."""
-    period, rank = 1 + number % periods_of_day(), number // periods_of_day()
-    side = "buy" if rank % 2 == 0 else "sell"
-    if rank < 2:
-        return f"submit,ALPHA,HOUR-{number},hour,{side},6000,{period}:{50_000},,"
-    return f"submit,ALPHA,HOUR-{number},hour,{side},{1_000 if side == 'buy' else 11_000},{period}:1,,"
+        yield Block("sell", 6_000, {period: 1 for period in day.span(1, 6)})
 
 
 FAMILIES = {"market": market, "paradox": paradox, "spread": spread, "nearties": nearties, "links": links, "groups": groups, "ties": ties}
@@ -143,21 +142,20 @@ def number_of(name, word, allowed, of):
 
 
 def main():
-    global parts
     words = sys.argv[1:]
     if not 2 <= len(words) <= 4 or words[0] not in FAMILIES:
         sys.exit(__doc__)
     family, orders = words[0], number_of("HOURLY", words[1], range(MOST_HOURLY + 1), f"a number from 0 to {MOST_HOURLY}")
     count = number_of("BLOCKS", words[2], range(BLOCKS + 1), f"a number from 0 to {BLOCKS}") if len(words) > 2 else BLOCKS
     parts = number_of("PARTS", words[3], (1, 4), "1 or 4") if len(words) > 3 else 1
-    rng = random.Random(f"{SEED} {family} {orders}")
+    day = Day(parts, random.Random(f"{SEED} {family} {orders}"))
     order = flat if family == "ties" else hourly
     # a tenth of what stands on one side of a period
-    volume = max(orders * 275 // periods_of_day() // 20, 10)
-    print(f"day,{periods_of_day()},,,,,,,")
+    volume = max(orders * 275 // day.count // 20, 10)
+    print(f"day,{day.count},,,,,,,")
     for number in range(orders):
-        print(order(number, rng))
-    for number, block in enumerate(FAMILIES[family](count, rng, volume)):
+        print(order(day, number))
+    for number, block in enumerate(FAMILIES[family](day, count, volume)):
         block.name = f"BLOCK-{number}"
         print(block.record())
     print("close,,,,,,,,")

@@ -43,7 +43,8 @@ def commands(count, rng):
 def blocks(count, rng):
     for number in range(count):
         volumes = ";".join(f"{period}:{rng.randint(10_000, 99_999)}" for period in range(1, 101))
-        yield f"submit,{rng.choice(PARTICIPANTS)},BLOCK-{number},block,{rng.choice(['buy', 'sell'])},{rng.randint(10_000, 99_999)},{volumes},,"
+        who, side, price = rng.choice(PARTICIPANTS), rng.choice(["buy", "sell"]), rng.randint(10_000, 99_999)
+        yield f"submit,{who},BLOCK-{number},block,{side},{price},{volumes},,"
 
 
 def main():

@@ -46,8 +46,7 @@ def state():
 
 def about(part):
     """The opening text of the part's script."""
-    script = f"{part}.py" if os.path.exists(f"{part}.py") else part
-    with open(script, encoding="utf-8") as text:
+    with open(f"{part}.py", encoding="utf-8") as text:
         return ast.get_docstring(ast.parse(text.read()))
 
 

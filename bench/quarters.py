@@ -6,20 +6,17 @@ With 500 orders there is no target: there are about five of them in each of 96 p
 quarter-hours costs."""
 
 import make_family
-from figures import BASELINE, DAM, by_turns, line, ratio, run
+from figures import BASELINE, DAM, by_turns, line, ratio, write
 
 # How many hourly orders, and how many times as long as 24 periods 96 may take at most.
 ORDERS = {"500": None, "4000": 4.5}
 # Of its books every selection is visited, which takes too long to be run in turns.
 LONG = "ties"
-JOURNAL = "out/blocks.csv"
 
 
 def clearing(family, orders, parts):
     """`dam clear` of a family's book whose hours have that many periods."""
-    path = f"out/{family}-{orders}-{parts}.csv"
-    with open(path, "wb") as made:
-        made.write(run(["./make_family.py", family, orders, "24", parts]).text)
+    path = write(f"out/{family}-{orders}-{parts}.csv", "./make_family.py", family, orders, "24", parts)
     return ["sh", "-c", 'exec "$0" clear < "$1"', DAM, path]
 
 
@@ -35,9 +32,8 @@ def families():
 
 
 def longest_journal():
-    with open(JOURNAL, "wb") as made:
-        made.write(run(["./make_journal.py", "blocks"]).text)
-    runs = by_turns({"dam": [DAM, "replay"], "plain": [BASELINE]}, JOURNAL, most=15)
+    journal = write("out/blocks.csv", "./make_journal.py", "blocks")
+    runs = by_turns({"dam": [DAM, "replay"], "plain": [BASELINE]}, journal, most=15)
     if {each.text for each in runs["dam"]} != {each.text for each in runs["plain"]}:
         line("dam replay of 10,000 blocks in 100 periods", "differs", "as the baseline", False)
     what = "dam replay of 10,000 blocks in 100 periods compared with the baseline, processor time"

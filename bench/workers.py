@@ -10,7 +10,7 @@ stack, and with that the time of the same walk varies by half; so each turn has 
 import statistics
 
 import make_family
-from figures import LIMIT, MEASURES, by_turns, line, ratio, run, seconds
+from figures import LIMIT, MEASURES, by_turns, line, ratio, seconds, write
 
 CUT = "8"
 DEFAULT, ONE = ("2", "3"), ("1", "0")
@@ -20,10 +20,7 @@ ORDERS = ("500", "4000")
 
 
 def make(family, orders, blocks="24"):
-    path = f"out/{family}-{orders}-{blocks}.csv"
-    with open(path, "wb") as made:
-        made.write(run(["./make_family.py", family, orders, blocks]).text)
-    return path
+    return write(f"out/{family}-{orders}-{blocks}.csv", "./make_family.py", family, orders, blocks)
 
 
 def searched(plans, book, most):

@@ -4,42 +4,49 @@ import functools
 import os
 import select
 import subprocess
-from typing import NamedTuple
+import sys
+from pathlib import Path
 
+if sys.version_info < (3, 10):
+    sys.exit("fuzz: it needs Python 3.10 or newer")
+sys.path.insert(0, str(Path(__file__).resolve().parents[1]))
+
+from shared.printed import Printed, wrong_of_journal
 from lib import best, book, check, journal, results, rules, selection
 
 # A program that tries all selections takes twice the time with each block.
 MOST_BLOCKS = 10
-# How long the program may take to answer, in seconds.
-wait = 60.0
-# A program that says what is right, in place of the rules.
-other = None
+SECONDS = 60.0  # that a program may take to answer, if nothing else is said
 COMMAND_LINE = 2  # the program's status
 ENDED = -1  # that of a program which took too long
 LATE = "no answer in time"
 
 
-class Printed(NamedTuple):
-    status: int
-    stdout: bytes
-    stderr: bytes
+class Program:
+    """A program, and how many seconds it may take to answer."""
 
+    def __init__(self, path, seconds=SECONDS):
+        self.path, self.seconds = path, seconds
 
-def printed(program, words, data):
-    """What the program prints for an input. Its streams are files in memory: pipes would have to be served while it runs, which takes
-    longer than most runs."""
-    with in_memory(data) as stdin, in_memory() as stdout, in_memory() as stderr:
-        ran = subprocess.Popen([program, *words], stdin=stdin, stdout=stdout, stderr=stderr, close_fds=False)
-        try:
-            wait_for(ran)
-        finally:
-            status = ran.poll()
+    def printed(self, words, data):
+        """What it prints for an input. Its streams are files in memory: pipes would have to be served while it runs, which takes longer
+        than most runs."""
+        with in_memory(data) as stdin, in_memory() as stdout, in_memory() as stderr:
+            ran = subprocess.Popen([self.path, *words], stdin=stdin, stdout=stdout, stderr=stderr, close_fds=False)
+            try:
+                wait_for(ran, self.seconds)
+            finally:
+                status = ran.poll()
+                if status is None:
+                    ran.kill()
+                    ran.wait()
             if status is None:
-                ran.kill()
-                ran.wait()
-        if status is None:
-            return Printed(ENDED, b"", f"{LATE}\n".encode())
-        return Printed(status, contents(stdout), contents(stderr))
+                return Printed(ENDED, b"", f"{LATE}\n".encode())
+            return Printed(status, contents(stdout), contents(stderr))
+
+    def takes(self, words):
+        """Whether it has such a command: it then finds a fault in the empty input, and none in the command line."""
+        return self.printed(words, b"").status != COMMAND_LINE
 
 
 def in_memory(data=b""):
@@ -55,20 +62,15 @@ def contents(file):
     return file.read()
 
 
-def wait_for(ran):
-    """Waits until a process has ended, for at most `wait` seconds."""
+def wait_for(ran, seconds):
+    """Waits until a process has ended, for at most so many seconds."""
     process = os.pidfd_open(ran.pid)
     try:
         poll = select.poll()
         poll.register(process, select.POLLIN)
-        poll.poll(wait * 1_000)
+        poll.poll(seconds * 1_000)
     finally:
         os.close(process)
-
-
-def takes(program, words):
-    """Whether the program has such a command: it then finds a fault in the empty input, and none in the command line."""
-    return printed(program, words, b"").status != COMMAND_LINE
 
 
 def refused(line):
@@ -84,11 +86,11 @@ def reading(data):
         return fault
 
 
-def right_answer(command, words, data):
-    """What a command must print for an input, by the other program or by the rules; None if that takes too long."""
-    if other is None:
+def right_answer(command, words, data, like=None):
+    """What a command must print for an input, by another program or else by the rules; None if that takes too long."""
+    if like is None:
         return wanted(command, data)
-    answer = printed(other, [command, *words], data)
+    answer = like.printed([command, *words], data)
     return None if answer.status == ENDED else answer
 
 
@@ -150,47 +152,29 @@ def day_differences(data, got):
     if got.status or got.stderr or texts is None:
         return ["there is no text of a day"]
     written, published = texts
-    try:
-        run = journal.read_journal(written)
-    except journal.Fault as found:
-        return [f"its journal is none: {found}"]
-    wrong = []
-    if journal.journal_text(run).encode() != written:
-        wrong.append("its journal isn't in the written form")
-    if run.periods != given.periods or by_participant(run.commands[:-1]) != by_participant(given.commands):
-        wrong.append("its journal doesn't have each participant's commands in their order")
-    if not run.commands or run.commands[-1] != journal.Close():
-        return [*wrong, "its journal doesn't end with the close"]
-    right = wanted_results(run)
+    wrong, run = wrong_of_journal(given, written)
+    right = run and wanted_results(run)
     if right is not None and published != right.stdout:
         wrong.append("its results aren't those of its journal")
     return wrong
 
 
-def by_participant(commands):
-    lists = {}
-    for command in commands:
-        lists.setdefault(getattr(command, "who", None), []).append(command)
-    return lists
-
-
-def differences(program, command, words, data):
-    """What is wrong with what a command prints for an input: nothing if all is right, only LATE if it took too long. A failure of the
-    tool is a difference too."""
+def differences(program, command, words, data, like=None):
+    """What is wrong with what a command prints for an input, by another program or else by the rules: nothing if all is right, only LATE
+    if it took too long. A failure of the tool is a difference too."""
     try:
-        return found_differences(program, command, words, data)
+        return found_differences(program, command, words, data, like)
     except Exception as fault:
         return [f"the tool fails: {fault!r}"]
 
 
-def found_differences(program, command, words, data):
+def found_differences(program, command, words, data, like):
     if command == "day":
-        got = printed(program, [command, *words], data)
-        return day_differences(data, got)
-    right = right_answer(command, words, data)
+        return day_differences(data, program.printed([command, *words], data))
+    right = right_answer(command, words, data, like)
     if right is None:
         return []
-    got = printed(program, [command, *words], data)
+    got = program.printed([command, *words], data)
     if got.status == ENDED:
         return [LATE]
     return [f"{part} differs" for part, one, other in zip(Printed._fields, right, got) if one != other]

@@ -4,7 +4,8 @@ changed nothing."""
 from pathlib import Path
 
 import judge
-from preload import EVERY, Printed, Program, Refusal
+from preload import EVERY, Program, Refusal
+from shared.printed import Printed
 
 REFUSALS = Path(__file__).resolve().parents[2] / "crates/dam_refusals/out/dam_refusals"
 # What is printed if memory is refused before the first call at the gate: to the input, or to the keeper.

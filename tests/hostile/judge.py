@@ -1,14 +1,10 @@
 """What a run with calls refused may print: what the same run prints with none refused, or the fault's line and status."""
 
 import re
-import sys
 import threading
-from pathlib import Path
 
-from preload import Printed, Refusal
-
-sys.path.insert(0, str(Path(__file__).resolve().parents[2] / "tools"))
-
+from preload import Refusal
+from shared.printed import Printed, wrong_of_journal
 from lib import journal, results
 
 NOTHING_REFUSED = Refusal("memory")
@@ -44,25 +40,9 @@ class Answer:
         if parted is None:
             return False
         written, published = parted
-        try:
-            given, run = journal.read_journal(self.data), journal.read_journal(written)
-        except journal.Fault:
-            return False
-        *commands, last = run.commands or [None]
+        wrong, _ = wrong_of_journal(journal.read_journal(self.data), written)
         cleared, _ = self.program.run(["clear"], written, NOTHING_REFUSED)
-        return (
-            last == journal.Close()
-            and run.periods == given.periods
-            and by_participant(commands) == by_participant(given.commands)
-            and cleared == Printed(0, published, b"")
-        )
-
-
-def by_participant(commands):
-    lists = {}
-    for command in commands:
-        lists.setdefault(command.who, []).append(command)
-    return lists
+        return not wrong and cleared == Printed(0, published, b"")
 
 
 def memory(answer, refusal, got, calls):

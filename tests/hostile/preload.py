@@ -2,19 +2,18 @@
 
 import hashlib
 import subprocess
+import sys
 import threading
 from pathlib import Path
 from typing import NamedTuple
 
+sys.path.insert(0, str(Path(__file__).resolve().parents[1]))
+
+from shared.printed import Printed
+
 SECONDS = 120
 EVERY = 2**63  # above the number of any call
 NONE = -1
-
-
-class Printed(NamedTuple):
-    status: int
-    stdout: bytes
-    stderr: bytes
 
 
 class Refusal(NamedTuple):

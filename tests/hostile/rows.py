@@ -16,7 +16,9 @@ import cancels
 import colliding
 import gates
 import judge
-from preload import EVERY, SECONDS, Printed, Program, Refusal
+from preload import EVERY, SECONDS, Program, Refusal
+from shared.counts import Counts
+from shared.printed import Printed
 
 EXAMPLES = Path(__file__).resolve().parents[2] / "examples"
 SHOWN = 10  # differences of a row
@@ -141,15 +143,15 @@ def end_of_input(answer, refusal, got, calls):
     return answer.of_front(refusal.moved_before(len(answer.data))).is_given(got)
 
 
-class Runs:
+class Runs(Counts):
     """The runs of rows, side by side, and how many were right."""
 
     def __init__(self, program, whole):
+        super().__init__()
         self.program = program
         self.whole = whole
         self.pool = ThreadPoolExecutor(os.cpu_count() or 1)
         self.answers = {}
-        self.passed = self.failed = 0
         self.tried = self.calls = 0  # the calls that were refused, and all that could be
 
     def answer(self, words, data):
@@ -198,12 +200,6 @@ class Runs:
             self.run(row)
         took, runs = time.monotonic() - begun, f"{self.tried - tried} of {self.calls - calls} runs"
         print(f"{about}: {runs}, {self.passed - passed} right, {self.failed - failed} wrong, {took:.1f} s", flush=True)
-
-    def check(self, about, is_right):
-        self.passed += is_right
-        self.failed += not is_right
-        if not is_right:
-            print(f"differs: {about}", flush=True)
 
 
 class Answer(judge.Answer):
@@ -266,15 +262,12 @@ def main():
     devices(runs)
     gates.run(runs, room, OPEN_AUCTION)
     seeds(runs)
-    skipped = 0
     if shutil.which("valgrind"):
         colliding.run(runs)
         cancels.run(runs)
     else:
-        print("left out: names that collide, and many cancels: valgrind, which counts instructions, is missing")
-        skipped = 2
-    print(f"{runs.passed} passed, {runs.failed} failed" + f", {skipped} skipped" * skipped)
-    return 1 if runs.failed else 0
+        runs.leave_out("names that collide, and many cancels: valgrind, which counts instructions, is missing", 2)
+    return runs.end()
 
 
 sys.exit(main())

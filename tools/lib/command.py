@@ -78,6 +78,11 @@ class Parser(argparse.ArgumentParser):
         form = argparse.RawDescriptionHelpFormatter
         super().__init__(prog=prog, description=description, epilog=epilog, formatter_class=form, allow_abbrev=False)
 
+    def add_day(self):
+        """The files of a day."""
+        self.add_argument("journal", metavar="JOURNAL", help="a journal, or the text of `dam day`; - for standard input")
+        self.add_argument("results", metavar="RESULTS", nargs="?", help="the results of that journal; none for a day's text")
+
     def print_help(self, file=None):
         write_output(self.format_help().encode())
 

@@ -19,7 +19,7 @@ from concurrent.futures import ThreadPoolExecutor
 import numpy
 
 from . import rules, selection
-from .best import Found, tried
+from .best import Curve, Found, tried
 
 LOW_BITS = 14
 # The welfare of a period that doesn't balance. It is so low that a sum with it is under every welfare, and 100 of it are a number.
@@ -41,16 +41,8 @@ class Period:
 
     def __init__(self, orders, takes, low_bits):
         """`takes` has the tenths that each block takes, if it is accepted; a sell's are under 0."""
-        merged = {}
-        for _, limit, volume in orders:
-            merged[limit] = merged.get(limit, 0) + volume
-        self.limits = sorted(merged)
-        self.volumes = [merged[limit] for limit in self.limits]
-        self.ends = [0]
-        for volume in self.volumes:
-            self.ends.append(self.ends[-1] + volume)
-        self.buys = sum(volume for side, _, volume in orders if side == "buy")
-        self.value = sum(limit * volume for side, limit, volume in orders if side == "buy")
+        self.curve = Curve(orders)
+        self.limits, self.ends, self.buys = self.curve.limits, self.curve.ends, self.curve.most
         # What the blocks of high bits take, and those of low bits.
         high_bits = len(takes) - low_bits
         self.high, self.low = subset_sums(takes[:high_bits]), subset_sums(takes[high_bits:])
@@ -61,16 +53,11 @@ class Period:
         self.lock = threading.Lock()
         self.coded = None
 
-    def worth(self, taken):
-        """The welfare of the hourly orders, which balance."""
-        steps = zip(self.limits, self.ends, self.volumes)
-        return self.value - sum(limit * max(0, min(taken - end, volume)) for limit, end, volume in steps)
-
     def worths(self):
         """The welfare by what is taken, from `least` to `most`."""
         table = numpy.full(self.most - self.least + 1, NEVER, dtype=numpy.int64)
         balanced = table[self.first - self.least : self.last - self.least + 1]
-        balanced[0] = self.worth(self.first)
+        balanced[0] = self.curve.welfare(self.buys - self.first)
         # What each further tenth adds.
         counts = numpy.diff(numpy.clip(self.ends, self.first, self.last))
         balanced[1:] = numpy.repeat(-numpy.array(self.limits, dtype=numpy.int64), counts)

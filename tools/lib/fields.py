@@ -53,8 +53,8 @@ def read_name(allowed, reader):
     return read
 
 
-read_participant = read_name("1 to 8 capitals A to Z", text.participant)
-read_order = read_name("1 to 12 of A to Z, 0 to 9 and -", text.name)
+read_participant = read_name(f"1 to {rules.LONGEST_PARTICIPANT} capitals A to Z", text.participant)
+read_order = read_name(text.A_NAME, text.name)
 
 
 def read_price(found):

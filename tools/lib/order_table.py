@@ -132,13 +132,13 @@ def read_word(*words):
 
 def read_participant(cell):
     if not cell.isascii() or text.participant(cell.encode()) is None:
-        raise Wrong(f"'{cell}' should be 1 to 8 letters A to Z")
+        raise Wrong(f"'{cell}' should be {text.A_PARTICIPANT}")
     return cell
 
 
 def read_name(cell):
     if not cell.isascii() or text.name(cell.encode()) is None:
-        raise Wrong(f"'{cell}' should be 1 to 12 of A to Z, 0 to 9 and -")
+        raise Wrong(f"'{cell}' should be {text.A_NAME}")
     return cell
 
 

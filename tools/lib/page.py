@@ -9,7 +9,7 @@ from typing import NamedTuple
 import jinja2
 from markupsafe import Markup, escape
 
-from . import clock, decisions, pictures, published, spans, tables, text, trades
+from . import clock, decisions, pictures, published, spans, text, trades
 from .journal import command_line
 
 # The pictures' colours and the page's own, by light and dark.
@@ -102,14 +102,6 @@ def drawn(draw, name, words):
     return Picture(words, broad, narrow)
 
 
-def price(cents):
-    return text.shown(Fraction(cents, 100), 2)
-
-
-def volume(tenths):
-    return text.shown(Fraction(tenths, 10), 1)
-
-
 def energy(day, tenths):
     return text.shown(Fraction(tenths) * day.problem.hours / 10, 1 if day.problem.hours == 1 else 2)
 
@@ -134,7 +126,7 @@ def figures(day, found):
     prices = published.mean_prices(day)
     for name, words in names.items():
         if prices[name] is not None:
-            yield words, price(prices[name]), "EUR/MWh"
+            yield words, text.shown_price(prices[name]), "EUR/MWh"
     for kind in MARKS if kinds else ():
         yield f"blocks {kind}", kinds.count(kind), f"of {len(kinds)}"
 
@@ -143,16 +135,17 @@ def supporting(found):
     """The supporting prices of a period in words."""
     if found is None:
         return "none"
-    return price(found.low) if found.low == found.high else f"{price(found.low)} to {price(found.high)}"
+    low, high = text.shown_price(found.low), text.shown_price(found.high)
+    return low if low == high else f"{low} to {high}"
 
 
 def period_table(day):
-    rows, shares = [], tables.shares(day)
+    rows, shares = [], trades.shares(day)
     for number, found in day.outcome.cleared.items():
-        parts = map(volume, shares[number].values())
+        parts = map(text.shown_volume, shares[number].values())
         begins = clock.begins(day.problem.periods, number)
-        cents = price(day.said.prices[number - 1]) if trades.is_traded(day, number) else "no trade"
-        rows.append([number, begins, cents, supporting(found), volume(day.said.volumes[number - 1]), *parts])
+        cents = text.shown_price(day.said.prices[number - 1]) if trades.is_traded(day, number) else "no trade"
+        rows.append([number, begins, cents, supporting(found), text.shown_volume(day.said.volumes[number - 1]), *parts])
     words = ["hourly buys, MW", "block buys, MW", "hourly sells, MW", "block sells, MW"]
     columns = heads("#period", "#begins", "price, EUR/MWh", "#supporting prices", "volume, MW", *words)
     return Table("The price of each period, the prices that support it, and what is bought and sold", columns, rows)
@@ -169,16 +162,11 @@ def block_table(day, found):
         mark = Markup('<span class="mark {}"></span>{}').format(MARKS[decision.kind], decision.kind)
         total = energy(day, sum(tenths for _, tenths in order.volumes))
         links = [f"{word} {name}" for word, name in (("parent", order.parent), ("group", order.group)) if name]
-        row = [f"{block.who} {block.name}", order.side, price(order.price), periods_of(order), total, ", ".join(links)]
+        row = [f"{block.who} {block.name}", order.side, text.shown_price(order.price), periods_of(order), total, ", ".join(links)]
         rows.append([*row, mark, euros(day, surplus), decision.why])
     columns = heads("block", "side", "limit, EUR/MWh", "periods", "offered, MWh", "linked by", "decision", "surplus, EUR")
     caption = "Each block, its surplus at the prices, and the reason; for a rejected block, with the best family that it belongs to"
     return Table(caption, [*columns, Head("what decided", "why")], rows)
-
-
-def how(order, tenths):
-    """How far an hourly order is executed."""
-    return "in full" if tenths == order.volumes[0][1] else "in part" if tenths else "not"
 
 
 def order_row(day, row, made, found):
@@ -186,10 +174,10 @@ def order_row(day, row, made, found):
     order = row.order
     done = sum(trade.volume for trade in made)
     offered = sum(tenths for _, tenths in order.volumes)
-    outcome = how(order, done) if order.kind == "hour" else found[row.who, row.name].kind
+    outcome = trades.how_far(order, done) if order.kind == "hour" else found[row.who, row.name].kind
     amount = euros(day, sum(trade.amount() for trade in made))
     energies = energy(day, offered), energy(day, done)
-    return [row.name, order.kind, order.side, price(order.price), periods_of(order), *energies, outcome, amount]
+    return [row.name, order.kind, order.side, text.shown_price(order.price), periods_of(order), *energies, outcome, amount]
 
 
 def total_row(day, who, count, total):
@@ -233,9 +221,9 @@ def prices_words(day):
         return "Price and volume of each period: nothing is traded."
     prices = {day.said.prices[number - 1] for number in traded}
     if len(prices) == 1:
-        return f"Price and volume of each period. The price of all that are traded is {price(*prices)} EUR/MWh."
+        return f"Price and volume of each period. The price of all that are traded is {text.shown_price(*prices)} EUR/MWh."
     least, most = (of(traded, key=lambda number: day.said.prices[number - 1]) for of in (min, max))
-    ends = [f"{price(day.said.prices[number - 1])} EUR/MWh in period {number}" for number in (least, most)]
+    ends = [f"{text.shown_price(day.said.prices[number - 1])} EUR/MWh in period {number}" for number in (least, most)]
     return f"Price and volume of each period. The price goes from {ends[0]} to {ends[1]}."
 
 
@@ -244,7 +232,7 @@ def curve_words(day, number):
     if not trades.is_traded(day, number):
         return f"{words}: nothing is traded."
     said = day.said
-    return f"{words}: {volume(said.volumes[number - 1])} MW are traded at {price(said.prices[number - 1])} EUR/MWh."
+    return f"{words}: {text.shown_volume(said.volumes[number - 1])} MW are traded at {text.shown_price(said.prices[number - 1])} EUR/MWh."
 
 
 def block_words(found):
@@ -260,7 +248,7 @@ def curve(day, number, folded):
         return picture
     said, words = day.said, "no trade"
     if trades.is_traded(day, number):
-        words = f"{price(said.prices[number - 1])} EUR/MWh, {volume(said.volumes[number - 1])} MW"
+        words = f"{text.shown_price(said.prices[number - 1])} EUR/MWh, {text.shown_volume(said.volumes[number - 1])} MW"
     summary = Markup('<b>Period {}</b> {}: <span class="soft">{}</span>')
     return picture._replace(summary=summary.format(number, clock.span(day.problem.periods, number), words))
 

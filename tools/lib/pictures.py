@@ -5,7 +5,6 @@ they are for, so that a page can replace them by its own."""
 
 import io
 import math
-from fractions import Fraction
 
 import matplotlib
 
@@ -14,7 +13,7 @@ matplotlib.use("Agg")
 from matplotlib import pyplot
 from matplotlib.patches import Patch, Polygon, Rectangle
 
-from . import clock, decisions, selection, spans, tables, text, trades
+from . import clock, decisions, selection, spans, text, trades
 
 # No two are equal, so that each can be found in the text of a picture.
 COLOURS = {
@@ -66,14 +65,6 @@ def eur(cents):
 
 def mw(tenths):
     return tenths / 10
-
-
-def prices_text(cents):
-    return text.shown(Fraction(cents, 100), 2)
-
-
-def volume_text(tenths):
-    return text.shown(Fraction(tenths, 10), 1)
 
 
 def is_narrow(axes):
@@ -210,7 +201,7 @@ def price_bounds(prices, ends):
 
 def shares(day, side):
     """What a side trades in each period, in MW: by hourly orders, and by accepted blocks."""
-    found = tables.shares(day).values()
+    found = trades.shares(day).values()
     return [[mw(parts[kind, side]) for parts in found] for kind in ("hour", "block")]
 
 
@@ -351,8 +342,8 @@ def label_block(axes, row, block, surplus):
     """A block's name left of its row, under it the side, the greatest volume and the limit price, and right of it its surplus. If the
     figure is narrow, all stand over the row."""
     volumes = {volume for _, volume in block.order.volumes}
-    most = ("" if len(volumes) == 1 else "up to ") + volume_text(max(volumes)).removesuffix(".0")
-    words, name = f"{block.order.side} {most} MW at {prices_text(block.order.price)} EUR/MWh", f"{block.who} {block.name}"
+    most = ("" if len(volumes) == 1 else "up to ") + text.shown_volume(max(volumes)).removesuffix(".0")
+    words, name = f"{block.order.side} {most} MW at {text.shown_price(block.order.price)} EUR/MWh", f"{block.who} {block.name}"
     place = {"transform": axes.get_yaxis_transform(), "fontsize": 7}
     if is_narrow(axes):
         place["fontsize"] = 6.5
@@ -423,8 +414,8 @@ def draw_clearing(axes, day, number, net):
     """The price, and the point on the curves at which the hourly buys end that are executed."""
     price, buys = day.said.prices[number - 1], executed_buys(day, number)
     axes.axhline(eur(price), color=COLOURS["soft"], linewidth=1, linestyle=":")
-    axes.text(1.006, eur(price), f"{prices_text(price)}\nEUR/MWh", transform=axes.get_yaxis_transform(), va="center")
-    words = f"{volume_text(buys)} MW of hourly buys are executed"
+    axes.text(1.006, eur(price), f"{text.shown_price(price)}\nEUR/MWh", transform=axes.get_yaxis_transform(), va="center")
+    words = f"{text.shown_volume(buys)} MW of hourly buys are executed"
     ring = {"marker": "o", "markersize": 7, "markerfacecolor": COLOURS["paper"], "linestyle": "none"}
     axes.plot([mw(buys + max(-net, 0))], [eur(price)], color=COLOURS["ink"], label=words, **ring)
 
@@ -434,7 +425,7 @@ def draw_net(axes, net, bottom, top):
     over all demand."""
     height = 0.05 * (top - bottom)
     low = bottom if net > 0 else top - height
-    words = f"accepted blocks {'sell' if net > 0 else 'buy'} {volume_text(abs(net))} MW net"
+    words = f"accepted blocks {'sell' if net > 0 else 'buy'} {text.shown_volume(abs(net))} MW net"
     look = {"facecolor": COLOURS["rejected"], "edgecolor": COLOURS["ink"], "linewidth": 0.7, "hatch": "////"}
     axes.add_patch(Rectangle((0, low), mw(abs(net)), height, label=words, **look))
 

@@ -1,5 +1,5 @@
-"""The numbers of the market and of its formats. A later rule changes them here, and what an accepted block answers for in
-`rescuers` below; no other module knows them."""
+"""The limits of the market and of its formats, which blocks make up for a loss of another, and which price a period has. A later rule
+changes them here, and the other modules take them from here."""
 
 from fractions import Fraction
 
@@ -11,6 +11,7 @@ GREATEST_PERIOD = max(DAYS)
 
 LEAST_PRICE, GREATEST_PRICE = -50_000, 400_000  # cents per MWh
 GREATEST_VOLUME = 99_999  # tenths of a MW, of one order in one period
+LONGEST_PARTICIPANT, LONGEST_NAME = 8, 12  # characters
 
 MOST_HOURLY, MOST_BLOCKS = 4_000, 24  # orders in a book
 MOST_BYTES, MOST_RECORDS = 16_777_216, 10_001  # of a journal

@@ -28,22 +28,10 @@ def energy(day, tenths):
     return text.energy(tenths, day.problem.hours, thousands="")
 
 
-def shares(day):
-    """What is bought and sold in each period, by hourly orders and by blocks."""
-    found = {number: dict.fromkeys(SHARES, 0) for number in day.problem.orders}
-    for row, made in trades.row_trades(day):
-        for trade in made:
-            found[trade.period][row.order.kind, trade.side] += trade.volume
-    return found
-
-
-SHARES = [(kind, side) for side in ("buy", "sell") for kind in ("hour", "block")]
-
-
 def periods(day):
     heads = ["period", "hours", "price_eur_mwh", "volume_mw", "traded", "low_eur_mwh", "high_eur_mwh"]
-    yield heads + [f"{'hourly' if kind == 'hour' else kind}_{side}s_mw" for kind, side in SHARES]
-    for number, parts in shares(day).items():
+    yield heads + [f"{'hourly' if kind == 'hour' else kind}_{side}s_mw" for kind, side in trades.SHARES]
+    for number, parts in trades.shares(day).items():
         found = day.outcome.cleared[number]
         ends = ["", ""] if found is None else [text.cents(found.low), text.cents(found.high)]
         price_and_volume = [text.cents(day.said.prices[number - 1]), text.tenths(day.said.volumes[number - 1])]
@@ -66,8 +54,7 @@ def outcomes(day):
     executed = iter(day.said.executed)
     for row in day.problem.rows:
         if row.order.kind == "hour":
-            tenths = next(executed)
-            yield "in full" if tenths == row.order.volumes[0][1] else "in part" if tenths else "not", ""
+            yield trades.how_far(row.order, next(executed)), ""
         else:
             decision, surplus = next(found)
             yield decision.kind, euros(day, surplus)

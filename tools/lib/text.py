@@ -21,8 +21,11 @@ def field_of(comma):
 
 # No number of a journal or of results has more digits than 18.
 NUMBER = re.compile(rb"-?[1-9][0-9]{0,17}|0")
-PARTICIPANT = re.compile(rb"[A-Z]{1,8}")
-NAME = re.compile(rb"[A-Z0-9-]{1,12}")
+PARTICIPANT = re.compile(rb"[A-Z]{1,%d}" % rules.LONGEST_PARTICIPANT)
+NAME = re.compile(rb"[A-Z0-9-]{1,%d}" % rules.LONGEST_NAME)
+# What they are, in messages.
+A_PARTICIPANT = f"1 to {rules.LONGEST_PARTICIPANT} letters A to Z"
+A_NAME = f"1 to {rules.LONGEST_NAME} of A to Z, 0 to 9 and -"
 
 
 def records(text):
@@ -132,6 +135,16 @@ def shown(value, digits, thousands=NARROW):
     if value and not scaled:
         return shown(value, digits + 1, thousands)
     return fixed(Fraction(scaled if value > 0 else -scaled, 10**digits), digits, thousands)
+
+
+def shown_price(cents):
+    """A price for readers: in EUR/MWh with two digits."""
+    return shown(Fraction(cents, 100), 2)
+
+
+def shown_volume(tenths):
+    """A volume for readers: in MW with one digit."""
+    return shown(Fraction(tenths, 10), 1)
 
 
 def amount(value, hours, thousands=NARROW):

@@ -3,6 +3,9 @@
 from typing import NamedTuple
 
 
+SHARES = [(kind, side) for side in ("buy", "sell") for kind in ("hour", "block")]
+
+
 class Trade(NamedTuple):
     """An executed volume of an order in a period."""
 
@@ -52,6 +55,20 @@ def row_trades(day):
             for number, volume in volumes
             if volume
         ]
+
+
+def how_far(order, executed):
+    """How far an hourly order is executed, in words."""
+    return "in full" if executed == order.volumes[0][1] else "in part" if executed else "not"
+
+
+def shares(day):
+    """What is bought and sold in each period, by hourly orders and by blocks: tenths of a MW by `SHARES`."""
+    found = {number: dict.fromkeys(SHARES, 0) for number in day.problem.orders}
+    for row, made in row_trades(day):
+        for trade in made:
+            found[trade.period][row.order.kind, trade.side] += trade.volume
+    return found
 
 
 def totals(day):

@@ -11,12 +11,13 @@ sys.dont_write_bytecode = True
 import support  # noqa: F401 (it makes lib and the fuzzer's modules found)
 
 import compare
+from shared.printed import Printed, by_participant
 from lib import book, journal, results, selection
 
 
 def shuffled(commands):
     """The participants' commands in some order that keeps each one's own."""
-    lists, rng = list(compare.by_participant(commands).values()), random.Random(1)
+    lists, rng = list(by_participant(commands).values()), random.Random(1)
     while any(lists):
         yield rng.choice([own for own in lists if own]).pop(0)
 
@@ -31,7 +32,7 @@ def day(data):
         return compare.refused(fault)
     run = journal.Journal(given.periods, [*shuffled(given.commands), journal.Close()])
     text = journal.journal_text(run).encode() + b"results\n"
-    return compare.Printed(0, text + compare.wanted_results(run).stdout, b"")
+    return Printed(0, text + compare.wanted_results(run).stdout, b"")
 
 
 def lower(data):

@@ -4,9 +4,9 @@ import importlib.machinery
 import importlib.util
 import re
 import unittest
-from pathlib import Path
 
-TOP = Path(__file__).resolve().parents[2]
+from support import TOP
+
 PAGE = TOP / "docs" / "DEFINITIONS.md"
 FUNCTION = re.compile(r'^( *)pub (?:const )?(?:extern "C" )?fn (\w+)\b.*?^\1\{', re.M | re.S)
 CLAUSE = re.compile(r"^ +(?:requires|ensures)\b", re.M)

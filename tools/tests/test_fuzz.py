@@ -74,7 +74,7 @@ class Fuzz(unittest.TestCase):
 class Selections(unittest.TestCase):
     def selections(self, *words, defect=""):
         with tempfile.TemporaryDirectory() as folder:
-            run = [sys.executable, support.TOP / "tests" / "fuzz" / "selections", fake_program(folder, "dam"), "--blocks", "7", *words]
+            run = [sys.executable, support.TOP / "tests" / "fuzz" / "selections.py", fake_program(folder, "dam"), "--blocks", "7", *words]
             ran = subprocess.run(run, capture_output=True, text=True, env={**os.environ, "DAM_DEFECT": defect})
             return ran.returncode, ran.stdout + ran.stderr
 

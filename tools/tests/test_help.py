@@ -12,7 +12,7 @@ from support import AUCTION, TOP, tool
 
 from lib import command
 
-TOOLS = {"table": [], "lint": [], "plot": ["matplotlib"], "report": ["matplotlib", "jinja2"]}
+TOOLS = {"table": [], "lint": [], "plot": ["matplotlib"], "report": ["matplotlib", "jinja2"], "reading-list": []}
 EXAMPLE = re.compile(r"^  (\S*(?:tools/|dam ).*)$", re.MULTILINE)
 
 

@@ -8,7 +8,7 @@ from pathlib import Path
 import support
 from support import AUCTION, FIRST, QUARTERS, day_of, journal_of, results_of, tool
 
-from lib import command, tables
+from lib import command, trades
 
 PICTURES = ["day", "prices", "blocks"]
 
@@ -106,7 +106,7 @@ class Pictures(unittest.TestCase):
 
         for case in (AUCTION, QUARTERS):
             day = day_of(case.read_bytes(), support.printed(case))
-            bars = sum(volume > 0 for parts in tables.shares(day).values() for volume in parts.values())
+            bars = sum(volume > 0 for parts in trades.shares(day).values() for volume in parts.values())
             bars *= day.problem.periods == 24
             self.assertEqual(len(pictures.prices_picture(day).axes[1].patches), bars)
             # Of each block one outline, since its periods follow one another.

@@ -1,10 +1,14 @@
 """The reading list: that the page has the list of this repository, and which names are followed."""
 
+import subprocess
+import sys
 import tempfile
 import unittest
 from pathlib import Path
 
-from support import tool
+from support import TOOLS, tool
+
+from lib import command
 
 CRATES = "upper: lower\nlower:\ndam_engines: upper lower\ndam_gate: lower\ndam_c: dam_engines\n"
 LIB = {"lower": ["Limits", "Sizes", "Unused"], "upper": ["Rule"], "dam_engines": ["Engine"]}
@@ -145,6 +149,15 @@ class ReadingList(unittest.TestCase):
             status, printed, errors = tool("reading-list", "--top", folder)
             self.assertEqual((status, printed), (3, b""))
             self.assertIn("lower/specs/Limits.antt has no definition most", errors)
+
+    def test_files_that_cannot_be_read_or_written(self):
+        with tempfile.TemporaryDirectory() as folder:
+            said = f"reading-list: {folder}/crates.txt can't be read: No such file or directory\n"
+            self.assertEqual(tool("reading-list", "--top", folder), (command.NO_INPUT, b"", said))
+        with open("/dev/full", "wb") as full:
+            ran = subprocess.run([sys.executable, TOOLS / "reading-list"], stdout=full, stderr=subprocess.PIPE, text=True)
+        said = "reading-list: standard output can't be written: No space left on device\n"
+        self.assertEqual((ran.returncode, ran.stderr), (command.NO_INPUT, said))
 
 
 if __name__ == "__main__":

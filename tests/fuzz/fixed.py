@@ -9,13 +9,12 @@ import sys
 from pathlib import Path
 
 sys.dont_write_bytecode = True
-if sys.version_info < (3, 10):
-    sys.exit("fuzz: it needs Python 3.10 or newer")
-TOP = Path(__file__).resolve().parents[2]
-sys.path.insert(0, str(TOP / "tools"))
 
 import compare
+from shared.counts import Counts
 from lib import rules
+
+EXAMPLES = Path(__file__).resolve().parents[2] / "examples"
 
 OPEN = b"""day,24,,,,,,,
 submit,NORD,WIND-8,hour,sell,1200,8:450,,
@@ -37,10 +36,6 @@ def quoted(text):
 
 def fronts(text):
     return [text[:count] for count in range(len(text) + 1)]
-
-
-def example(name):
-    return (TOP / "examples" / name).read_bytes()
 
 
 def long_day():
@@ -69,7 +64,7 @@ def inputs():
             yield command, [], end * rules.MOST_BYTES
             yield command, [], end * (rules.MOST_BYTES + 1)
         yield command, [], OPEN + b"\n" * (rules.MOST_BYTES - len(OPEN))
-    auction, quarters = example("auction-day.csv"), example("quarter-hours.csv")
+    auction, quarters = ((EXAMPLES / name).read_bytes() for name in ("auction-day.csv", "quarter-hours.csv"))
     for workers in range(1, 9):
         for cut in range(9):
             yield "clear", ["--workers", str(workers), "--cut", str(cut)], auction
@@ -82,17 +77,13 @@ def inputs():
 
 
 def main():
-    parser = argparse.ArgumentParser(prog="tests/fuzz/fixed", description=__doc__)
+    parser = argparse.ArgumentParser(prog="tests/fuzz/fixed.py", description=__doc__)
     parser.add_argument("program", metavar="PROGRAM", help="the built program, crates/dam_cli/out/dam_cli")
-    program = parser.parse_args().program
-    passed = failed = 0
+    program, counts = compare.Program(parser.parse_args().program), Counts()
     for command, words, text in inputs():
         wrong = compare.differences(program, command, words, text)
-        passed, failed = passed + (not wrong), failed + bool(wrong)
-        if wrong:
-            print(f"differs: {' '.join([command, *words])} of {len(text)} bytes that end with {text[-20:]!r}: {wrong[0]}")
-    print(f"{passed} passed, {failed} failed")
-    return 1 if failed else 0
+        counts.check(f"{' '.join([command, *words])} of {len(text)} bytes that end with {text[-20:]!r}: {''.join(wrong[:1])}", not wrong)
+    return counts.end()
 
 
 sys.exit(main())

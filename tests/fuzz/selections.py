@@ -15,30 +15,28 @@ import sys
 from pathlib import Path
 
 sys.dont_write_bytecode = True
-if sys.version_info < (3, 10):
-    sys.exit("fuzz: it needs Python 3.10 or newer")
-TOP = Path(__file__).resolve().parents[2]
-sys.path.insert(0, str(TOP / "tools"))
 
 import compare
 import days
+from shared.counts import Counts
 from lib import better, book, check, command, journal, results, selection
 from lib.progress import Progress
 
+MAKE_FAMILY = Path(__file__).resolve().parents[2] / "bench" / "make_family.py"
 LEAST_BLOCKS, MOST_BLOCKS = 5, 24
 FAMILIES = ["market", "paradox", "spread", "nearties", "links", "groups", "ties"]
 
 
 def arguments():
     parser = argparse.ArgumentParser(
-        prog="tests/fuzz/selections", description=__doc__, formatter_class=argparse.RawDescriptionHelpFormatter, allow_abbrev=False
+        prog="tests/fuzz/selections.py", description=__doc__, formatter_class=argparse.RawDescriptionHelpFormatter, allow_abbrev=False
     )
     parser.add_argument("program", metavar="PROGRAM", help="the built program, crates/dam_cli/out/dam_cli")
     parser.add_argument("--seed", default="1", help="of the random cases (1)")
     parser.add_argument("--first", type=int, default=1, help="the number of the first case (1)")
     parser.add_argument("--count", type=int, default=200, help="how many cases (200)")
     parser.add_argument("--blocks", type=int, help="how many blocks are submitted (any number up to 24)")
-    parser.add_argument("--wait", type=float, default=compare.wait, help="how many seconds the program may take to answer (60)")
+    parser.add_argument("--wait", type=float, default=compare.SECONDS, help="how many seconds the program may take to answer (60)")
     parser.add_argument("--families", action="store_true", help="the days of bench/make_family.py instead of random ones")
     return parser.parse_args()
 
@@ -47,7 +45,7 @@ def inputs(args):
     """The days, each with a name."""
     if args.families:
         for words in itertools.product(FAMILIES, ["500", "4000"], ["24"], ["1", "4"]):
-            made = subprocess.run([sys.executable, TOP / "bench" / "make_family.py", *words], capture_output=True, check=True)
+            made = subprocess.run([sys.executable, MAKE_FAMILY, *words], capture_output=True, check=True)
             yield f"family {' '.join(words)}", made.stdout
     else:
         for number in range(args.first, args.first + args.count):
@@ -93,7 +91,7 @@ def best_above(problem, said):
 def wrong_of(program, data):
     """What is wrong of a day, in words; and to what its results were altered, None if they couldn't be."""
     problem = selection.Problem(book.run(journal.read_journal(data))[0])
-    got = compare.printed(program, ["clear"], data)
+    got = program.printed(["clear"], data)
     if got.status:
         return f"the program ends with {got.stderr.decode().strip() or f'status {got.status}'}", None
     said, wrong = check.differences(problem, got.stdout)
@@ -120,19 +118,14 @@ def wrong_of(program, data):
 def main():
     args = arguments()
     command.need("numpy")
-    compare.wait = args.wait
-    passed = failed = 0
-    altered = {}
+    program, counts, altered = compare.Program(args.program, args.wait), Counts(), {}
     for name, data in inputs(args):
-        wrong, kind = wrong_of(args.program, data)
+        wrong, kind = wrong_of(program, data)
         altered[kind] = altered.get(kind, 0) + 1
-        passed, failed = passed + (wrong is None), failed + (wrong is not None)
-        if wrong:
-            print(f"differs: {name}: {wrong}", flush=True)
+        counts.check(f"{name}: {wrong}", wrong is None)
     for kind in sorted(kind for kind in altered if kind):
         print(f"{altered[kind]} altered to an eligible selection {kind}")
-    print(f"{passed} passed, {failed} failed")
-    return 1 if failed else 0
+    return counts.end()
 
 
 command.run("fuzz", main)

@@ -7,13 +7,13 @@ block's periods in the same order; links and groups are sets of bits in the twin
 the greatest welfare, and not for the tie rule, for which every node of `ties` has to be visited. A run ends after 60 s, and HiGHS after 20 s, or after the
 seconds of LIMIT and HIGHS_LIMIT in the environment."""
 
-# families [ORDERS [FAMILY..]]: only with this number of orders, and only these families. `bench/run families` builds what it needs.
+# families.py [ORDERS [FAMILY..]]: only with this number of orders, and only these families. `bench/run families` builds what it needs.
 
 import statistics
 import sys
 
 import make_family
-from figures import BEFORE, DAM, HIGHS_LIMIT, LIMIT, MEASURES, TWIN, at_most, by_turns, line, ratio, run, seconds
+from figures import BEFORE, DAM, HIGHS_LIMIT, LIMIT, MEASURES, TWIN, at_most, by_turns, line, ratio, run, seconds, write
 
 ORDERS = ["500", "4000"]
 # Workers, and how many of the first blocks are cut. The first is the default plan.
@@ -32,9 +32,7 @@ class Book:
     def __init__(self, family, orders):
         self.family = family
         self.name = f"{family} {orders}"
-        self.path = f"out/{family}-{orders}.csv"
-        with open(self.path, "wb") as made:
-            made.write(run(["./make_family.py", family, orders]).text)
+        self.path = write(f"out/{family}-{orders}.csv", "./make_family.py", family, orders)
 
     def clear(self, workers, cut):
         """Times `dam clear` and the twin's whole run, from process start to the last byte. Returns the seconds of `dam clear`."""

@@ -1,0 +1,6 @@
+"""What tests of the built program share. Modules that read journals and results need `lib`, of tools/, which is found from here on."""
+
+import sys
+from pathlib import Path
+
+sys.path.insert(0, str(Path(__file__).resolve().parents[2] / "tools"))

@@ -1,0 +1,36 @@
+"""What a run of the program prints."""
+
+from typing import NamedTuple
+
+from lib import journal
+
+
+class Printed(NamedTuple):
+    status: int
+    stdout: bytes
+    stderr: bytes
+
+
+def by_participant(commands):
+    """Each participant's commands, in their order."""
+    lists = {}
+    for command in commands:
+        lists.setdefault(getattr(command, "who", None), []).append(command)
+    return lists
+
+
+def wrong_of_journal(given, written):
+    """What is wrong with the journal that a day printed for the one given. Any order is right that keeps each participant's own, with the
+    close at its end. And the journal as it is read; None if it can't be."""
+    try:
+        run = journal.read_journal(written)
+    except journal.Fault as fault:
+        return [f"its journal is none: {fault}"], None
+    wrong = []
+    if journal.journal_text(run).encode() != written:
+        wrong.append("its journal isn't in the written form")
+    if run.periods != given.periods or by_participant(run.commands[:-1]) != by_participant(given.commands):
+        wrong.append("its journal doesn't have each participant's commands in their order")
+    if run.commands[-1:] != [journal.Close()]:
+        wrong.append("its journal doesn't end with the close")
+    return wrong, run
