@@ -93,7 +93,7 @@ def worked_rows_without_memory():
 def memory_rows():
     """A call for memory refused alone, and with all that come later."""
     inputs = [
-        ("clear of two blocks", ["clear"], TWO_BLOCKS + CLOSE, ANY),
+        ("clear of two blocks by eight workers", ["clear", "--workers", "8", "--cut", "8"], TWO_BLOCKS + CLOSE, ANY),
         ("day of two blocks", ["day"], TWO_BLOCKS, ANY),
         ("replay of the auction day", ["replay"], AUCTION, MANY),
         ("replay of the first day", ["replay"], FIRST, FEW),
