@@ -16,21 +16,22 @@ def told(entries, refused):
     return Printed(0, b"%d entries, %d calls refused\n" % (entries, refused), b"")
 
 
-def run(runs, room, data):
+def run(runs, room, about, data):
     """Refuses each call for memory in turn. The first ones come before the gate; the others come from calls at the gate, each of which
     is refused once and then answered."""
+    about = f"{about} at a gate"
     runs.check("dam_refusals is built", REFUSALS.exists())
     if not REFUSALS.exists():
         return
     program = Program(REFUSALS, room)
     words, entries = [], data.count(b"\n")
-    runs.check("a day at a gate, nothing refused", program.run(words, data, judge.NOTHING_REFUSED)[0] == told(entries, 0))
+    runs.check(f"{about}, nothing refused", program.run(words, data, judge.NOTHING_REFUSED)[0] == told(entries, 0))
     _, total = program.run(words, data, Refusal("memory", EVERY, EVERY))
     refusals = [Refusal("memory", number, number) for number in range(1, total + 2)]
     printed = list(runs.pool.map(lambda refusal: program.run(words, data, refusal)[0], refusals))
     before = next((at for at, got in enumerate(printed) if got not in BEFORE), len(printed))
     for number, got in enumerate(printed[before:-1], before + 1):
-        runs.check(f"a day at a gate: call {number}: {got.stdout!r}, {got.stderr[:80]!r}", got == told(entries, 1))
-    runs.check("a day at a gate, no such call", printed[-1] == told(entries, 0))
-    runs.check("a day at a gate: a call of each command is refused", total - before >= entries)
-    print(f"memory refused at a gate: {total - before} calls made again", flush=True)
+        runs.check(f"{about}: call {number}: {got.stdout!r}, {got.stderr[:80]!r}", got == told(entries, 1))
+    runs.check(f"{about}, no such call", printed[-1] == told(entries, 0))
+    runs.check(f"{about}: a call of each command is refused", total - before >= entries)
+    print(f"memory refused to {about}: {total - before} calls made again", flush=True)

@@ -20,9 +20,12 @@ from preload import EVERY, SECONDS, Program, Refusal
 from shared.counts import Counts
 from shared.printed import Printed
 
-EXAMPLES = Path(__file__).resolve().parents[2] / "examples"
+TOP = Path(__file__).resolve().parents[2]
+EXAMPLES, CASES = TOP / "examples", TOP / "tests/cases"
 SHOWN = 10  # differences of a row
-FEW, MANY, EACH = 40, 400, 10_000  # runs of a row, without --all; no row has as many calls as EACH
+FEW, MANY = 40, 200  # how many calls of a row are refused if not each is
+SMALL = 1_100  # each call for memory of a worked case is refused if it makes no more than this
+ANY = 10_000  # more calls than any row makes of which each has to be refused
 
 
 class Row(NamedTuple):
@@ -36,7 +39,8 @@ class Row(NamedTuple):
     last: object = None  # the last refused call, if that isn't the first one
     error: int = 0
     most: int = 0
-    runs: int = FEW
+    each: int = FEW  # without --all, each call is refused if a run has no more than this
+    some: int = FEW  # of a run that has more, as many as this, evenly spread
 
     def refusal(self, number):
         return Refusal(self.kind, number, self.last or number, self.error, self.most)
@@ -52,43 +56,51 @@ def is_command(record):
     return not record.startswith(b"close")
 
 
+def worked_cases():
+    """The worked cases for the built program: each with its name, its words and its input."""
+    for given in sorted(CASES.glob("*/*.csv")):
+        own = given.with_suffix(".args")
+        words = (own if own.exists() else given.parent / "args").read_text(encoding="ascii").splitlines()
+        yield f"{given.parent.name}/{given.stem}", words, given.read_bytes()
+
+
 AUCTION = records("auction-day.csv")
 FIRST = records("first-day.csv")
 OPEN_AUCTION = records("auction-day.csv", is_command)
 OPEN_FIRST = records("first-day.csv", is_command)
 ONE_PARTICIPANT = records("auction-day.csv", lambda record: b",GAS," in record)
 BROKEN = AUCTION + b"amend,NORD\n"
-NOT_ASCII = b"day,24,,,,,,,\n\xff"
 QUOTED = b"".join(b'"%b"\r\n' % record.replace(b",", b'","') for record in AUCTION.splitlines())
 DAY = b"day,24,,,,,,,\n"
 CLOSE = b"close,,,,,,,,\n"
-TWO_ORDERS = DAY + b"submit,A,B1,hour,buy,5000,1:10,,\nsubmit,B,S1,hour,sell,3000,1:10,,\n"
+TWO_ORDERS = DAY + b"submit,A,S1,hour,sell,3000,1:10,,\nsubmit,B,B1,hour,buy,5000,1:10,,\n"
 TWO_BLOCKS = TWO_ORDERS + b"submit,A,K1,block,sell,4000,1:5,,\nsubmit,A,K2,block,sell,4000,1:5,K1,\n"
-CLOSED_FIRST = (DAY + CLOSE + b"submit,A,B1,hour,buy,5000,1:10,,\namend,A,B1,,,5000,1:10,,\ncancel,A,B1,,,,,,\n" + CLOSE)
-BAD_FIELD = DAY + b"submit,A,B1,hour,buy,50.00,1:10,,\n"
+CLOSED_FIRST = DAY + CLOSE + b"submit,A,B1,hour,buy,5000,1:10,,\namend,A,B1,,,5000,1:10,,\ncancel,A,B1,,,,,,\n" + CLOSE
 
 CUTTINGS = [["--workers", "1", "--cut", "0"], ["--workers", "2", "--cut", "3"], ["--workers", "8", "--cut", "8"]]
 
 
+def worked_rows():
+    """One call for memory refused in the worked cases: each in turn, but in a few large ones."""
+    for about, words, data in worked_cases():
+        yield Row(f"{about}, one growth", words, data, "memory", judge.memory, each=SMALL)
+
+
+def worked_rows_without_memory():
+    """All calls for memory refused from one on, in the worked cases."""
+    for about, words, data in worked_cases():
+        yield Row(f"{about}, all growths from one on", words, data, "memory", judge.memory, last=EVERY, each=0, some=8)
+
+
 def memory_rows():
-    """Each call for memory refused alone, and with all that come later: in small runs each of them, also without --all."""
+    """A call for memory refused alone, and with all that come later."""
     inputs = [
-        ("replay of a book that is closed first", ["replay"], CLOSED_FIRST, EACH),
-        ("clear of two orders", ["clear"], TWO_ORDERS + CLOSE, EACH),
-        ("clear of two blocks", ["clear"], TWO_BLOCKS + CLOSE, EACH),
-        ("day of two orders", ["day"], TWO_ORDERS, EACH),
-        ("no word", [], b"", EACH),
-        ("help", ["--help"], b"", EACH),
-        ("nine workers", ["clear", "--workers", "9"], b"", EACH),
-        ("replay of a bad field", ["replay"], BAD_FIELD, EACH),
-        ("clear of an open book", ["clear"], TWO_ORDERS, EACH),
-        ("day with a close", ["day"], CLOSED_FIRST, EACH),
-        ("clear of two blocks that ends unfinished", ["clear", "--cut", "0", "--nodes", "1"], TWO_BLOCKS + CLOSE, EACH),
+        ("clear of two blocks by eight workers", ["clear", "--workers", "8", "--cut", "8"], TWO_BLOCKS + CLOSE, ANY),
+        ("day of two blocks", ["day"], TWO_BLOCKS, ANY),
         ("replay of the auction day", ["replay"], AUCTION, MANY),
         ("replay of the first day", ["replay"], FIRST, FEW),
         ("replay of a quoted journal", ["replay"], QUOTED, FEW),
         ("replay of a broken journal", ["replay"], BROKEN, FEW),
-        ("replay of a byte over 127", ["replay"], NOT_ASCII, FEW),
         ("clear of the auction day", ["clear"], AUCTION, MANY),
         ("clear of the open auction day", ["clear"], OPEN_AUCTION, FEW),
         ("clear that ends unfinished", ["clear", "--workers", "1", "--cut", "0", "--nodes", "1"], AUCTION, FEW),
@@ -98,9 +110,19 @@ def memory_rows():
     ]
     inputs += [(f"{word} by {' '.join(plan)}", [word, *plan], data, FEW)
                for plan in CUTTINGS for word, data in [("clear", AUCTION), ("day", OPEN_AUCTION)]]
-    for about, words, data, runs in inputs:
-        yield Row(f"{about}, one growth", words, data, "memory", judge.memory, runs=runs)
-        yield Row(f"{about}, all growths from one on", words, data, "memory", judge.memory, last=EVERY, runs=runs // 2)
+    for about, words, data, some in inputs:
+        each = ANY if some == ANY else FEW
+        yield Row(f"{about}, one growth", words, data, "memory", judge.memory, each=each, some=some)
+        yield Row(f"{about}, all growths from one on", words, data, "memory", judge.memory, last=EVERY, each=each, some=some // 2)
+
+
+def gate_days():
+    """Journals that `dam_refusals` enters at a gate."""
+    worked = {name: data for name, _, data in worked_cases()}
+    yield "two orders", TWO_ORDERS
+    for name in ["stored-run", "closed", "links"]:
+        yield f"the commands of {name}", worked[f"replay/{name}"]
+    yield "the auction day", OPEN_AUCTION
 
 
 def thread_rows():
@@ -118,18 +140,19 @@ def random_rows():
 
 
 def device_rows():
-    jobs = [(["replay"], FIRST), (["replay"], AUCTION), (["clear"], AUCTION), (["day"], ONE_PARTICIPANT)]
-    for words, data in jobs:
+    jobs = [(["replay"], CLOSED_FIRST, ANY), (["replay"], FIRST, FEW), (["replay"], AUCTION, FEW), (["clear"], AUCTION, FEW),
+            (["day"], ONE_PARTICIPANT, FEW)]
+    for words, data, each in jobs:
         for most in [0, 1, 64]:
             about = f"{words[0]} of {len(data)} bytes, " + (f"{most} at a time" if most else "as they come")
             for error in [errno.EIO, errno.EINTR, errno.EAGAIN]:
                 named = errno.errorcode[error]
-                yield Row(f"{about}, a read with {named}", words, data, "read", judge.read, error=error, most=most)
-            yield Row(f"{about}, a read of 0 bytes", words, data, "read", end_of_input, most=most)
+                yield Row(f"{about}, a read with {named}", words, data, "read", judge.read, error=error, most=most, each=each)
+            yield Row(f"{about}, a read of 0 bytes", words, data, "read", end_of_input, most=most, each=each)
             for error in [errno.EIO, errno.ENOSPC, errno.EINTR, errno.EAGAIN]:
                 named = errno.errorcode[error]
-                yield Row(f"{about}, a write with {named}", words, data, "write", judge.write, error=error, most=most)
-            yield Row(f"{about}, a write of 0 bytes", words, data, "write", judge.write, most=most)
+                yield Row(f"{about}, a write with {named}", words, data, "write", judge.write, error=error, most=most, each=each)
+            yield Row(f"{about}, a write of 0 bytes", words, data, "write", judge.write, most=most, each=each)
     for words, data in [(["replay"], BROKEN), (["clear"], OPEN_AUCTION), (["day"], AUCTION), (["clear", "--cut", "9"], b"")]:
         for error in [errno.EIO, 0]:
             about = f"{' '.join(words)} with a fault, its line with " + (errno.errorcode.get(error) or "0 bytes taken")
@@ -152,7 +175,8 @@ class Runs(Counts):
         self.whole = whole
         self.pool = ThreadPoolExecutor(os.cpu_count() or 1)
         self.answers = {}
-        self.tried = self.calls = 0  # the calls that were refused, and all that could be
+        self.tried = self.calls = 0  # the runs, and how many there would be if each call were refused
+        self.rows = self.whole_rows = 0  # all rows, and those of which each call was refused
 
     def answer(self, words, data):
         key = (tuple(words), data)
@@ -161,10 +185,10 @@ class Runs(Counts):
         return self.answers[key]
 
     def numbers(self, row, total):
-        """The refused calls: each, and one that no run comes to; or some of them, evenly."""
-        if self.whole or total < row.runs:
+        """The refused calls: each, and one that no run comes to; or some of them, evenly spread."""
+        if self.whole or total <= row.each:
             return list(range(1, total + 2))
-        return sorted({1 + at * total // (row.runs - 1) for at in range(row.runs)})
+        return sorted({1 + at * total // (row.some - 1) for at in range(row.some)})
 
     def difference(self, row, answer, number):
         """What is wrong with a run, or nothing."""
@@ -181,10 +205,12 @@ class Runs(Counts):
         if row.kind == "memory":
             self.check(f"{row.about}: {total} calls are counted", total > 0)
         numbers = self.numbers(row, total)
-        if row.runs > MANY:
+        if row.each == ANY:
             self.check(f"{row.about}: each of {total} calls is refused", len(numbers) == total + 1)
         self.tried += len(numbers)
         self.calls += total + 1
+        self.rows += 1
+        self.whole_rows += len(numbers) == total + 1
         found = list(self.pool.map(lambda number: self.difference(row, answer, number), numbers))
         wrong = [line for line in found if line]
         self.passed += found.count(None)
@@ -194,12 +220,16 @@ class Runs(Counts):
         print("\n".join(wrong[:SHOWN]), end="\n" if wrong else "", flush=True)
 
     def run_rows(self, about, rows):
+        """Runs the rows. Says in how many of them each call was refused, and how many runs were left out in the others."""
         begun, passed, failed = time.monotonic(), self.passed, self.failed
-        tried, calls = self.tried, self.calls
+        before = self.tried, self.calls, self.rows, self.whole_rows
         for row in rows:
             self.run(row)
-        took, runs = time.monotonic() - begun, f"{self.tried - tried} of {self.calls - calls} runs"
-        print(f"{about}: {runs}, {self.passed - passed} right, {self.failed - failed} wrong, {took:.1f} s", flush=True)
+        after = self.tried, self.calls, self.rows, self.whole_rows
+        tried, calls, count, whole = (now - then for now, then in zip(after, before))
+        shown = f"each call in {whole} of {count} rows; {tried} of {calls} runs, {calls - tried} left out"
+        took = time.monotonic() - begun
+        print(f"{about}: {shown}; {self.passed - passed} right, {self.failed - failed} wrong, {took:.1f} s", flush=True)
 
 
 class Answer(judge.Answer):
@@ -255,12 +285,15 @@ def main():
     if rest not in ([], ["--all"]):
         sys.exit("usage: tests/hostile/run PROGRAM [--all]")
     runs = Runs(Program(program, room), rest == ["--all"])
-    runs.run_rows("memory refused", memory_rows())
+    runs.run_rows("memory refused once in the worked cases", worked_rows())
+    runs.run_rows("memory refused from one call on in the worked cases", worked_rows_without_memory())
+    runs.run_rows("memory refused in days and other runs", memory_rows())
     runs.run_rows("threads refused", thread_rows())
     runs.run_rows("random bytes refused", random_rows())
     runs.run_rows("reads and writes that fail", device_rows())
     devices(runs)
-    gates.run(runs, room, OPEN_AUCTION)
+    for about, data in gate_days():
+        gates.run(runs, room, about, data)
     seeds(runs)
     if shutil.which("valgrind"):
         colliding.run(runs)
