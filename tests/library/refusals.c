@@ -1,6 +1,6 @@
 /* refusals replay|clear FILE: calls the library with memory that is counted. First with each request for memory refused in turn: the
- * status is 4, the answer is the line of want of memory, and every block is given back. Then 10,000 times, and no block is left.
- * The last line is 'N passed, M failed'. */
+ * status is 4, the answer is the line that says that memory ran out, and every block is given back. Then 10,000 times, and no block is
+ * left. The last line is 'N passed, M failed'. */
 #include "dam.h"
 
 #include <stdbool.h>
@@ -53,7 +53,7 @@ static struct dam_answer call(void) {
     return replays ? dam_replay(text, length, buffer, sizeof buffer) : dam_clear(text, length, DAM_MOST_NODES, buffer, sizeof buffer);
 }
 
-static bool is_want_of_memory(struct dam_answer answer) {
+static bool is_out_of_memory(struct dam_answer answer) {
     return answer.status == 4 && answer.length == 7 && memcmp(buffer, "memory\n", 7) == 0;
 }
 
@@ -72,7 +72,7 @@ int main(int count, char **words) {
     long requests = asked;
     for (long number = 0; number < requests; number++) {
         left = number;
-        is_right = is_want_of_memory(call()) && live == 0;
+        is_right = is_out_of_memory(call()) && live == 0;
         passed += is_right;
         failed += !is_right;
         if (!is_right) {
