@@ -6,7 +6,7 @@ ghost use Rattle.dam_gate.specs.Keeper.{IsReadyFor};
 ghost use Rattle.dam_gate.specs.Gate.{IsBeginFault, IsKeeperFault};
 
 use crate::books::Books;
-use dam_book::{Book, Command, Entry, MOST_ENTRIES, Reply, Seed};
+use dam_book::{Book, Command, DayLength, Entry, MOST_ENTRIES, Reply, Seed};
 use std::alloc::{AllocError, AllocFailed, Allocator, Global};
 use std::marker::Model;
 use std::sync::Arc;
@@ -170,7 +170,10 @@ impl<A: Allocator + Copy> Keeper<A> {
             (is_day periods ≡ true) × (keeper.journal ≡ empty_journal periods)) }
         ensures fault { IfErr result (IsBeginFault periods) }
     {
-        let book = Book::begin_seeded(alloc, periods, seed)?;
+        let Some(periods) = DayLength::new(periods) else {
+            return Err(BeginFault::BadDay);
+        };
+        let book = Book::for_day(alloc, periods, seed);
         Ok(Keeper {
             books: Books::new(Arc::new(alloc, book)?),
             entries: Vec::new(alloc),
@@ -352,7 +355,7 @@ impl<A: Allocator + Copy> Journal<A> {
     pub fn periods(&self) -> u8
         ensures { result ≡ self.now.book.periods }
     {
-        self.book.periods()
+        self.book.periods().get()
     }
 
     /// The entries, numbered from 1.

@@ -15,7 +15,7 @@ use crate::journal::{JournalFault, read_into};
 use crate::lines::write_day;
 use crate::replies::write_line;
 use dam_book::laws::runs_grow;
-use dam_book::{Book, Command, Reply, Seed};
+use dam_book::{Book, Command, DayLength, Reply, Seed};
 use std::alloc::{AllocError, Allocator, Global};
 
 /// The empty book of a day that a journal may have.
@@ -23,10 +23,10 @@ fn empty_book(alloc: Global, seed: Seed, periods: u8) -> Book
     requires { is_day periods ≡ true }
     ensures { result ≡ empty_book periods }
 {
-    let Ok(book) = Book::begin_seeded(alloc, periods, seed) else {
+    let Some(periods) = DayLength::new(periods) else {
         unreachable!();
     };
-    book
+    Book::for_day(alloc, periods, seed)
 }
 
 /// The run of a journal's commands.
@@ -73,7 +73,7 @@ impl<A: Allocator + Copy, B: Allocator> Replay<A, B> {
         ensures text { IfOk result (λ replay. replay.text.items ≡ day_line book.periods) }
     {
         let mut text = Vec::new(alloc);
-        write_day(&mut text, u64::from(book.periods()))?;
+        write_day(&mut text, u64::from(book.periods().get()))?;
         Ok(Replay { book, text })
     }
 
