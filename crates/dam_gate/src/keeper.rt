@@ -70,28 +70,6 @@ impl From<AllocError> for BeginFault {
     }
 }
 
-impl<T: Drop> From<AllocFailed<T>> for BeginFault {
-    ghost use Rattle.std.specs.Prelude.{◌≡◌};
-    ghost use Rattle.dam_gate.specs.declared.keeper.BeginFault.TheVariants.{Memory};
-
-    ghost from_gives = { λ _ fault. fault ≡ Memory };
-
-    fn from(_error: AllocFailed<T>) -> BeginFault {
-        BeginFault::Memory
-    }
-}
-
-impl From<dam_book::BeginFault> for BeginFault {
-    ghost use Rattle.std.specs.Prelude.{◌≡◌};
-    ghost use Rattle.dam_gate.specs.declared.keeper.BeginFault.TheVariants.{BadDay};
-
-    ghost from_gives = { λ _ fault. fault ≡ BadDay };
-
-    fn from(_fault: dam_book::BeginFault) -> BeginFault {
-        BeginFault::BadDay
-    }
-}
-
 /// The book of one day and the journal of the commands that reached it, to which commands are added one by one.
 ///
 /// A contract sees the journal, as its entries and the book, and for how many entries more there is room. The entries
@@ -161,21 +139,22 @@ impl<A: Allocator + Copy> Keeper<A> {
             (is_day periods ≡ true) × (keeper.journal ≡ empty_journal periods)) }
         ensures fault { IfErr result (IsBeginFault periods) }
     {
-        Keeper::begin_seeded(alloc, periods, Seed::fixed())
-    }
-
-    /// The keeper that `begin` gives, whose book hashes names with the seed.
-    pub fn begin_seeded(alloc: A, periods: u8, seed: Seed) -> Result<Keeper<A>, BeginFault>
-        ensures ok { IfOk result (λ keeper.
-            (is_day periods ≡ true) × (keeper.journal ≡ empty_journal periods)) }
-        ensures fault { IfErr result (IsBeginFault periods) }
-    {
         let Some(periods) = DayLength::new(periods) else {
             return Err(BeginFault::BadDay);
         };
-        let book = Book::for_day(alloc, periods, seed);
+        Ok(Keeper::for_day(alloc, periods, Seed::fixed())?)
+    }
+
+    /// The empty journal and the empty book of a day of that length, which hashes names with the seed. The error is out of
+    /// memory.
+    pub fn for_day(alloc: A, periods: DayLength, seed: Seed) -> Result<Keeper<A>, AllocError>
+        ensures { IfOk result (λ keeper. keeper.journal ≡ empty_journal periods) }
+    {
+        let Ok(book) = Arc::new(alloc, Book::for_day(alloc, periods, seed)) else {
+            return Err(AllocError);
+        };
         Ok(Keeper {
-            books: Books::new(Arc::new(alloc, book)?),
+            books: Books::new(book),
             entries: Vec::new(alloc),
         })
     }
@@ -352,10 +331,10 @@ impl<A: Allocator> Model for Journal<A> {
 
 impl<A: Allocator + Copy> Journal<A> {
     /// How many periods the delivery day has.
-    pub fn periods(&self) -> u8
+    pub fn periods(&self) -> DayLength
         ensures { result ≡ self.now.book.periods }
     {
-        self.book.periods().get()
+        self.book.periods()
     }
 
     /// The entries, numbered from 1.

@@ -118,7 +118,7 @@ fn read_name_or_empty(field: &[u8]) -> Option<Option<Name>>
 }
 
 /// The day of the first record: how many periods it has.
-pub(crate) fn read_day(row: &Row) -> Result<u8, usize>
+pub(crate) fn read_day(row: &Row) -> Result<DayLength, usize>
     requires { row.now.kind.now ≡ codes "day" }
     ensures { MatchResult result
         (λ periods. (is_day periods ≡ true) × (fields_in row.now ≡ day_row periods))
@@ -127,7 +127,7 @@ pub(crate) fn read_day(row: &Row) -> Result<u8, usize>
     let periods = read_periods(row.who).ok_or(2usize)?;
     check_empty(row.name, 3)?;
     check_no_order(row)?;
-    Ok(periods.get())
+    Ok(periods)
 }
 
 fn read_hour(row: &Row) -> Result<Command, usize>
