@@ -8,7 +8,7 @@ ghost use Rattle.dam_blocks.specs.inside.Hindrances.{AreHindrances};
 
 use crate::hindrances::{Hindrances, all_hindrances};
 use crate::rows::{hours_of, lists_of};
-use dam_book::{BlockOrder, Book, LAST_PERIOD, Name, Participant, Period};
+use dam_book::{BlockOrder, Book, DayLength, LAST_PERIOD, Name, Participant, Period};
 use dam_hour::{Hour, Step};
 use std::alloc::{AllocError, Allocator, Global};
 use std::marker::Model;
@@ -97,6 +97,7 @@ impl From<AllocError> for ProblemFault {
 /// A contract sees the steps of each period, the blocks and the rows.
 #[derive(Drop)]
 pub struct Problem<A: Allocator = Global> {
+    periods: DayLength,
     hours: Vec<Hour<A>, A>,
     blocks: Vec<Block, A>,
     rows: Vec<ProblemRow, A>,
@@ -105,6 +106,7 @@ pub struct Problem<A: Allocator = Global> {
 }
 
 impl<A: Allocator> Model for Problem<A> {
+    ghost use Rattle.std.specs.Prelude.{◌≡◌, length};
     ghost use Rattle.dam_blocks.specs.Problem.{ProblemState, IsProblem};
     ghost use Rattle.dam_blocks.specs.inside.Hindrances.{AreAllHindrances};
 
@@ -120,7 +122,8 @@ impl<A: Allocator> Model for Problem<A> {
       hours = p.hours.items;
       blocks = p.blocks.items;
       rows = p.rows.items;
-    }) × AreAllHindrances p.blocks.items p.hindrances.items };
+    }) × AreAllHindrances p.blocks.items p.hindrances.items
+        × (p.periods ≡ length p.hours.items) };
 }
 
 impl<A: Allocator + Copy> Problem<A> {
@@ -139,6 +142,7 @@ impl<A: Allocator + Copy> Problem<A> {
         let periods = book.periods();
         let lists = lists_of(alloc, book)?;
         Ok(Problem {
+            periods,
             hours: hours_of(alloc, &lists.hourly, periods)?,
             hindrances: all_hindrances(alloc, &lists.blocks)?,
             blocks: lists.blocks,
@@ -149,11 +153,11 @@ impl<A: Allocator + Copy> Problem<A> {
 
 impl<A: Allocator> Problem<A> {
     /// The number of periods of the delivery day.
-    pub fn periods(&self) -> u8
+    pub fn periods(&self) -> DayLength
         ensures value { result ≡ length self.now.hours }
         ensures valid { IsProblem self.now }
     {
-        self.hours.len() as u8
+        self.periods
     }
 
     /// The number of blocks.

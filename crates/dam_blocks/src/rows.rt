@@ -6,7 +6,7 @@ ghost use Rattle.dam_blocks.specs.Problem.{blocks_in, rows_behind};
 ghost use Rattle.dam_blocks.specs.inside.Making.{hourly_in, step_of, steps_among, hours_among};
 
 use crate::problem::{Block, MOST_PERIODS, Place, ProblemRow};
-use dam_book::{Book, HourOrder, Name, Order, Participant};
+use dam_book::{Book, DayLength, HourOrder, Name, Order, Participant};
 use dam_hour::{Hour, Step};
 use std::alloc::{AllocError, Allocator};
 
@@ -95,17 +95,18 @@ fn steps_of<A: Allocator + Copy>(
     Ok(steps)
 }
 
-/// The hourly orders of each period of a day of so many.
+/// The hourly orders of each period of a day.
 pub(crate) fn hours_of<A: Allocator + Copy>(
     alloc: A,
     hourly: &[HourOrder],
-    periods: u8,
+    periods: DayLength,
 ) -> Result<Vec<Hour<A>, A>, AllocError>
     requires { length hourly.now ≤ most_hourly }
     ensures { IfOk result (λ hours. hours.items ≡ hours_among 1 periods hourly.now) }
 {
-    let mut hours = Vec::with_capacity(alloc, usize::from(periods))?;
-    for number in 0..periods {
+    let count = periods.get();
+    let mut hours = Vec::with_capacity(alloc, usize::from(count))?;
+    for number in 0..count {
         let steps = steps_of(alloc, hourly, number + 1)?;
         hours.push(Hour::build(alloc, &steps)?)?;
     }

@@ -91,7 +91,7 @@ fn periods_of<A: Allocator + Copy, B: Allocator>(
     ensures blocks { IfOk result (λ periods.
         AreBlocks (length periods.items) problem.now.blocks) }
 {
-    let count = usize::from(problem.periods());
+    let count = usize::from(problem.periods().get());
     let mut periods = Vec::with_capacity(alloc, count)?;
     for place in 0..count {
         periods.push(levels_at(alloc, problem, place)?)?;

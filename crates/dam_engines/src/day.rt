@@ -1,5 +1,4 @@
 ghost use Rattle.std.specs.Prelude.{◌≡◌, ◌≢◌, ◌≤◌, ◌+◌, ◌-◌, ℕ, List, None, true, false, IfOk, IfErr, IfSome, OnOk, MatchResult};
-ghost use Rattle.dam_book.specs.Book.{is_day};
 ghost use Rattle.dam_gate.specs.Day.{AreTaken, IsDayRun};
 ghost use Rattle.dam_gate.specs.Journal.{IsJournal};
 ghost use Rattle.dam_engines.specs.Device.{HaveFailed, HaveServed};
@@ -14,7 +13,7 @@ use crate::input::read_input;
 use crate::output::write_text;
 use crate::packed::PackedJournal;
 use crate::watch::Watch;
-use dam_book::Seed;
+use dam_book::{DayLength, Seed};
 use dam_gate::{DayFault, Doorkeeper, Journal, PackedCommand, Settled, run_packed};
 use dam_results::{journal_text, read_into};
 use dam_search::{Plan, Turnstile};
@@ -98,13 +97,12 @@ fn day_of_commands<H: Threads + Wait + Sync, T: Watch + Sync, U: Turnstile + Syn
     rt: &H,
     alloc: Global,
     seed: Seed,
-    periods: u8,
+    periods: DayLength,
     commands: &[PackedCommand],
     plan: Plan,
     turnstile: &T,
     entrance: &U,
 ) -> Result<Vec<u8>, RunFault>
-    requires { is_day periods ≡ true }
     ensures done { IfOk result (λ day. IsDayText periods commands.now day.items) }
     ensures fault { IfErr result (IsCommandsFault plan periods commands.now) }
 {
@@ -134,11 +132,10 @@ fn settled_day<H: Threads + Wait + Sync, U: Turnstile + Sync>(
     rt: &H,
     alloc: Global,
     seed: Seed,
-    periods: u8,
+    periods: DayLength,
     commands: &[PackedCommand],
     entrance: &U,
 ) -> Result<Settled, RunFault>
-    requires { is_day periods ≡ true }
     ensures periods { IfOk result (λ settled. settled.book.periods ≡ periods) }
     ensures journal { IfOk result IsJournal }
     ensures day { IfOk result (λ settled. IsDayRun periods commands.now settled.entries) }

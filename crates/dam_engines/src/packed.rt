@@ -1,7 +1,7 @@
 ghost use Rattle.std.specs.Prelude.{◌≡◌, ℕ, List};
 ghost use Rattle.dam_book.specs.declared.command.Command.{Command};
 
-use dam_book::{Command, Seed};
+use dam_book::{Command, DayLength, Seed};
 use dam_gate::PackedCommand;
 use dam_results::FromJournal;
 use std::alloc::{AllocError, Global};
@@ -10,7 +10,7 @@ use std::alloc::{AllocError, Global};
 #[derive(Drop)]
 pub(crate) struct PackedJournal {
     /// How many periods the delivery day has.
-    pub periods: u8,
+    pub periods: DayLength,
     pub commands: Vec<PackedCommand>,
 }
 
@@ -20,7 +20,7 @@ impl FromJournal for PackedJournal {
     ghost made_of = { λ periods commands journal.
         (journal.periods ≡ periods) × (journal.commands.items ≡ commands) };
 
-    fn begin(alloc: Global, _seed: Seed, periods: u8) -> Result<PackedJournal, AllocError> {
+    fn begin(alloc: Global, _seed: Seed, periods: DayLength) -> Result<PackedJournal, AllocError> {
         Ok(PackedJournal {
             periods,
             commands: Vec::new(alloc),

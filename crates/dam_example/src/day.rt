@@ -3,8 +3,8 @@ ghost use Rattle.std.specs.Prelude.{IfOk};
 ghost use Rattle.dam_gate.specs.Day.{IsDayRun};
 ghost use Rattle.dam_gate.specs.Headline.{IsWholeAccount};
 
-use anyhow::Result;
-use dam_book::{Command, Seed};
+use anyhow::{Context, Result};
+use dam_book::{Command, DayLength, Seed};
 use dam_gate::{OpenDoor, SettledDay, run_commands};
 use std::alloc::Global;
 use std::sync::Wait;
@@ -19,6 +19,7 @@ pub fn hold_day<R: Threads + Wait + Sync>(
     ensures run { IfOk result (λ day. IsDayRun 24 commands.now day.settled.entries) }
     ensures account { IfOk result (λ day. IsWholeAccount day.settled day.passes.items) }
 {
-    let day = run_commands(rt, alloc, 24, Seed::fixed(), commands, &OpenDoor)?;
+    let periods = DayLength::new(24).context("the length of a day")?;
+    let day = run_commands(rt, alloc, periods, Seed::fixed(), commands, &OpenDoor)?;
     Ok(day)
 }

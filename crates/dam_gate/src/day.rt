@@ -1,7 +1,7 @@
 ghost use Rattle.std.specs.Option.{option_copied};
 ghost use Rattle.dam_gate.specs.Limits.{most_participants};
 ghost use Rattle.std.specs.Prelude.{◌≡◌, ◌≤◌, ◌<◌, ◌∷◌, ◌++◌, [], ℕ, All, true, None, Some, length, map, slice_index_or, IfOk, IfErr, OnOk};
-ghost use Rattle.dam_book.specs.Book.{is_day, commands_of};
+ghost use Rattle.dam_book.specs.Book.{commands_of};
 ghost use Rattle.dam_book.specs.Limits.{most_entries};
 ghost use Rattle.dam_gate.specs.Journal.{IsJournal};
 ghost use Rattle.dam_gate.specs.Pass.{Knowledge, IsPass, holders, knowing_nothing};
@@ -13,13 +13,13 @@ use crate::account::Account;
 use crate::doorkeeper::Doorkeeper;
 use crate::gate::{Gate, GateFault, PassFault};
 use crate::history::{Naming, Opening};
-use crate::keeper::{BeginFault, Journal};
+use crate::keeper::Journal;
 use crate::limits::MOST_PARTICIPANTS;
 use crate::packed::{PackedCommand, pack};
 use crate::pass::Pass;
 use crate::settlement::{Mismatch, Settled, settle};
 use crate::version::{Change, Shown};
-use dam_book::{Command, MOST_ENTRIES, Participant, Seed};
+use dam_book::{Command, DayLength, MOST_ENTRIES, Participant, Seed};
 use left_right::Absorb;
 use std::alloc::{AllocError, AllocFailed, Global};
 use std::marker::Brand;
@@ -329,29 +329,25 @@ fn run_day<J: Naming + Send + Sync, R: Threads + Wait + Sync, D: Doorkeeper + Sy
     rt: &R,
     alloc: Global,
     opening: Opening,
+    periods: DayLength,
     seed: Seed,
     doorkeeper: &D,
     participants: &[Participant],
     commands: &[PackedCommand],
 ) -> Result<SettledDay, DayFault>
     requires name { opening ≡ J.opening }
-    requires day { is_day opening.periods ≡ true }
+    requires day { opening.periods ≡ periods }
     requires givers { AreGivers participants.now commands.now }
     requires few { length participants.now ≤ most_participants }
-    ensures periods { IfOk result (λ day. day.settled.book.periods ≡ opening.periods) }
+    ensures periods { IfOk result (λ day. day.settled.book.periods ≡ periods) }
     ensures journal { IfOk result (λ day. IsJournal day.settled) }
-    ensures day { IfOk result (λ day.
-        IsDayRun opening.periods commands.now day.settled.entries) }
+    ensures day { IfOk result (λ day. IsDayRun periods commands.now day.settled.entries) }
     ensures account { IfOk result (λ day. IsWholeAccount day.settled day.passes.items) }
     ensures passes { IfOk result (λ day.
         holders day.passes.items ≡ map (λ who. Some who) participants.now ++ None ∷ []) }
     ensures err { IfErr result IsLateFault }
 {
-    let gate = match Gate::<J, &R>::begin_seeded(rt, alloc, opening, seed) {
-        Ok(gate) => gate,
-        Err(BeginFault::Memory) => return Err(DayFault::Memory),
-        Err(BeginFault::BadDay) => unreachable!(),
-    };
+    let gate = Gate::<J, &R>::for_day(rt, alloc, opening, periods, seed)?;
     let mut passes = enter_day(rt, alloc, &gate, doorkeeper, participants, commands)?;
     let operator = close(rt, &gate)?;
     passes.push(operator)?;
@@ -386,12 +382,11 @@ fn settle_day(alloc: Global, journal: Journal, passes: &[Account]) -> Result<Set
 pub fn run_commands<R: Threads + Wait + Sync, D: Doorkeeper + Sync>(
     rt: &R,
     alloc: Global,
-    periods: u8,
+    periods: DayLength,
     seed: Seed,
     commands: &[Command],
     doorkeeper: &D,
 ) -> Result<SettledDay, DayFault>
-    requires { is_day periods ≡ true }
     ensures periods { IfOk result (λ day. day.settled.book.periods ≡ periods) }
     ensures journal { IfOk result (λ day. IsJournal day.settled) }
     ensures day { IfOk result (λ day. IsDayRun periods commands.now day.settled.entries) }
@@ -411,12 +406,11 @@ pub fn run_commands<R: Threads + Wait + Sync, D: Doorkeeper + Sync>(
 pub fn run_packed<R: Threads + Wait + Sync, D: Doorkeeper + Sync>(
     rt: &R,
     alloc: Global,
-    periods: u8,
+    periods: DayLength,
     seed: Seed,
     commands: &[PackedCommand],
     doorkeeper: &D,
 ) -> Result<SettledDay, DayFault>
-    requires { is_day periods ≡ true }
     ensures periods { IfOk result (λ day. day.settled.book.periods ≡ periods) }
     ensures journal { IfOk result (λ day. IsJournal day.settled) }
     ensures day { IfOk result (λ day. IsDayRun periods commands.now day.settled.entries) }
@@ -429,11 +423,12 @@ pub fn run_packed<R: Threads + Wait + Sync, D: Doorkeeper + Sync>(
         return Err(DayFault::TooManyCommands);
     }
     let participants = givers(alloc, commands)?;
-    let opening = Opening::new(periods);
+    let opening = Opening::new(periods.get());
     run_day::<Brand, R, D>(
         rt,
         alloc,
         opening,
+        periods,
         seed,
         doorkeeper,
         &participants,

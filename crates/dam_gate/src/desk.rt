@@ -1,21 +1,19 @@
 ghost use Rattle.std.specs.Prelude.{◌≡◌, ◌⊎◌, ◌<◌, ◌+◌, ◌^◌, ◌∷◌, ◌++◌, [], true, false, length, IfOk, IfErr, OnOk, OnErr};
 ghost use mathlib.Core.List.{IsPrefix};
-ghost use Rattle.dam_book.specs.Book.{is_day};
 ghost use Rattle.dam_gate.specs.Journal.{IsJournal, empty_journal, is_full, journal_after, next_entry};
 ghost use Rattle.dam_gate.specs.Limits.{most_passes};
 ghost use Rattle.dam_gate.specs.Pass.{knowing_nothing};
-ghost use Rattle.dam_gate.specs.Gate.{IsBeginFault};
 ghost use Rattle.dam_gate.specs.inside.Desk.{IsPassFault, entry_of};
 ghost use Rattle.dam_gate.specs.inside.Shown.{IsAtMostNext, IsNext};
 ghost use Rattle.left_right.specs.Handles.{pending, published};
 
 use crate::gate::{GateFault, PassFault};
 use crate::history::{Front, Head, Naming, Opening};
-use crate::keeper::{BeginFault, Journal, Keeper, Ready};
+use crate::keeper::{Journal, Keeper, Ready};
 use crate::limits::MOST_PASSES;
 use crate::pass::Pass;
 use crate::version::{Change, Place, Shown, Version};
-use dam_book::{Command, Participant, Reply, Seed};
+use dam_book::{Command, DayLength, Participant, Reply, Seed};
 use left_right::{Absorb, WriteHandle};
 use std::alloc::{AllocError, Global};
 use std::marker::Model;
@@ -170,14 +168,15 @@ impl<J: Naming, R: Wait + Drop> Desk<J, R> {
         rt: R,
         alloc: Global,
         opening: Opening,
+        periods: DayLength,
         seed: Seed,
-    ) -> Result<Desk<J, R>, BeginFault>
-        requires { opening ≡ J.opening }
-        ensures ok { IfOk result (λ desk. (is_day opening.periods ≡ true)
-            × (desk ≡ record { journal = empty_journal opening.periods; passes = 0 })) }
-        ensures fault { IfErr result (IsBeginFault opening.periods) }
+    ) -> Result<Desk<J, R>, AllocError>
+        requires name { opening ≡ J.opening }
+        requires day { opening.periods ≡ periods }
+        ensures { IfOk result (λ desk.
+            desk ≡ record { journal = empty_journal opening.periods; passes = 0 }) }
     {
-        let keeper = Keeper::begin_seeded(alloc, opening.periods(), seed)?;
+        let keeper = Keeper::for_day(alloc, periods, seed)?;
         let (head, front) = opening.named::<J>();
         let writer = writer_from(rt, alloc, &keeper, &front)?;
         Ok(Desk {

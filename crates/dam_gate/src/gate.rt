@@ -10,7 +10,7 @@ use crate::history::{Naming, Opening};
 use crate::keeper::{BeginFault, Journal, KeeperFault};
 use crate::pass::Pass;
 use crate::version::{Change, Shown};
-use dam_book::{Command, Entry, Participant, Reply, Seed};
+use dam_book::{Command, DayLength, Entry, Participant, Reply, Seed};
 use left_right::Absorb;
 use std::alloc::{AllocError, Global};
 use std::sync::{Mutex, Wait};
@@ -124,8 +124,25 @@ impl<J: Naming, R: Wait + Drop> Gate<J, R> {
         ensures ok { OnOk result (is_day opening.periods ≡ true) }
         ensures fault { IfErr result (IsBeginFault opening.periods) }
     {
+        let Some(periods) = DayLength::new(opening.periods()) else {
+            return Err(BeginFault::BadDay);
+        };
+        Ok(Gate::for_day(rt, alloc, opening, periods, seed)?)
+    }
+
+    /// The gate that `begin_seeded` gives, for those who have the opening's day as a length. The error is out of memory.
+    pub(crate) fn for_day(
+        rt: R,
+        alloc: Global,
+        opening: Opening,
+        periods: DayLength,
+        seed: Seed,
+    ) -> Result<Gate<J, R>, AllocError>
+        requires name { opening ≡ J.opening }
+        requires day { opening.periods ≡ periods }
+    {
         Ok(Gate {
-            desk: Mutex::new(Desk::begin(rt, alloc, opening, seed)?),
+            desk: Mutex::new(Desk::begin(rt, alloc, opening, periods, seed)?),
         })
     }
 

@@ -6,7 +6,7 @@ ghost use Rattle.dam_gate.specs.Keeper.{IsReadyFor};
 ghost use Rattle.dam_gate.specs.Gate.{IsBeginFault, IsKeeperFault};
 
 use crate::books::Books;
-use dam_book::{Book, Command, Entry, MOST_ENTRIES, Reply, Seed};
+use dam_book::{Book, Command, DayLength, Entry, MOST_ENTRIES, Reply, Seed};
 use std::alloc::{AllocError, AllocFailed, Allocator, Global};
 use std::marker::Model;
 use std::sync::Arc;
@@ -67,28 +67,6 @@ impl From<AllocError> for BeginFault {
 
     fn from(_error: AllocError) -> BeginFault {
         BeginFault::Memory
-    }
-}
-
-impl<T: Drop> From<AllocFailed<T>> for BeginFault {
-    ghost use Rattle.std.specs.Prelude.{◌≡◌};
-    ghost use Rattle.dam_gate.specs.declared.keeper.BeginFault.TheVariants.{Memory};
-
-    ghost from_gives = { λ _ fault. fault ≡ Memory };
-
-    fn from(_error: AllocFailed<T>) -> BeginFault {
-        BeginFault::Memory
-    }
-}
-
-impl From<dam_book::BeginFault> for BeginFault {
-    ghost use Rattle.std.specs.Prelude.{◌≡◌};
-    ghost use Rattle.dam_gate.specs.declared.keeper.BeginFault.TheVariants.{BadDay};
-
-    ghost from_gives = { λ _ fault. fault ≡ BadDay };
-
-    fn from(_fault: dam_book::BeginFault) -> BeginFault {
-        BeginFault::BadDay
     }
 }
 
@@ -161,18 +139,22 @@ impl<A: Allocator + Copy> Keeper<A> {
             (is_day periods ≡ true) × (keeper.journal ≡ empty_journal periods)) }
         ensures fault { IfErr result (IsBeginFault periods) }
     {
-        Keeper::begin_seeded(alloc, periods, Seed::fixed())
+        let Some(periods) = DayLength::new(periods) else {
+            return Err(BeginFault::BadDay);
+        };
+        Ok(Keeper::for_day(alloc, periods, Seed::fixed())?)
     }
 
-    /// The keeper that `begin` gives, whose book hashes names with the seed.
-    pub fn begin_seeded(alloc: A, periods: u8, seed: Seed) -> Result<Keeper<A>, BeginFault>
-        ensures ok { IfOk result (λ keeper.
-            (is_day periods ≡ true) × (keeper.journal ≡ empty_journal periods)) }
-        ensures fault { IfErr result (IsBeginFault periods) }
+    /// The empty journal and the empty book of a day of that length, which hashes names with the seed. The error is out of
+    /// memory.
+    pub fn for_day(alloc: A, periods: DayLength, seed: Seed) -> Result<Keeper<A>, AllocError>
+        ensures { IfOk result (λ keeper. keeper.journal ≡ empty_journal periods) }
     {
-        let book = Book::begin_seeded(alloc, periods, seed)?;
+        let Ok(book) = Arc::new(alloc, Book::for_day(alloc, periods, seed)) else {
+            return Err(AllocError);
+        };
         Ok(Keeper {
-            books: Books::new(Arc::new(alloc, book)?),
+            books: Books::new(book),
             entries: Vec::new(alloc),
         })
     }
@@ -349,7 +331,7 @@ impl<A: Allocator> Model for Journal<A> {
 
 impl<A: Allocator + Copy> Journal<A> {
     /// How many periods the delivery day has.
-    pub fn periods(&self) -> u8
+    pub fn periods(&self) -> DayLength
         ensures { result ≡ self.now.book.periods }
     {
         self.book.periods()

@@ -1,7 +1,7 @@
 //! The day, from the first pass to the settlement.
 ghost use Rattle.std.specs.Prelude.{◌≡◌};
 
-use dam_book::{Command, Name, Participant};
+use dam_book::{Command, DayLength, Name, Participant, Seed};
 use dam_gate::{
     Account, Gate, GateFault, Journal, Keeper, MOST_PASSES, Mismatch, Naming, Opening, Pass,
     PassFault, Settled, settle,
@@ -191,13 +191,13 @@ fn hold_named<J: Naming, R: Wait>(
 pub fn hold_day<R: Wait>(
     rt: &R,
     alloc: Global,
-    periods: u8,
+    periods: DayLength,
     commands: &[Command],
 ) -> Result<Day, Stop> {
-    let mut keeper = Keeper::begin(alloc, periods).map_err(|_| Stop::Memory)?;
+    let mut keeper = Keeper::for_day(alloc, periods, Seed::fixed()).map_err(|_| Stop::Memory)?;
     for command in commands {
         keeper.apply(command.copy()).map_err(|_| Stop::Memory)?;
     }
     keeper.apply(Command::Close).map_err(|_| Stop::Memory)?;
-    hold_named::<Brand, R>(rt, alloc, Opening::new(periods), &keeper)
+    hold_named::<Brand, R>(rt, alloc, Opening::new(periods.get()), &keeper)
 }

@@ -67,7 +67,7 @@ pub(crate) fn clear_day<A: Allocator + Copy, B: Allocator>(
         c.periods.items c.prices.items (map (λ v. v.items) c.executions.items)) }
 {
     laws::days_are_short();
-    let count = usize::from(problem.periods());
+    let count = usize::from(problem.periods().get());
     let mut periods = Vec::new(alloc);
     let mut prices = Vec::new(alloc);
     let mut executions = Vec::new(alloc);

@@ -1,20 +1,18 @@
 //! What a journal can be read into, command by command.
 
-ghost use Rattle.std.specs.Prelude.{◌≡◌, ◌+◌, ◌++◌, ◌∷◌, [], ℕ, List, true, length, IfOk, OnOk};
-ghost use Rattle.dam_book.specs.Book.{is_day};
+ghost use Rattle.std.specs.Prelude.{◌≡◌, ◌+◌, ◌++◌, ◌∷◌, [], ℕ, List, length, IfOk, OnOk};
 ghost use Rattle.dam_book.specs.declared.command.Command.{Command};
 
-use dam_book::{Command, Seed};
+use dam_book::{Command, DayLength, Seed};
 use std::alloc::{AllocError, Global};
 
 /// What is made of the commands of a journal, one after another.
 pub trait FromJournal: Drop {
-    /// It is what these commands make of a day of so many periods.
+    /// It is what these commands make of a day of that number of periods.
     ghost made_of: { ℕ → List Command → Self → Type 0 };
 
     /// What no command makes. A book in it hashes names by the seed.
-    fn begin(alloc: Global, seed: Seed, periods: u8) -> Result<Self, AllocError>
-        requires { is_day periods ≡ true }
+    fn begin(alloc: Global, seed: Seed, periods: DayLength) -> Result<Self, AllocError>
         ensures { IfOk result (made_of periods []) };
 
     /// Takes the command of the entry of this number, counted from 1.

@@ -17,7 +17,7 @@ use crate::limits::{MOST_BYTES, MOST_RECORDS};
 use crate::record::{read_command, read_day};
 use crate::row::{Row, field_of};
 use csv::{ByteRecord, Reader, ReaderBuilder};
-use dam_book::{Command, Seed};
+use dam_book::{Command, DayLength, Seed};
 use std::alloc::{AllocError, AllocFailed, Global};
 use thiserror::Error;
 
@@ -25,7 +25,7 @@ use thiserror::Error;
 #[derive(Debug, Drop)]
 pub struct JournalRead {
     /// How many periods the delivery day has.
-    pub periods: u8,
+    pub periods: DayLength,
     pub commands: Vec<Command>,
 }
 
@@ -35,7 +35,7 @@ impl FromJournal for JournalRead {
     ghost made_of = { λ periods commands journal.
         (journal.periods ≡ periods) × (journal.commands.items ≡ commands) };
 
-    fn begin(alloc: Global, _seed: Seed, periods: u8) -> Result<JournalRead, AllocError> {
+    fn begin(alloc: Global, _seed: Seed, periods: DayLength) -> Result<JournalRead, AllocError> {
         Ok(JournalRead {
             periods,
             commands: Vec::new(alloc),
@@ -123,7 +123,7 @@ fn kind(fields: &ByteRecord) -> &[u8]
     field_of(fields, 0)
 }
 
-fn read_first(fields: &ByteRecord) -> Result<u8, JournalFault>
+fn read_first(fields: &ByteRecord) -> Result<DayLength, JournalFault>
     ensures { MatchResult result
         (λ periods. (is_day periods ≡ true) × (fields_of fields.now ≡ day_row periods))
         (IsRecordFault 1 (fields_of fields.now)) }
@@ -182,7 +182,7 @@ fn next_record(records: &mut Records, fields: &mut ByteRecord) -> Result<bool, A
     Ok(found)
 }
 
-fn next_day(records: &mut Records, fields: &mut ByteRecord) -> Result<u8, JournalFault>
+fn next_day(records: &mut Records, fields: &mut ByteRecord) -> Result<DayLength, JournalFault>
     requires { IsOpen records.old }
     ensures { MatchResult result
         (λ periods. (is_day periods ≡ true) × IsOpen records.new

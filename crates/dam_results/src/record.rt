@@ -11,8 +11,8 @@ ghost use Rattle.dam_results.specs.Rules.{OneOf, Periods, OneVolume, NameOrEmpty
 
 use crate::row::Row;
 use dam_book::{
-    BlockOrder, Command, HourOrder, Name, Order, Participant, Period, Qty, Side, laws, read_pair,
-    read_price, read_volumes,
+    BlockOrder, Command, DayLength, HourOrder, Name, Order, Participant, Period, Qty, Side, laws,
+    read_pair, read_price, read_volumes,
 };
 use itoa::Buffer;
 
@@ -68,18 +68,14 @@ fn read_number(field: &[u8]) -> Option<u8>
     }
 }
 
-fn read_periods(field: &[u8]) -> Option<u8>
+fn read_periods(field: &[u8]) -> Option<DayLength>
     ensures { MatchOption result
         (¬ (Keeps Periods field.now))
         (λ periods. (is_day periods ≡ true) × (field.now ≡ decimal periods)) }
 {
     laws::days_are_short();
     let periods = read_number(field)?;
-    if dam_book::is_day(periods) {
-        Some(periods)
-    } else {
-        None
-    }
+    DayLength::new(periods)
 }
 
 fn read_side(field: &[u8]) -> Option<Side>
@@ -122,7 +118,7 @@ fn read_name_or_empty(field: &[u8]) -> Option<Option<Name>>
 }
 
 /// The day of the first record: how many periods it has.
-pub(crate) fn read_day(row: &Row) -> Result<u8, usize>
+pub(crate) fn read_day(row: &Row) -> Result<DayLength, usize>
     requires { row.now.kind.now ≡ codes "day" }
     ensures { MatchResult result
         (λ periods. (is_day periods ≡ true) × (fields_in row.now ≡ day_row periods))

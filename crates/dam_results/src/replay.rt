@@ -2,7 +2,7 @@
 
 ghost use Rattle.std.specs.Prelude.{◌≡◌, ◌++◌, ◌<◌, ◌^◌, ℕ, List, true, length, IfOk, IfErr, OnOk, MatchResult};
 ghost use Rattle.std.specs.List.{flat_map};
-ghost use Rattle.dam_book.specs.Book.{book_after, empty_book, entries_from, is_day, reply_to, run};
+ghost use Rattle.dam_book.specs.Book.{book_after, entries_from, reply_to, run};
 ghost use Rattle.dam_book.specs.declared.command.Command.{Command};
 ghost use Rattle.dam_results.specs.Journal.{IsMadeFrom, ReadsAs};
 ghost use Rattle.dam_results.specs.Faults.{IsFaultOf};
@@ -15,19 +15,8 @@ use crate::journal::{JournalFault, read_into};
 use crate::lines::write_day;
 use crate::replies::write_line;
 use dam_book::laws::runs_grow;
-use dam_book::{Book, Command, Reply, Seed};
+use dam_book::{Book, Command, DayLength, Reply, Seed};
 use std::alloc::{AllocError, Allocator, Global};
-
-/// The empty book of a day that a journal may have.
-fn empty_book(alloc: Global, seed: Seed, periods: u8) -> Book
-    requires { is_day periods ≡ true }
-    ensures { result ≡ empty_book periods }
-{
-    let Ok(book) = Book::begin_seeded(alloc, periods, seed) else {
-        unreachable!();
-    };
-    book
-}
 
 /// The run of a journal's commands.
 #[derive(Drop)]
@@ -45,8 +34,8 @@ impl FromJournal for Run {
     ghost made_of = { λ periods commands run. IsRun periods commands run.book
         × HasRefused periods commands run.refused × (run.refused ≤ length commands) };
 
-    fn begin(alloc: Global, seed: Seed, periods: u8) -> Result<Run, AllocError> {
-        let book = empty_book(alloc, seed, periods);
+    fn begin(alloc: Global, seed: Seed, periods: DayLength) -> Result<Run, AllocError> {
+        let book = Book::for_day(alloc, periods, seed);
         Ok(Run { book, refused: 0 })
     }
 
@@ -73,7 +62,7 @@ impl<A: Allocator + Copy, B: Allocator> Replay<A, B> {
         ensures text { IfOk result (λ replay. replay.text.items ≡ day_line book.periods) }
     {
         let mut text = Vec::new(alloc);
-        write_day(&mut text, u64::from(book.periods()))?;
+        write_day(&mut text, u64::from(book.periods().get()))?;
         Ok(Replay { book, text })
     }
 
@@ -110,8 +99,8 @@ impl FromJournal for Replay {
     ghost made_of = { λ periods commands replay.
         IsRun periods commands replay.book × AreReplies periods commands replay.text.items };
 
-    fn begin(alloc: Global, seed: Seed, periods: u8) -> Result<Replay, AllocError> {
-        Replay::on(alloc, empty_book(alloc, seed, periods))
+    fn begin(alloc: Global, seed: Seed, periods: DayLength) -> Result<Replay, AllocError> {
+        Replay::on(alloc, Book::for_day(alloc, periods, seed))
     }
 
     fn take(&mut self, number: u32, command: &Command) -> Result<(), AllocError> {

@@ -3,7 +3,7 @@ ghost use Rattle.dam_results.specs.Replies.{reply_line};
 ghost use Rattle.dam_results.specs.Replies;
 
 use crate::lines::{write_day, write_number};
-use dam_book::{Entry, Reason, Reply};
+use dam_book::{DayLength, Entry, Reason, Reply};
 use std::alloc::{AllocError, Allocator};
 
 fn reason_word(reason: Reason) -> &'static str
@@ -49,17 +49,17 @@ pub(crate) fn write_line<A: Allocator>(
     text.extend_from_slice(b"\n")
 }
 
-/// The replies text of a day of so many periods: the line `day,<periods>`, and for each entry the
+/// The replies text of a day of that number of periods: the line `day,<periods>`, and for each entry the
 /// line `<number>,done` or `<number>,refused,<Reason>`.
 pub fn replies_text<A: Allocator>(
     alloc: A,
-    periods: u8,
+    periods: DayLength,
     entries: &[Entry],
 ) -> Result<Vec<u8, A>, AllocError>
     ensures { IfOk result (λ text. text.items ≡ Replies.replies_text periods entries.now) }
 {
     let mut text = Vec::new(alloc);
-    write_day(&mut text, u64::from(periods))?;
+    write_day(&mut text, u64::from(periods.get()))?;
     for entry in entries {
         write_line(&mut text, entry.number, entry.reply)?;
     }

@@ -15,8 +15,8 @@ ghost use Rattle.dam_results.specs.inside.Writer.{Wrote, PutsCommand, PutsComman
 
 use csv::{Writer, WriterBuilder};
 use dam_book::{
-    BlockOrder, Command, Entry, HourOrder, Name, Order, Participant, Price, Side, Volumes,
-    write_pair, write_price, write_volumes,
+    BlockOrder, Command, DayLength, Entry, HourOrder, Name, Order, Participant, Price, Side,
+    Volumes, write_pair, write_price, write_volumes,
 };
 use itoa::Buffer;
 use std::alloc::{AllocError, Global};
@@ -79,13 +79,13 @@ fn put_row(out: &mut Writer<Vec<u8>>, row: &[&[u8]]) -> Result<(), AllocError>
     Ok(())
 }
 
-fn put_day(out: &mut Writer<Vec<u8>>, periods: u8) -> Result<(), AllocError>
-    requires { is_day periods ≡ true }
-    ensures { OnOk result ((text : List ℕ) → Wrote out.old text
+fn put_day(out: &mut Writer<Vec<u8>>, periods: DayLength) -> Result<(), AllocError>
+    ensures line { OnOk result ((text : List ℕ) → Wrote out.old text
         → Wrote out.new (text ++ row_line (day_row periods))) }
+    ensures valid { is_day periods ≡ true }
 {
     let mut number = Buffer::new();
-    let periods = number.format(periods).as_bytes();
+    let periods = number.format(periods.get()).as_bytes();
     put_row(out, &[b"day", periods, b"", b"", b"", b"", b"", b"", b""])
 }
 
@@ -203,9 +203,12 @@ fn put_entries(
 /// too. The fields of a record are joined by commas, with no quotes, and each record ends in one LF.
 ///
 /// It fails only where memory runs out.
-pub fn journal_text(alloc: Global, periods: u8, entries: &[Entry]) -> Result<Vec<u8>, AllocError>
-    requires day { is_day periods ≡ true }
-    requires few { length entries.now ≤ most_entries }
+pub fn journal_text(
+    alloc: Global,
+    periods: DayLength,
+    entries: &[Entry],
+) -> Result<Vec<u8>, AllocError>
+    requires { length entries.now ≤ most_entries }
     ensures text { IfOk result (λ text. text.items ≡ Written.journal_text periods entries.now) }
     ensures reads { IfOk result (λ text. ReadsAs text.items periods (commands_of entries.now)) }
 {

@@ -11,5 +11,5 @@ build-requires g c =
 
 pub loop-number-preserved : goal.loop-number-preserved
 loop-number-preserved g c =
-    hour_more c.args.periods c.loop-number.number c.args.hourly.now c.loop-number.hours.items _ c.in_ok-build.field-0 _ c.loop-number-test.true
+    hour_more c.get-count.result c.loop-number.number c.args.hourly.now c.loop-number.hours.items _ c.in_ok-build.field-0 _ c.loop-number-test.true
     (c.in_ok-build.ensures ∙ c.deref.ensures.value ∙ c.in_ok-steps.ensures) c.in_ok-push.ensures.items c.loop-number.invariant

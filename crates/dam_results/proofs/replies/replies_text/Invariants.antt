@@ -4,4 +4,4 @@ use Rattle.dam_results.specs.Replies
 use Rattle.dam_results.proofs.replies.replies_text.Given as goal
 
 abbrev pub invariant-loop-entry : goal.invariant-loop-entry
-invariant-loop-entry g l = l.text.items ≡ Replies.replies_text l.periods (take l.entry-index l.entries)
+invariant-loop-entry g l = l.text.items ≡ Replies.replies_text l.fn.periods (take l.entry-index l.entries)
