@@ -18,7 +18,7 @@ use Rattle.dam_hour.specs.Execution.{AreInRange, IsHour, volume_on, offered_volu
 use Rattle.dam_hour.specs.inside.Volumes.{if_better, better_volume, at_volume}
 use Rattle.dam_hour.specs.inside.Ladder.{rank_of, order_of, total, rows_from, placed_of, side_total, AreOfSide, IsRung}
 use Rattle.dam_hour.specs.inside.Edge.{not_worse_volume, IsServed, IsEdge, IsLimitOfSell}
-use Rattle.dam_hour.specs.declared.ladder.Row.{Row}
+use Rattle.dam_hour.specs.declared.ladder.Rung.{Rung}
 use Rattle.dam_hour.proofs.Ladders.{counted, counted_before, counted_after, front_of_place, none_in_front, offered_total}
 use Rattle.dam_hour.proofs.Positions.{offered_small}
 use Rattle.dam_hour.proofs.Edges.{not_worse_offered}
@@ -223,7 +223,7 @@ around_edge ss ps net last next from to volume e v a =
     }
 
 -- ---- the step that holds a unit
-row_volume : (v : ℕ) (w : ℤ) (ps : List Placed) (i : ℕ) (d : Row) → i < length ps → (get_or (rows_from v w ps) i d).before.volume ≡ v + volume_to i ps
+row_volume : (v : ℕ) (w : ℤ) (ps : List Placed) (i : ℕ) (d : Rung) → i < length ps → (get_or (rows_from v w ps) i d).before.volume ≡ v + volume_to i ps
 row_volume v w [] i d l = absurd (omega (arith, l))
 row_volume v w (p ∷ ps) zero d l = omega arith
 row_volume v w (p ∷ ps) (suc i) d l =
@@ -233,41 +233,41 @@ rows_long : (v : ℕ) (w : ℤ) (ps : List Placed) → length (rows_from v w ps)
 rows_long v w [] = refl
 rows_long v w (p ∷ ps) = let rest = rows_long (v + p.step.qty) (w +ℤ p.step.price *ℤ pos p.step.qty) ps in omega (arith, rest)
 
-pub rows_rise : (rows : List Row) (ps : List Placed) → rows ≡ rows_from 0 (pos 0) ps → IsNonDecreasingBy (λ (r : Row). r.before.volume) rows
+pub rows_rise : (rows : List Rung) (ps : List Placed) → rows ≡ rows_from 0 (pos 0) ps → IsNonDecreasingBy (λ (r : Rung). r.before.volume) rows
 rows_rise rows ps e i j d l m =
     let long = ap length e ∙ rows_long 0 (pos 0) ps in
-    let at_i = ap (λ (rs : List Row). (get_or rs i d).before.volume) e ∙ row_volume 0 (pos 0) ps i d (omega (arith, long, l, m)) in
-    let at_j = ap (λ (rs : List Row). (get_or rs j d).before.volume) e ∙ row_volume 0 (pos 0) ps j d (omega (arith, long, m)) in
+    let at_i = ap (λ (rs : List Rung). (get_or rs i d).before.volume) e ∙ row_volume 0 (pos 0) ps i d (omega (arith, long, l, m)) in
+    let at_j = ap (λ (rs : List Rung). (get_or rs j d).before.volume) e ∙ row_volume 0 (pos 0) ps j d (omega (arith, long, m)) in
     let rises = volume_rises ps i j l in
     omega (arith, at_i, at_j, rises)
 
-pub some_under : (rows : List Row) (ps : List Placed) (unit k : ℕ) → rows ≡ rows_from 0 (pos 0) ps
-    → IsPartitionPoint (λ (r : Row). ltb r.before.volume unit ≡ true) (λ (r : Row). ltb r.before.volume unit ≡ false) rows k
+pub some_under : (rows : List Rung) (ps : List Placed) (unit k : ℕ) → rows ≡ rows_from 0 (pos 0) ps
+    → IsPartitionPoint (λ (r : Rung). ltb r.before.volume unit ≡ true) (λ (r : Rung). ltb r.before.volume unit ≡ false) rows k
     → 1 ≤ unit → unit ≤ total (λ p. p.step.qty) ps → 1 ≤ k
 some_under rows [] unit k e point first last = absurd (omega (arith, first, last))
 some_under rows (p ∷ ps) unit (suc j) e point first last = omega arith
 some_under rows (p ∷ ps) unit zero e point first last =
-    let d : Row = record { placed = p; before = record { volume = 0; value = pos 0 } } in
+    let d : Rung = record { placed = p; before = record { volume = 0; value = pos 0 } } in
     let long = ap length e ∙ rows_long 0 (pos 0) (p ∷ ps) in
     let behind = ltb-false _ _ (point.1 0 d (omega arith) (omega (arith, long))) in
-    let none = ap (λ (rs : List Row). (get_or rs 0 d).before.volume) e in
+    let none = ap (λ (rs : List Rung). (get_or rs 0 d).before.volume) e in
     absurd (omega (arith, behind, none, first))
 
-pub holds_unit : (rows : List Row) (ps : List Placed) (unit n k : ℕ) → rows ≡ rows_from 0 (pos 0) ps → k ≤ length rows → k ≡ suc n
-    → IsPartitionPoint (λ (r : Row). ltb r.before.volume unit ≡ true) (λ (r : Row). ltb r.before.volume unit ≡ false) rows k
+pub holds_unit : (rows : List Rung) (ps : List Placed) (unit n k : ℕ) → rows ≡ rows_from 0 (pos 0) ps → k ≤ length rows → k ≡ suc n
+    → IsPartitionPoint (λ (r : Rung). ltb r.before.volume unit ≡ true) (λ (r : Rung). ltb r.before.volume unit ≡ false) rows k
     → unit ≤ total (λ p. p.step.qty) ps → (n < length ps) × (volume_to n ps < unit) × (unit ≤ volume_to (suc n) ps)
 holds_unit rows [] unit n k e h s point last = let long = ap length e in absurd (omega (arith, h, s, long))
 holds_unit rows (p ∷ ps) unit n k e h s point last =
-    let d : Row = record { placed = p; before = record { volume = 0; value = pos 0 } } in
+    let d : Rung = record { placed = p; before = record { volume = 0; value = pos 0 } } in
     let long = ap length e ∙ rows_long 0 (pos 0) (p ∷ ps) in
     let front = ltb-true _ _ (point.0 n d (omega (arith, s)) (omega (arith, h, s))) in
-    let at_n = ap (λ (rs : List Row). (get_or rs n d).before.volume) e ∙ row_volume 0 (pos 0) (p ∷ ps) n d (omega (arith, long, h, s)) in (
+    let at_n = ap (λ (rs : List Rung). (get_or rs n d).before.volume) e ∙ row_volume 0 (pos 0) (p ∷ ps) n d (omega (arith, long, h, s)) in (
       omega (arith, long, h, s),
       omega (arith, front, at_n),
       elim (cases_lt (suc n) (length rows)) [
         | inl less ↦
             (let behind = ltb-false _ _ (point.1 (suc n) d (omega (arith, s)) less) in
-            let at_next = ap (λ (rs : List Row). (get_or rs (suc n) d).before.volume) e ∙ row_volume 0 (pos 0) (p ∷ ps) (suc n) d (omega (arith, long, less)) in
+            let at_next = ap (λ (rs : List Rung). (get_or rs (suc n) d).before.volume) e ∙ row_volume 0 (pos 0) (p ∷ ps) (suc n) d (omega (arith, long, less)) in
             omega (arith, behind, at_next))
         | inr more ↦
             (let whole = ap (λ (qs : List Placed). total (λ q. q.step.qty) qs) (take_all (suc n) (p ∷ ps) (omega (arith, long, more))) in
@@ -275,9 +275,9 @@ holds_unit rows (p ∷ ps) unit n k e h s point last =
       ],
     )
 
-pub placed_at : (rows : List Row) (k : ℕ) (row : Row) → slice_get rows k ≡ Some row → slice_get (placed_of rows) k ≡ Some row.placed
+pub placed_at : (rows : List Rung) (k : ℕ) (row : Rung) → slice_get rows k ≡ Some row → slice_get (placed_of rows) k ≡ Some row.placed
 placed_at [] k row e = cc
-placed_at (r ∷ rows) zero row e = let same : r ≡ row = cc in ap (λ (q : Row). Some q.placed) same
+placed_at (r ∷ rows) zero row e = let same : r ≡ row = cc in ap (λ (q : Rung). Some q.placed) same
 placed_at (r ∷ rows) (suc k) row e = placed_at rows k row e
 
 pub volume_small : (side : Side) (ps : List Placed) (ss : List Step) (k : ℕ) → AreOfSide side ps ss → IsHour ss → k ≤ length ps → volume_to k ps ≤ most_steps * greatest_volume

@@ -28,6 +28,6 @@ pub mod laws;
 mod step;
 mod volumes;
 
-pub use ends::price_between;
+pub use ends::{highest_price, lowest_price, price_between};
 pub use hour::{Cleared, GREATEST_NET, Hour, MOST_STEPS};
 pub use step::Step;
