@@ -1,5 +1,7 @@
 -- A step that leaves a period: its ladder without it, and the steps that stay on each side.
-use Rattle.std.proofs.Common.{◌≡◌, ℕ, zero, suc, ◌+◌, ◌-◌, ◌*◌, ◌==◌, ◌<◌, ◌≤◌, ℤ, pos, neg_ℤ, ◌+ℤ◌, ◌*ℤ◌, ◌≤ℤ◌, Bool, true, false, cond, not, nat_lt, lt-ltb, le-ltb, inl, inr, List, [], ◌∷◌, ◌++◌, length, drop, get_or, map, ap, ap₂, ◌∙◌, sym, subst, refl, arith}
+use Rattle.std.proofs.Common.{◌≡◌, ℕ, zero, suc, ◌+◌, ◌-◌, ◌*◌, ◌==◌, ◌<◌, ◌≤◌, ℤ, pos, neg_ℤ, ◌+ℤ◌, ◌*ℤ◌, ◌≤ℤ◌, Bool, true, false, cond}
+use Rattle.std.proofs.Common.{not, nat_lt, lt-ltb, le-ltb, inl, inr, List, [], ◌∷◌, ◌++◌, length, drop, get_or, map, ap, ap₂, ◌∙◌, sym}
+use Rattle.std.proofs.Common.{subst, refl, arith}
 use Rattle.std.specs.List.{remove, filter}
 use Rattle.std.specs.List.Sorted.{IsNonDecreasingBy}
 use Rattle.std.proofs.lemmas.Bool.{cases_lt, eq-eqb, ne_eqb}
@@ -16,7 +18,8 @@ use Rattle.dam_hour.specs.declared.ladder.Rung.{Rung}
 use Rattle.dam_book.specs.Limits.{greatest_volume}
 use Rattle.dam_hour.specs.Limits.{most_steps, greatest_value}
 use Rattle.dam_hour.specs.Execution.{AreInRange, volume_on}
-use Rattle.dam_hour.specs.inside.Ladder.{rank_of, order_of, place_of, moved_up, without_place, total, value_of, rows_from, placed_of, IsLadder, side_total, AreOfSide, AreKept}
+use Rattle.dam_hour.specs.inside.Ladder.{rank_of, order_of, place_of, moved_up, without_place, total, value_of, rows_from, placed_of}
+use Rattle.dam_hour.specs.inside.Ladder.{IsLadder, side_total, AreOfSide, AreKept}
 use Rattle.dam_hour.proofs.Ladders.{placed_back}
 
 -- ---- places
@@ -215,7 +218,7 @@ row_pushed p ps qs rows pushed all v v' w w' opened push volume value so_far =
     ∙ sym (ap (λ (ts : List Placed). rows ++ rows_from v w ts) opened)
     ∙ so_far
 
--- what is made of the first so many rows
+-- what is made of the first rows, as many as that
 pub record AreUpTo (gone i : ℕ) (old rows : List Rung) (v : ℕ) (w : ℤ) : Type 0 where
   pub rows_are : rows ++ rows_from v w (still gone i old) ≡ rows_from 0 (pos 0) (without_place gone (placed_of old))
   pub volume_is : v + total (λ p. p.step.qty) (still gone i old) ≡ total (λ p. p.step.qty) (without_place gone (placed_of old))
@@ -239,7 +242,8 @@ up_to_none gone old rows none = record {
     drop_none [] = refl
     drop_none (r ∷ rs) = refl
 
-pub up_to_kept : (gone i : ℕ) (old rows pushed : List Rung) (row : Rung) (p : Placed) (v v' q : ℕ) (w w' z : ℤ) → AreUpTo gone i old rows v w
+pub up_to_kept : (gone i : ℕ) (old rows pushed : List Rung) (row : Rung) (p : Placed) (v v' q : ℕ) (w w' z : ℤ)
+    → AreUpTo gone i old rows v w
     → i < length old → row ≡ get_or old i row
     → ¬ (place_of row.placed.order ≡ gone) → p ≡ moved_up gone row.placed
     → pushed ≡ rows ++ record { placed = p; before = record { volume = v; value = w } } ∷ []

@@ -24,7 +24,7 @@ impl Left {
         }
     }
 
-    /// What is left behind a step: where it stands at the price, less by what it takes.
+    /// What is left after a step: if its limit is the price, less by its volume.
     fn behind(self, step: Step, price: Price) -> Left
         ensures buys { result.buys ≡ self.buys - at_part Buy price step }
         ensures sells { result.sells ≡ self.sells - at_part Sell price step }

@@ -30,9 +30,8 @@ pub const GREATEST_NET: i64 = MOST_BLOCKS as i64 * GREATEST_VOLUME as i64;
 
 /// One period, an hour or a quarter of one: its steps in book order, at most `MOST_STEPS`.
 ///
-/// Beside them it keeps the buys by falling and the sells by rising limit, each with the volume and the
-/// value that stand before it, so that a price is found by bisection. A contract sees the list of the
-/// steps.
+/// It also keeps the buys by falling and the sells by rising limit, each with the volume and the value
+/// of those before it, so that a price is found by bisection. A contract sees the list of the steps.
 #[derive(Drop)]
 pub struct Hour<A: Allocator = Global> {
     steps: Vec<Step, A>,
@@ -55,7 +54,7 @@ impl<A: Allocator> Model for Hour<A> {
 /// What a period clears at; the volumes and the welfare are those of its steps alone.
 ///
 /// The price is any that supports the execution, narrowed to one (EUPHEMIA Public Description,
-/// "Price Determination Sub-problem"): where just one of the two ends is the end of the range of
+/// "Price Determination Sub-problem"): if just one of the two ends is the end of the range of
 /// prices, the other one; else the middle of the two, a half cent rounded down. That choice is this
 /// project's own. Prices are in cents per MWh.
 #[derive(Clone, Copy, PartialEq, Eq, Debug)]
@@ -293,7 +292,8 @@ impl<A: Allocator> Hour<A> {
     fn cleared(&self, net: i64, matched: &Matched) -> Cleared
         requires net { IsNetVolume net }
         requires ends { AreEnds self.now net matched.now.low matched.now.high }
-        requires totals { AreTotals self.now net matched.now.low matched.now.bought matched.now.sold }
+        requires totals { AreTotals self.now net matched.now.low
+            matched.now.bought matched.now.sold }
         ensures { IsClearedAt self.now net result }
     {
         let _few = self.len(); // for the proof: the steps are few

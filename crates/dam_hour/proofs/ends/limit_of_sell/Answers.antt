@@ -1,3 +1,4 @@
+-- The limit of the row that holds the unit, or the end of the range if all sells are less.
 use Rattle.std.proofs.Common.{◌∙◌, arith}
 use Rattle.std.proofs.lemmas.Int.{ints}
 use Rattle.dam_book.specs.declared.order.Side.TheVariants.{Sell}
@@ -14,5 +15,6 @@ returns-then-unit-all g c =
 pub returns : goal.returns
 returns g c =
     let under = c.holding.ensures.under in let up_to = c.holding.ensures.up_to in
-    limit_of_rung c.side-sells.result.now c.args.hour.now c.args.unit _ c.holding.result c.side-sells.ensures.side c.side-sells.ensures.steps c.rung-limit.ensures.limit
+    limit_of_rung c.side-sells.result.now c.args.hour.now c.args.unit _ c.holding.result c.side-sells.ensures.side
+    c.side-sells.ensures.steps c.rung-limit.ensures.limit
     (omega (arith, ints, under)) (omega (arith, ints, up_to))

@@ -15,10 +15,10 @@ returns g c =
     let fits : SFits w64 c.welfare_at.result = search rules in
     let held = to_z w64 (of_z w64 c.welfare_at.result) in
     let welfare : held ≡ pos (full_surplus matched.low steps) +ℤ matched.low *ℤ net =
-        to_z-of_z w64 c.welfare_at.result fits ∙ c.welfare_at.ensures
-        ∙ ap (λ (z : ℤ). pos (full_surplus matched.low steps) +ℤ matched.low *ℤ z) (to_z-of_z w64 net c.ranges.net) in
+    to_z-of_z w64 c.welfare_at.result fits ∙ c.welfare_at.ensures
+    ∙ ap (λ (z : ℤ). pos (full_surplus matched.low steps) +ℤ matched.low *ℤ z) (to_z-of_z w64 net c.ranges.net) in
     let totals : AreBestTotals steps net matched.bought matched.sold held =
-        best_totals steps net matched.low matched.bought matched.sold held c.requires.totals welfare in
+    best_totals steps net matched.low matched.bought matched.sold held c.requires.totals welfare in
     record {
       ends = c.requires.ends;
       price_is = c.price_between.ensures;
