@@ -8,7 +8,8 @@ use Rattle.dam_hour.specs.Execution.{IsExecution, executed_volume, volume_on, Ba
 use Rattle.dam_hour.specs.Best.{signed, welfare_of, surplus_at}
 use Rattle.dam_hour.specs.Price.{IsBetter, IsWorse, Supports}
 use Rattle.dam_hour.specs.inside.Volumes.{margin_of, above_zero, full_surplus}
-use Rattle.dam_hour.proofs.Numbers.{minus_times, plus_times, times_net, signed_times, full_or_none, at_most_full, full_where_better, none_where_worse, margin_better, margin_worse, better_margin, worse_margin}
+use Rattle.dam_hour.proofs.Numbers.{minus_times, plus_times, times_net, signed_times, full_or_none, at_most_full, full_where_better}
+use Rattle.dam_hour.proofs.Numbers.{none_where_worse, margin_better, margin_worse, better_margin, worse_margin}
 
 -- one step's part of `welfare_split`
 split_step : (side : Side) (limit p : ℤ) (x s b : ℕ) (w u : ℤ) → w +ℤ p *ℤ pos s ≡ u +ℤ p *ℤ pos b
@@ -28,7 +29,8 @@ pub welfare_split : (p : ℤ) (ss : List Step) (xs : List ℕ)
 welfare_split p [] xs = refl
 welfare_split p (s ∷ ss) [] = refl
 welfare_split p (s ∷ ss) (x ∷ xs) =
-    split_step s.side s.price p x (executed_volume Sell ss xs) (executed_volume Buy ss xs) (welfare_of ss xs) (surplus_at p ss xs) (welfare_split p ss xs)
+    split_step s.side s.price p x (executed_volume Sell ss xs) (executed_volume Buy ss xs) (welfare_of ss xs) (surplus_at p ss xs)
+    (welfare_split p ss xs)
 
 pub welfare_balanced : (p net : ℤ) (ss : List Step) (xs : List ℕ) → Balances ss net xs → welfare_of ss xs ≡ surplus_at p ss xs +ℤ p *ℤ net
 welfare_balanced p net ss xs e =
@@ -50,17 +52,20 @@ surplus_at_most p (s ∷ ss) (x ∷ xs) e =
     let r = surplus_at_most p ss xs e.1 in
     omega (arith, ints, g, m, r)
 
-pub surplus_supported : (p : ℤ) (ss : List Step) (xs : List ℕ) → IsExecution ss xs → Supports p ss xs → surplus_at p ss xs ≡ pos (full_surplus p ss)
+pub surplus_supported : (p : ℤ) (ss : List Step) (xs : List ℕ) → IsExecution ss xs → Supports p ss xs
+    → surplus_at p ss xs ≡ pos (full_surplus p ss)
 surplus_supported p [] [] e h = refl
 surplus_supported p [] (x ∷ xs) e h = absurd e
 surplus_supported p (s ∷ ss) [] e h = absurd e
 surplus_supported p (s ∷ ss) (x ∷ xs) e h =
     let g = gain_by_margin s.side s.price p x in
-    let m = full_or_none (margin_of s.side s.price p) x s.qty (λ l. h.0 (better_margin s.side s.price p l)) (λ l. h.1 (worse_margin s.side s.price p l)) in
+    let m = full_or_none (margin_of s.side s.price p) x s.qty (λ l. h.0 (better_margin s.side s.price p l))
+    (λ l. h.1 (worse_margin s.side s.price p l)) in
     let r = surplus_supported p ss xs e.1 h.2 in
     omega (arith, ints, g, m, r)
 
-pub supported_from_surplus : (p : ℤ) (ss : List Step) (xs : List ℕ) → IsExecution ss xs → surplus_at p ss xs ≡ pos (full_surplus p ss) → Supports p ss xs
+pub supported_from_surplus : (p : ℤ) (ss : List Step) (xs : List ℕ) → IsExecution ss xs → surplus_at p ss xs ≡ pos (full_surplus p ss)
+    → Supports p ss xs
 supported_from_surplus p [] [] e h = tt
 supported_from_surplus p [] (x ∷ xs) e h = absurd e
 supported_from_surplus p (s ∷ ss) [] e h = absurd e
@@ -68,7 +73,8 @@ supported_from_surplus p (s ∷ ss) (x ∷ xs) e h =
     let g = gain_by_margin s.side s.price p x in
     let m = at_most_full (margin_of s.side s.price p) x s.qty e.0 in
     let r = surplus_at_most p ss xs e.1 in
-    let here : margin_of s.side s.price p *ℤ pos x ≡ pos (above_zero (margin_of s.side s.price p) * s.qty) = omega (arith, ints, g, m, r, h) in
+    let here : margin_of s.side s.price p *ℤ pos x ≡ pos (above_zero (margin_of s.side s.price p) * s.qty) =
+    omega (arith, ints, g, m, r, h) in
     let there : surplus_at p ss xs ≡ pos (full_surplus p ss) = omega (arith, ints, g, m, r, h) in (
       (λ l. full_where_better (margin_of s.side s.price p) x s.qty here (margin_better s.side s.price p l)),
       (λ l. none_where_worse (margin_of s.side s.price p) x s.qty here (margin_worse s.side s.price p l)),
@@ -79,25 +85,43 @@ supported_from_surplus p (s ∷ ss) (x ∷ xs) e h =
 pub supported_greatest : (p net : ℤ) (ss : List Step) (xs ys : List ℕ) → IsExecution ss xs → Balances ss net xs → Supports p ss xs
     → IsExecution ss ys → Balances ss net ys → welfare_of ss ys ≤ℤ welfare_of ss xs
 supported_greatest p net ss xs ys ex bx sx ey by =
-    omega (arith, ints, welfare_balanced p net ss xs bx, welfare_balanced p net ss ys by, surplus_supported p ss xs ex sx, surplus_at_most p ss ys ey)
+    omega (
+      arith,
+      ints,
+      welfare_balanced p net ss xs bx,
+      welfare_balanced p net ss ys by,
+      surplus_supported p ss xs ex sx,
+      surplus_at_most p ss ys ey,
+    )
 
 -- and what has that welfare is supported by the price
 pub equals_supported : (p net : ℤ) (ss : List Step) (xs ys : List ℕ) → IsExecution ss xs → Balances ss net xs → Supports p ss xs
     → IsExecution ss ys → Balances ss net ys → welfare_of ss xs ≤ℤ welfare_of ss ys → Supports p ss ys
 equals_supported p net ss xs ys ex bx sx ey by le =
-    let m : surplus_at p ss ys ≡ pos (full_surplus p ss) = omega (arith, ints, welfare_balanced p net ss xs bx, welfare_balanced p net ss ys by, surplus_supported p ss xs ex sx, surplus_at_most p ss ys ey) in
+    let m : surplus_at p ss ys ≡ pos (full_surplus p ss) =
+    omega (
+      arith,
+      ints,
+      welfare_balanced p net ss xs bx,
+      welfare_balanced p net ss ys by,
+      surplus_supported p ss xs ex sx,
+      surplus_at_most p ss ys ey,
+    ) in
     supported_from_surplus p ss ys ey m
 
 -- a step's part of `supported_between`: what is better than a price between is better than one of the ends
-better_between : (side : Side) (limit low p high : ℤ) (x q : ℕ) → low ≤ℤ p → p ≤ℤ high → (IsBetter side limit low → x ≡ q) → (IsBetter side limit high → x ≡ q) → IsBetter side limit p → x ≡ q
+better_between : (side : Side) (limit low p high : ℤ) (x q : ℕ) → low ≤ℤ p → p ≤ℤ high → (IsBetter side limit low → x ≡ q)
+    → (IsBetter side limit high → x ≡ q) → IsBetter side limit p → x ≡ q
 better_between Buy limit low p high x q l h f g b = f (omega (arith, ints))
 better_between Sell limit low p high x q l h f g b = g (omega (arith, ints))
 
-worse_between : (side : Side) (limit low p high : ℤ) (x : ℕ) → low ≤ℤ p → p ≤ℤ high → (IsWorse side limit low → x ≡ 0) → (IsWorse side limit high → x ≡ 0) → IsWorse side limit p → x ≡ 0
+worse_between : (side : Side) (limit low p high : ℤ) (x : ℕ) → low ≤ℤ p → p ≤ℤ high → (IsWorse side limit low → x ≡ 0)
+    → (IsWorse side limit high → x ≡ 0) → IsWorse side limit p → x ≡ 0
 worse_between Buy limit low p high x l h f g b = g (omega (arith, ints))
 worse_between Sell limit low p high x l h f g b = f (omega (arith, ints))
 
-pub supported_between : (low p high : ℤ) (ss : List Step) (xs : List ℕ) → low ≤ℤ p → p ≤ℤ high → Supports low ss xs → Supports high ss xs → Supports p ss xs
+pub supported_between : (low p high : ℤ) (ss : List Step) (xs : List ℕ) → low ≤ℤ p → p ≤ℤ high → Supports low ss xs → Supports high ss xs
+    → Supports p ss xs
 supported_between low p high [] xs l h f g = tt
 supported_between low p high (s ∷ ss) [] l h f g = tt
 supported_between low p high (s ∷ ss) (x ∷ xs) l h f g = (
@@ -110,5 +134,7 @@ supported_between low p high (s ∷ ss) (x ∷ xs) l h f g = (
 pub surplus_at_least_zero : (p : ℤ) (ss : List Step) (xs : List ℕ) → IsExecution ss xs → Supports p ss xs → pos 0 ≤ℤ surplus_at p ss xs
 surplus_at_least_zero p ss xs e h = let s = surplus_supported p ss xs e h in omega (arith, ints, s)
 
-pub surplus_greatest : (p : ℤ) (ss : List Step) (xs ys : List ℕ) → IsExecution ss xs → Supports p ss xs → IsExecution ss ys → surplus_at p ss ys ≤ℤ surplus_at p ss xs
-surplus_greatest p ss xs ys ex h ey = let s = surplus_supported p ss xs ex h in let m = surplus_at_most p ss ys ey in omega (arith, ints, s, m)
+pub surplus_greatest : (p : ℤ) (ss : List Step) (xs ys : List ℕ) → IsExecution ss xs → Supports p ss xs → IsExecution ss ys
+    → surplus_at p ss ys ≤ℤ surplus_at p ss xs
+surplus_greatest p ss xs ys ex h ey = let s = surplus_supported p ss xs ex h in let m = surplus_at_most p ss ys ey in
+    omega (arith, ints, s, m)

@@ -1,5 +1,6 @@
 -- The ends of the supporting prices, from where the best execution ends among the buys.
-use Rattle.std.proofs.Common.{◌≡◌, ℕ, zero, suc, ◌+◌, ◌<◌, ◌≤◌, ℤ, pos, negsuc, ◌+ℤ◌, ◌-ℤ◌, ◌≤ℤ◌, ◌<ℤ◌, List, [], ◌∷◌, inl, inr, subst, arith}
+use Rattle.std.proofs.Common.{◌≡◌, ℕ, zero, suc, ◌+◌, ◌<◌, ◌≤◌, ℤ, pos, negsuc, ◌+ℤ◌, ◌-ℤ◌, ◌≤ℤ◌, ◌<ℤ◌, List, [], ◌∷◌, inl, inr, subst}
+use Rattle.std.proofs.Common.{arith}
 use Rattle.std.specs.Int.{int_min, int_max}
 use Rattle.std.proofs.lemmas.Int.{ints, clamps, by_lt_z}
 use Rattle.dam_book.specs.Price.{IsPrice}
@@ -14,7 +15,8 @@ use Rattle.dam_hour.proofs.Supporting.{better_volume_above, not_worse_above, hig
 use Rattle.dam_hour.proofs.Positions.{not_worse_is_better}
 
 -- ---- no more than all of a side is at the price or better
-part_offered : (side own : Side) (m : ℤ) (q : ℕ) → volume_on side own (if_better m q) + volume_on side own (if_at m q) ≤ volume_on side own q
+part_offered : (side own : Side) (m : ℤ) (q : ℕ)
+    → volume_on side own (if_better m q) + volume_on side own (if_at m q) ≤ volume_on side own q
 part_offered Buy Buy (pos zero) q = omega arith
 part_offered Buy Buy (pos (suc n)) q = omega arith
 part_offered Buy Buy (negsuc n) q = omega arith
@@ -33,7 +35,8 @@ not_worse_offered side p (s ∷ ss) =
     omega (arith, own, rest)
 
 -- ---- the least price that is high enough
-high_enough_there : (ss : List Step) (net last next low sell : ℤ) (volume : ℕ) → AreInRange ss → IsWithinOffers ss net → IsEdge ss net last next volume
+high_enough_there : (ss : List Step) (net last next low sell : ℤ) (volume : ℕ) → AreInRange ss → IsWithinOffers ss net
+    → IsEdge ss net last next volume
     → IsLimitOfSell ss (pos volume -ℤ net) sell → low ≡ int_min last (int_max next sell) → IsHighEnough ss net low
 high_enough_there ss net last next low sell volume r w e l is =
     by_lt_z (int_max next sell) last
@@ -44,16 +47,19 @@ high_enough_there ss net last next low sell volume r w e l is =
     let sells = not_worse_above Sell sell low ss at_sell in
     let rest = e.rest in
     elim l.up_to [
-      | inl top ↦ (let a = e.last_in_range.at_most in absurd (let no : 0 < 0 = omega (arith, ints, clamps, less, top, a) in omega (arith, no)))
+      | inl top ↦ (let a = e.last_in_range.at_most in
+          absurd (let no : 0 < 0 = omega (arith, ints, clamps, less, top, a) in omega (arith, no)))
       | inr reached ↦ record { enough = omega (arith, ints, buys, sells, rest, reached) }
     ]))
     (λ more.
     (let there : low ≡ last = omega (arith, ints, clamps, is, more) in
     elim e.served [
-      | inl none ↦ subst (λ (p : ℤ). IsHighEnough ss net p) (let end : highest_price ≡ low = omega (arith, ints, there, none) in end) (highest_enough ss net r w)
+      | inl none ↦ subst (λ (p : ℤ). IsHighEnough ss net p) (let end : highest_price ≡ low = omega (arith, ints, there, none) in end)
+          (highest_enough ss net r w)
       | inr served ↦
           (let left = served.left in
-          subst (λ (p : ℤ). IsHighEnough ss net p) (let end : last ≡ low = omega (arith, ints, there) in end) (record { enough = omega (arith, ints, left) }))
+          subst (λ (p : ℤ). IsHighEnough ss net p) (let end : last ≡ low = omega (arith, ints, there) in end)
+          (record { enough = omega (arith, ints, left) }))
     ]))
 
 not_high_under : (ss : List Step) (net last next low sell q : ℤ) (volume : ℕ) → IsPrice q → IsEdge ss net last next volume
@@ -76,24 +82,38 @@ not_high_under ss net last next low sell q volume in_range e l is under h =
     let sells = not_worse_above Sell q next ss (omega (arith, ints, less)) in
     elim e.unserved [
       | inl all ↦ (let bottom = all.0 in let no : 0 < 0 = omega (arith, ints, less, bottom, least) in omega (arith, no))
-      | inr left ↦ (let short = left.0 in let own = left.1 in let no : 0 < 0 = omega (arith, ints, enough, buys, sells, short, own) in omega (arith, no))
+      | inr left ↦ (let short = left.0 in let own = left.1 in let no : 0 < 0 = omega (
+        arith,
+        ints,
+        enough,
+        buys,
+        sells,
+        short,
+        own,
+      ) in omega (arith, no))
     ]))
 
-pub low_is_least : (ss : List Step) (net last next low sell : ℤ) (volume : ℕ) → AreInRange ss → IsWithinOffers ss net → IsEdge ss net last next volume
+pub low_is_least : (ss : List Step) (net last next low sell : ℤ) (volume : ℕ) → AreInRange ss → IsWithinOffers ss net
+    → IsEdge ss net last next volume
     → IsLimitOfSell ss (pos volume -ℤ net) sell → low ≡ int_min last (int_max next sell) → IsLeastHighEnough ss net low
 low_is_least ss net last next low sell volume r w e l is =
     let a = e.last_in_range.at_least in let b = e.last_in_range.at_most in
     let c = e.next_in_range.at_least in let d = e.next_in_range.at_most in
     let f = l.in_range.at_least in let g = l.in_range.at_most in
     record {
-      in_range = record { at_least = omega (arith, ints, clamps, is, a, b, c, d, f, g); at_most = omega (arith, ints, clamps, is, a, b, c, d, f, g) };
+      in_range = record {
+        at_least = omega (arith, ints, clamps, is, a, b, c, d, f, g);
+        at_most =
+            omega (arith, ints, clamps, is, a, b, c, d, f, g);
+      };
       enough = high_enough_there ss net last next low sell volume r w e l is;
       least = λ q in_range h.
           by_lt_z q low (λ under. absurd (not_high_under ss net last next low sell q volume in_range e l is under h)) (λ more. more);
     }
 
 -- ---- the greatest price that is low enough
-low_enough_there : (ss : List Step) (net last next high sell : ℤ) (volume : ℕ) → AreInRange ss → IsWithinOffers ss net → IsEdge ss net last next volume
+low_enough_there : (ss : List Step) (net last next high sell : ℤ) (volume : ℕ) → AreInRange ss → IsWithinOffers ss net
+    → IsEdge ss net last next volume
     → IsLimitOfSell ss ((pos volume -ℤ net) +ℤ pos 1) sell → high ≡ int_min last sell → IsLowEnough ss net high
 low_enough_there ss net last next high sell volume r w e l is =
     let at_last : high ≤ℤ last = omega (arith, ints, clamps, is) in
@@ -103,7 +123,8 @@ low_enough_there ss net last next high sell volume r w e l is =
     let whole = e.whole in
     let a = e.last_in_range.at_least in
     elim l.under [
-      | inl bottom ↦ subst (λ (p : ℤ). IsLowEnough ss net p) (let end : lowest_price ≡ high = omega (arith, ints, clamps, is, bottom, a) in end) (lowest_enough ss net r w)
+      | inl bottom ↦ subst (λ (p : ℤ). IsLowEnough ss net p)
+          (let end : lowest_price ≡ high = omega (arith, ints, clamps, is, bottom, a) in end) (lowest_enough ss net r w)
       | inr short ↦ record { enough = omega (arith, ints, buys, sells, whole, short) }
     ]
 
@@ -144,7 +165,8 @@ not_low_over ss net last next high sell q volume in_range e l is over h =
           ]
     ]))
 
-pub high_is_greatest : (ss : List Step) (net last next high sell : ℤ) (volume : ℕ) → AreInRange ss → IsWithinOffers ss net → IsEdge ss net last next volume
+pub high_is_greatest : (ss : List Step) (net last next high sell : ℤ) (volume : ℕ) → AreInRange ss → IsWithinOffers ss net
+    → IsEdge ss net last next volume
     → IsLimitOfSell ss ((pos volume -ℤ net) +ℤ pos 1) sell → high ≡ int_min last sell → IsGreatestLowEnough ss net high
 high_is_greatest ss net last next high sell volume r w e l is =
     let a = e.last_in_range.at_least in let b = e.last_in_range.at_most in

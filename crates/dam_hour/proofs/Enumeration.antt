@@ -1,5 +1,6 @@
 -- The greatest welfare over all executions is the best execution's.
-use Rattle.std.proofs.Common.{◌≡◌, ℕ, zero, suc, ◌≤◌, ℤ, pos, ◌+ℤ◌, ◌≤ℤ◌, Bool, true, false, cond, Some, None, List, [], ◌∷◌, ◌++◌, map, ◌⊎◌, inl, inr, ap, ◌∙◌, sym, subst, refl, arith}
+use Rattle.std.proofs.Common.{◌≡◌, ℕ, zero, suc, ◌≤◌, ℤ, pos, ◌+ℤ◌, ◌≤ℤ◌, Bool, true, false, cond, Some, None, List, [], ◌∷◌, ◌++◌, map}
+use Rattle.std.proofs.Common.{◌⊎◌, inl, inr, ap, ◌∙◌, sym, subst, refl, arith}
 use Rattle.std.specs.List.{fold, filter, flat_map}
 use Rattle.std.specs.Int.{int_max}
 use Rattle.std.proofs.lemmas.Int.{ints, clamps, by_lt_z}
@@ -25,7 +26,8 @@ among_right x (y ∷ xs) ys h = inr (among_right x xs ys h)
 
 among_either : {X : Type 0} (x : X) (xs ys : List X) → Among x (xs ++ ys) → Among x xs ⊎ Among x ys
 among_either x [] ys h = inr h
-among_either x (y ∷ xs) ys h = elim h [ inl e ↦ inl (inl e) | inr r ↦ elim (among_either x xs ys r) [ inl a ↦ inl (inr a) | inr b ↦ inr b ] ]
+among_either x (y ∷ xs) ys h =
+    elim h [ inl e ↦ inl (inl e) | inr r ↦ elim (among_either x xs ys r) [ inl a ↦ inl (inr a) | inr b ↦ inr b ] ]
 
 among_map : {X Y : Type 0} (f : X → Y) (x : X) (xs : List X) → Among x xs → Among (f x) (map f xs)
 among_map f x [] h = absurd h
@@ -33,7 +35,8 @@ among_map f x (y ∷ xs) h = elim h [ inl e ↦ inl (ap f e) | inr r ↦ inr (am
 
 among_map_from : {X Y : Type 0} (f : X → Y) (y : Y) (xs : List X) → Among y (map f xs) → (x : X) × (Among x xs × (f x ≡ y))
 among_map_from f y [] h = absurd h
-among_map_from f y (x ∷ xs) h = elim h [ inl e ↦ (x, (inl refl, e)) | inr r ↦ (let found = among_map_from f y xs r in (found.0, (inr found.1.0, found.1.1))) ]
+among_map_from f y (x ∷ xs) h =
+    elim h [ inl e ↦ (x, (inl refl, e)) | inr r ↦ (let found = among_map_from f y xs r in (found.0, (inr found.1.0, found.1.1))) ]
 
 among_flat_map : {X Y : Type 0} (f : X → List Y) (x : X) (y : Y) (xs : List X) → Among x xs → Among y (f x) → Among y (flat_map f xs)
 among_flat_map f x y [] h g = absurd h
@@ -42,7 +45,8 @@ among_flat_map f x y (z ∷ xs) h g = elim h [
   | inr r ↦ among_right y (f z) (flat_map f xs) (among_flat_map f x y xs r g)
 ]
 
-among_flat_map_from : {X Y : Type 0} (f : X → List Y) (y : Y) (xs : List X) → Among y (flat_map f xs) → (x : X) × (Among x xs × Among y (f x))
+among_flat_map_from : {X Y : Type 0} (f : X → List Y) (y : Y) (xs : List X) → Among y (flat_map f xs)
+    → (x : X) × (Among x xs × Among y (f x))
 among_flat_map_from f y [] h = absurd h
 among_flat_map_from f y (x ∷ xs) h = elim (among_either y (f x) (flat_map f xs) h) [
   | inl here ↦ (x, (inl refl, here))
@@ -52,7 +56,8 @@ among_flat_map_from f y (x ∷ xs) h = elim (among_either y (f x) (flat_map f xs
 among_filter : {X : Type 0} (test : X → Bool) (x : X) (xs : List X) → Among x xs → test x ≡ true → Among x (filter test xs)
 among_filter test x [] h t = absurd h
 among_filter test x (y ∷ xs) h t = elim h [
-  | inl e ↦ (let passes : test y ≡ true = ap test e ∙ t in subst (λ b. Among x (cond b (y ∷ filter test xs) (filter test xs))) (sym passes) (inl e))
+  | inl e ↦ (let passes : test y ≡ true = ap test e ∙ t in subst (λ b. Among x (cond b (y ∷ filter test xs) (filter test xs))) (sym
+      passes) (inl e))
   | inr r ↦ kept x y (filter test xs) (test y) (among_filter test x xs r t)
 ]
   where
@@ -64,14 +69,23 @@ among_filter_from : {X : Type 0} (test : X → Bool) (x : X) (xs : List X) → A
 among_filter_from test x [] h = absurd h
 among_filter_from test x (y ∷ xs) h =
     elim (test y) as (λ b. test y ≡ b → Among x (cond b (y ∷ filter test xs) (filter test xs)) → Among x (y ∷ xs) × (test x ≡ true)) [
-      | true ↦ λ passes here. elim here [ inl e ↦ (inl e, ap test (sym e) ∙ passes) | inr r ↦ (let found = among_filter_from test x xs r in (inr found.0, found.1)) ]
+      | true ↦ λ passes here. elim here [
+        | inl e ↦ (inl e, ap test (sym e) ∙ passes)
+        | inr r ↦
+            (let found = among_filter_from test x xs r in (inr found.0, found.1))
+      ]
       | false ↦ λ fails r. (let found = among_filter_from test x xs r in (inr found.0, found.1))
     ] refl h
 
 -- ---- every execution is listed, and nothing else
 among_up_to : (x n : ℕ) → x ≤ n → Among x (up_to n)
 among_up_to x zero h = inl (omega arith)
-among_up_to x (suc n) h = elim (cases_le x n h) [ inl l ↦ among_left x (up_to n) (suc n ∷ []) (among_up_to x n l) | inr e ↦ among_right x (up_to n) (suc n ∷ []) (inl (sym e)) ]
+among_up_to x (suc n) h =
+    elim (cases_le x n h) [
+      | inl l ↦ among_left x (up_to n) (suc n ∷ []) (among_up_to x n l)
+      | inr e ↦
+          among_right x (up_to n) (suc n ∷ []) (inl (sym e))
+    ]
   where
     cases_le : (x n : ℕ) → x ≤ suc n → (x ≤ n) ⊎ (x ≡ suc n)
     cases_le x n h = elim (cases_lt x (suc n)) [ inl l ↦ inl (omega arith) | inr m ↦ inr (omega arith) ]
@@ -138,13 +152,16 @@ greatest_none (y ∷ zs) z e h = cc
 welfares : List Step → ℤ → List ℤ
 welfares ss net = map (welfare_of ss) (filter (does_balance ss net) (executions ss))
 
-welfare_listed : (ss : List Step) (net : ℤ) (xs : List ℕ) → IsExecution ss xs → Balances ss net xs → Among (welfare_of ss xs) (welfares ss net)
+welfare_listed : (ss : List Step) (net : ℤ) (xs : List ℕ) → IsExecution ss xs → Balances ss net xs
+    → Among (welfare_of ss xs) (welfares ss net)
 unfolding welfares
 welfare_listed ss net xs e b =
     among_map (welfare_of ss) xs (filter (does_balance ss net) (executions ss))
-    (among_filter (does_balance ss net) xs (executions ss) (execution_listed ss xs e) ((Decides-int_eq (pos (executed_volume Sell ss xs) +ℤ net) (pos (executed_volume Buy ss xs))).1 b))
+    (among_filter (does_balance ss net) xs (executions ss) (execution_listed ss xs e)
+    ((Decides-int_eq (pos (executed_volume Sell ss xs) +ℤ net) (pos (executed_volume Buy ss xs))).1 b))
 
-listed_welfare : (ss : List Step) (net w : ℤ) → Among w (welfares ss net) → (xs : List ℕ) × IsExecution ss xs × Balances ss net xs × (welfare_of ss xs ≡ w)
+listed_welfare : (ss : List Step) (net w : ℤ) → Among w (welfares ss net)
+    → (xs : List ℕ) × IsExecution ss xs × Balances ss net xs × (welfare_of ss xs ≡ w)
 unfolding welfares
 listed_welfare ss net w h =
     let mapped = among_map_from (welfare_of ss) w (filter (does_balance ss net) (executions ss)) h in

@@ -1,5 +1,6 @@
 -- Where the net volume is within the offers there are a balanced execution, the ends and a best execution; and each is the only one.
-use Rattle.std.proofs.Common.{◌≡◌, ℕ, zero, suc, min, ◌-◌, ◌≤◌, ℤ, pos, negsuc, neg_ℤ, ◌+ℤ◌, ◌-ℤ◌, ◌≤ℤ◌, List, [], ◌∷◌, inl, inr, ap, ap₂, ◌∙◌, sym, refl, arith}
+use Rattle.std.proofs.Common.{◌≡◌, ℕ, zero, suc, min, ◌-◌, ◌≤◌, ℤ, pos, negsuc, neg_ℤ, ◌+ℤ◌, ◌-ℤ◌, ◌≤ℤ◌, List, [], ◌∷◌, inl, inr, ap, ap₂}
+use Rattle.std.proofs.Common.{◌∙◌, sym, refl, arith}
 use Rattle.std.proofs.lemmas.Int.{ints, by_lt_z}
 use Rattle.dam_book.specs.Limits.{lowest_price, highest_price}
 use Rattle.dam_book.specs.declared.order.Side.{Side}
@@ -12,7 +13,8 @@ use Rattle.dam_hour.specs.Best.{AtMostInOrder, IsBest, welfare_of}
 use Rattle.dam_hour.specs.inside.Volumes.{total_on, IsHighEnough, IsLowEnough, IsLeastHighEnough, IsGreatestLowEnough}
 use Rattle.dam_hour.proofs.FilledExecution.{fill_total_step}
 use Rattle.dam_hour.proofs.Totals.{totals_at, best_at, best_is_best}
-use Rattle.dam_hour.proofs.Supporting.{higher, lower, high_or_next_low, low_or_previous_high, highest_enough, lowest_enough, ends_from, least_is_low}
+use Rattle.dam_hour.proofs.Supporting.{higher, lower, high_or_next_low, low_or_previous_high, highest_enough, lowest_enough, ends_from}
+use Rattle.dam_hour.proofs.Supporting.{least_is_low}
 
 -- ---- the least price that is high enough, by its distance from the lowest
 pub least_found : (ss : List Step) (net : ℤ) (n : ℕ) (p : ℤ) → p ≡ lowest_price +ℤ pos n → p ≤ℤ highest_price → IsHighEnough ss net p
@@ -96,13 +98,15 @@ unfolding spread
 spread_fits [] left = tt
 spread_fits (s ∷ ss) left = (omega arith, spread_fits ss _)
 
-spread_total : (side : Side) (ss : List Step) (left : Side → ℕ) → executed_volume side ss (spread ss left) ≡ min (offered_volume side ss) (left side)
+spread_total : (side : Side) (ss : List Step) (left : Side → ℕ)
+    → executed_volume side ss (spread ss left) ≡ min (offered_volume side ss) (left side)
 unfolding spread
 spread_total side [] left = omega arith
 spread_total side (s ∷ ss) left =
     let next : Side → ℕ = λ side. left side - volume_on side s.side s.qty in
     let rest = spread_total side ss next in
-    let step = fill_total_step side s.side (pos 0) s.qty (offered_volume side ss) 0 (executed_volume side ss (spread ss next)) left (omega (arith, rest)) in
+    let step = fill_total_step side s.side (pos 0) s.qty (offered_volume side ss) 0 (executed_volume side ss (spread ss next)) left
+    (omega (arith, rest)) in
     omega (arith, step, none_on side s.side)
   where
     none_on : (side own : Side) → volume_on side own 0 ≡ 0
@@ -127,7 +131,8 @@ balance_exists ss net w =
     total_on' b s side = total_on side b s
 
 -- ---- each is the only one
-same_in_order : (ss : List Step) (xs ys : List ℕ) → IsExecution ss xs → IsExecution ss ys → AtMostInOrder xs ys → AtMostInOrder ys xs → xs ≡ ys
+same_in_order : (ss : List Step) (xs ys : List ℕ) → IsExecution ss xs → IsExecution ss ys → AtMostInOrder xs ys → AtMostInOrder ys xs
+    → xs ≡ ys
 same_in_order [] [] [] ex ey h g = refl
 same_in_order [] (x ∷ xs) ys ex ey h g = absurd ex
 same_in_order [] [] (y ∷ ys) ex ey h g = absurd ey
@@ -145,7 +150,8 @@ best_unique ss net xs ys x y =
     let b : executed_volume Buy ss xs ≡ executed_volume Buy ss ys = omega (arith, below.by_bought w, above.by_bought (sym w)) in
     same_in_order ss xs ys x.execution y.execution (below.by_order w b) (above.by_order (sym w) (sym b))
 
-pub ends_unique : (ss : List Step) (net low high low' high' : ℤ) → AreEnds ss net low high → AreEnds ss net low' high' → (low ≡ low') × (high ≡ high')
+pub ends_unique : (ss : List Step) (net low high low' high' : ℤ) → AreEnds ss net low high → AreEnds ss net low' high'
+    → (low ≡ low') × (high ≡ high')
 ends_unique ss net low high low' high' e f =
     let l = e.least low' f.low_supports in let l' = f.least low e.low_supports in
     let h = e.greatest high' f.high_supports in let h' = f.greatest high e.high_supports in

@@ -1,4 +1,4 @@
--- The greatest welfare with further steps behind.
+-- The greatest welfare with further steps after them.
 use Rattle.std.proofs.Common.{◌≡◌, ℕ, ℤ, ◌+ℤ◌, ◌-ℤ◌, ◌≤ℤ◌, Some, List, ◌++◌, arith}
 use Rattle.std.proofs.lemmas.Int.{ints}
 use Rattle.dam_book.specs.declared.order.Side.TheVariants.{Buy, Sell}
@@ -9,7 +9,8 @@ use Rattle.dam_hour.proofs.Enumeration.{greatest_welfare_reached, greatest_welfa
 use Rattle.dam_hour.proofs.Joining.{joined_execution, joined_volume, joined_welfare}
 
 -- the net volumes of the two parts add up to that of the whole
-joined_balance : (ss ts : List Step) (net first : ℤ) (xs ys : List ℕ) → IsExecution ss xs → Balances ss first xs → Balances ts (net -ℤ first) ys
+joined_balance : (ss ts : List Step) (net first : ℤ) (xs ys : List ℕ) → IsExecution ss xs → Balances ss first xs
+    → Balances ts (net -ℤ first) ys
     → Balances (ss ++ ts) net (xs ++ ys)
 joined_balance ss ts net first xs ys e b c =
     let sold = joined_volume Sell ss ts xs ys e in

@@ -1,5 +1,7 @@
--- The execution that a price supports and that comes last in book order: what is better has its whole volume, and what stands at the price is filled in book order.
-use Rattle.std.proofs.Common.{◌≡◌, ℕ, zero, suc, min, ◌+◌, ◌-◌, ◌<◌, ◌≤◌, ℤ, pos, negsuc, ◌<ℤ◌, List, [], ◌∷◌, Some, None, take, ap, ◌∙◌, refl, arith}
+-- The execution that a price supports and that comes last in book order: what is better has its whole volume, and what
+-- stands at the price is filled in book order.
+use Rattle.std.proofs.Common.{◌≡◌, ℕ, zero, suc, min, ◌+◌, ◌-◌, ◌<◌, ◌≤◌, ℤ, pos, negsuc, ◌<ℤ◌, List, [], ◌∷◌, Some, None, take, ap, ◌∙◌}
+use Rattle.std.proofs.Common.{refl, arith}
 use Rattle.std.specs.List.{slice_get}
 use Rattle.std.proofs.lemmas.Int.{ints}
 use Rattle.dam_book.specs.declared.order.Side.{Side}
@@ -62,7 +64,8 @@ taken_at_most side p (s ∷ ss) (x ∷ xs) e =
     let rest = taken_at_most side p ss xs e.1 in
     omega (arith, here, rest)
 
-pub executed_at_most : (side : Side) (ss : List Step) (xs : List ℕ) → IsExecution ss xs → executed_volume side ss xs ≤ offered_volume side ss
+pub executed_at_most : (side : Side) (ss : List Step) (xs : List ℕ) → IsExecution ss xs
+    → executed_volume side ss xs ≤ offered_volume side ss
 executed_at_most side [] [] e = omega arith
 executed_at_most side [] (x ∷ xs) e = absurd e
 executed_at_most side (s ∷ ss) [] e = absurd e
@@ -106,7 +109,8 @@ share_total (pos (suc n)) q left a b e h = omega arith
 share_total (negsuc n) q left a b e h = omega arith
 
 pub fill_total_step : (side own : Side) (m : ℤ) (q a b e : ℕ) (left : Side → ℕ) → e ≡ b + min a (left side - volume_on side own (if_at m q))
-    → volume_on side own (share m q (left own)) + e ≡ (volume_on side own (if_better m q) + b) + min (volume_on side own (if_at m q) + a) (left side)
+    → volume_on side own (share m q (left own)) + e ≡ (volume_on side own (if_better m q) + b)
+    + min (volume_on side own (if_at m q) + a) (left side)
 fill_total_step Buy Buy m q a b e left h = share_total m q (left Buy) a b e h
 fill_total_step Sell Sell m q a b e left h = share_total m q (left Sell) a b e h
 fill_total_step Buy Sell m q a b e left h = omega arith
@@ -118,7 +122,8 @@ fill_total side p [] left = omega arith
 fill_total side p (s ∷ ss) left =
     let m = margin_of s.side s.price p in
     let next : Side → ℕ = λ side. left side - volume_on side s.side (if_at m s.qty) in
-    fill_total_step side s.side m s.qty (at_volume side p ss) (better_volume side p ss) (executed_volume side ss (fill p ss next)) left (fill_total side p ss next)
+    fill_total_step side s.side m s.qty (at_volume side p ss) (better_volume side p ss) (executed_volume side ss (fill p ss next)) left
+    (fill_total side p ss next)
 
 -- no supported execution that takes at most what is left comes after it in order
 share_greatest : (m : ℤ) (x q t left : ℕ) → x ≤ q → (pos 0 <ℤ m → x ≡ q) → (m <ℤ pos 0 → x ≡ 0) → if_at m x + t ≤ left → x ≤ share m q left
@@ -131,7 +136,8 @@ share_leaves (pos zero) x q t left e l = omega arith
 share_leaves (pos (suc n)) x q t left e l = omega arith
 share_leaves (negsuc n) x q t left e l = omega arith
 
-fill_leaves : (side own : Side) (m : ℤ) (x q t : ℕ) (left : Side → ℕ) → x ≡ share m q (left own) → volume_on side own (if_at m x) + t ≤ left side
+fill_leaves : (side own : Side) (m : ℤ) (x q t : ℕ) (left : Side → ℕ) → x ≡ share m q (left own)
+    → volume_on side own (if_at m x) + t ≤ left side
     → t ≤ left side - volume_on side own (if_at m q)
 fill_leaves Buy Buy m x q t left e l = share_leaves m x q t (left Buy) e l
 fill_leaves Sell Sell m x q t left e l = share_leaves m x q t (left Sell) e l
@@ -149,7 +155,8 @@ fill_last p [] (x ∷ xs) left e h l = absurd e
 fill_last p (s ∷ ss) [] left e h l = absurd e
 fill_last p (s ∷ ss) (x ∷ xs) left e h l =
     let m = margin_of s.side s.price p in (
-      share_greatest m x s.qty (taken s.side p ss xs) (left s.side) e.0 (λ b. h.0 (better_margin s.side s.price p b)) (λ w. h.1 (worse_margin s.side s.price p w))
+      share_greatest m x s.qty (taken s.side p ss xs) (left s.side) e.0 (λ b. h.0 (better_margin s.side s.price p b))
+          (λ w. h.1 (worse_margin s.side s.price p w))
           (own_leaves s.side m x (taken s.side p ss xs) left (l s.side)),
       λ same. fill_last p ss xs (λ side. left side - volume_on side s.side (if_at m s.qty)) e.1 h.2
           (λ side. fill_leaves side s.side m x s.qty (taken side p ss xs) left same (l side)),
@@ -171,7 +178,8 @@ fill_place p (t ∷ ss) zero s left e =
 fill_place p (t ∷ ss) (suc i) s left e =
     let m = margin_of t.side t.price p in
     fill_place p ss i s (λ side. left side - volume_on side t.side (if_at m t.qty)) e
-    ∙ ap (λ (n : ℕ). Some (share (margin_of s.side s.price p) s.qty n)) (less_twice s.side t.side m t.qty (at_volume s.side p (take i ss)) left)
+    ∙ ap (λ (n : ℕ). Some (share (margin_of s.side s.price p) s.qty n))
+    (less_twice s.side t.side m t.qty (at_volume s.side p (take i ss)) left)
 
 -- past the last step an execution has no volume
 pub execution_past : (ss : List Step) (xs : List ℕ) (i : ℕ) → IsExecution ss xs → slice_get ss i ≡ None → slice_get xs i ≡ None

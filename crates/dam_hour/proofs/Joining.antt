@@ -13,7 +13,8 @@ execution_length [] (x ∷ xs) e = absurd e
 execution_length (s ∷ ss) [] e = absurd e
 execution_length (s ∷ ss) (x ∷ xs) e = ap suc (execution_length ss xs e.1)
 
-pub volume_at_most : (ss : List Step) (xs : List ℕ) (i : ℕ) (s : Step) (x : ℕ) → IsExecution ss xs → slice_get ss i ≡ Some s → slice_get xs i ≡ Some x → x ≤ s.qty
+pub volume_at_most : (ss : List Step) (xs : List ℕ) (i : ℕ) (s : Step) (x : ℕ) → IsExecution ss xs → slice_get ss i ≡ Some s
+    → slice_get xs i ≡ Some x → x ≤ s.qty
 volume_at_most [] [] i s x e at is = cc
 volume_at_most [] (y ∷ xs) i s x e at is = absurd e
 volume_at_most (t ∷ ss) [] i s x e at is = absurd e
@@ -46,7 +47,8 @@ joined_volume side [] ts (x ∷ xs) ys e = absurd e
 joined_volume side (s ∷ ss) ts [] ys e = absurd e
 joined_volume side (s ∷ ss) ts (x ∷ xs) ys e = let rest = joined_volume side ss ts xs ys e.1 in omega (arith, rest)
 
-pub joined_welfare : (ss ts : List Step) (xs ys : List ℕ) → IsExecution ss xs → welfare_of (ss ++ ts) (xs ++ ys) ≡ welfare_of ss xs +ℤ welfare_of ts ys
+pub joined_welfare : (ss ts : List Step) (xs ys : List ℕ) → IsExecution ss xs
+    → welfare_of (ss ++ ts) (xs ++ ys) ≡ welfare_of ss xs +ℤ welfare_of ts ys
 joined_welfare [] ts [] ys e = omega (arith, ints)
 joined_welfare [] ts (x ∷ xs) ys e = absurd e
 joined_welfare (s ∷ ss) ts [] ys e = absurd e

@@ -1,5 +1,7 @@
 -- A step that leaves a period: its ladder without it, and the steps that stay on each side.
-use Rattle.std.proofs.Common.{◌≡◌, ℕ, zero, suc, ◌+◌, ◌-◌, ◌*◌, ◌==◌, ◌<◌, ◌≤◌, ℤ, pos, neg_ℤ, ◌+ℤ◌, ◌*ℤ◌, ◌≤ℤ◌, Bool, true, false, cond, not, nat_lt, lt-ltb, le-ltb, inl, inr, List, [], ◌∷◌, ◌++◌, length, drop, get_or, map, ap, ap₂, ◌∙◌, sym, subst, refl, arith}
+use Rattle.std.proofs.Common.{◌≡◌, ℕ, zero, suc, ◌+◌, ◌-◌, ◌*◌, ◌==◌, ◌<◌, ◌≤◌, ℤ, pos, neg_ℤ, ◌+ℤ◌, ◌*ℤ◌, ◌≤ℤ◌, Bool, true, false, cond}
+use Rattle.std.proofs.Common.{not, nat_lt, lt-ltb, le-ltb, inl, inr, List, [], ◌∷◌, ◌++◌, length, drop, get_or, map, ap, ap₂, ◌∙◌, sym}
+use Rattle.std.proofs.Common.{subst, refl, arith}
 use Rattle.std.specs.List.{remove, filter}
 use Rattle.std.specs.List.Sorted.{IsNonDecreasingBy}
 use Rattle.std.proofs.lemmas.Bool.{cases_lt, eq-eqb, ne_eqb}
@@ -12,11 +14,12 @@ use Rattle.dam_book.specs.declared.order.Side.{Side}
 use Rattle.dam_book.specs.declared.order.Side.TheVariants.{Buy, Sell}
 use Rattle.dam_hour.specs.declared.step.Step.{Step}
 use Rattle.dam_hour.specs.declared.ladder.Placed.{Placed}
-use Rattle.dam_hour.specs.declared.ladder.Row.{Row}
+use Rattle.dam_hour.specs.declared.ladder.Rung.{Rung}
 use Rattle.dam_book.specs.Limits.{greatest_volume}
 use Rattle.dam_hour.specs.Limits.{most_steps, greatest_value}
 use Rattle.dam_hour.specs.Execution.{AreInRange, volume_on}
-use Rattle.dam_hour.specs.inside.Ladder.{rank_of, order_of, place_of, moved_up, without_place, total, value_of, rows_from, placed_of, IsLadder, side_total, AreOfSide, AreKept}
+use Rattle.dam_hour.specs.inside.Ladder.{rank_of, order_of, place_of, moved_up, without_place, total, value_of, rows_from, placed_of}
+use Rattle.dam_hour.specs.inside.Ladder.{IsLadder, side_total, AreOfSide, AreKept}
 use Rattle.dam_hour.proofs.Ladders.{placed_back}
 
 -- ---- places
@@ -26,8 +29,8 @@ order_up gone order = cond (nat_lt gone (place_of order)) (order - 1) order
 place_is : (r n : ℕ) → n < most_steps → place_of (r * most_steps + n) ≡ n
 place_is r n l = mod-mul-add r most_steps n l
 
-order_behind : (gone order : ℕ) → gone < place_of order → order_up gone order ≡ order - 1
-order_behind gone order l = ap (λ (b : Bool). cond b (order - 1) order) (lt-ltb gone (place_of order) l)
+order_after : (gone order : ℕ) → gone < place_of order → order_up gone order ≡ order - 1
+order_after gone order l = ap (λ (b : Bool). cond b (order - 1) order) (lt-ltb gone (place_of order) l)
 
 order_front : (gone order : ℕ) → place_of order ≤ gone → order_up gone order ≡ order
 order_front gone order l = ap (λ (b : Bool). cond b (order - 1) order) (le-ltb gone (place_of order) l)
@@ -35,7 +38,7 @@ order_front gone order l = ap (λ (b : Bool). cond b (order - 1) order) (le-ltb 
 -- none moves by more than one, so the order stays
 up_near : (gone order : ℕ) → (order_up gone order ≤ order) × (order ≤ order_up gone order + 1)
 up_near gone order = elim (cases_lt gone (place_of order)) [
-  | inl less ↦ (let e = order_behind gone order less in (omega (arith, e), omega (arith, e)))
+  | inl less ↦ (let e = order_after gone order less in (omega (arith, e), omega (arith, e)))
   | inr more ↦ (let e = order_front gone order more in (omega (arith, e), omega (arith, e)))
 ]
 
@@ -111,21 +114,21 @@ part_front gone r n f s l few =
     (ne_eqb (place_of (r * most_steps + n)) gone (λ e. let same = sym place ∙ e in absurd (omega (arith, same, l))))
     ∙ ap (λ (order : ℕ). f order s) (order_front gone (r * most_steps + n) (subst (λ (k : ℕ). k ≤ gone) (sym place) (omega (arith, l))))
 
-part_behind : (gone r n : ℕ) (f : ℕ → Step → ℕ) (s : Step) → gone ≤ n → suc n < most_steps
+part_after : (gone r n : ℕ) (f : ℕ → Step → ℕ) (s : Step) → gone ≤ n → suc n < most_steps
     → part gone f (r * most_steps + suc n) s ≡ f (r * most_steps + n) s
-part_behind gone r n f s l few =
+part_after gone r n f s l few =
     let place = place_is r (suc n) few in
     ap (λ (b : Bool). cond b 0 (f (order_up gone (r * most_steps + suc n)) s))
     (ne_eqb (place_of (r * most_steps + suc n)) gone (λ e. let same = sym place ∙ e in absurd (omega (arith, same, l))))
-    ∙ ap (λ (order : ℕ). f order s) (order_behind gone (r * most_steps + suc n) (subst (λ (k : ℕ). gone < k) (sym place) (omega (arith, l)))
+    ∙ ap (λ (order : ℕ). f order s) (order_after gone (r * most_steps + suc n) (subst (λ (k : ℕ). gone < k) (sym place) (omega (arith, l)))
     ∙ (let one : (r * most_steps + suc n) - 1 ≡ r * most_steps + n = omega arith in one))
 
-side_behind : (side : Side) (f : ℕ → Step → ℕ) (gone n : ℕ) (ss : List Step) → gone ≤ n → suc n + length ss ≤ most_steps
+side_after : (side : Side) (f : ℕ → Step → ℕ) (gone n : ℕ) (ss : List Step) → gone ≤ n → suc n + length ss ≤ most_steps
     → side_total side (part gone f) (suc n) ss ≡ side_total side f n ss
-side_behind side f gone n [] l few = refl
-side_behind side f gone n (s ∷ ss) l few =
-    let here = part_behind gone (rank_of side s.price) n f s l (omega (arith, few)) in
-    let rest = side_behind side f gone (suc n) ss (omega (arith, l)) (omega (arith, few)) in
+side_after side f gone n [] l few = refl
+side_after side f gone n (s ∷ ss) l few =
+    let here = part_after gone (rank_of side s.price) n f s l (omega (arith, few)) in
+    let rest = side_after side f gone (suc n) ss (omega (arith, l)) (omega (arith, few)) in
     ap (λ (x : ℕ). volume_on side s.side x + side_total side (part gone f) (suc (suc n)) ss) here
     ∙ ap (λ (x : ℕ). volume_on side s.side (f (order_of side s.price n) s) + x) rest
 
@@ -142,7 +145,7 @@ side_without side f gone n zero (s ∷ ss) e l few =
     let same : n ≡ gone = omega (arith, e) in
     let here = subst (λ (m : ℕ). part gone f (rank_of side s.price * most_steps + m) s ≡ 0) (sym same)
     (part_at gone (rank_of side s.price) f s (omega (arith, same, few))) in
-    let rest = side_behind side f gone n ss (omega (arith, same)) (omega (arith, few)) in
+    let rest = side_after side f gone n ss (omega (arith, same)) (omega (arith, few)) in
     let none = none_on side s.side in
     ap (λ (x : ℕ). volume_on side s.side x + side_total side (part gone f) (suc n) ss) here ∙ (omega (arith, none, rest))
 side_without side f gone n (suc k) (s ∷ ss) e l few =
@@ -183,40 +186,40 @@ kept_without ss kept buys sells buys' sells' gone a l same same_buys same_sells 
     }
 
 -- ---- the rows, one after another
-abbrev pub still : ℕ → ℕ → List Row → List Placed
+abbrev pub still : ℕ → ℕ → List Rung → List Placed
 still gone i rows = without_place gone (placed_of (drop i rows))
 
-opened : (i : ℕ) (rows : List Row) (row : Row) → i < length rows → row ≡ get_or rows i row → drop i rows ≡ row ∷ drop (i + 1) rows
-opened i rows row within is = drop_more rows i row within ∙ ap (λ (r : Row). r ∷ drop (i + 1) rows) (sym is)
+opened : (i : ℕ) (rows : List Rung) (row : Rung) → i < length rows → row ≡ get_or rows i row → drop i rows ≡ row ∷ drop (i + 1) rows
+opened i rows row within is = drop_more rows i row within ∙ ap (λ (r : Rung). r ∷ drop (i + 1) rows) (sym is)
 
-still_more : (gone i : ℕ) (rows : List Row) (row : Row) → i < length rows → row ≡ get_or rows i row → ¬ (place_of row.placed.order ≡ gone)
+still_more : (gone i : ℕ) (rows : List Rung) (row : Rung) → i < length rows → row ≡ get_or rows i row → ¬ (place_of row.placed.order ≡ gone)
     → still gone i rows ≡ moved_up gone row.placed ∷ still gone (i + 1) rows
 still_more gone i rows row within is other =
-    ap (λ (rs : List Row). without_place gone (placed_of rs)) (opened i rows row within is)
+    ap (λ (rs : List Rung). without_place gone (placed_of rs)) (opened i rows row within is)
     ∙ ap (λ (b : Bool). cond b (still gone (i + 1) rows) (moved_up gone row.placed ∷ still gone (i + 1) rows))
     (ne_eqb (place_of row.placed.order) gone other)
 
-still_gone : (gone i : ℕ) (rows : List Row) (row : Row) → i < length rows → row ≡ get_or rows i row → place_of row.placed.order ≡ gone
+still_gone : (gone i : ℕ) (rows : List Rung) (row : Rung) → i < length rows → row ≡ get_or rows i row → place_of row.placed.order ≡ gone
     → still gone i rows ≡ still gone (i + 1) rows
 still_gone gone i rows row within is same =
-    ap (λ (rs : List Row). without_place gone (placed_of rs)) (opened i rows row within is)
+    ap (λ (rs : List Rung). without_place gone (placed_of rs)) (opened i rows row within is)
     ∙ ap (λ (b : Bool). cond b (still gone (i + 1) rows) (moved_up gone row.placed ∷ still gone (i + 1) rows))
     (eq-eqb (place_of row.placed.order) gone same)
 
-row_pushed : (p : Placed) (ps qs : List Placed) (rows pushed all : List Row) (v v' : ℕ) (w w' : ℤ) → ps ≡ p ∷ qs
+row_pushed : (p : Placed) (ps qs : List Placed) (rows pushed all : List Rung) (v v' : ℕ) (w w' : ℤ) → ps ≡ p ∷ qs
     → pushed ≡ rows ++ record { placed = p; before = record { volume = v; value = w } } ∷ [] → v' ≡ v + p.step.qty
     → w' ≡ w +ℤ p.step.price *ℤ pos p.step.qty
     → rows ++ rows_from v w ps ≡ all → pushed ++ rows_from v' w' qs ≡ all
 row_pushed p ps qs rows pushed all v v' w w' opened push volume value so_far =
-    let row : Row = record { placed = p; before = record { volume = v; value = w } } in
-    ap (λ (rs : List Row). rs ++ rows_from v' w' qs) push
+    let row : Rung = record { placed = p; before = record { volume = v; value = w } } in
+    ap (λ (rs : List Rung). rs ++ rows_from v' w' qs) push
     ∙ append_assoc rows (row ∷ []) (rows_from v' w' qs)
     ∙ ap₂ (λ (n : ℕ) (z : ℤ). rows ++ row ∷ rows_from n z qs) volume value
     ∙ sym (ap (λ (ts : List Placed). rows ++ rows_from v w ts) opened)
     ∙ so_far
 
--- what is made of the first so many rows
-pub record AreUpTo (gone i : ℕ) (old rows : List Row) (v : ℕ) (w : ℤ) : Type 0 where
+-- what is made of the first rows, as many as that
+pub record AreUpTo (gone i : ℕ) (old rows : List Rung) (v : ℕ) (w : ℤ) : Type 0 where
   pub rows_are : rows ++ rows_from v w (still gone i old) ≡ rows_from 0 (pos 0) (without_place gone (placed_of old))
   pub volume_is : v + total (λ p. p.step.qty) (still gone i old) ≡ total (λ p. p.step.qty) (without_place gone (placed_of old))
   pub value_is : w +ℤ value_of (still gone i old) ≡ value_of (without_place gone (placed_of old))
@@ -224,22 +227,23 @@ pub record AreUpTo (gone i : ℕ) (old rows : List Row) (v : ℕ) (w : ℤ) : Ty
   pub value_at_least : neg_ℤ (pos (i * greatest_value)) ≤ℤ w
   pub value_at_most : w ≤ℤ pos (i * greatest_value)
 
-pub up_to_none : (gone : ℕ) (old rows : List Row) → rows ≡ [] → AreUpTo gone 0 old rows 0 (pos 0)
+pub up_to_none : (gone : ℕ) (old rows : List Rung) → rows ≡ [] → AreUpTo gone 0 old rows 0 (pos 0)
 up_to_none gone old rows none = record {
-  rows_are = ap (λ (rs : List Row). rs ++ rows_from 0 (pos 0) (still gone 0 old)) none
-      ∙ ap (λ (rs : List Row). rows_from 0 (pos 0) (without_place gone (placed_of rs))) (drop_none old);
-  volume_is = ap (λ (rs : List Row). 0 + total (λ p. p.step.qty) (without_place gone (placed_of rs))) (drop_none old) ∙ (omega arith);
-  value_is = let e = ap (λ (rs : List Row). value_of (without_place gone (placed_of rs))) (drop_none old) in omega (arith, ints, e);
+  rows_are = ap (λ (rs : List Rung). rs ++ rows_from 0 (pos 0) (still gone 0 old)) none
+      ∙ ap (λ (rs : List Rung). rows_from 0 (pos 0) (without_place gone (placed_of rs))) (drop_none old);
+  volume_is = ap (λ (rs : List Rung). 0 + total (λ p. p.step.qty) (without_place gone (placed_of rs))) (drop_none old) ∙ (omega arith);
+  value_is = let e = ap (λ (rs : List Rung). value_of (without_place gone (placed_of rs))) (drop_none old) in omega (arith, ints, e);
   volume_small = omega arith;
   value_at_least = omega (arith, ints);
   value_at_most = omega (arith, ints);
 }
   where
-    drop_none : (rs : List Row) → drop 0 rs ≡ rs
+    drop_none : (rs : List Rung) → drop 0 rs ≡ rs
     drop_none [] = refl
     drop_none (r ∷ rs) = refl
 
-pub up_to_kept : (gone i : ℕ) (old rows pushed : List Row) (row : Row) (p : Placed) (v v' q : ℕ) (w w' z : ℤ) → AreUpTo gone i old rows v w
+pub up_to_kept : (gone i : ℕ) (old rows pushed : List Rung) (row : Rung) (p : Placed) (v v' q : ℕ) (w w' z : ℤ)
+    → AreUpTo gone i old rows v w
     → i < length old → row ≡ get_or old i row
     → ¬ (place_of row.placed.order ≡ gone) → p ≡ moved_up gone row.placed
     → pushed ≡ rows ++ record { placed = p; before = record { volume = v; value = w } } ∷ []
@@ -265,7 +269,7 @@ up_to_kept gone i old rows pushed row p v v' q w w' z a within is other made pus
       value_at_most = omega (arith, ints, value_sum, most, most_was);
     }
 
-pub up_to_gone : (gone i : ℕ) (old rows : List Row) (row : Row) (v : ℕ) (w : ℤ) → AreUpTo gone i old rows v w → i < length old
+pub up_to_gone : (gone i : ℕ) (old rows : List Rung) (row : Rung) (v : ℕ) (w : ℤ) → AreUpTo gone i old rows v w → i < length old
     → row ≡ get_or old i row
     → place_of row.placed.order ≡ gone → AreUpTo gone (i + 1) old rows v w
 up_to_gone gone i old rows row v w a within is same =
@@ -284,17 +288,17 @@ up_to_gone gone i old rows row v w a within is same =
     }
 
 -- when all rows were gone through
-pub up_to_all : (gone i : ℕ) (old rows : List Row) (v : ℕ) (w : ℤ) → AreUpTo gone i old rows v w → length old ≤ i
+pub up_to_all : (gone i : ℕ) (old rows : List Rung) (v : ℕ) (w : ℤ) → AreUpTo gone i old rows v w → length old ≤ i
     → IsNonDecreasingBy (λ (p : Placed). p.order) (placed_of old) → length old ≤ most_steps
     → IsLadder rows (record { volume = v; value = w }) × (placed_of rows ≡ without_place gone (placed_of old))
 up_to_all gone i old rows v w a done sorted few =
     let ps = without_place gone (placed_of old) in
-    let none : still gone i old ≡ [] = ap (λ (rs : List Row). without_place gone (placed_of rs)) (drop_all i old done) in
+    let none : still gone i old ≡ [] = ap (λ (rs : List Rung). without_place gone (placed_of rs)) (drop_all i old done) in
     let whole : rows ≡ rows_from 0 (pos 0) ps = sym (append-nil rows) ∙ sym (ap (λ (qs : List Placed). rows ++ rows_from v w qs) none)
     ∙ a.rows_are in
     let placed : placed_of rows ≡ ps = ap placed_of whole ∙ placed_back 0 (pos 0) ps in
-    let long = length-map rows (λ (r : Row). r.placed) in
-    let was = length-map old (λ (r : Row). r.placed) in
+    let long = length-map rows (λ (r : Rung). r.placed) in
+    let was = length-map old (λ (r : Rung). r.placed) in
     let same = ap (λ (qs : List Placed). length qs) placed in
     let fewer = few_without gone (placed_of old) in
     let volume = a.volume_is in let value = a.value_is in

@@ -1,3 +1,4 @@
+-- The lemmas that several functions need.
 pub mod Ranges
 pub mod Numbers
 pub mod Duality

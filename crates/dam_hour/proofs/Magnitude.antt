@@ -34,7 +34,14 @@ volume_small Sell Buy x q h m = omega arith
 
 pub execution_small : (ss : List Step) (xs : List ℕ) → AreInRange ss → IsExecution ss xs
     → AreSmall (length ss) (executed_volume Buy ss xs) (executed_volume Sell ss xs) (welfare_of ss xs)
-execution_small [] [] r e = record { bought_at_most = omega arith; sold_at_most = omega arith; welfare_at_least = omega (arith, ints); welfare_at_most = omega (arith, ints) }
+execution_small [] [] r e =
+    record {
+      bought_at_most = omega arith;
+      sold_at_most = omega arith;
+      welfare_at_least = omega (arith, ints);
+      welfare_at_most =
+          omega (arith, ints);
+    }
 execution_small [] (x ∷ xs) r e = absurd e
 execution_small (s ∷ ss) [] r e = absurd e
 execution_small (s ∷ ss) (x ∷ xs) r e =
@@ -50,7 +57,8 @@ execution_small (s ∷ ss) (x ∷ xs) r e =
       welfare_at_most = omega (arith, ints, value.1, rest.welfare_at_most);
     }
 
-pub best_small : (ss : List Step) (net : ℤ) (bought sold : ℕ) (w : ℤ) → AreInRange ss → AreBestTotals ss net bought sold w → AreSmall (length ss) bought sold w
+pub best_small : (ss : List Step) (net : ℤ) (bought sold : ℕ) (w : ℤ) → AreInRange ss → AreBestTotals ss net bought sold w
+    → AreSmall (length ss) bought sold w
 best_small ss net bought sold w r t =
     let small = execution_small ss t.volumes r t.best.execution in
     let b = t.bought_is in let s = t.sold_is in let v = t.welfare_is in

@@ -9,12 +9,14 @@ use Rattle.dam_book.specs.Limits.{lowest_price, highest_price}
 use Rattle.dam_hour.specs.Price.{price_between}
 
 -- twice the half is the number or one less
-pub half_rounds_down : (z : ℤ) → ((int_div_euclid z (pos 2) +ℤ int_div_euclid z (pos 2)) ≤ℤ z) × (z ≤ℤ (int_div_euclid z (pos 2) +ℤ int_div_euclid z (pos 2) +ℤ pos 1))
+pub half_rounds_down : (z : ℤ)
+    → ((int_div_euclid z (pos 2) +ℤ int_div_euclid z (pos 2)) ≤ℤ z) × (z ≤ℤ (int_div_euclid z (pos 2) +ℤ int_div_euclid z (pos 2) +ℤ pos 1))
 half_rounds_down (pos a) = (omega (arith, ints), omega (arith, ints))
 half_rounds_down (negsuc a) = (omega (arith, ints), omega (arith, ints))
 
 chosen : (a b c d : Bool) (low high middle : ℤ) → low ≤ℤ high → low ≤ℤ middle → middle ≤ℤ high
-    → (low ≤ℤ (if a && b then high else (if c && d then low else middle))) × ((if a && b then high else (if c && d then low else middle)) ≤ℤ high)
+    → (low ≤ℤ (if a && b then high else (if c && d then low else middle)))
+    × ((if a && b then high else (if c && d then low else middle)) ≤ℤ high)
 chosen true true c d low high middle h l m = (h, omega (arith, ints))
 chosen true false true true low high middle h l m = (omega (arith, ints), h)
 chosen true false true false low high middle h l m = (l, m)
@@ -26,7 +28,8 @@ chosen false b false d low high middle h l m = (l, m)
 pub price_lies_between : (low high : ℤ) → low ≤ℤ high → (low ≤ℤ price_between low high) × (price_between low high ≤ℤ high)
 price_lies_between low high h =
     let r = half_rounds_down (low +ℤ high) in
-    chosen (int_eq low lowest_price) (int_lt high highest_price) (int_lt lowest_price low) (int_eq high highest_price) low high (int_div_euclid (low +ℤ high) (pos 2)) h
+    chosen (int_eq low lowest_price) (int_lt high highest_price) (int_lt lowest_price low) (int_eq high highest_price) low high
+    (int_div_euclid (low +ℤ high) (pos 2)) h
     (omega (arith, ints, r.0, r.1)) (omega (arith, ints, r.0, r.1))
 
 lt_true : (a b : ℤ) → a <ℤ b → int_lt a b ≡ true
@@ -39,14 +42,20 @@ eq_true : (a : ℤ) → int_eq a a ≡ true
 eq_true a = (Decides-int_eq a a).1 refl
 
 eq_false : (a b : ℤ) → a ≢ b → int_eq a b ≡ false
-eq_false a b h = elim (int_eq a b) as (λ t. int_eq a b ≡ t → t ≡ false) [ true ↦ λ e. absurd (h ((Decides-int_eq a b).0 e)) | false ↦ λ e. refl ] refl
+eq_false a b h = elim (int_eq a b) as (λ t. int_eq a b ≡ t → t ≡ false) [
+  | true ↦ λ e. absurd (h ((Decides-int_eq a b).0 e))
+  | false ↦
+      λ e. refl
+] refl
 
-picked_high : (a b c d : Bool) (low high middle : ℤ) → a ≡ true → b ≡ true → (if a && b then high else (if c && d then low else middle)) ≡ high
+picked_high : (a b c d : Bool) (low high middle : ℤ) → a ≡ true → b ≡ true
+    → (if a && b then high else (if c && d then low else middle)) ≡ high
 picked_high true true c d low high middle e f = refl
 picked_high true false c d low high middle e f = cc
 picked_high false b c d low high middle e f = cc
 
-picked_low : (a b c d : Bool) (low high middle : ℤ) → b ≡ false → c ≡ true → d ≡ true → (if a && b then high else (if c && d then low else middle)) ≡ low
+picked_low : (a b c d : Bool) (low high middle : ℤ) → b ≡ false → c ≡ true → d ≡ true
+    → (if a && b then high else (if c && d then low else middle)) ≡ low
 picked_low a true c d low high middle e f g = cc
 picked_low true false true true low high middle e f g = refl
 picked_low false false true true low high middle e f g = refl
@@ -55,7 +64,8 @@ picked_low false false false d low high middle e f g = cc
 picked_low true false true false low high middle e f g = cc
 picked_low false false true false low high middle e f g = cc
 
-picked_middle : (a b c d : Bool) (low high middle : ℤ) → a ≡ false → d ≡ false → (if a && b then high else (if c && d then low else middle)) ≡ middle
+picked_middle : (a b c d : Bool) (low high middle : ℤ) → a ≡ false → d ≡ false
+    → (if a && b then high else (if c && d then low else middle)) ≡ middle
 picked_middle true b c d low high middle e f = cc
 picked_middle false b true true low high middle e f = cc
 picked_middle false b true false low high middle e f = refl
@@ -63,15 +73,20 @@ picked_middle false b false d low high middle e f = refl
 
 pub price_at_low_end : (high : ℤ) → high <ℤ highest_price → price_between lowest_price high ≡ high
 price_at_low_end high h =
-    picked_high (int_eq lowest_price lowest_price) (int_lt high highest_price) (int_lt lowest_price lowest_price) (int_eq high highest_price) lowest_price high
+    picked_high (int_eq lowest_price lowest_price) (int_lt high highest_price) (int_lt lowest_price lowest_price)
+    (int_eq high highest_price) lowest_price high
     (int_div_euclid (lowest_price +ℤ high) (pos 2)) (eq_true lowest_price) (lt_true high highest_price h)
 
 pub price_at_high_end : (low : ℤ) → lowest_price <ℤ low → price_between low highest_price ≡ low
 price_at_high_end low h =
-    picked_low (int_eq low lowest_price) (int_lt highest_price highest_price) (int_lt lowest_price low) (int_eq highest_price highest_price) low highest_price
-    (int_div_euclid (low +ℤ highest_price) (pos 2)) (lt_false highest_price highest_price (omega (arith, ints))) (lt_true lowest_price low h) (eq_true highest_price)
+    picked_low (int_eq low lowest_price) (int_lt highest_price highest_price) (int_lt lowest_price low) (int_eq highest_price highest_price)
+    low highest_price
+    (int_div_euclid (low +ℤ highest_price) (pos 2)) (lt_false highest_price highest_price (omega (arith, ints)))
+    (lt_true lowest_price low h) (eq_true highest_price)
 
-pub price_inside : (low high : ℤ) → lowest_price <ℤ low → high <ℤ highest_price → price_between low high ≡ int_div_euclid (low +ℤ high) (pos 2)
+pub price_inside : (low high : ℤ) → lowest_price <ℤ low → high <ℤ highest_price
+    → price_between low high ≡ int_div_euclid (low +ℤ high) (pos 2)
 price_inside low high h g =
     picked_middle (int_eq low lowest_price) (int_lt high highest_price) (int_lt lowest_price low) (int_eq high highest_price) low high
-    (int_div_euclid (low +ℤ high) (pos 2)) (eq_false low lowest_price (omega (arith, ints))) (eq_false high highest_price (omega (arith, ints)))
+    (int_div_euclid (low +ℤ high) (pos 2)) (eq_false low lowest_price (omega (arith, ints)))
+    (eq_false high highest_price (omega (arith, ints)))

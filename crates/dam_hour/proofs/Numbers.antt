@@ -36,7 +36,7 @@ pub signed_times : (side : Side) (z : ℤ) (x : ℕ) → signed side (z *ℤ pos
 signed_times Buy z x = refl
 signed_times Sell z x = neg_times z x
 
--- what has its whole volume where it is better and none where it is worse gains the most
+-- what has its whole volume if it is better and none if it is worse gains the most
 pub full_or_none : (d : ℤ) (x q : ℕ) → (pos 0 <ℤ d → x ≡ q) → (d <ℤ pos 0 → x ≡ 0) → d *ℤ pos x ≡ pos (above_zero d * q)
 full_or_none (pos zero) x q f g = omega (arith, ints)
 full_or_none (pos (suc n)) x q f g = ap (λ (k : ℕ). pos (suc n * k)) (f (omega (arith, ints)))
@@ -58,7 +58,7 @@ none_where_worse (pos n) x q e l = let no : 0 < 0 = omega (arith, ints) in omega
 none_where_worse (negsuc n) x q e l =
     let m : suc n * x ≡ suc n * 0 = omega (arith, ints) in eq_of_mul-eq-mul_left (suc n) (omega arith) x 0 m
 
--- a limit is better than the price exactly where its margin is above 0, and worse where it is below
+-- a limit is better than the price exactly if its margin is above 0, and worse if it is below
 pub margin_better : (side : Side) (limit p : ℤ) → IsBetter side limit p → pos 0 <ℤ margin_of side limit p
 margin_better Buy limit p h = omega (arith, ints)
 margin_better Sell limit p h = omega (arith, ints)

@@ -1,5 +1,6 @@
 -- The steps of a ladder one by one: the volumes at a step's own limit, and the volume before a place.
-use Rattle.std.proofs.Common.{◌≡◌, ℕ, zero, suc, ◌+◌, ◌-◌, ◌*◌, ◌<◌, ◌≤◌, ℤ, pos, negsuc, ◌+ℤ◌, ◌-ℤ◌, ◌*ℤ◌, ◌≤ℤ◌, ◌<ℤ◌, true, false, Some, ◌⊎◌, inl, inr, List, [], ◌∷◌, length, take, get_or, ap, ◌∙◌, sym, subst, refl, arith}
+use Rattle.std.proofs.Common.{◌≡◌, ℕ, zero, suc, ◌+◌, ◌-◌, ◌*◌, ◌<◌, ◌≤◌, ℤ, pos, negsuc, ◌+ℤ◌, ◌-ℤ◌, ◌*ℤ◌, ◌≤ℤ◌, ◌<ℤ◌, true, false, Some}
+use Rattle.std.proofs.Common.{◌⊎◌, inl, inr, List, [], ◌∷◌, length, take, get_or, ap, ◌∙◌, sym, subst, refl, arith}
 use Rattle.std.specs.List.{slice_get}
 use Rattle.std.specs.List.Sorted.{IsNonDecreasingBy, IsPartitionPoint}
 use Rattle.std.proofs.Math.Dec.{ltb}
@@ -18,12 +19,12 @@ use Rattle.dam_hour.specs.Execution.{AreInRange, IsHour, volume_on, offered_volu
 use Rattle.dam_hour.specs.inside.Volumes.{if_better, better_volume, at_volume}
 use Rattle.dam_hour.specs.inside.Ladder.{rank_of, order_of, total, rows_from, placed_of, side_total, AreOfSide, IsRung}
 use Rattle.dam_hour.specs.inside.Edge.{not_worse_volume, IsServed, IsEdge, IsLimitOfSell}
-use Rattle.dam_hour.specs.declared.ladder.Row.{Row}
+use Rattle.dam_hour.specs.declared.ladder.Rung.{Rung}
 use Rattle.dam_hour.proofs.Ladders.{counted, counted_before, counted_after, front_of_place, none_in_front, offered_total}
 use Rattle.dam_hour.proofs.Positions.{offered_small}
 use Rattle.dam_hour.proofs.Edges.{not_worse_offered}
 
--- the volume of the first so many steps
+-- the volume of the first steps, as many as that
 abbrev pub volume_to : ℕ → List Placed → ℕ
 volume_to k ps = total (λ p. p.step.qty) (take k ps)
 
@@ -36,7 +37,8 @@ nothing_on Sell Buy x e = refl
 
 -- how far an order is from those that the step's limit allows, and how far the volume is from one at least
 abbrev astray : Side → ℕ → Step → ℕ
-astray side order s = (rank_of side s.price * most_steps - order) + (suc order - (rank_of side s.price * most_steps + most_steps)) + (1 - s.qty)
+astray side order s = (rank_of side s.price * most_steps - order) + (suc order - (rank_of side s.price * most_steps + most_steps))
+    + (1 - s.qty)
 
 none_astray : (side : Side) (n : ℕ) (ss : List Step) → AreInRange ss → n + length ss ≤ most_steps → side_total side (astray side) n ss ≡ 0
 none_astray side n [] r few = refl
@@ -51,11 +53,13 @@ each_zero f [] k p z e = cc
 each_zero f (q ∷ qs) zero p z e = let same : q ≡ p = cc in let here = ap f same in omega (arith, here, z)
 each_zero f (q ∷ qs) (suc k) p z e = each_zero f qs k p (omega (arith, z)) e
 
-pub not_astray : (side : Side) (ps : List Placed) (ss : List Step) (k : ℕ) (p : Placed) → AreOfSide side ps ss → IsHour ss → slice_get ps k ≡ Some p
+pub not_astray : (side : Side) (ps : List Placed) (ss : List Step) (k : ℕ) (p : Placed) → AreOfSide side ps ss → IsHour ss
+    → slice_get ps k ≡ Some p
     → (order_of side p.step.price 0 ≤ p.order) × (p.order < order_of side p.step.price most_steps) × (1 ≤ p.step.qty)
 not_astray side ps ss k p same hour e =
     let few = hour.few in
-    let none = each_zero (λ q. astray side q.order q.step) ps k p (same.sums (astray side) ∙ none_astray side 0 ss hour.in_range (omega (arith, few))) e in
+    let none = each_zero (λ q. astray side q.order q.step) ps k p (same.sums (astray side)
+    ∙ none_astray side 0 ss hour.in_range (omega (arith, few))) e in
     (omega (arith, none), omega (arith, none), omega (arith, none))
 
 -- ---- a cut at an order, from both sides
@@ -67,7 +71,7 @@ counted_at_most limit order q = at_most (pos limit -ℤ pos order)
     at_most (pos (suc n)) = omega arith
     at_most (negsuc n) = omega arith
 
--- what stands before the limit is no more than the first k, where no later one does
+-- what stands before the limit is no more than the first k, if no later one does
 counted_under : (limit k : ℕ) (ps : List Placed) → ((i : ℕ) (d : Placed) → k ≤ i → i < length ps → limit ≤ (get_or ps i d).order)
     → total (λ q. counted limit q.order q.step.qty) ps ≤ volume_to k ps
 counted_under limit zero [] h = omega arith
@@ -81,7 +85,7 @@ counted_under limit (suc k) (p ∷ ps) h =
     let rest = counted_under limit k ps (λ i d l m. h (suc i) d (omega (arith, l)) (omega (arith, m))) in
     omega (arith, here, rest)
 
--- and no less, where each of them does
+-- and no less, if each of them does
 counted_over : (limit k : ℕ) (ps : List Placed) → ((i : ℕ) (d : Placed) → i < k → i < length ps → (get_or ps i d).order < limit)
     → volume_to k ps ≤ total (λ q. counted limit q.order q.step.qty) ps
 counted_over limit zero [] h = omega arith
@@ -93,18 +97,22 @@ counted_over limit (suc k) (p ∷ ps) h =
     omega (arith, here, rest)
 
 -- ---- at a step's own limit
-pub better_before : (side : Side) (ps : List Placed) (ss : List Step) (k : ℕ) (p : Placed) → AreOfSide side ps ss → IsHour ss → IsNonDecreasingBy (λ q. q.order) ps
+pub better_before : (side : Side) (ps : List Placed) (ss : List Step) (k : ℕ) (p : Placed) → AreOfSide side ps ss → IsHour ss
+    → IsNonDecreasingBy (λ q. q.order) ps
     → slice_get ps k ≡ Some p → IsPrice p.step.price → better_volume side p.step.price ss ≤ volume_to k ps
 better_before side ps ss k p same hour sorted e in_range =
     let few = hour.few in
     let own = (not_astray side ps ss k p same hour e).0 in
     let all = same.sums (λ order s. counted (order_of side p.step.price 0) order s.qty)
-    ∙ front_of_place side p.step.price 0 0 0 ss in_range hour.in_range refl (omega arith) (omega (arith, few)) ∙ none_in_front side p.step.price ss in
+    ∙ front_of_place side p.step.price 0 0 0 ss in_range hour.in_range refl (omega arith) (omega (arith, few))
+    ∙ none_in_front side p.step.price ss in
     let under = counted_under (order_of side p.step.price 0) k ps
-    (λ i d l m. (let at = ap (λ (q : Placed). q.order) (get_or_from_slice_get ps k p d e) in let order = sorted k i d l m in omega (arith, own, at, order))) in
+    (λ i d l m. (let at = ap (λ (q : Placed). q.order) (get_or_from_slice_get ps k p d e) in let order = sorted k i d l m in
+    omega (arith, own, at, order))) in
     omega (arith, all, under)
 
-pub not_worse_with : (side : Side) (ps : List Placed) (ss : List Step) (k : ℕ) (p : Placed) → AreOfSide side ps ss → IsHour ss → IsNonDecreasingBy (λ q. q.order) ps
+pub not_worse_with : (side : Side) (ps : List Placed) (ss : List Step) (k : ℕ) (p : Placed) → AreOfSide side ps ss → IsHour ss
+    → IsNonDecreasingBy (λ q. q.order) ps
     → slice_get ps k ≡ Some p → IsPrice p.step.price → volume_to (suc k) ps ≤ not_worse_volume side p.step.price ss
 not_worse_with side ps ss k p same hour sorted e in_range =
     let few = hour.few in
@@ -114,7 +122,8 @@ not_worse_with side ps ss k p same hour sorted e in_range =
     ∙ front_of_place side p.step.price most_steps 0 most_steps ss in_range hour.in_range refl (omega arith) (omega (arith, few)) ∙ whole in
     let within = slice_get_within ps k p e in
     let over = counted_over (order_of side p.step.price most_steps) (suc k) ps
-    (λ i d l m. (let at = ap (λ (q : Placed). q.order) (get_or_from_slice_get ps k p d e) in let order = sorted i k d (omega (arith, l)) within in omega (arith, own, at, order))) in
+    (λ i d l m. (let at = ap (λ (q : Placed). q.order) (get_or_from_slice_get ps k p d e) in
+    let order = sorted i k d (omega (arith, l)) within in omega (arith, own, at, order))) in
     omega (arith, all, over)
 
 -- one step more
@@ -134,22 +143,27 @@ volume_rises (p ∷ ps) zero k l = omega arith
 volume_rises (p ∷ ps) (suc j) zero l = absurd (omega (arith, l))
 volume_rises (p ∷ ps) (suc j) (suc k) l = let rest = volume_rises ps j k (omega (arith, l)) in omega (arith, rest)
 
-pub volume_whole : (side : Side) (ps : List Placed) (ss : List Step) → AreOfSide side ps ss → volume_to (length ps) ps ≡ offered_volume side ss
+pub volume_whole : (side : Side) (ps : List Placed) (ss : List Step) → AreOfSide side ps ss
+    → volume_to (length ps) ps ≡ offered_volume side ss
 volume_whole side ps ss same =
-    ap (λ (qs : List Placed). total (λ p. p.step.qty) qs) (take_all (length ps) ps (omega arith)) ∙ same.sums (λ order s. s.qty) ∙ offered_total side 0 ss
+    ap (λ (qs : List Placed). total (λ p. p.step.qty) qs) (take_all (length ps) ps (omega arith)) ∙ same.sums (λ order s. s.qty)
+    ∙ offered_total side 0 ss
 
 -- ---- the rungs of a ladder
-pub rung_better : (side : Side) (ps : List Placed) (ss : List Step) (k : ℕ) (limit : ℤ) → AreOfSide side ps ss → IsHour ss → IsRung ps k limit → better_volume side limit ss ≤ volume_to k ps
+pub rung_better : (side : Side) (ps : List Placed) (ss : List Step) (k : ℕ) (limit : ℤ) → AreOfSide side ps ss → IsHour ss
+    → IsRung ps k limit → better_volume side limit ss ≤ volume_to k ps
 rung_better side ps ss k limit same hour r =
     subst (λ (p : ℤ). better_volume side p ss ≤ volume_to k ps) (sym r.limit_is)
     (better_before side ps ss k r.placed same hour r.sorted r.at (subst (λ (p : ℤ). IsPrice p) r.limit_is r.in_range))
 
-pub rung_not_worse : (side : Side) (ps : List Placed) (ss : List Step) (k : ℕ) (limit : ℤ) → AreOfSide side ps ss → IsHour ss → IsRung ps k limit → volume_to (suc k) ps ≤ not_worse_volume side limit ss
+pub rung_not_worse : (side : Side) (ps : List Placed) (ss : List Step) (k : ℕ) (limit : ℤ) → AreOfSide side ps ss → IsHour ss
+    → IsRung ps k limit → volume_to (suc k) ps ≤ not_worse_volume side limit ss
 rung_not_worse side ps ss k limit same hour r =
     subst (λ (p : ℤ). volume_to (suc k) ps ≤ not_worse_volume side p ss) (sym r.limit_is)
     (not_worse_with side ps ss k r.placed same hour r.sorted r.at (subst (λ (p : ℤ). IsPrice p) r.limit_is r.in_range))
 
-pub rung_more : (side : Side) (ps : List Placed) (ss : List Step) (k : ℕ) (limit : ℤ) → AreOfSide side ps ss → IsHour ss → IsRung ps k limit → volume_to k ps < volume_to (suc k) ps
+pub rung_more : (side : Side) (ps : List Placed) (ss : List Step) (k : ℕ) (limit : ℤ) → AreOfSide side ps ss → IsHour ss → IsRung ps k limit
+    → volume_to k ps < volume_to (suc k) ps
 rung_more side ps ss k limit same hour r =
     let own = (not_astray side ps ss k r.placed same hour r.at).2 in
     let more = volume_more ps k r.placed r.at in
@@ -165,7 +179,8 @@ pub record AreAround (ss : List Step) (ps : List Placed) (net last next : ℤ) (
   pub unserved : ((next ≡ lowest_price) × (volume_to to ps ≡ offered_volume Buy ss))
       ⊎ (((pos (not_worse_volume Sell next ss) +ℤ net) ≤ℤ pos (volume_to to ps)) × (volume_to to ps < not_worse_volume Buy next ss))
 
-pub around_all : (ss : List Step) (ps : List Placed) (net last next : ℤ) (n : ℕ) → AreOfSide Buy ps ss → last ≡ highest_price → next ≡ lowest_price → n ≡ length ps → AreAround ss ps net last next 0 n
+pub around_all : (ss : List Step) (ps : List Placed) (net last next : ℤ) (n : ℕ) → AreOfSide Buy ps ss → last ≡ highest_price
+    → next ≡ lowest_price → n ≡ length ps → AreAround ss ps net last next 0 n
 around_all ss ps net last next n same l m e =
     let all = subst (λ (k : ℕ). volume_to k ps ≡ offered_volume Buy ss) (sym e) (volume_whole Buy ps ss same) in
     let offered = not_worse_offered Buy next ss in
@@ -179,7 +194,8 @@ around_all ss ps net last next n same l m e =
       unserved = inl (m, all);
     }
 
-pub around_served : (ss : List Step) (ps : List Placed) (net last next limit : ℤ) (from to k n before : ℕ) → AreOfSide Buy ps ss → IsHour ss → IsRung ps k limit → before ≡ volume_to k ps
+pub around_served : (ss : List Step) (ps : List Placed) (net last next limit : ℤ) (from to k n before : ℕ) → AreOfSide Buy ps ss → IsHour ss
+    → IsRung ps k limit → before ≡ volume_to k ps
     → n ≡ suc k → IsServed ss net limit before → AreAround ss ps net last next from to → AreAround ss ps net limit next n to
 around_served ss ps net last next limit from to k n before same hour r b e served a =
     let better = rung_better Buy ps ss k limit same hour r in
@@ -193,13 +209,16 @@ around_served ss ps net last next limit from to k n before same hour r b e serve
       unserved = a.unserved;
     }
 
-pub around_unserved : (ss : List Step) (ps : List Placed) (net last next limit : ℤ) (from to k before : ℕ) → AreOfSide Buy ps ss → IsHour ss → IsRung ps k limit → before ≡ volume_to k ps
+pub around_unserved : (ss : List Step) (ps : List Placed) (net last next limit : ℤ) (from to k before : ℕ) → AreOfSide Buy ps ss → IsHour ss
+    → IsRung ps k limit → before ≡ volume_to k ps
     → ¬ (IsServed ss net limit before) → AreAround ss ps net last next from to → AreAround ss ps net last limit from k
 around_unserved ss ps net last next limit from to k before same hour r b unserved a =
     let better = rung_better Buy ps ss k limit same hour r in
     let with_own = rung_not_worse Buy ps ss k limit same hour r in
     let more = rung_more Buy ps ss k limit same hour r in
-    let short : (pos (not_worse_volume Sell limit ss) +ℤ net) ≤ℤ pos before = by_lt_z (pos before) (pos (not_worse_volume Sell limit ss) +ℤ net) (λ less. absurd (unserved (record { left = less }))) (λ le. le) in
+    let short : (pos (not_worse_volume Sell limit ss) +ℤ net) ≤ℤ pos before =
+    by_lt_z (pos before) (pos (not_worse_volume Sell limit ss) +ℤ net) (λ less. absurd (unserved (record { left = less })))
+    (λ le. le) in
     record {
       last_in_range = a.last_in_range;
       next_in_range = r.in_range;
@@ -209,7 +228,8 @@ around_unserved ss ps net last next limit from to k before same hour r b unserve
       unserved = inr (omega (arith, ints, short, b), omega (arith, more, with_own));
     }
 
-pub around_edge : (ss : List Step) (ps : List Placed) (net last next : ℤ) (from to volume : ℕ) → from ≡ to → volume ≡ volume_to from ps → AreAround ss ps net last next from to → IsEdge ss net last next volume
+pub around_edge : (ss : List Step) (ps : List Placed) (net last next : ℤ) (from to volume : ℕ) → from ≡ to → volume ≡ volume_to from ps
+    → AreAround ss ps net last next from to → IsEdge ss net last next volume
 around_edge ss ps net last next from to volume e v a =
     let there : volume_to to ps ≡ volume = sym (v ∙ ap (λ (k : ℕ). volume_to k ps) e) in
     let here = sym v in
@@ -219,11 +239,13 @@ around_edge ss ps net last next from to volume e v a =
       whole = subst (λ (n : ℕ). n ≤ not_worse_volume Buy last ss) here a.whole;
       rest = subst (λ (n : ℕ). better_volume Buy next ss ≤ n) there a.rest;
       served = a.served;
-      unserved = subst (λ (n : ℕ). ((next ≡ lowest_price) × (n ≡ offered_volume Buy ss)) ⊎ (((pos (not_worse_volume Sell next ss) +ℤ net) ≤ℤ pos n) × (n < not_worse_volume Buy next ss))) there a.unserved;
+      unserved = subst (λ (n : ℕ). ((next ≡ lowest_price) × (n ≡ offered_volume Buy ss))
+          ⊎ (((pos (not_worse_volume Sell next ss) +ℤ net) ≤ℤ pos n) × (n < not_worse_volume Buy next ss))) there a.unserved;
     }
 
 -- ---- the step that holds a unit
-row_volume : (v : ℕ) (w : ℤ) (ps : List Placed) (i : ℕ) (d : Row) → i < length ps → (get_or (rows_from v w ps) i d).before.volume ≡ v + volume_to i ps
+row_volume : (v : ℕ) (w : ℤ) (ps : List Placed) (i : ℕ) (d : Rung) → i < length ps
+    → (get_or (rows_from v w ps) i d).before.volume ≡ v + volume_to i ps
 row_volume v w [] i d l = absurd (omega (arith, l))
 row_volume v w (p ∷ ps) zero d l = omega arith
 row_volume v w (p ∷ ps) (suc i) d l =
@@ -233,54 +255,57 @@ rows_long : (v : ℕ) (w : ℤ) (ps : List Placed) → length (rows_from v w ps)
 rows_long v w [] = refl
 rows_long v w (p ∷ ps) = let rest = rows_long (v + p.step.qty) (w +ℤ p.step.price *ℤ pos p.step.qty) ps in omega (arith, rest)
 
-pub rows_rise : (rows : List Row) (ps : List Placed) → rows ≡ rows_from 0 (pos 0) ps → IsNonDecreasingBy (λ (r : Row). r.before.volume) rows
+pub rows_rise : (rows : List Rung) (ps : List Placed) → rows ≡ rows_from 0 (pos 0) ps
+    → IsNonDecreasingBy (λ (r : Rung). r.before.volume) rows
 rows_rise rows ps e i j d l m =
     let long = ap length e ∙ rows_long 0 (pos 0) ps in
-    let at_i = ap (λ (rs : List Row). (get_or rs i d).before.volume) e ∙ row_volume 0 (pos 0) ps i d (omega (arith, long, l, m)) in
-    let at_j = ap (λ (rs : List Row). (get_or rs j d).before.volume) e ∙ row_volume 0 (pos 0) ps j d (omega (arith, long, m)) in
+    let at_i = ap (λ (rs : List Rung). (get_or rs i d).before.volume) e ∙ row_volume 0 (pos 0) ps i d (omega (arith, long, l, m)) in
+    let at_j = ap (λ (rs : List Rung). (get_or rs j d).before.volume) e ∙ row_volume 0 (pos 0) ps j d (omega (arith, long, m)) in
     let rises = volume_rises ps i j l in
     omega (arith, at_i, at_j, rises)
 
-pub some_under : (rows : List Row) (ps : List Placed) (unit k : ℕ) → rows ≡ rows_from 0 (pos 0) ps
-    → IsPartitionPoint (λ (r : Row). ltb r.before.volume unit ≡ true) (λ (r : Row). ltb r.before.volume unit ≡ false) rows k
+pub some_under : (rows : List Rung) (ps : List Placed) (unit k : ℕ) → rows ≡ rows_from 0 (pos 0) ps
+    → IsPartitionPoint (λ (r : Rung). ltb r.before.volume unit ≡ true) (λ (r : Rung). ltb r.before.volume unit ≡ false) rows k
     → 1 ≤ unit → unit ≤ total (λ p. p.step.qty) ps → 1 ≤ k
 some_under rows [] unit k e point first last = absurd (omega (arith, first, last))
 some_under rows (p ∷ ps) unit (suc j) e point first last = omega arith
 some_under rows (p ∷ ps) unit zero e point first last =
-    let d : Row = record { placed = p; before = record { volume = 0; value = pos 0 } } in
+    let d : Rung = record { placed = p; before = record { volume = 0; value = pos 0 } } in
     let long = ap length e ∙ rows_long 0 (pos 0) (p ∷ ps) in
-    let behind = ltb-false _ _ (point.1 0 d (omega arith) (omega (arith, long))) in
-    let none = ap (λ (rs : List Row). (get_or rs 0 d).before.volume) e in
-    absurd (omega (arith, behind, none, first))
+    let later = ltb-false _ _ (point.1 0 d (omega arith) (omega (arith, long))) in
+    let none = ap (λ (rs : List Rung). (get_or rs 0 d).before.volume) e in
+    absurd (omega (arith, later, none, first))
 
-pub holds_unit : (rows : List Row) (ps : List Placed) (unit n k : ℕ) → rows ≡ rows_from 0 (pos 0) ps → k ≤ length rows → k ≡ suc n
-    → IsPartitionPoint (λ (r : Row). ltb r.before.volume unit ≡ true) (λ (r : Row). ltb r.before.volume unit ≡ false) rows k
+pub holds_unit : (rows : List Rung) (ps : List Placed) (unit n k : ℕ) → rows ≡ rows_from 0 (pos 0) ps → k ≤ length rows → k ≡ suc n
+    → IsPartitionPoint (λ (r : Rung). ltb r.before.volume unit ≡ true) (λ (r : Rung). ltb r.before.volume unit ≡ false) rows k
     → unit ≤ total (λ p. p.step.qty) ps → (n < length ps) × (volume_to n ps < unit) × (unit ≤ volume_to (suc n) ps)
 holds_unit rows [] unit n k e h s point last = let long = ap length e in absurd (omega (arith, h, s, long))
 holds_unit rows (p ∷ ps) unit n k e h s point last =
-    let d : Row = record { placed = p; before = record { volume = 0; value = pos 0 } } in
+    let d : Rung = record { placed = p; before = record { volume = 0; value = pos 0 } } in
     let long = ap length e ∙ rows_long 0 (pos 0) (p ∷ ps) in
     let front = ltb-true _ _ (point.0 n d (omega (arith, s)) (omega (arith, h, s))) in
-    let at_n = ap (λ (rs : List Row). (get_or rs n d).before.volume) e ∙ row_volume 0 (pos 0) (p ∷ ps) n d (omega (arith, long, h, s)) in (
+    let at_n = ap (λ (rs : List Rung). (get_or rs n d).before.volume) e ∙ row_volume 0 (pos 0) (p ∷ ps) n d (omega (arith, long, h, s)) in (
       omega (arith, long, h, s),
       omega (arith, front, at_n),
       elim (cases_lt (suc n) (length rows)) [
         | inl less ↦
-            (let behind = ltb-false _ _ (point.1 (suc n) d (omega (arith, s)) less) in
-            let at_next = ap (λ (rs : List Row). (get_or rs (suc n) d).before.volume) e ∙ row_volume 0 (pos 0) (p ∷ ps) (suc n) d (omega (arith, long, less)) in
-            omega (arith, behind, at_next))
+            (let later = ltb-false _ _ (point.1 (suc n) d (omega (arith, s)) less) in
+            let at_next = ap (λ (rs : List Rung). (get_or rs (suc n) d).before.volume) e
+            ∙ row_volume 0 (pos 0) (p ∷ ps) (suc n) d (omega (arith, long, less)) in
+            omega (arith, later, at_next))
         | inr more ↦
             (let whole = ap (λ (qs : List Placed). total (λ q. q.step.qty) qs) (take_all (suc n) (p ∷ ps) (omega (arith, long, more))) in
             omega (arith, whole, last))
       ],
     )
 
-pub placed_at : (rows : List Row) (k : ℕ) (row : Row) → slice_get rows k ≡ Some row → slice_get (placed_of rows) k ≡ Some row.placed
+pub placed_at : (rows : List Rung) (k : ℕ) (row : Rung) → slice_get rows k ≡ Some row → slice_get (placed_of rows) k ≡ Some row.placed
 placed_at [] k row e = cc
-placed_at (r ∷ rows) zero row e = let same : r ≡ row = cc in ap (λ (q : Row). Some q.placed) same
+placed_at (r ∷ rows) zero row e = let same : r ≡ row = cc in ap (λ (q : Rung). Some q.placed) same
 placed_at (r ∷ rows) (suc k) row e = placed_at rows k row e
 
-pub volume_small : (side : Side) (ps : List Placed) (ss : List Step) (k : ℕ) → AreOfSide side ps ss → IsHour ss → k ≤ length ps → volume_to k ps ≤ most_steps * greatest_volume
+pub volume_small : (side : Side) (ps : List Placed) (ss : List Step) (k : ℕ) → AreOfSide side ps ss → IsHour ss → k ≤ length ps
+    → volume_to k ps ≤ most_steps * greatest_volume
 volume_small side ps ss k same hour l =
     let rises = volume_rises ps k (length ps) l in
     let whole = volume_whole side ps ss same in
@@ -288,7 +313,8 @@ volume_small side ps ss k same hour l =
     let few = hour.few in
     omega (arith, rises, whole, small, few)
 
-pub limit_past_all : (ss : List Step) (unit limit : ℤ) (all : ℕ) → limit ≡ highest_price → all ≡ offered_volume Sell ss → pos all <ℤ unit → IsLimitOfSell ss unit limit
+pub limit_past_all : (ss : List Step) (unit limit : ℤ) (all : ℕ) → limit ≡ highest_price → all ≡ offered_volume Sell ss → pos all <ℤ unit
+    → IsLimitOfSell ss unit limit
 limit_past_all ss unit limit all e a past =
     let offered = not_worse_offered Sell limit ss in
     record {

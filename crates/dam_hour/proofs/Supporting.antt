@@ -1,5 +1,6 @@
 -- The ends of the supporting prices: the least price that is high enough and the greatest that is low enough.
-use Rattle.std.proofs.Common.{◌≡◌, ℕ, zero, suc, ◌+◌, ◌<◌, ◌≤◌, ℤ, pos, negsuc, ◌+ℤ◌, ◌-ℤ◌, ◌≤ℤ◌, List, [], ◌∷◌, ◌⊎◌, inl, inr, ◌∙◌, sym, refl, arith}
+use Rattle.std.proofs.Common.{◌≡◌, ℕ, zero, suc, ◌+◌, ◌<◌, ◌≤◌, ℤ, pos, negsuc, ◌+ℤ◌, ◌-ℤ◌, ◌≤ℤ◌, List, [], ◌∷◌, ◌⊎◌, inl, inr, ◌∙◌, sym}
+use Rattle.std.proofs.Common.{refl, arith}
 use Rattle.std.proofs.lemmas.Int.{ints, by_lt_z}
 use Rattle.dam_book.specs.Price.{IsPrice}
 use Rattle.dam_book.specs.Limits.{lowest_price, highest_price}
@@ -9,7 +10,8 @@ use Rattle.dam_hour.specs.declared.step.Step.{Step}
 use Rattle.dam_hour.specs.Execution.{AreInRange, IsExecution, IsWithinOffers, offered_volume, volume_on, Balances}
 use Rattle.dam_hour.specs.Price.{Supports, IsSupporting, AreEnds}
 use Rattle.dam_hour.specs.Best.{IsBest}
-use Rattle.dam_hour.specs.inside.Volumes.{margin_of, if_better, if_at, better_volume, at_volume, IsHighEnough, IsLowEnough, IsLeastHighEnough, IsGreatestLowEnough}
+use Rattle.dam_hour.specs.inside.Volumes.{margin_of, if_better, if_at, better_volume, at_volume, IsHighEnough, IsLowEnough}
+use Rattle.dam_hour.specs.inside.Volumes.{IsLeastHighEnough, IsGreatestLowEnough}
 use Rattle.dam_hour.proofs.Duality.{equals_supported, supported_between}
 use Rattle.dam_hour.proofs.FilledExecution.{volume_on_sum, executed_at_most}
 use Rattle.dam_hour.proofs.Totals.{totals_at, best_supported, supporting_tests}
@@ -68,7 +70,8 @@ above_own Sell Buy l p q m k h f = omega arith
 pub better_volume_above : (side : Side) (p q : ℤ) (ss : List Step) → Above side p q → better_volume side p ss ≤ better_volume side q ss
 better_volume_above side p q [] h = omega arith
 better_volume_above side p q (s ∷ ss) h =
-    let here = above_own side s.side s.price p q (if_better (margin_of s.side s.price p) s.qty) (if_better (margin_of s.side s.price q) s.qty) h
+    let here = above_own side s.side s.price p q (if_better (margin_of s.side s.price p) s.qty)
+    (if_better (margin_of s.side s.price q) s.qty) h
     (λ own. better_rises (margin_of s.side s.price p) (margin_of s.side s.price q) s.qty (margin_above s.side s.price p q own)) in
     let rest = better_volume_above side p q ss h in
     omega (arith, here, rest)
@@ -105,7 +108,8 @@ next_own Sell Sell p q m k h f = f h
 next_own Buy Sell p q m k h f = omega arith
 next_own Sell Buy p q m k h f = omega arith
 
-better_volume_next : (side : Side) (p q : ℤ) (ss : List Step) → Next side p q → better_volume side p ss ≤ better_volume side q ss + at_volume side q ss
+better_volume_next : (side : Side) (p q : ℤ) (ss : List Step) → Next side p q
+    → better_volume side p ss ≤ better_volume side q ss + at_volume side q ss
 better_volume_next side p q [] h = omega arith
 better_volume_next side p q (s ∷ ss) h =
     let m = margin_of s.side s.price p in let k = margin_of s.side s.price q in
@@ -131,7 +135,8 @@ lower ss net p q l h =
     record { enough = omega (arith, ints, b, s, e) }
 
 -- each test holds or the other does a cent further
-pub high_or_next_low : (ss : List Step) (net p q : ℤ) → q ≡ p +ℤ pos 1 → IsHighEnough ss net p ⊎ ((¬ (IsHighEnough ss net p)) × IsLowEnough ss net q)
+pub high_or_next_low : (ss : List Step) (net p q : ℤ) → q ≡ p +ℤ pos 1
+    → IsHighEnough ss net p ⊎ ((¬ (IsHighEnough ss net p)) × IsLowEnough ss net q)
 high_or_next_low ss net p q n =
     let b = better_volume_next Buy p q ss n in
     let s = better_volume_next Sell q p ss n in
@@ -142,7 +147,8 @@ high_or_next_low ss net p q n =
     ))
     (λ enough. inl (record { enough = enough }))
 
-pub low_or_previous_high : (ss : List Step) (net p q : ℤ) → q ≡ p +ℤ pos 1 → IsLowEnough ss net q ⊎ ((¬ (IsLowEnough ss net q)) × IsHighEnough ss net p)
+pub low_or_previous_high : (ss : List Step) (net p q : ℤ) → q ≡ p +ℤ pos 1
+    → IsLowEnough ss net q ⊎ ((¬ (IsLowEnough ss net q)) × IsHighEnough ss net p)
 low_or_previous_high ss net p q n =
     let b = better_volume_next Buy p q ss n in
     let s = better_volume_next Sell q p ss n in
@@ -159,9 +165,11 @@ abbrev end_of : Side → ℤ
 end_of Buy = highest_price
 end_of Sell = lowest_price
 
-margin_end : (side own : Side) (l : ℤ) → IsPrice l → (m : ℕ) → (q : ℕ) → m ≡ if_better (margin_of own l (end_of side)) q → volume_on side own m ≡ 0
+margin_end : (side own : Side) (l : ℤ) → IsPrice l → (m : ℕ) → (q : ℕ) → m ≡ if_better (margin_of own l (end_of side)) q
+    → volume_on side own m ≡ 0
 margin_end Buy Buy l r m q e = let a = r.at_most in let z = none_better (margin_of Buy l highest_price) q (omega (arith, ints, a)) in e ∙ z
-margin_end Sell Sell l r m q e = let a = r.at_least in let z = none_better (margin_of Sell l lowest_price) q (omega (arith, ints, a)) in e ∙ z
+margin_end Sell Sell l r m q e = let a = r.at_least in let z = none_better (margin_of Sell l lowest_price) q (omega (arith, ints, a)) in
+    e ∙ z
 margin_end Buy Sell l r m q e = refl
 margin_end Sell Buy l r m q e = refl
 
@@ -178,7 +186,8 @@ other_end_of Buy = lowest_price
 other_end_of Sell = highest_price
 
 margin_other_end : (side own : Side) (l : ℤ) → IsPrice l → (q m : ℕ)
-    → m ≡ if_better (margin_of own l (other_end_of side)) q + if_at (margin_of own l (other_end_of side)) q → volume_on side own q ≡ volume_on side own m
+    → m ≡ if_better (margin_of own l (other_end_of side)) q + if_at (margin_of own l (other_end_of side)) q
+    → volume_on side own q ≡ volume_on side own m
 margin_other_end Buy Buy l r q m e = let a = r.at_least in none_worse (margin_of Buy l lowest_price) q (omega (arith, ints, a)) ∙ sym e
 margin_other_end Sell Sell l r q m e = let a = r.at_most in none_worse (margin_of Sell l highest_price) q (omega (arith, ints, a)) ∙ sym e
 margin_other_end Buy Sell l r q m e = refl
@@ -222,7 +231,8 @@ least_is_low ss net p r w t =
     ])
     (λ most. lower ss net p lowest_price most (lowest_enough ss net r w))
 
-pub greatest_is_high : (ss : List Step) (net p : ℤ) → AreInRange ss → IsWithinOffers ss net → IsGreatestLowEnough ss net p → IsHighEnough ss net p
+pub greatest_is_high : (ss : List Step) (net p : ℤ) → AreInRange ss → IsWithinOffers ss net → IsGreatestLowEnough ss net p
+    → IsHighEnough ss net p
 greatest_is_high ss net p r w t =
     let a = t.in_range.at_least in let b = t.in_range.at_most in
     by_lt_z p highest_price
@@ -235,7 +245,8 @@ greatest_is_high ss net p r w t =
     ])
     (λ most. higher ss net highest_price p most (highest_enough ss net r w))
 
-pub ends_from : (ss : List Step) (net low high : ℤ) → AreInRange ss → IsWithinOffers ss net → IsLeastHighEnough ss net low → IsGreatestLowEnough ss net high → AreEnds ss net low high
+pub ends_from : (ss : List Step) (net low high : ℤ) → AreInRange ss → IsWithinOffers ss net → IsLeastHighEnough ss net low
+    → IsGreatestLowEnough ss net high → AreEnds ss net low high
 ends_from ss net low high r w l h = record {
   low_supports = tests_supporting ss net low l.in_range l.enough (least_is_low ss net low r w l);
   high_supports = tests_supporting ss net high h.in_range (greatest_is_high ss net high r w h) h.enough;
@@ -243,7 +254,7 @@ ends_from ss net low high r w l h = record {
   greatest = λ p s. h.greatest p s.in_range (supporting_tests ss net p s).1;
 }
 
--- ---- where nothing balances
+-- ---- if nothing balances
 pub balance_within : (ss : List Step) (net : ℤ) (xs : List ℕ) → IsExecution ss xs → Balances ss net xs → IsWithinOffers ss net
 balance_within ss net xs e b =
     let buys = executed_at_most Buy ss xs e in
@@ -252,7 +263,8 @@ balance_within ss net xs e b =
 
 -- ---- a step of the bisection
 pub above_not_high : (ss : List Step) (net p q : ℤ) → ¬ (IsHighEnough ss net p) → IsHighEnough ss net q → (p +ℤ pos 1) ≤ℤ q
-above_not_high ss net p q fails h = by_lt_z q (p +ℤ pos 1) (λ less. absurd (fails (higher ss net q p (omega (arith, ints)) h))) (λ more. more)
+above_not_high ss net p q fails h =
+    by_lt_z q (p +ℤ pos 1) (λ less. absurd (fails (higher ss net q p (omega (arith, ints)) h))) (λ more. more)
 
 pub below_not_low : (ss : List Step) (net p q : ℤ) → ¬ (IsLowEnough ss net p) → IsLowEnough ss net q → q ≤ℤ (p -ℤ pos 1)
 below_not_low ss net p q fails h = by_lt_z (p -ℤ pos 1) q (λ less. absurd (fails (lower ss net p q (omega (arith, ints)) h))) (λ more. more)
@@ -264,12 +276,15 @@ best_supported_at ss net p xs s best =
     equals_supported p net ss s.volumes xs s.execution s.balance s.support best.execution best.balance
     (best.greatest s.volumes s.execution s.balance).by_welfare
 
-pub ends_support_best : (ss : List Step) (net low high p : ℤ) (xs : List ℕ) → AreEnds ss net low high → IsBest ss net xs → low ≤ℤ p → p ≤ℤ high → Supports p ss xs
+pub ends_support_best : (ss : List Step) (net low high p : ℤ) (xs : List ℕ) → AreEnds ss net low high → IsBest ss net xs → low ≤ℤ p
+    → p ≤ℤ high → Supports p ss xs
 ends_support_best ss net low high p xs e best l h =
-    supported_between low p high ss xs l h (best_supported_at ss net low xs e.low_supports best) (best_supported_at ss net high xs e.high_supports best)
+    supported_between low p high ss xs l h (best_supported_at ss net low xs e.low_supports best)
+    (best_supported_at ss net high xs e.high_supports best)
 
 -- a price between two supporting ones passes both tests
-pub between_supports : (ss : List Step) (net low high p : ℤ) → IsSupporting ss net low → IsSupporting ss net high → low ≤ℤ p → p ≤ℤ high → IsSupporting ss net p
+pub between_supports : (ss : List Step) (net low high p : ℤ) → IsSupporting ss net low → IsSupporting ss net high → low ≤ℤ p → p ≤ℤ high
+    → IsSupporting ss net p
 between_supports ss net low high p sl sh l h =
     let a = sl.in_range.at_least in let b = sh.in_range.at_most in
     tests_supporting ss net p (record { at_least = omega (arith, ints); at_most = omega (arith, ints) })

@@ -46,13 +46,15 @@ best_supported ss net p bought sold t r = record {
 }
 
 -- nothing that the price supports buys more
-bought_at_most : (net : ℤ) (b s bb sb b2 s2 : ℕ) → pos s +ℤ net ≡ pos b → (b < bb → s ≡ sb) → pos s2 +ℤ net ≡ pos b2 → b2 ≤ bb → s2 ≤ sb → b2 ≤ b
+bought_at_most : (net : ℤ) (b s bb sb b2 s2 : ℕ) → pos s +ℤ net ≡ pos b → (b < bb → s ≡ sb) → pos s2 +ℤ net ≡ pos b2 → b2 ≤ bb → s2 ≤ sb
+    → b2 ≤ b
 bought_at_most net b s bb sb b2 s2 e f e2 hb hs =
     elim (cases_lt b bb) [ inl l ↦ (let full = f l in omega (arith, ints)) | inr h ↦ omega arith ]
 
 -- a supported execution with the two totals takes just what is left at the price
 left_for : (p : ℤ) (ss : List Step) (ys : List ℕ) (bought sold : ℕ) → IsExecution ss ys → Supports p ss ys
-    → executed_volume Buy ss ys ≡ bought → executed_volume Sell ss ys ≡ sold → (side : Side) → taken side p ss ys ≤ left_at p ss bought sold side
+    → executed_volume Buy ss ys ≡ bought → executed_volume Sell ss ys ≡ sold → (side : Side)
+    → taken side p ss ys ≤ left_at p ss bought sold side
 left_for p ss ys bought sold e h eb es Buy = let k = supported_split Buy p ss ys e h in omega arith
 left_for p ss ys bought sold e h eb es Sell = let k = supported_split Sell p ss ys e h in omega arith
 
@@ -74,7 +76,8 @@ ranks_below ss net p bought sold t ys ey by =
           (let sy = supported same in
           let b = supported_split Buy p ss ys ey sy in let tb = taken_at_most Buy p ss ys ey in
           let s = supported_split Sell p ss ys ey sy in let ts = taken_at_most Sell p ss ys ey in
-          let most = bought_at_most net bought sold (better_volume Buy p ss + at_volume Buy p ss) (better_volume Sell p ss + at_volume Sell p ss)
+          let most = bought_at_most net bought sold (better_volume Buy p ss + at_volume Buy p ss)
+          (better_volume Sell p ss + at_volume Sell p ss)
           (executed_volume Buy ss ys) (executed_volume Sell ss ys) t.balance t.full by (omega arith) (omega arith) in
           omega (arith, most, best_bought ss net p bought sold t));
       by_order = λ same same_bought.
@@ -83,7 +86,8 @@ ranks_below ss net p bought sold t ys ey by =
           fill_last p ss ys (left_at p ss bought sold) ey (supported same) (left_for p ss ys bought sold ey (supported same) eb es));
     }
 
-pub best_is_best : (ss : List Step) (net p : ℤ) (bought sold : ℕ) → AreTotals ss net p bought sold → IsBest ss net (best_at p ss bought sold)
+pub best_is_best : (ss : List Step) (net p : ℤ) (bought sold : ℕ) → AreTotals ss net p bought sold
+    → IsBest ss net (best_at p ss bought sold)
 best_is_best ss net p bought sold t = record {
   execution = fill_fits p ss (left_at p ss bought sold);
   balance = best_balance ss net p bought sold t;
@@ -102,7 +106,7 @@ natural : (z : ℤ) → pos 0 ≤ℤ z → pos (up z) ≡ z
 natural (pos n) h = refl
 natural (negsuc n) h = absurd (let no : 0 < 0 = omega (arith, ints) in omega (arith, no))
 
--- where both tests hold, there are such totals
+-- if both tests hold, there are such totals
 totals_of : (net : ℤ) (bb ba sb sa : ℕ) → pos bb ≤ℤ (pos (sb + sa) +ℤ net) → (pos sb +ℤ net) ≤ℤ pos (bb + ba)
     → (b : ℕ) × (s : ℕ) × (pos s +ℤ net ≡ pos b) × (bb ≤ b) × (b ≤ bb + ba) × (sb ≤ s) × (s ≤ sb + sa) × (b < bb + ba → s ≡ sb + sa)
 totals_of net bb ba sb sa h l =
@@ -111,8 +115,16 @@ totals_of net bb ba sb sa h l =
     elim (cases_lt (up most) (bb + ba)) [
       | inl less ↦ (up most, sb + sa, omega (arith, ints), omega (arith, ints), omega (arith, ints), omega arith, omega arith, λ _. refl)
       | inr more ↦
-          (let rest : pos (up (pos (bb + ba) -ℤ net)) ≡ pos (bb + ba) -ℤ net = natural (pos (bb + ba) -ℤ net) (omega (arith, ints)) in
-          (bb + ba, up (pos (bb + ba) -ℤ net), omega (arith, ints), omega arith, omega arith, omega (arith, ints), omega (arith, ints), λ no. absurd (omega (arith, no))))
+          (let rest : pos (up (pos (bb + ba) -ℤ net)) ≡ pos (bb + ba) -ℤ net = natural (pos (bb + ba) -ℤ net) (omega (arith, ints)) in (
+            bb + ba,
+            up (pos (bb + ba) -ℤ net),
+            omega (arith, ints),
+            omega arith,
+            omega arith,
+            omega (arith, ints),
+            omega (arith, ints),
+            λ no. absurd (omega (arith, no)),
+          ))
     ]
 
 pub totals_at : (ss : List Step) (net p : ℤ) → IsHighEnough ss net p → IsLowEnough ss net p → (b : ℕ) × (s : ℕ) × AreTotals ss net p b s

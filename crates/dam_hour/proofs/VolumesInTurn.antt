@@ -8,8 +8,9 @@ use Rattle.dam_hour.specs.Execution.{volume_on}
 use Rattle.dam_hour.specs.inside.Volumes.{margin_of, if_at, better_volume, share, fill, total_on}
 use Rattle.dam_hour.proofs.Totals.{best_at, left_at}
 
--- where as much is left for each side, the volumes are the same
-pub fill_same : (p : ℤ) (ss : List Step) (left other : Side → ℕ) → ((side : Side) → left side ≡ other side) → fill p ss left ≡ fill p ss other
+-- if as much is left for each side, the volumes are the same
+pub fill_same : (p : ℤ) (ss : List Step) (left other : Side → ℕ) → ((side : Side) → left side ≡ other side)
+    → fill p ss left ≡ fill p ss other
 fill_same p [] left other same = refl
 fill_same p (s ∷ ss) left other same =
     let m = margin_of s.side s.price p in
@@ -17,18 +18,21 @@ fill_same p (s ∷ ss) left other same =
     (fill_same p ss (λ side. left side - volume_on side s.side (if_at m s.qty)) (λ side. other side - volume_on side s.side (if_at m s.qty))
     (λ side. ap (λ (n : ℕ). n - volume_on side s.side (if_at m s.qty)) (same side)))
 
-left_of : (p : ℤ) (ss : List Step) (bought sold buys sells : ℕ) → buys ≡ bought - better_volume Buy p ss → sells ≡ sold - better_volume Sell p ss
+left_of : (p : ℤ) (ss : List Step) (bought sold buys sells : ℕ) → buys ≡ bought - better_volume Buy p ss
+    → sells ≡ sold - better_volume Sell p ss
     → (side : Side) → total_on side buys sells ≡ left_at p ss bought sold side
 left_of p ss bought sold buys sells b s Buy = b
 left_of p ss bought sold buys sells b s Sell = s
 
-left_behind : (own : Side) (taken buys sells buys' sells' : ℕ) → buys' ≡ buys - volume_on Buy own taken → sells' ≡ sells - volume_on Sell own taken
+left_after : (own : Side) (taken buys sells buys' sells' : ℕ) → buys' ≡ buys - volume_on Buy own taken
+    → sells' ≡ sells - volume_on Sell own taken
     → (side : Side) → total_on side buys' sells' ≡ total_on side buys sells - volume_on side own taken
-left_behind own taken buys sells buys' sells' b s Buy = b
-left_behind own taken buys sells buys' sells' b s Sell = s
+left_after own taken buys sells buys' sells' b s Buy = b
+left_after own taken buys sells buys' sells' b s Sell = s
 
 -- what the totals leave for each side
-pub fill_from_totals : (p : ℤ) (ss : List Step) (bought sold buys sells : ℕ) (out : List ℕ) → buys ≡ bought - better_volume Buy p ss → sells ≡ sold - better_volume Sell p ss
+pub fill_from_totals : (p : ℤ) (ss : List Step) (bought sold buys sells : ℕ) (out : List ℕ) → buys ≡ bought - better_volume Buy p ss
+    → sells ≡ sold - better_volume Sell p ss
     → out ≡ fill p ss (λ side. total_on side buys sells) → out ≡ best_at p ss bought sold
 fill_from_totals p ss bought sold buys sells out b s filled =
     filled ∙ fill_same p ss (λ side. total_on side buys sells) (left_at p ss bought sold) (left_of p ss bought sold buys sells b s)
@@ -48,7 +52,7 @@ fill_more p ss i s out pushed all x left buys sells buys' sells' so_far push wit
     let next : Side → ℕ = λ side. total_on side buys sells - volume_on side s.side taken in
     let opened : drop i ss ≡ s ∷ rest = drop_more ss i s within ∙ ap (λ (u : Step). u ∷ rest) (sym is) in
     let later : fill p rest (λ side. total_on side buys' sells') ≡ fill p rest next =
-    fill_same p rest (λ side. total_on side buys' sells') next (left_behind s.side taken buys sells buys' sells' b t) in
+    fill_same p rest (λ side. total_on side buys' sells') next (left_after s.side taken buys sells buys' sells' b t) in
     ap (λ (ys : List ℕ). ys ++ fill p rest (λ side. total_on side buys' sells')) push
     ∙ append_assoc out (x ∷ []) (fill p rest (λ side. total_on side buys' sells'))
     ∙ ap₂ (λ (n : ℕ) (ys : List ℕ). out ++ n ∷ ys) (volume ∙ ap (λ (n : ℕ). share (margin_of s.side s.price p) s.qty n) own) later

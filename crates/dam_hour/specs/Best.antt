@@ -1,5 +1,6 @@
 -- The welfare of an execution, the best execution, and the greatest welfare at a net volume.
-use Rattle.std.specs.Prelude.{◌≡◌, ℕ, ◌*◌, ◌≤◌, ℤ, pos, neg_ℤ, ◌+ℤ◌, ◌-ℤ◌, ◌*ℤ◌, ◌≤ℤ◌, zero, suc, Bool, Option, Some, None, List, [], ◌∷◌, ◌++◌, map, filter, fold}
+use Rattle.std.specs.Prelude.{◌≡◌, ℕ, ◌*◌, ◌≤◌, ℤ, pos, neg_ℤ, ◌+ℤ◌, ◌-ℤ◌, ◌*ℤ◌, ◌≤ℤ◌, zero, suc, Bool, Option, Some, None, List, [], ◌∷◌}
+use Rattle.std.specs.Prelude.{◌++◌, map, filter, fold}
 use Rattle.std.specs.Int.{int_max}
 use Rattle.std.specs.List.{flat_map}
 use Rattle.std.specs.Ordering.{int_eq}
@@ -17,13 +18,13 @@ signed Sell z = neg_ℤ z
 
 -- limit times executed volume over buys, less the same over sells, in cents per MWh times tenths of a MW
 abbrev pub welfare_of : List Step → List ℕ → ℤ
-welfare_of (s ∷ ss) (x ∷ xs) = signed s.side (s.price *ℤ pos x) +ℤ welfare_of ss xs
+welfare_of (step ∷ steps) (x ∷ xs) = signed step.side (step.price *ℤ pos x) +ℤ welfare_of steps xs
 welfare_of _ _ = pos 0
 
 -- what the steps gain at a price: limit less price, times executed volume, over buys, less the same over sells
 abbrev pub surplus_at : ℤ → List Step → List ℕ → ℤ
-surplus_at p (s ∷ ss) (x ∷ xs) = signed s.side ((s.price -ℤ p) *ℤ pos x) +ℤ surplus_at p ss xs
-surplus_at p _ _ = pos 0
+surplus_at price (step ∷ steps) (x ∷ xs) = signed step.side ((step.price -ℤ price) *ℤ pos x) +ℤ surplus_at price steps xs
+surplus_at price _ _ = pos 0
 
 -- at the first place where they differ the second has the greater volume, or they differ nowhere
 abbrev pub AtMostInOrder : List ℕ → List ℕ → Type 0
@@ -31,26 +32,27 @@ AtMostInOrder (x ∷ xs) (y ∷ ys) = (x ≤ y) × (x ≡ y → AtMostInOrder xs
 AtMostInOrder _ _ = Unit {0}
 
 -- ys is no better than xs: by welfare, then by bought volume, then by the volumes in book order
-pub record IsNoBetter (ss : List Step) (ys xs : List ℕ) : Type 0 where
-  pub by_welfare : welfare_of ss ys ≤ℤ welfare_of ss xs
-  pub by_bought : welfare_of ss ys ≡ welfare_of ss xs → executed_volume Buy ss ys ≤ executed_volume Buy ss xs
-  pub by_order : welfare_of ss ys ≡ welfare_of ss xs → executed_volume Buy ss ys ≡ executed_volume Buy ss xs → AtMostInOrder ys xs
+pub record IsNoBetter (steps : List Step) (ys xs : List ℕ) : Type 0 where
+  pub by_welfare : welfare_of steps ys ≤ℤ welfare_of steps xs
+  pub by_bought : welfare_of steps ys ≡ welfare_of steps xs → executed_volume Buy steps ys ≤ executed_volume Buy steps xs
+  pub by_order : welfare_of steps ys ≡ welfare_of steps xs → executed_volume Buy steps ys ≡ executed_volume Buy steps xs
+      → AtMostInOrder ys xs
 
 -- a balanced execution: no other is better
-pub record IsBest (ss : List Step) (net : ℤ) (xs : List ℕ) : Type 0 where
-  pub execution : IsExecution ss xs
-  pub balance : Balances ss net xs
-  pub greatest : (ys : List ℕ) → IsExecution ss ys → Balances ss net ys → IsNoBetter ss ys xs
+pub record IsBest (steps : List Step) (net : ℤ) (xs : List ℕ) : Type 0 where
+  pub execution : IsExecution steps xs
+  pub balance : Balances steps net xs
+  pub greatest : (ys : List ℕ) → IsExecution steps ys → Balances steps net ys → IsNoBetter steps ys xs
 
 -- the bought and the sold volume and the welfare of the best execution
-pub record AreBestTotals (ss : List Step) (net : ℤ) (bought sold : ℕ) (welfare : ℤ) : Type 0 where
+pub record AreBestTotals (steps : List Step) (net : ℤ) (bought sold : ℕ) (welfare : ℤ) : Type 0 where
   pub volumes : List ℕ
-  pub best : IsBest ss net volumes
-  pub bought_is : bought ≡ executed_volume Buy ss volumes
-  pub sold_is : sold ≡ executed_volume Sell ss volumes
-  pub welfare_is : welfare ≡ welfare_of ss volumes
+  pub best : IsBest steps net volumes
+  pub bought_is : bought ≡ executed_volume Buy steps volumes
+  pub sold_is : sold ≡ executed_volume Sell steps volumes
+  pub welfare_is : welfare ≡ welfare_of steps volumes
 
--- volumes and a welfare within what so many steps can give
+-- volumes and a welfare within what that number of steps can give
 pub record AreSmall (steps bought sold : ℕ) (welfare : ℤ) : Type 0 where
   pub bought_at_most : bought ≤ steps * greatest_volume
   pub sold_at_most : sold ≤ steps * greatest_volume
@@ -65,17 +67,17 @@ up_to (suc n) = up_to n ++ suc n ∷ []
 -- every execution of the steps
 abbrev pub executions : List Step → List (List ℕ)
 executions [] = [] ∷ []
-executions (s ∷ ss) = flat_map (λ x. map (λ xs. x ∷ xs) (executions ss)) (up_to s.qty)
+executions (step ∷ steps) = flat_map (λ x. map (λ xs. x ∷ xs) (executions steps)) (up_to step.qty)
 
 -- whether an execution balances
 abbrev pub does_balance : List Step → ℤ → List ℕ → Bool
-does_balance ss net xs = int_eq (pos (executed_volume Sell ss xs) +ℤ net) (pos (executed_volume Buy ss xs))
+does_balance steps net xs = int_eq (pos (executed_volume Sell steps xs) +ℤ net) (pos (executed_volume Buy steps xs))
 
--- the greatest number of a list, or None where there is none
+-- the greatest number of a list, or None if there is none
 abbrev pub greatest_of : List ℤ → Option ℤ
 greatest_of [] = None
 greatest_of (z ∷ zs) = Some (fold int_max z zs)
 
--- the greatest welfare of the executions that balance with the net volume, or None where none does
+-- the greatest welfare of the executions that balance with the net volume, or None if none does
 unfoldable pub greatest_welfare : List Step → ℤ → Option ℤ
-greatest_welfare ss net = greatest_of (map (welfare_of ss) (filter (does_balance ss net) (executions ss)))
+greatest_welfare steps net = greatest_of (map (welfare_of steps) (filter (does_balance steps net) (executions steps)))

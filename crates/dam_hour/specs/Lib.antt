@@ -2,4 +2,5 @@ pub mod Limits
 pub mod Execution
 pub mod Price
 pub mod Best
+pub mod Clearing
 pub mod inside

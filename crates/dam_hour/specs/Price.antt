@@ -21,24 +21,24 @@ IsWorse Sell limit price = price <ℤ limit
 
 -- what is better than the price has its whole volume, and what is worse has none
 abbrev pub Supports : ℤ → List Step → List ℕ → Type 0
-Supports p (s ∷ ss) (x ∷ xs) =
-    (IsBetter s.side s.price p → x ≡ s.qty) × (IsWorse s.side s.price p → x ≡ 0) × Supports p ss xs
-Supports p _ _ = Unit {0}
+Supports price (step ∷ steps) (x ∷ xs) =
+    (IsBetter step.side step.price price → x ≡ step.qty) × (IsWorse step.side step.price price → x ≡ 0) × Supports price steps xs
+Supports price _ _ = Unit {0}
 
 -- a whole cent of the range of prices that supports some balanced execution
-pub record IsSupporting (ss : List Step) (net p : ℤ) : Type 0 where
-  pub in_range : IsPrice p
+pub record IsSupporting (steps : List Step) (net price : ℤ) : Type 0 where
+  pub in_range : IsPrice price
   pub volumes : List ℕ
-  pub execution : IsExecution ss volumes
-  pub balance : Balances ss net volumes
-  pub support : Supports p ss volumes
+  pub execution : IsExecution steps volumes
+  pub balance : Balances steps net volumes
+  pub support : Supports price steps volumes
 
 -- the least and the greatest supporting price
-pub record AreEnds (ss : List Step) (net low high : ℤ) : Type 0 where
-  pub low_supports : IsSupporting ss net low
-  pub high_supports : IsSupporting ss net high
-  pub least : (p : ℤ) → IsSupporting ss net p → low ≤ℤ p
-  pub greatest : (p : ℤ) → IsSupporting ss net p → p ≤ℤ high
+pub record AreEnds (steps : List Step) (net low high : ℤ) : Type 0 where
+  pub low_supports : IsSupporting steps net low
+  pub high_supports : IsSupporting steps net high
+  pub least : (price : ℤ) → IsSupporting steps net price → low ≤ℤ price
+  pub greatest : (price : ℤ) → IsSupporting steps net price → price ≤ℤ high
 
 -- the one end that is no end of the range, and else the middle, a half rounded down (`int_div_euclid` by 2 rounds down also below zero)
 abbrev pub price_between : ℤ → ℤ → ℤ

@@ -14,26 +14,12 @@ use std::alloc::Allocator;
 /// Where the best execution ends among the buys, which are served from the greatest limit down.
 #[derive(Clone, Copy)]
 pub(crate) struct Edge {
-    /// The limit of the last buy that is served, or the greatest price where none is.
+    /// The limit of the last buy that is served, or the greatest price if none is.
     pub(crate) last: Price,
-    /// The limit of the first buy that isn't served, or the least price where each is.
+    /// The limit of the first buy that isn't served, or the least price if each is.
     pub(crate) next: Price,
     /// The volume of the buys that are served, of the last one too in full, in tenths of a MW.
     pub(crate) volume: u64,
-}
-
-/// The least price of the range.
-fn lowest() -> Price
-    ensures { result ≡ lowest_price }
-{
-    Price::new(LOWEST_PRICE).unwrap()
-}
-
-/// The greatest price of the range.
-fn highest() -> Price
-    ensures { result ≡ highest_price }
-{
-    Price::new(HIGHEST_PRICE).unwrap()
 }
 
 /// Whether some execution balances: the net volume is at most all buys, and takes at most all sells.
@@ -66,8 +52,8 @@ impl Edge {
         ensures small { result.volume ≤ most_steps * greatest_volume }
     {
         let buys = hour.side(Side::Buy);
-        let mut last = highest();
-        let mut next = lowest();
+        let mut last = highest_price();
+        let mut next = lowest_price();
         let mut from = 0;
         let mut to = buys.len();
         while from < to {
@@ -88,8 +74,8 @@ impl Edge {
         }
     }
 
-    /// The sells that are taken where the last buy is served in full, in tenths of a MW; below 0 where
-    /// the net volume is more.
+    /// The sells that are taken if the last buy is served in full, in tenths of a MW; below 0 if the net
+    /// volume is more.
     fn sells(&self, net: i64) -> i64
         requires net { IsNetVolume net }
         requires small { self.now.volume ≤ most_steps * greatest_volume }
@@ -125,16 +111,16 @@ impl Edge {
 }
 
 /// The limit of the sell that holds a unit, counted from 1 at the least limit; the least price of the
-/// range for a unit under 1, and the greatest one where all sells are less.
+/// range for a unit under 1, and the greatest one if all sells are less.
 fn limit_of_sell<A: Allocator>(hour: &Hour<A>, unit: i64) -> Price
     ensures { IsLimitOfSell hour.now unit result }
 {
     let sells = hour.side(Side::Sell);
     if unit < 1 {
-        return lowest();
+        return lowest_price();
     }
     if unit as u64 > sells.all().volume {
-        return highest();
+        return highest_price();
     }
     let (limit, _) = sells.rung(sells.holding(unit as u64));
     limit
@@ -159,7 +145,21 @@ fn middle(low: Price, high: Price) -> Price
     Price::new((low.get() + high.get()).div_euclid(2)).unwrap()
 }
 
-/// The clearing price between the ends: the one that is no end of the range, where only one is; else
+/// The least price that an order or a period can have.
+pub fn lowest_price() -> Price
+    ensures { result ≡ lowest_price }
+{
+    Price::new(LOWEST_PRICE).unwrap()
+}
+
+/// The greatest price that an order or a period can have.
+pub fn highest_price() -> Price
+    ensures { result ≡ highest_price }
+{
+    Price::new(HIGHEST_PRICE).unwrap()
+}
+
+/// The clearing price between the ends: if just one of them is an end of the range, the other one; else
 /// the middle, a half cent rounded down, also below zero.
 pub fn price_between(low: Price, high: Price) -> Price
     ensures { result ≡ price_between low high }

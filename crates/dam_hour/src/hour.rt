@@ -1,4 +1,4 @@
-ghost use Rattle.std.specs.Prelude.{◌≡◌, ◌≤◌, ◌<◌, ◌-◌, ◌+◌, ◌*◌, ◌-ℤ◌, take, pos, ◌*ℤ◌, ◌+ℤ◌, ℕ, List, length, slice_get, IfOk, IfSome, IfNone, MatchOption, IsTrue, ◌↔◌, [], None};
+ghost use Rattle.std.specs.Prelude.{◌≡◌, ◌≤◌, ◌<◌, ◌-◌, ◌+◌, ◌*◌, ◌-ℤ◌, take, pos, ◌*ℤ◌, ◌+ℤ◌, ℕ, ℤ, List, length, slice_get, IfOk, IfSome, IfNone, MatchOption, IsTrue, ◌↔◌, [], None};
 ghost use Rattle.std.specs.List.{remove};
 ghost use Rattle.std.specs.Option.{option_map};
 ghost use Rattle.dam_book.specs.declared.order.Side.TheVariants.{Buy, Sell};
@@ -7,7 +7,8 @@ ghost use Rattle.dam_hour.specs.Limits.{most_steps, price_span};
 ghost use Rattle.dam_hour.specs.Execution.{IsHour, IsNetVolume, IsWithinOffers, IsUnbalanced, offered_volume};
 ghost use Rattle.dam_hour.specs.Price.{AreEnds, price_between};
 ghost use Rattle.dam_hour.specs.Best.{signed, IsBest, AreBestTotals, AreSmall, greatest_welfare};
-ghost use Rattle.dam_hour.specs.inside.Volumes.{better_volume, at_volume, full_surplus, total_on, IsLeastHighEnough, AreTotals};
+ghost use Rattle.dam_hour.specs.Clearing.{IsClearedAt};
+ghost use Rattle.dam_hour.specs.inside.Volumes.{better_volume, at_volume, full_surplus, total_on, AreTotals};
 ghost use Rattle.dam_hour.specs.inside.Ladder.{AreOfSide, gain_of};
 ghost use Rattle.dam_hour.specs.inside.Edge.{IsEdge};
 
@@ -29,9 +30,8 @@ pub const GREATEST_NET: i64 = MOST_BLOCKS as i64 * GREATEST_VOLUME as i64;
 
 /// One period, an hour or a quarter of one: its steps in book order, at most `MOST_STEPS`.
 ///
-/// Beside them it keeps the buys by falling and the sells by rising limit, each with the volume and the
-/// value that stand before it, so that a price is found by bisection. A contract sees the list of the
-/// steps.
+/// It also keeps the buys by falling and the sells by rising limit, each with the volume and the value
+/// of those before it, so that a price is found by bisection. A contract sees the list of the steps.
 #[derive(Drop)]
 pub struct Hour<A: Allocator = Global> {
     steps: Vec<Step, A>,
@@ -54,7 +54,7 @@ impl<A: Allocator> Model for Hour<A> {
 /// What a period clears at; the volumes and the welfare are those of its steps alone.
 ///
 /// The price is any that supports the execution, narrowed to one (EUPHEMIA Public Description,
-/// "Price Determination Sub-problem"): where just one of the two ends is the end of the range of
+/// "Price Determination Sub-problem"): if just one of the two ends is the end of the range of
 /// prices, the other one; else the middle of the two, a half cent rounded down. That choice is this
 /// project's own. Prices are in cents per MWh.
 #[derive(Clone, Copy, PartialEq, Eq, Debug)]
@@ -73,46 +73,50 @@ pub struct Cleared {
     pub welfare: i64,
 }
 
-/// The totals of the best execution, and a price that supports it.
+/// What the best execution trades at a net volume, and the ends of the prices that support it.
 #[derive(Clone, Copy)]
-struct Totals {
+struct Matched {
     low: Price,
+    high: Price,
     bought: u64,
     sold: u64,
 }
 
-impl Totals {
+impl Matched {
     /// At the least supporting price the side that is short executes all that is not worse than it.
-    fn of<A: Allocator>(hour: &Hour<A>, net: i64, edge: &Edge) -> Totals
+    fn of<A: Allocator>(hour: &Hour<A>, net: i64, edge: &Edge) -> Matched
         requires steps { IsHour hour.now }
         requires net { IsNetVolume net }
         requires within { IsWithinOffers hour.now net }
         requires edge { IsEdge hour.now net edge.now.last edge.now.next edge.now.volume }
         requires small { edge.now.volume ≤ most_steps * greatest_volume }
-        ensures low { IsLeastHighEnough hour.now net result.low }
+        ensures ends { AreEnds hour.now net result.low result.high }
         ensures totals { AreTotals hour.now net result.low result.bought result.sold }
     {
         let low = edge.low(hour, net);
+        let high = edge.high(hour, net);
         let buys = Bounds::of(hour, Side::Buy, low);
         let sells = Bounds::of(hour, Side::Sell, low);
         let supply = sells.most as i64 + net;
         let demand = buys.most as i64;
         if supply < demand {
-            Totals {
+            Matched {
                 low,
+                high,
                 bought: supply as u64,
                 sold: sells.most,
             }
         } else {
-            Totals {
+            Matched {
                 low,
+                high,
                 bought: buys.most,
                 sold: (demand - net) as u64,
             }
         }
     }
 
-    /// What is left at the price for each side, where the better steps are executed in full.
+    /// What is left at the least price for each side once the better steps are executed in full.
     fn left<A: Allocator>(self, hour: &Hour<A>) -> Left
         ensures buys { result.buys ≡ self.bought - better_volume Buy self.low hour.now }
         ensures sells { result.sells ≡ self.sold - better_volume Sell self.low hour.now }
@@ -127,7 +131,7 @@ impl Totals {
         }
     }
 
-    /// The total of the side.
+    /// The volume that the side trades.
     fn on(self, side: Side) -> u64
         ensures { result ≡ total_on side self.bought self.sold }
     {
@@ -148,7 +152,7 @@ fn welfare_at<A: Allocator>(hour: &Hour<A>, net: i64, price: Price) -> i64
 }
 
 impl<A: Allocator + Copy> Hour<A> {
-    /// The hour of these steps, which stand in book order. The error is want of memory.
+    /// The hour of these steps, which stand in book order. The error is out of memory.
     pub fn build(alloc: A, steps: &[Step]) -> Result<Hour<A>, AllocError>
         requires { length steps.now ≤ most_steps }
         ensures { IfOk result (λ hour. hour ≡ steps.now) }
@@ -268,10 +272,54 @@ impl<A: Allocator> Hour<A> {
         self.steps.as_slice()
     }
 
+    /// What the best execution at a net volume trades, and between which prices; `None` exactly if no
+    /// execution balances.
+    fn matched(&self, net: i64) -> Option<Matched>
+        requires { IsNetVolume net }
+        ensures steps { IsHour self.now }
+        ensures none { IfNone result (IsUnbalanced self.now net) }
+        ensures ends { IfSome result (λ m. AreEnds self.now net m.low m.high) }
+        ensures totals { IfSome result (λ m. AreTotals self.now net m.low m.bought m.sold) }
+    {
+        if !is_within_offers(self, net) {
+            return None;
+        }
+        let edge = Edge::of(self, net);
+        Some(Matched::of(self, net, &edge))
+    }
+
+    /// The price, the totals and the welfare that go with what is traded.
+    fn cleared(&self, net: i64, matched: &Matched) -> Cleared
+        requires net { IsNetVolume net }
+        requires ends { AreEnds self.now net matched.now.low matched.now.high }
+        requires totals { AreTotals self.now net matched.now.low
+            matched.now.bought matched.now.sold }
+        ensures { IsClearedAt self.now net result }
+    {
+        let _few = self.len(); // for the proof: the steps are few
+        Cleared {
+            low: matched.low,
+            high: matched.high,
+            price: price_between(matched.low, matched.high),
+            bought: matched.bought,
+            sold: matched.sold,
+            welfare: welfare_at(self, net, matched.low),
+        }
+    }
+
+    /// The executed volumes that go with what is traded.
+    fn filled<B: Allocator>(&self, alloc: B, matched: &Matched) -> Result<Vec<u32, B>, AllocError>
+        ensures { (net : ℤ)
+            → AreTotals self.now net matched.now.low matched.now.bought matched.now.sold
+            → IfOk result (λ volumes. IsBest self.now net volumes.items) }
+    {
+        fill(alloc, self.steps(), matched.low, matched.left(self))
+    }
+
     /// The price, the totals and the welfare of the period at a net volume: what the accepted blocks
     /// sell there less what they buy, in tenths of a MW.
     ///
-    /// `None` exactly where no execution balances. The execution is the one of greatest welfare
+    /// `None` exactly if no execution balances. The execution is the one of greatest welfare
     /// (EUPHEMIA Public Description, "Welfare Maximization Problem (Master Problem)"), then of greatest
     /// bought volume ("Volume Indeterminacy Sub-problem"), then the one with the greater volume at the
     /// first step in book order where two differ, which is this project's own. Takes no memory.
@@ -285,26 +333,16 @@ impl<A: Allocator> Hour<A> {
         ensures small { IfSome result (λ c. AreSmall (length self.now) c.bought c.sold c.welfare) }
         ensures welfare { greatest_welfare self.now net ≡ option_map (λ c. c.welfare) result }
     {
-        if !is_within_offers(self, net) {
-            return None;
+        match self.matched(net) {
+            Some(matched) => Some(self.cleared(net, &matched)),
+            None => None,
         }
-        let edge = Edge::of(self, net);
-        let totals = Totals::of(self, net, &edge);
-        let high = edge.high(self, net);
-        Some(Cleared {
-            low: totals.low,
-            high,
-            price: price_between(totals.low, high),
-            bought: totals.bought,
-            sold: totals.sold,
-            welfare: welfare_at(self, net, totals.low),
-        })
     }
 
     /// The executed volume of the step at a place, counted from 0 in book order, in tenths of a MW:
     /// that of the best execution, as `clear` has it.
     ///
-    /// `None` exactly where `clear` is `None` or no step stands there. Takes no memory.
+    /// `None` exactly if `clear` is `None` or no step stands there. Takes no memory.
     pub fn executed(&self, net: i64, place: usize) -> Option<u32>
         requires { IsNetVolume net }
         ensures best { (xs : List ℕ) → IsBest self.now net xs
@@ -314,20 +352,16 @@ impl<A: Allocator> Hour<A> {
         prove!(-GREATEST_NET <= net && net <= GREATEST_NET);
         let steps = self.steps();
         let step = *steps.get(place)?;
-        if !is_within_offers(self, net) {
-            return None;
-        }
-        let edge = Edge::of(self, net);
-        let totals = Totals::of(self, net, &edge);
+        let matched = self.matched(net)?;
         let before = self.volume_before(step.side, step.price, place);
-        let left = totals.on(step.side).saturating_sub(before);
+        let left = matched.on(step.side).saturating_sub(before);
         Some(step.volume().min(left) as u32)
     }
 
     /// The executed volumes of all steps in book order, in tenths of a MW: the best execution, as `clear`
     /// and `executed` have it, found in one pass over the steps.
     ///
-    /// `None` exactly where `clear` is `None`. The error is want of memory.
+    /// `None` exactly if `clear` is `None`. The error is out of memory.
     pub fn execution<B: Allocator>(
         &self,
         alloc: B,
@@ -337,12 +371,29 @@ impl<A: Allocator> Hour<A> {
         ensures { IfOk result (λ found. MatchOption found (IsUnbalanced self.now net)
             (λ volumes. IsBest self.now net volumes.items)) }
     {
-        if !is_within_offers(self, net) {
+        let Some(matched) = self.matched(net) else {
             return Ok(None);
-        }
-        let edge = Edge::of(self, net);
-        let totals = Totals::of(self, net, &edge);
-        let volumes = fill(alloc, self.steps(), totals.low, totals.left(self))?;
+        };
+        let volumes = self.filled(alloc, &matched)?;
         Ok(Some(volumes))
+    }
+
+    /// What `clear` and `execution` give together, with one look for where the best execution ends.
+    ///
+    /// `None` exactly if they are `None`. The error is out of memory.
+    pub fn clear_and_execute<B: Allocator>(
+        &self,
+        alloc: B,
+        net: i64,
+    ) -> Result<Option<(Cleared, Vec<u32, B>)>, AllocError>
+        requires { IsNetVolume net }
+        ensures { IfOk result (λ found. MatchOption found (IsUnbalanced self.now net)
+            (λ r. IsClearedAt self.now net r.0 × IsBest self.now net r.1.items)) }
+    {
+        let Some(matched) = self.matched(net) else {
+            return Ok(None);
+        };
+        let volumes = self.filled(alloc, &matched)?;
+        Ok(Some((self.cleared(net, &matched), volumes)))
     }
 }

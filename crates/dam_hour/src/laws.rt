@@ -33,7 +33,7 @@ pub fn exchange()
         → Supports p steps xs }
 {}
 
-/// Some execution balances exactly where the net volume is from minus all sells to all buys.
+/// Some execution balances exactly if the net volume is from minus all sells to all buys.
 pub fn balance()
     ensures within { (steps : List Step) (net : ℤ) (xs : List ℕ)
         → IsExecution steps xs → Balances steps net xs → IsWithinOffers steps net }
@@ -41,8 +41,8 @@ pub fn balance()
         → IsWithinOffers steps net → IsBalanced steps net }
 {}
 
-/// Of steps whose limits and volumes are in range: where an execution balances there is a best one,
-/// and there are a least and a greatest supporting price.
+/// Of steps whose limits and volumes are in range: if an execution balances, there is a best one, and
+/// there are a least and a greatest supporting price.
 pub fn existence()
     ensures ends { (steps : List Step) (net : ℤ)
         → AreInRange steps → IsWithinOffers steps net
@@ -75,7 +75,7 @@ pub fn price()
 {}
 
 /// The greatest welfare as a function of the net volume is the best execution's, and there is none
-/// exactly where nothing balances.
+/// exactly if nothing balances.
 pub fn welfare()
     ensures best { (steps : List Step) (net : ℤ) (xs : List ℕ)
         → IsBest steps net xs → greatest_welfare steps net ≡ Some (welfare_of steps xs) }
@@ -121,23 +121,26 @@ pub fn lengths()
 /// The executions of some steps and then others are those of the first and then those of the second;
 /// their executed volumes and their welfare add up.
 pub fn joining()
-    ensures joined { (ss ts : List Step) (xs ys : List ℕ)
-        → IsExecution ss xs → IsExecution ts ys → IsExecution (ss ++ ts) (xs ++ ys) }
-    ensures parted { (ss ts : List Step) (zs : List ℕ) → IsExecution (ss ++ ts) zs
-        → (xs : List ℕ) × (ys : List ℕ) × (zs ≡ xs ++ ys) × IsExecution ss xs × IsExecution ts ys }
-    ensures volume { (side : Side) (ss ts : List Step) (xs ys : List ℕ) → IsExecution ss xs
-        → executed_volume side (ss ++ ts) (xs ++ ys)
-        ≡ executed_volume side ss xs + executed_volume side ts ys }
-    ensures welfare { (ss ts : List Step) (xs ys : List ℕ) → IsExecution ss xs
-        → welfare_of (ss ++ ts) (xs ++ ys) ≡ welfare_of ss xs +ℤ welfare_of ts ys }
+    ensures joined { (first second : List Step) (xs ys : List ℕ)
+        → IsExecution first xs → IsExecution second ys → IsExecution (first ++ second) (xs ++ ys) }
+    ensures parted { (first second : List Step) (zs : List ℕ) → IsExecution (first ++ second) zs
+        → (xs : List ℕ) × (ys : List ℕ) × (zs ≡ xs ++ ys)
+        × IsExecution first xs × IsExecution second ys }
+    ensures volume { (side : Side) (first second : List Step) (xs ys : List ℕ)
+        → IsExecution first xs → executed_volume side (first ++ second) (xs ++ ys)
+        ≡ executed_volume side first xs + executed_volume side second ys }
+    ensures welfare { (first second : List Step) (xs ys : List ℕ) → IsExecution first xs
+        → welfare_of (first ++ second) (xs ++ ys) ≡ welfare_of first xs +ℤ welfare_of second ys }
 {}
 
-/// With steps behind them, the greatest welfare is at least that of the first steps at one net volume
+/// With steps after them, the greatest welfare is at least that of the first steps at one net volume
 /// with that of any execution of the others that makes up the difference to the whole's.
 pub fn extension()
-    ensures { (ss ts : List Step) (net first u : ℤ) (ys : List ℕ)
-        → greatest_welfare ss first ≡ Some u → IsExecution ts ys → Balances ts (net -ℤ first) ys
-        → (w : ℤ) × (greatest_welfare (ss ++ ts) net ≡ Some w) × ((u +ℤ welfare_of ts ys) ≤ℤ w) }
+    ensures { (steps others : List Step) (net first u : ℤ) (ys : List ℕ)
+        → greatest_welfare steps first ≡ Some u
+        → IsExecution others ys → Balances others (net -ℤ first) ys
+        → (w : ℤ) × (greatest_welfare (steps ++ others) net ≡ Some w)
+        × ((u +ℤ welfare_of others ys) ≤ℤ w) }
 {}
 
 /// The price of the period supports the best execution: no hourly order loses at it, and none that is

@@ -15,7 +15,7 @@
 //! ```
 //!
 //! A contract sees an hour as the list of its steps, in book order. Only tested is that memory isn't said
-//! to have run out where it hasn't.
+//! to have run out if it hasn't.
 //!
 //! The crate knows nothing of blocks, books and the other periods.
 #![tactic(auto)]
@@ -28,6 +28,6 @@ pub mod laws;
 mod step;
 mod volumes;
 
-pub use ends::price_between;
+pub use ends::{highest_price, lowest_price, price_between};
 pub use hour::{Cleared, GREATEST_NET, Hour, MOST_STEPS};
 pub use step::Step;

@@ -19,7 +19,7 @@ pub struct Step {
 }
 
 impl Step {
-    /// How many cents better than the price the limit is: 0 at the price, below 0 where it is worse.
+    /// How many cents better than the price the limit is: 0 at the price, below 0 if it is worse.
     pub(crate) fn margin(self, price: Price) -> i32
         ensures value { result ≡ margin_at self price }
         ensures at_least { neg_ℤ (pos price_span) ≤ℤ result }
@@ -31,14 +31,14 @@ impl Step {
         }
     }
 
-    /// The step itself, of which a proof then knows that its limit and its volume are in range.
+    /// The step itself, with what its types keep of its limit and its volume.
     pub(crate) fn in_range(self) -> Step
         ensures same { result ≡ self }
         ensures limit { IsPrice result.price }
         ensures volume { IsQuantity result.qty }
     {
-        let _limit = self.price.get();
-        let _volume = self.qty.get();
+        let _limit = self.price.get(); // for the proof: the limit is in the range
+        let _volume = self.qty.get(); // for the proof: the volume is in the range
         self
     }
 
@@ -59,7 +59,7 @@ impl Step {
         i64::from(self.price.get()) * i64::from(self.qty.get())
     }
 
-    /// The step's volume where its limit is the price, and else 0, in tenths of a MW.
+    /// The step's volume if its limit is the price, and else 0, in tenths of a MW.
     pub(crate) fn volume_at(&self, price: Price) -> u64
         ensures { result ≡ if_at (margin_at self.now price) self.now.qty }
     {

@@ -41,8 +41,8 @@ fn value_at(price: Price, volume: u64) -> i64
     i64::from(price.get()) * volume as i64
 }
 
-/// What the steps gain at the price where the better ones are executed in full, in cents per
-/// MWh times tenths of a MW.
+/// What the steps gain at the price if the better ones are executed in full, in cents per MWh times
+/// tenths of a MW.
 pub(crate) fn surplus<A: Allocator>(hour: &Hour<A>, price: Price) -> u64
     ensures value { result ≡ full_surplus price hour.now }
     ensures small { result ≤ 2 * (most_steps * (price_span * greatest_volume)) }

@@ -1,3 +1,4 @@
+-- The limit of the row that holds the unit, or the end of the range if all sells are less.
 use Rattle.std.proofs.Common.{◌∙◌, arith}
 use Rattle.std.proofs.lemmas.Int.{ints}
 use Rattle.dam_book.specs.declared.order.Side.TheVariants.{Sell}
@@ -8,11 +9,12 @@ use Rattle.dam_hour.proofs.ends.limit_of_sell.Goals as goal
 pub returns-then-unit-all : goal.returns-then-unit-all
 returns-then-unit-all g c =
     let more = c.if-unit-all.true in
-    limit_past_all c.args.hour.now c.args.unit c.highest.result c.all.result.volume c.highest.ensures
+    limit_past_all c.args.hour.now c.args.unit c.highest_price.result c.all.result.volume c.highest_price.ensures
     (c.all.ensures ∙ c.side-sells.ensures.side.sums (λ order s. s.qty) ∙ offered_total Sell 0 c.args.hour.now) (omega (arith, ints))
 
 pub returns : goal.returns
 returns g c =
     let under = c.holding.ensures.under in let up_to = c.holding.ensures.up_to in
-    limit_of_rung c.side-sells.result.now c.args.hour.now c.args.unit _ c.holding.result c.side-sells.ensures.side c.side-sells.ensures.steps c.rung-limit.ensures.limit
+    limit_of_rung c.side-sells.result.now c.args.hour.now c.args.unit _ c.holding.result c.side-sells.ensures.side
+    c.side-sells.ensures.steps c.rung-limit.ensures.limit
     (omega (arith, ints, under)) (omega (arith, ints, up_to))

@@ -1,3 +1,4 @@
+-- The volumes so far, and those of the steps that are left.
 use Rattle.std.proofs.Common.{◌≡◌, ◌++◌, drop}
 use Rattle.dam_hour.specs.inside.Volumes.{fill, total_on}
 use Rattle.dam_hour.proofs.execution.fill.Given as goal

@@ -1,3 +1,4 @@
+-- A price times a net volume fits.
 use Rattle.std.proofs.Common.{◌≡◌, ◌<◌, ◌≤◌, ◌^◌, ℤ, ◌*ℤ◌, ap₂, arith}
 use Rattle.std.specs.Int.RustNames.{unsigned_abs}
 use Rattle.std.proofs.lemmas.Int.{ints, to_z-of_z, unsigned_abs-mul}
@@ -20,6 +21,7 @@ pub returns : goal.returns
 returns g c =
     let p : to_z w64 (of_z w64 c.from.result) ≡ c.args.price = omega (arith, ints) in
     let n : to_z w64 (of_z w64 c.args.net) ≡ c.args.net = to_z-of_z w64 c.args.net c.ranges.net in
-    let product : to_z w64 (of_z w64 c.from.result) *ℤ to_z w64 (of_z w64 c.args.net) ≡ c.args.price *ℤ c.args.net = ap₂ (λ (a b : ℤ). a *ℤ b) p n in
+    let product : to_z w64 (of_z w64 c.from.result) *ℤ to_z w64 (of_z w64 c.args.net) ≡ c.args.price *ℤ c.args.net =
+    ap₂ (λ (a b : ℤ). a *ℤ b) p n in
     let small = value_small c.args.price c.args.net c.get.ensures.range c.requires.net in
     omega (arith, ints, product, small)

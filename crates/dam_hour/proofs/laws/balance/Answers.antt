@@ -1,3 +1,4 @@
+-- What balances is within the offers, and within them something balances.
 use Rattle.dam_hour.proofs.Supporting.{balance_within}
 use Rattle.dam_hour.proofs.Existence.{balance_exists}
 use Rattle.dam_hour.proofs.laws.balance.Goals as goal

@@ -1,3 +1,4 @@
+-- Within the offers there are ends and a best execution.
 use Rattle.dam_hour.proofs.Existence.{ends_exist, best_exists}
 use Rattle.dam_hour.proofs.laws.existence.Goals as goal
 

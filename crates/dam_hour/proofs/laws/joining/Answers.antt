@@ -1,3 +1,4 @@
+-- An execution of two lists of steps in its two parts.
 use Rattle.dam_hour.proofs.Joining.{joined_execution, parted_execution, joined_volume, joined_welfare}
 use Rattle.dam_hour.proofs.laws.joining.Goals as goal
 

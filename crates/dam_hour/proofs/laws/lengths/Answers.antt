@@ -1,3 +1,4 @@
+-- An execution is as long as its steps, and no volume is above its step's own.
 use Rattle.dam_hour.proofs.Joining.{execution_length, volume_at_most}
 use Rattle.dam_hour.proofs.laws.lengths.Goals as goal
 

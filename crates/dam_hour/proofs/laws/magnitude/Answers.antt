@@ -1,3 +1,4 @@
+-- Each step adds at most the greatest volume and the greatest value.
 use Rattle.dam_hour.proofs.Magnitude.{execution_small}
 use Rattle.dam_hour.proofs.laws.magnitude.Goals as goal
 

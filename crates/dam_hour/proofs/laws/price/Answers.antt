@@ -1,3 +1,4 @@
+-- The price's cases, and that it lies between the ends.
 use Rattle.std.proofs.Common.{refl}
 use Rattle.dam_hour.proofs.Midpoint.{price_lies_between, price_at_low_end, price_at_high_end, price_inside}
 use Rattle.dam_hour.proofs.laws.price.Goals as goal

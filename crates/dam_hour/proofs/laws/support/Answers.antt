@@ -1,3 +1,4 @@
+-- The period's price lies between the ends, each of which supports the best execution.
 use Rattle.dam_hour.specs.Price.{price_between}
 use Rattle.dam_hour.proofs.Midpoint.{price_lies_between}
 use Rattle.dam_hour.proofs.Supporting.{ends_support_best}

@@ -1,3 +1,4 @@
+-- Welfare and surplus at a price.
 use Rattle.dam_hour.proofs.Duality.{welfare_balanced, surplus_at_least_zero, surplus_greatest}
 use Rattle.dam_hour.proofs.laws.surplus.Goals as goal
 

@@ -1,3 +1,4 @@
+-- The ends are one pair, and the best execution is one.
 use Rattle.dam_hour.proofs.Existence.{ends_unique, best_unique}
 use Rattle.dam_hour.proofs.laws.uniqueness.Goals as goal
 

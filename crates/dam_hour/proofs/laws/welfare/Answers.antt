@@ -1,4 +1,6 @@
-use Rattle.dam_hour.proofs.Enumeration.{best_greatest_welfare, greatest_welfare_reached, greatest_welfare_bound, greatest_welfare_none, greatest_welfare_some, unbalanced_welfare}
+-- The greatest welfare is reached by the best execution and by none surpassed.
+use Rattle.dam_hour.proofs.Enumeration.{best_greatest_welfare, greatest_welfare_reached, greatest_welfare_bound, greatest_welfare_none}
+use Rattle.dam_hour.proofs.Enumeration.{greatest_welfare_some, unbalanced_welfare}
 use Rattle.dam_hour.proofs.laws.welfare.Goals as goal
 
 pub returns-clause-best : goal.returns-clause-best

@@ -1,3 +1,4 @@
+-- What the buyers and the sellers gain fits, and its sum is the surplus.
 use Rattle.std.proofs.Common.{◌≡◌, ℕ, ◌*◌, ◌≤◌, ℤ, pos, neg_ℤ, ◌-ℤ◌, ◌≤ℤ◌, nat_abs, ap₂, ◌∙◌, refl, arith}
 use Rattle.std.proofs.lemmas.Int.{ints}
 use mir.Syntax.{w64}
@@ -22,8 +23,10 @@ pub returns-clause-value : goal.returns-clause-value
 returns-clause-value g c =
     let at = c.value_at.ensures in let at' = c.value_at-2.ensures in
     let own = c.better-buys.ensures.gain in let own' = c.better-sells.ensures.gain in
-    let buys = difference_from c.better-buys.result.value c.value_at.result _ (ap₂ (λ (a b : ℤ). a -ℤ b) refl at.value ∙ own) c.better-buys.ensures.gain_small (at.at_least, at.at_most) in
-    let sells = difference c.value_at-2.result c.better-sells.result.value _ (let is = at'.value in omega (arith, ints, is, own')) c.better-sells.ensures.gain_small (at'.at_least, at'.at_most) in
+    let buys = difference_from c.better-buys.result.value c.value_at.result _ (ap₂ (λ (a b : ℤ). a -ℤ b) refl at.value
+    ∙ own) c.better-buys.ensures.gain_small (at.at_least, at.at_most) in
+    let sells = difference c.value_at-2.result c.better-sells.result.value _ (let is = at'.value in
+    omega (arith, ints, is, own')) c.better-sells.ensures.gain_small (at'.at_least, at'.at_most) in
     let whole = full_gain c.args.price c.args.hour.now in
     omega (arith, buys, sells, whole)
 

@@ -1,3 +1,4 @@
+-- Each look halves the buys of which it is open whether they are served.
 use Rattle.std.proofs.Common.{◌≤◌, ◌+◌, ◌-◌, ◌/◌, length, refl, arith, rules}
 use Rattle.dam_book.specs.declared.order.Side.TheVariants.{Buy}
 use Rattle.dam_hour.proofs.Rungs.{volume_small, around_all, around_served, around_unserved}
@@ -9,7 +10,8 @@ loop-from-init g c =
     record {
       ordered = omega arith;
       within = omega (arith, long);
-      around = around_all c.args.hour.now c.side-buys.result.now _ c.highest-last.result c.lowest-next.result c.len-to.result c.side-buys.ensures.side c.highest-last.ensures c.lowest-next.ensures long;
+      around = around_all c.args.hour.now c.side-buys.result.now _ c.highest_price-last.result c.lowest_price-next.result c.len-to.result
+          c.side-buys.ensures.side c.highest_price-last.ensures c.lowest_price-next.ensures long;
     }
 
 pub is_served-requires-clause-before : goal.is_served-requires-clause-before
@@ -26,8 +28,10 @@ loop-from-preserved-then-is_served g c =
     record {
       ordered = search rules;
       within = search rules;
-      around = around_served c.args.hour.now c.side-buys.result.now _ c.loop-from.last c.loop-from.next c.rung-limit.result.0 c.loop-from.from c.loop-from.to at (at + 1) c.rung-limit.result.1
-          c.side-buys.ensures.side c.side-buys.ensures.steps c.rung-limit.ensures.limit c.rung-limit.ensures.before (omega arith) (c.if-is_served.ensures.0 refl) c.loop-from.invariant.around;
+      around = around_served c.args.hour.now c.side-buys.result.now _ c.loop-from.last c.loop-from.next c.rung-limit.result.0
+          c.loop-from.from c.loop-from.to at (at + 1) c.rung-limit.result.1
+          c.side-buys.ensures.side c.side-buys.ensures.steps c.rung-limit.ensures.limit c.rung-limit.ensures.before (omega arith)
+          (c.if-is_served.ensures.0 refl) c.loop-from.invariant.around;
     }
 
 pub loop-from-preserved : goal.loop-from-preserved
@@ -36,12 +40,15 @@ loop-from-preserved g c =
     record {
       ordered = search rules;
       within = search rules;
-      around = around_unserved c.args.hour.now c.side-buys.result.now _ c.loop-from.last c.loop-from.next c.rung-limit.result.0 c.loop-from.from c.loop-from.to at c.rung-limit.result.1
-          c.side-buys.ensures.side c.side-buys.ensures.steps c.rung-limit.ensures.limit c.rung-limit.ensures.before (λ served. (let never = c.if-is_served.ensures.1 served in cc)) c.loop-from.invariant.around;
+      around = around_unserved c.args.hour.now c.side-buys.result.now _ c.loop-from.last c.loop-from.next c.rung-limit.result.0
+          c.loop-from.from c.loop-from.to at c.rung-limit.result.1
+          c.side-buys.ensures.side c.side-buys.ensures.steps c.rung-limit.ensures.limit c.rung-limit.ensures.before
+          (λ served. (let never = c.if-is_served.ensures.1 served in cc)) c.loop-from.invariant.around;
     }
 
 pub returns-clause-small : goal.returns-clause-small
 returns-clause-small g c =
     let volume = c.sums.ensures.volume in
-    let small = volume_small Buy c.side-buys.result.now c.args.hour.now c.loop-from.from c.side-buys.ensures.side c.side-buys.ensures.steps (search rules) in
+    let small = volume_small Buy c.side-buys.result.now c.args.hour.now c.loop-from.from c.side-buys.ensures.side c.side-buys.ensures.steps
+    (search rules) in
     omega (arith, volume, small)

@@ -1,3 +1,4 @@
+-- The buys before `from` are served, and those from `to` on are not.
 use Rattle.std.proofs.Common.{◌≤◌, ◌-◌, length}
 use Rattle.dam_hour.proofs.Rungs.{AreAround}
 use Rattle.dam_hour.proofs.ends.Edge.of.Given as goal

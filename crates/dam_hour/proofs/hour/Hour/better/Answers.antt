@@ -1,3 +1,4 @@
+-- The sums of the rows before the cut, and what these gain.
 use Rattle.std.proofs.Common.{ℕ, pos, ◌-ℤ◌, ◌*ℤ◌, ℤ, ap₂, ◌∙◌, subst, arith}
 use Rattle.dam_hour.specs.Best.{signed}
 use Rattle.dam_hour.specs.inside.Ladder.{IsCut}
@@ -9,7 +10,8 @@ pub returns-clause-volume : goal.returns-clause-volume
 returns-clause-volume g c =
     let cut = subst (λ (n : ℕ). IsCut n c.place-count.result c.side-ladder.result.now) c.order_of.ensures.order c.place-count.ensures.cut in
     c.sums.ensures.volume
-    ∙ volume_before c.args.side c.args.price 0 c.place-count.result c.side-ladder.result.now c.args.self.now c.side-ladder.ensures.side c.side-ladder.ensures.steps c.order_of.ensures.limit (omega arith) cut
+    ∙ volume_before c.args.side c.args.price 0 c.place-count.result c.side-ladder.result.now c.args.self.now c.side-ladder.ensures.side
+    c.side-ladder.ensures.steps c.order_of.ensures.limit (omega arith) cut
     ∙ none_in_front c.args.side c.args.price c.args.self.now
 
 pub returns-clause-small : goal.returns-clause-small
@@ -24,7 +26,8 @@ pub returns-clause-gain : goal.returns-clause-gain
 returns-clause-gain g c =
     let cut = subst (λ (n : ℕ). IsCut n c.place-count.result c.side-ladder.result.now) c.order_of.ensures.order c.place-count.ensures.cut in
     ap₂ (λ (v : ℤ) (n : ℕ). signed c.args.side (v -ℤ c.args.price *ℤ pos n)) c.sums.ensures.value c.sums.ensures.volume
-    ∙ gain_before c.args.side c.args.price c.place-count.result c.side-ladder.result.now c.args.self.now c.side-ladder.ensures.side c.side-ladder.ensures.steps c.order_of.ensures.limit cut
+    ∙ gain_before c.args.side c.args.price c.place-count.result c.side-ladder.result.now c.args.self.now c.side-ladder.ensures.side
+    c.side-ladder.ensures.steps c.order_of.ensures.limit cut
 
 pub returns-clause-gain_small : goal.returns-clause-gain_small
 returns-clause-gain_small g c =

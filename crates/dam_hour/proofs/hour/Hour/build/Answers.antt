@@ -1,3 +1,4 @@
+-- A step more, which is in range.
 use Rattle.std.proofs.Common.{List, sym, subst, arith}
 use Rattle.std.proofs.lemmas.Grind.{common_steps}
 use Rattle.dam_hour.specs.declared.step.Step.{Step}
@@ -11,5 +12,6 @@ loop-step-preserved g c =
     record {
       items = grind (arith, common_steps);
       in_range = subst (λ (ss : List Step). AreInRange ss) (sym pushed)
-          (in_range_push c.loop-step.kept.items c.in_range.result c.loop-step.invariant.in_range c.in_range.ensures.limit c.in_range.ensures.volume);
+          (in_range_push c.loop-step.kept.items c.in_range.result c.loop-step.invariant.in_range c.in_range.ensures.limit
+          c.in_range.ensures.volume);
     }

@@ -1,3 +1,4 @@
+-- The steps so far, each in range.
 use Rattle.std.proofs.Common.{◌≡◌, take}
 use Rattle.dam_hour.specs.Execution.{AreInRange}
 use Rattle.dam_hour.proofs.hour.Hour.build.Given as goal

@@ -1,3 +1,4 @@
+-- No step stands after the last place.
 use Rattle.std.proofs.Common.{◌+◌, List, ap, ◌∙◌}
 use Rattle.std.proofs.lemmas.List.{take_all}
 use Rattle.dam_hour.specs.declared.step.Step.{Step}

@@ -1,3 +1,4 @@
+-- The volume of the rows before the cut, which is at most that of all steps.
 use Rattle.std.proofs.Common.{ℕ, ◌∙◌, subst, arith}
 use Rattle.dam_hour.specs.inside.Ladder.{IsCut}
 use Rattle.dam_hour.proofs.Ladders.{volume_before}
@@ -8,7 +9,8 @@ pub returns-clause-value : goal.returns-clause-value
 returns-clause-value g c =
     let cut = subst (λ (n : ℕ). IsCut n c.place-count.result c.side-ladder.result.now) c.order_of.ensures.order c.place-count.ensures.cut in
     c.sums.ensures.volume
-    ∙ volume_before c.args.side c.args.limit c.args.place c.place-count.result c.side-ladder.result.now c.args.self.now c.side-ladder.ensures.side c.side-ladder.ensures.steps c.order_of.ensures.limit c.requires cut
+    ∙ volume_before c.args.side c.args.limit c.args.place c.place-count.result c.side-ladder.result.now c.args.self.now
+    c.side-ladder.ensures.side c.side-ladder.ensures.steps c.order_of.ensures.limit c.requires cut
 
 pub returns-clause-small : goal.returns-clause-small
 returns-clause-small g c =

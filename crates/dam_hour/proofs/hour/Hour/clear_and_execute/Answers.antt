@@ -1,0 +1,16 @@
+-- What is cleared and what is executed go with the same volumes.
+use Rattle.std.proofs.Common.{ℤ, subst}
+use Rattle.std.proofs.lemmas.Int.{to_z-of_z}
+use mir.Syntax.{w64}
+use Rattle.dam_hour.specs.Clearing.{IsClearedAt}
+use Rattle.dam_hour.specs.inside.Volumes.{AreTotals}
+use Rattle.dam_hour.proofs.hour.Hour.clear_and_execute.Goals as goal
+
+pub returns : goal.returns
+returns g c =
+    let steps = c.args.self.now in let matched = c.in-Some.matched in
+    let same = to_z-of_z w64 c.args.net c.ranges.net in (
+      subst (λ (z : ℤ). IsClearedAt steps z c.cleared.result) same c.cleared.ensures,
+      c.in_ok-volumes.ensures c.args.net
+          (subst (λ (z : ℤ). AreTotals steps z matched.low matched.bought matched.sold) same c.in-Some.ensures.totals),
+    )
