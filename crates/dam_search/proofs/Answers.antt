@@ -1,17 +1,22 @@
 -- What one answer more makes of the least unfinished one and of the highest that was found.
-use Rattle.std.proofs.Common.{◌≡◌, ℕ, ◌+◌, ◌^◌, ◌<◌, ◌≤◌, ◌⊎◌, inl, inr, Bool, true, false, not, ◌&&◌, nat_lt, cond, ◌==◌, Option, Some, None, List, [], ◌∷◌, ◌++◌, slice_index_or, ap, sym, subst, refl, arith}
+use Rattle.std.proofs.Common.{◌≡◌, ◌≢◌, ℕ, ◌+◌, ◌^◌, ◌<◌, ◌≤◌, ◌⊎◌, inl, inr, Bool, true, false, not, ◌&&◌, nat_lt, cond, ◌==◌, Option}
+use Rattle.std.proofs.Common.{Some, None, List, [], ◌∷◌, ◌++◌, length, take, slice_index_or, slice_set, replicate, ◌∙◌, ap, sym, subst}
+use Rattle.std.proofs.Common.{refl, arith}
 use Rattle.std.specs.List.{All, Contains, count_by}
 use Rattle.std.proofs.lemmas.Bool.Decides.{nat_tests}
 use Rattle.std.proofs.lemmas.List.Elements.{All-push, All-weaker, Contains-push, Contains-append_left, Contains-append_right}
-use Rattle.std.proofs.lemmas.List.Sums.{sum_by-append}
+use Rattle.std.proofs.lemmas.List.Sums.{sum_by-append, count_by_more_yes, count_by_more_no}
 use Rattle.std.proofs.lemmas.Bool.{eqb-true}
+use Rattle.std.proofs.lemmas.List.{length-set, length-replicate, get_or-set_other, get_or-replicate}
+use Rattle.std.proofs.lemmas.Grind.{get_or-set_at}
 use Rattle.dam_blocks.specs.declared.selection.Best.{Best}
-use Rattle.dam_blocks.specs.Problem.{ProblemState}
+use Rattle.dam_blocks.specs.Problem.{ProblemState, IsProblem}
 use Rattle.dam_search.specs.declared.answer.PieceAnswer.{PieceAnswer}
 use Rattle.dam_search.specs.Piece.{Rises}
-use Rattle.dam_search.specs.Answer.{AreAnswered}
-use Rattle.dam_search.specs.Search.{IsWorked, answers_about, AreOneEach, IsLeastUnfinished}
-use Rattle.dam_search.specs.inside.Collect.{is_lesser, IsLong, IsHighestFound}
+use Rattle.dam_search.specs.Answer.{AreAnswered, AreConclusive}
+use Rattle.dam_search.specs.inside.Collect.{IsWorked, answers_about, AreOneEach, IsLeastUnfinished, AreCounts, is_lesser, IsLong}
+use Rattle.dam_search.specs.inside.Collect.{IsHighestFound}
+use Rattle.dam_search.specs.Words.{most_pieces}
 use Rattle.dam_search.proofs.Ranks.{IsTransitive, rises_twice}
 
 not_done : (b : Bool) → not b ≡ true → b ≡ false
@@ -27,12 +32,14 @@ is_done false e = absurd (cc)
 Behind : PieceAnswer → PieceAnswer → Type 0
 Behind u a = a.done ≡ false → u.piece ≤ a.piece
 
-pub lesser_step : (answers : List PieceAnswer) (a : PieceAnswer) (least : Option PieceAnswer) → IsLeastUnfinished answers least → is_lesser a least ≡ true → IsLeastUnfinished (answers ++ a ∷ []) (Some a)
+pub lesser_step : (answers : List PieceAnswer) (a : PieceAnswer) (least : Option PieceAnswer) → IsLeastUnfinished answers least
+    → is_lesser a least ≡ true → IsLeastUnfinished (answers ++ a ∷ []) (Some a)
 lesser_step answers a None h e = (
   Contains-push answers a,
   not_done a.done e,
   All-push (λ (x : PieceAnswer). x.done ≡ false → a.piece ≤ x.piece) answers a
-      (All-weaker (λ (x : PieceAnswer). x.done ≡ true) (λ (x : PieceAnswer). x.done ≡ false → a.piece ≤ x.piece) (λ (x : PieceAnswer) (d : x.done ≡ true) (f : x.done ≡ false). absurd (cc)) answers h)
+      (All-weaker (λ (x : PieceAnswer). x.done ≡ true) (λ (x : PieceAnswer). x.done ≡ false → a.piece ≤ x.piece)
+      (λ (x : PieceAnswer) (d : x.done ≡ true) (f : x.done ≡ false). absurd (cc)) answers h)
       (λ f. omega arith),
 )
 lesser_step answers a (Some u) h e =
@@ -42,7 +49,8 @@ lesser_step answers a (Some u) h e =
       not_done a.done both.0,
       All-push (λ (x : PieceAnswer). x.done ≡ false → a.piece ≤ x.piece) answers a
           (All-weaker (λ (x : PieceAnswer). x.done ≡ false → u.piece ≤ x.piece) (λ (x : PieceAnswer). x.done ≡ false → a.piece ≤ x.piece)
-          (λ (x : PieceAnswer) (b : x.done ≡ false → u.piece ≤ x.piece) (f : x.done ≡ false). (let m = b f in omega (arith, m, less))) answers h.2)
+          (λ (x : PieceAnswer) (b : x.done ≡ false → u.piece ≤ x.piece) (f : x.done ≡ false). (let m = b f in omega (arith, m, less)))
+          answers h.2)
           (λ f. omega arith),
     )
   where
@@ -50,12 +58,14 @@ lesser_step answers a (Some u) h e =
     parts true c e = absurd (cc)
     parts false c e = (refl, e)
 
-pub kept_step : (answers : List PieceAnswer) (a : PieceAnswer) (least : Option PieceAnswer) → IsLeastUnfinished answers least → is_lesser a least ≡ false → IsLeastUnfinished (answers ++ a ∷ []) least
+pub kept_step : (answers : List PieceAnswer) (a : PieceAnswer) (least : Option PieceAnswer) → IsLeastUnfinished answers least
+    → is_lesser a least ≡ false → IsLeastUnfinished (answers ++ a ∷ []) least
 kept_step answers a None h e = All-push (λ (x : PieceAnswer). x.done ≡ true) answers a h (is_done a.done e)
 kept_step answers a (Some u) h e = (
   Contains-append_left answers (a ∷ []) u h.0,
   h.1,
-  All-push (λ (x : PieceAnswer). x.done ≡ false → u.piece ≤ x.piece) answers a h.2 (λ f. (let m = behind a.done (nat_lt a.piece u.piece) f e in grind (arith, nat_tests, m))),
+  All-push (λ (x : PieceAnswer). x.done ≡ false → u.piece ≤ x.piece) answers a h.2
+      (λ f. (let m = behind a.done (nat_lt a.piece u.piece) f e in grind (arith, nat_tests, m))),
 )
   where
     behind : (b c : Bool) → b ≡ false → (not b && c) ≡ false → c ≡ false
@@ -69,8 +79,10 @@ long_from best next result l m (inl e) = subst IsLong (sym e) l
 long_from best next result l m (inr e) = subst IsLong (sym e) m
 
 -- what the answers found ranks at or below what is highest
-below_highest : (answers : List PieceAnswer) (best : Option Best) → IsHighestFound answers best → All (λ (x : PieceAnswer). Rises x.best best) answers
-below_highest answers None h = All-weaker (λ (x : PieceAnswer). x.best ≡ None) (λ (x : PieceAnswer). Rises x.best None) (λ (x : PieceAnswer) (e : x.best ≡ None). subst (λ (o : Option Best). Rises o None) (sym e) tt) answers h
+below_highest : (answers : List PieceAnswer) (best : Option Best) → IsHighestFound answers best
+    → All (λ (x : PieceAnswer). Rises x.best best) answers
+below_highest answers None h = All-weaker (λ (x : PieceAnswer). x.best ≡ None) (λ (x : PieceAnswer). Rises x.best None)
+    (λ (x : PieceAnswer) (e : x.best ≡ None). subst (λ (o : Option Best). Rises o None) (sym e) tt) answers h
 below_highest answers (Some b) h = h.others
 
 no_more : (o : Option Best) → Rises o None → o ≡ None
@@ -78,21 +90,26 @@ no_more None h = refl
 no_more (Some b) h = absurd h
 
 -- one of the answers found it
-among_highest : (answers : List PieceAnswer) (b : Best) (best : Option Best) → best ≡ Some b → IsHighestFound answers best → (a : PieceAnswer) × Contains answers a × (a.best ≡ Some b)
+among_highest : (answers : List PieceAnswer) (b : Best) (best : Option Best) → best ≡ Some b → IsHighestFound answers best
+    → (a : PieceAnswer) × Contains answers a × (a.best ≡ Some b)
 among_highest answers b best e h = let k = subst (λ (o : Option Best). IsHighestFound answers o) e h in k.among
 
 -- the answers so far and the next one
-everyone : (answers : List PieceAnswer) (a : PieceAnswer) (best result : Option Best) → IsTransitive → All (λ (x : PieceAnswer). IsLong x.best) answers → IsLong best → IsLong result → IsHighestFound answers best
+everyone : (answers : List PieceAnswer) (a : PieceAnswer) (best result : Option Best) → IsTransitive
+    → All (λ (x : PieceAnswer). IsLong x.best) answers → IsLong best → IsLong result → IsHighestFound answers best
     → Rises best result → Rises a.best result → All (λ (x : PieceAnswer). Rises x.best result) (answers ++ a ∷ [])
 everyone answers a best result through long lb lr h before next =
     All-push (λ (x : PieceAnswer). Rises x.best result) answers a
-    (λ k d l. rises_twice (slice_index_or answers k d).best best result through (long k d l) lb lr (below_highest answers best h k d l) before) next
+    (λ k d l. rises_twice (slice_index_or answers k d).best best result through (long k d l) lb lr
+    (below_highest answers best h k d l) before) next
 
-pub highest_step : (answers : List PieceAnswer) (a : PieceAnswer) (best result : Option Best) → IsTransitive → All (λ (x : PieceAnswer). IsLong x.best) answers → IsLong best → IsLong result → IsHighestFound answers best
+pub highest_step : (answers : List PieceAnswer) (a : PieceAnswer) (best result : Option Best) → IsTransitive
+    → All (λ (x : PieceAnswer). IsLong x.best) answers → IsLong best → IsLong result → IsHighestFound answers best
     → (result ≡ best) ⊎ (result ≡ a.best) → Rises best result → Rises a.best result → IsHighestFound (answers ++ a ∷ []) result
 highest_step answers a best None through long lb lr h either before next =
     let all = everyone answers a best None through long lb lr h before next in
-    All-weaker (λ (x : PieceAnswer). Rises x.best None) (λ (x : PieceAnswer). x.best ≡ None) (λ (x : PieceAnswer) (r : Rises x.best None). no_more x.best r) (answers ++ a ∷ []) all
+    All-weaker (λ (x : PieceAnswer). Rises x.best None) (λ (x : PieceAnswer). x.best ≡ None)
+    (λ (x : PieceAnswer) (r : Rises x.best None). no_more x.best r) (answers ++ a ∷ []) all
 highest_step answers a best (Some b) through long lb lr h either before next = record {
   among = elim either [
     | inl e ↦ (let some = among_highest answers b best (sym e) h in (some.0, Contains-append_left answers (a ∷ []) some.0 some.1, some.2))
@@ -103,10 +120,12 @@ highest_step answers a best (Some b) through long lb lr h either before next = r
 
 -- ---- one answer about each piece
 
-count_by-cons : (p : PieceAnswer → Bool) (a : PieceAnswer) (answers : List PieceAnswer) → count_by p (a ∷ answers) ≡ cond (p a) 1 0 + count_by p answers
+count_by-cons : (p : PieceAnswer → Bool) (a : PieceAnswer) (answers : List PieceAnswer)
+    → count_by p (a ∷ answers) ≡ cond (p a) 1 0 + count_by p answers
 count_by-cons p a answers = let f : PieceAnswer → ℕ = λ x. cond (p x) 1 0 in let e = sum_by-append f (a ∷ []) answers in omega (arith, e)
 
-counted : (p : PieceAnswer → Bool) (answers : List PieceAnswer) → 0 < count_by p answers → (a : PieceAnswer) × Contains answers a × (p a ≡ true)
+counted : (p : PieceAnswer → Bool) (answers : List PieceAnswer) → 0 < count_by p answers
+    → (a : PieceAnswer) × Contains answers a × (p a ≡ true)
 counted p [] h = absurd (omega arith)
 counted p (a ∷ answers) h =
     elim (p a) as (λ b. p a ≡ b → (x : PieceAnswer) × Contains (a ∷ answers) x × (p x ≡ true)) [
@@ -117,7 +136,8 @@ counted p (a ∷ answers) h =
           (found.0, Contains-append_right (a ∷ []) answers found.0 found.1, found.2))
     ] refl
 
-pub answered : (problem : ProblemState) (depth nodes : ℕ) (answers : List PieceAnswer) → All (λ (a : PieceAnswer). IsWorked problem depth nodes a) answers
+pub answered : (problem : ProblemState) (depth nodes : ℕ) (answers : List PieceAnswer)
+    → All (λ (a : PieceAnswer). IsWorked problem depth nodes a) answers
     → AreOneEach answers (2 ^ depth) → All (λ (a : PieceAnswer). a.done ≡ true) answers → AreAnswered problem depth answers
 answered problem depth nodes answers worked one done = record {
   sound = λ k d l. (worked k d l).sound;
@@ -127,3 +147,62 @@ answered problem depth nodes answers worked one done = record {
       let found = counted (λ (a : PieceAnswer). a.piece == piece) answers some in
       (found.0, found.1, eqb-true found.0.piece piece found.2));
 }
+
+-- the answers of the workers settle the result once each piece has one, all of them done
+pub conclusive : (problem : ProblemState) (depth nodes : ℕ) (answers : List PieceAnswer) → IsProblem problem → depth ≤ length problem.blocks
+    → All (λ (a : PieceAnswer). IsWorked problem depth nodes a) answers → AreOneEach answers (2 ^ depth)
+    → All (λ (a : PieceAnswer). a.done ≡ true) answers → AreConclusive problem depth answers
+conclusive problem depth nodes answers is deep worked one done = record {
+  is_problem = is;
+  in_blocks = deep;
+  answered = answered problem depth nodes answers worked one done;
+  reached = λ k d l. (worked k d l).reached;
+}
+
+-- ---- the counts of the answers about each piece
+
+pub all_in_cutting : (problem : ProblemState) (depth nodes pieces : ℕ) (answers : List PieceAnswer) → pieces ≡ 2 ^ depth
+    → pieces ≤ most_pieces
+    → All (λ (a : PieceAnswer). IsWorked problem depth nodes a) answers → All (λ (a : PieceAnswer). a.piece < most_pieces) answers
+all_in_cutting problem depth nodes pieces answers e few worked k d l =
+    let in_cutting = (worked k d l).in_cutting in
+    omega (arith, e, few, in_cutting)
+
+pub none_counted : (answers : List PieceAnswer) → AreCounts (take 0 answers) (replicate most_pieces 0)
+none_counted answers = record {
+  long = length-replicate {A = ℕ} most_pieces 0;
+  each = λ piece d h. get_or-replicate {A = ℕ} most_pieces piece 0 d h;
+}
+
+is_other : (m n : ℕ) → (m == n) ≡ false → n ≢ m
+is_other m n e f = grind (arith, nat_tests, e, f)
+
+-- the answer at the place is counted, and no other
+pub counts_step : (answers : List PieceAnswer) (i : ℕ) (counts : List ℕ) (a : PieceAnswer) → i < length answers
+    → a ≡ slice_index_or answers i a
+    → a.piece < most_pieces → AreCounts (take i answers) counts
+    → AreCounts (take (i + 1) answers) (slice_set counts a.piece (slice_index_or counts a.piece 0 + 1))
+counts_step answers i counts a inside is few are = record {
+  long = length-set counts a.piece (slice_index_or counts a.piece 0 + 1) ∙ are.long;
+  each = λ piece d h. each piece d h (a.piece == piece) refl;
+}
+  where
+    next : ℕ
+    next = slice_index_or counts a.piece 0 + 1
+
+    is_about : ℕ → PieceAnswer → Bool
+    is_about piece x = x.piece == piece
+
+    each : (piece d : ℕ) → piece < most_pieces → (same : Bool) → (a.piece == piece) ≡ same
+        → slice_index_or (slice_set counts a.piece next) piece d ≡ answers_about (take (i + 1) answers) piece
+    each piece d h true e =
+        let same : piece ≡ a.piece = sym (eqb-true a.piece piece e) in
+        let here : is_about piece (slice_index_or answers i a) ≡ true = ap (λ (x : PieceAnswer). x.piece == piece) (sym is) ∙ e in
+        let stands = get_or-set_at counts a.piece piece next d same (subst (λ (n : ℕ). a.piece < n) (sym are.long) few) in
+        let before : slice_index_or counts a.piece 0 ≡ answers_about (take i answers) piece =
+        are.each a.piece 0 few ∙ ap (λ (n : ℕ). answers_about (take i answers) n) (sym same) in
+        stands ∙ ap (λ (n : ℕ). n + 1) before ∙ sym (count_by_more_yes (is_about piece) answers i a inside here)
+    each piece d h false e =
+        let here : is_about piece (slice_index_or answers i a) ≡ false = ap (λ (x : PieceAnswer). x.piece == piece) (sym is) ∙ e in
+        get_or-set_other counts a.piece piece next d (is_other a.piece piece e) ∙ are.each piece d h
+        ∙ sym (count_by_more_no (is_about piece) answers i a inside here)

@@ -1,5 +1,6 @@
 -- The collecting law.
-use Rattle.std.proofs.Common.{◌≡◌, ℕ, ◌^◌, ◌<◌, ◌≤◌, max, ◌⊎◌, inl, inr, ℤ, pos, ◌≤ℤ◌, Bool, true, Option, Some, None, List, [], ◌∷◌, ◌++◌, length, take, drop, ◌∙◌, ap, sym, subst, refl, arith}
+use Rattle.std.proofs.Common.{◌≡◌, ℕ, ◌^◌, ◌<◌, ◌≤◌, max, ◌⊎◌, inl, inr, ℤ, pos, ◌≤ℤ◌, Bool, true, Option, Some, None, List, [], ◌∷◌, ◌++◌}
+use Rattle.std.proofs.Common.{length, take, drop, ◌∙◌, ap, sym, subst, refl, arith}
 use Rattle.std.specs.List.{All, Contains}
 use Rattle.std.proofs.lemmas.Int.{ints}
 use Rattle.std.proofs.lemmas.List.{length-take-le, take-append-drop}
@@ -24,19 +25,26 @@ abbrev pub AreChoices : Type 0
 AreChoices = (xs : List Bool) → (k : ℕ) × (k < 2 ^ length xs) × (choice (length xs) k ≡ xs)
 
 -- each selection is a completion of some piece
-pub some_piece : AreChoices → (depth : ℕ) (sel : List Bool) → depth ≤ most_blocks → length sel ≡ most_blocks → (k : ℕ) × (k < 2 ^ depth) × IsCompletion (choice depth k) sel
+pub some_piece : AreChoices → (depth : ℕ) (sel : List Bool) → depth ≤ most_blocks → length sel ≡ most_blocks
+    → (k : ℕ) × (k < 2 ^ depth) × IsCompletion (choice depth k) sel
 some_piece choices depth sel few long =
     let prefix : length (take depth sel) ≡ depth = length-take-le depth sel (omega (arith, few, long)) in
     let found = choices (take depth sel) in
     let is : choice depth found.0 ≡ take depth sel = subst (λ (n : ℕ). choice n found.0 ≡ take depth sel) prefix found.2 in (
       found.0,
       subst (λ (n : ℕ). found.0 < 2 ^ n) prefix found.1,
-      record { as_long = long; rest = drop depth sel; agrees = sym (take-append-drop depth sel) ∙ ap (λ (xs : List Bool). xs ++ drop depth sel) (sym is) },
+      record {
+        as_long = long;
+        rest = drop depth sel;
+        agrees = sym (take-append-drop depth sel) ∙ ap (λ (xs : List Bool). xs ++ drop depth sel) (sym is);
+      },
     )
 
 -- the result is matched by what the answer about its piece found
-pub result_matched : (problem : ProblemState) (depth : ℕ) (answers : List PieceAnswer) (sel : List Bool) (w : ℤ) → AreChoices → depth ≤ most_blocks → AreAnswered problem depth answers
-    → All (λ (a : PieceAnswer). IsReached problem a.read) answers → IsResult problem sel w → (a : PieceAnswer) × Contains answers a × IsMatched w sel a.best
+pub result_matched : (problem : ProblemState) (depth : ℕ) (answers : List PieceAnswer) (sel : List Bool) (w : ℤ) → AreChoices
+    → depth ≤ most_blocks → AreAnswered problem depth answers
+    → All (λ (a : PieceAnswer). IsReached problem a.read) answers → IsResult problem sel w
+    → (a : PieceAnswer) × Contains answers a × IsMatched w sel a.best
 result_matched problem depth answers sel w choices few are reached result =
     let piece = some_piece choices depth sel few result.eligible.as_long in
     let answer = are.each piece.0 piece.1 in
@@ -52,15 +60,19 @@ result_matched problem depth answers sel w choices few are reached result =
       | inr matched ↦ (a, answer.1, matched)
     ]
 
-matched_found : (w : ℤ) (sel : List Bool) (best : Option Best) → IsMatched w sel best → (c : Best) × (best ≡ Some c) × RanksAtOrBelow w sel (pos c.welfare) c.selection
+matched_found : (w : ℤ) (sel : List Bool) (best : Option Best) → IsMatched w sel best
+    → (c : Best) × (best ≡ Some c) × RanksAtOrBelow w sel (pos c.welfare) c.selection
 matched_found w sel None h = absurd h
 matched_found w sel (Some c) h = (c, refl, h)
 
-found_eligible : (problem : ProblemState) (prefix : List Bool) (best : Option Best) (b : Best) → best ≡ Some b → IsFind problem prefix best → IsEligible problem b.selection (pos b.welfare)
+found_eligible : (problem : ProblemState) (prefix : List Bool) (best : Option Best) (b : Best) → best ≡ Some b → IsFind problem prefix best
+    → IsEligible problem b.selection (pos b.welfare)
 found_eligible problem prefix best b e h = (subst (λ (o : Option Best). IsFind problem prefix o) e h).1
 
-pub collected : (problem : ProblemState) (depth : ℕ) (answers : List PieceAnswer) (b : Best) → IsSolvable → AreChoices → IsTransitive → IsProblem problem → depth ≤ length problem.blocks
-    → AreAnswered problem depth answers → All (λ (a : PieceAnswer). IsReached problem a.read) answers → IsHighest answers b → IsResult problem b.selection (pos b.welfare)
+pub collected : (problem : ProblemState) (depth : ℕ) (answers : List PieceAnswer) (b : Best) → IsSolvable → AreChoices → IsTransitive
+    → IsProblem problem → depth ≤ length problem.blocks
+    → AreAnswered problem depth answers → All (λ (a : PieceAnswer). IsReached problem a.read) answers → IsHighest answers b
+    → IsResult problem b.selection (pos b.welfare)
 collected problem depth answers b solvable choices through is deep are reached highest =
     let few : depth ≤ most_blocks = omega (arith, deep, is.few_blocks) in
     let best = solvable problem is in
@@ -75,15 +87,19 @@ collected problem depth answers b solvable choices through is deep are reached h
     let top = highest.among in
     let sound_top = All-contains (λ (x : PieceAnswer). IsSoundAnswer problem depth x) answers top.0 are.sound top.1 in
     let eligible = found_eligible problem (choice depth top.0.piece) top.0.best b top.2 sound_top.found in
-    let below = through w (pos c.welfare) (pos b.welfare) sel c.selection b.selection result.eligible.as_long c_eligible.as_long eligible.as_long found.2 c_below in
+    let below = through w (pos c.welfare) (pos b.welfare) sel c.selection b.selection result.eligible.as_long c_eligible.as_long
+    eligible.as_long found.2 c_below in
     record {
       eligible = eligible;
-      others = λ ys v e. through v w (pos b.welfare) ys sel b.selection e.as_long result.eligible.as_long eligible.as_long (result.others ys v e) below;
+      others = λ ys v e. through v w (pos b.welfare) ys sel b.selection e.as_long result.eligible.as_long eligible.as_long
+          (result.others ys v e) below;
     }
 
 -- something was found
-pub some_found : (problem : ProblemState) (depth : ℕ) (answers : List PieceAnswer) → IsSolvable → AreChoices → IsProblem problem → depth ≤ length problem.blocks
-    → AreAnswered problem depth answers → All (λ (a : PieceAnswer). IsReached problem a.read) answers → All (λ (a : PieceAnswer). a.best ≡ None) answers → ⊥
+pub some_found : (problem : ProblemState) (depth : ℕ) (answers : List PieceAnswer) → IsSolvable → AreChoices → IsProblem problem
+    → depth ≤ length problem.blocks
+    → AreAnswered problem depth answers → All (λ (a : PieceAnswer). IsReached problem a.read) answers
+    → All (λ (a : PieceAnswer). a.best ≡ None) answers → ⊥
 some_found problem depth answers solvable choices is deep are reached none =
     let few : depth ≤ most_blocks = omega (arith, deep, is.few_blocks) in
     let best = solvable problem is in
@@ -94,7 +110,12 @@ some_found problem depth answers solvable choices is deep are reached none =
 -- ---- values that are reached
 
 pub reached_less : (problem : ProblemState) (value less : ℕ) → less ≤ value → IsReached problem value → IsReached problem less
-reached_less problem value less h r = let most = r.reaches in record { selection = r.selection; welfare = r.welfare; eligible = r.eligible; reaches = omega (arith, ints, h, most) }
+reached_less problem value less h r = let most = r.reaches in record {
+  selection = r.selection;
+  welfare = r.welfare;
+  eligible = r.eligible;
+  reaches = omega (arith, ints, h, most);
+}
 
 pub reached_greater : (problem : ProblemState) (a b : ℕ) → IsReached problem a → IsReached problem b → IsReached problem (max a b)
 reached_greater problem a b r s = either (le_or_gt a b)
@@ -106,29 +127,36 @@ reached_greater problem a b r s = either (le_or_gt a b)
     either (inl h) = reached_less problem a (max a b) h r
     either (inr h) = reached_less problem b (max a b) h s
 
-pub reached_found : (problem : ProblemState) (prefix : List Bool) (best : Option Best) → IsReached problem 0 → IsFind problem prefix best → IsReached problem (welfare_found best)
+pub reached_found : (problem : ProblemState) (prefix : List Bool) (best : Option Best) → IsReached problem 0 → IsFind problem prefix best
+    → IsReached problem (welfare_found best)
 reached_found problem prefix None zero_reached h = zero_reached
-reached_found problem prefix (Some b) zero_reached h = record { selection = b.selection; welfare = pos b.welfare; eligible = h.1; reaches = omega (arith, ints) }
+reached_found problem prefix (Some b) zero_reached h =
+    record { selection = b.selection; welfare = pos b.welfare; eligible = h.1; reaches = omega (arith, ints) }
 
-pub reached_greatest : (problem : ProblemState) (depth : ℕ) (answers : List PieceAnswer) → IsReached problem 0 → All (λ (a : PieceAnswer). IsSoundAnswer problem depth a) answers
+pub reached_greatest : (problem : ProblemState) (depth : ℕ) (answers : List PieceAnswer) → IsReached problem 0
+    → All (λ (a : PieceAnswer). IsSoundAnswer problem depth a) answers
     → IsReached problem (greatest_found answers)
 reached_greatest problem depth [] zero_reached sound = zero_reached
 reached_greatest problem depth (a ∷ answers) zero_reached sound =
     reached_greater problem (welfare_found a.best) (greatest_found answers)
-    (reached_found problem (choice depth a.piece) a.best zero_reached (All-head (λ (x : PieceAnswer). IsSoundAnswer problem depth x) a answers sound).found)
+    (reached_found problem (choice depth a.piece) a.best zero_reached
+    (All-head (λ (x : PieceAnswer). IsSoundAnswer problem depth x) a answers sound).found)
     (reached_greatest problem depth answers zero_reached (All-tail (λ (x : PieceAnswer). IsSoundAnswer problem depth x) a answers sound))
 
 pub reached_zero : (problem : ProblemState) (sel : List Bool) (w : ℤ) → IsEligible problem sel w → pos 0 ≤ℤ w → IsReached problem 0
 reached_zero problem sel w e h = record { selection = sel; welfare = w; eligible = e; reaches = h }
 
 -- no value read above a value that is reached
-pub all_reached : (problem : ProblemState) (answers : List PieceAnswer) (value : ℕ) → IsReached problem value → All (λ (a : PieceAnswer). a.read ≤ value) answers → All (λ (a : PieceAnswer). IsReached problem a.read) answers
+pub all_reached : (problem : ProblemState) (answers : List PieceAnswer) (value : ℕ) → IsReached problem value
+    → All (λ (a : PieceAnswer). a.read ≤ value) answers → All (λ (a : PieceAnswer). IsReached problem a.read) answers
 all_reached problem answers value r all =
-    All-weaker (λ (a : PieceAnswer). a.read ≤ value) (λ (a : PieceAnswer). IsReached problem a.read) (λ (a : PieceAnswer) (h : a.read ≤ value). reached_less problem value a.read h r) answers all
+    All-weaker (λ (a : PieceAnswer). a.read ≤ value) (λ (a : PieceAnswer). IsReached problem a.read)
+    (λ (a : PieceAnswer) (h : a.read ≤ value). reached_less problem value a.read h r) answers all
 
 -- ---- a worker's answer
 
-pub spent_less : (problem : ProblemState) (prefix : List Bool) (left told nodes visited : ℕ) (done : Bool) → IsSpent problem prefix left told nodes visited done → IsSpent problem prefix left 0 nodes visited done
+pub spent_less : (problem : ProblemState) (prefix : List Bool) (left told nodes visited : ℕ) (done : Bool)
+    → IsSpent problem prefix left told nodes visited done → IsSpent problem prefix left 0 nodes visited done
 spent_less problem prefix left told nodes visited done s = record {
   within = s.within;
   all = s.all;
@@ -137,7 +165,3 @@ spent_less problem prefix left told nodes visited done s = record {
   done_by_all = s.done_by_all;
   done_by_live = λ v h. s.done_by_live v (omega (arith, h));
 }
-
-pub reached_next : (problem : ProblemState) (prefix : List Bool) (best : Option Best) (top next : ℕ) → IsReached problem top → IsFind problem prefix best → next ≡ max top (welfare_found best) → IsReached problem next
-reached_next problem prefix best top next r find e =
-    subst (λ (n : ℕ). IsReached problem n) (sym e) (reached_greater problem top (welfare_found best) r (reached_found problem prefix best (reached_less problem top 0 (omega arith) r) find))

@@ -1,5 +1,6 @@
 -- One block more that a selection accepts: what admits the selection looks at that block alone.
-use Rattle.std.proofs.Common.{◌≡◌, ◌≢◌, ℕ, zero, suc, ◌-◌, ◌<◌, inl, inr, Bool, true, false, List, [], ◌∷◌, ◌++◌, length, length-append, replicate, set, take, slice_get, Some, ◌∙◌, ap, sym, subst, refl, arith}
+use Rattle.std.proofs.Common.{◌≡◌, ◌≢◌, ℕ, zero, suc, ◌-◌, ◌<◌, inl, inr, Bool, true, false, List, [], ◌∷◌, ◌++◌, length, length-append}
+use Rattle.std.proofs.Common.{replicate, set, take, slice_get, Some, ◌∙◌, ap, sym, subst, refl, arith}
 use Rattle.std.proofs.lemmas.Bool.{cases_eq}
 use Rattle.std.proofs.lemmas.List.{get_or-set_same, get_or-set_other, length-replicate, length-take-le}
 use Rattle.dam_book.specs.Limits.{most_blocks}
@@ -14,19 +15,22 @@ turned : (a b : Block) → AreOfOneGroup a b → AreOfOneGroup b a
 turned a b h = record { who = sym h.who; group = h.group; first = h.second; second = h.first }
 
 -- an accepted block lets one that was allowed before be accepted, where it is allowed itself
-still_permits : (blocks : List Block) (sel : List Bool) (at i j : ℕ) (b other : Block) → at < length sel → i ≢ at → accepts sel i ≡ true → slice_get blocks i ≡ Some b → slice_get blocks j ≡ Some other
+still_permits : (blocks : List Block) (sel : List Bool) (at i j : ℕ) (b other : Block) → at < length sel → i ≢ at → accepts sel i ≡ true
+    → slice_get blocks i ≡ Some b → slice_get blocks j ≡ Some other
     → Permits other (accepts sel j) b → IsAllowed blocks (set sel at true) at → Permits other (accepts (set sel at true) j) b
 still_permits blocks sel at i j b other inside apart acc stands here permits last =
     elim (cases_eq j at) [
       | inl e ↦ record {
         parent = λ p. ap (λ (k : ℕ). accepts (set sel at true) k) e ∙ get_or-set_same sel at true false inside;
         group = λ a one. (last.others i b apart stands).group (get_or-set_other sel at i true false apart ∙ acc)
-            (subst (λ (x : Block). AreOfOneGroup x b) (same_block blocks at other last.block (subst (λ (k : ℕ). slice_get blocks k ≡ Some other) e here) last.stands) (turned b other one));
+            (subst (λ (x : Block). AreOfOneGroup x b) (same_block blocks at other last.block
+            (subst (λ (k : ℕ). slice_get blocks k ≡ Some other) e here) last.stands) (turned b other one));
       }
       | inr ne ↦ subst (λ (t : Bool). Permits other t b) (sym (get_or-set_other sel at j true false ne)) permits
     ]
 
-still_set : (blocks : List Block) (sel : List Bool) (at : ℕ) → at < length sel → IsAdmissible blocks sel → IsAllowed blocks (set sel at true) at → IsAdmissible blocks (set sel at true)
+still_set : (blocks : List Block) (sel : List Bool) (at : ℕ) → at < length sel → IsAdmissible blocks sel
+    → IsAllowed blocks (set sel at true) at → IsAdmissible blocks (set sel at true)
 still_set blocks sel at inside admissible last = record {
   each = λ i acc.
       (elim (cases_eq i at) [
@@ -37,14 +41,21 @@ still_set blocks sel at inside admissible last = record {
               block = allowed.block;
               stands = allowed.stands;
               others = λ j other apart here.
-                  still_permits blocks sel at i j allowed.block other inside ne was allowed.stands here (allowed.others j other apart here) last;
+                  still_permits blocks sel at i j allowed.block other inside ne was allowed.stands here
+                  (allowed.others j other apart here) last;
             })
       ]);
 }
 
 length_padded : (front : List Bool) → length front < most_blocks → length front < length (padded front)
 length_padded front few =
-    omega (arith, few, length-append front (replicate (most_blocks - length front) false), length-replicate (most_blocks - length front) false)
+    omega (
+      arith,
+      few,
+      length-append front (replicate (most_blocks - length front) false),
+      length-replicate
+          (most_blocks - length front) false,
+    )
 
 -- the last decision accepts its block, which is allowed
 pub still_admissible : (blocks : List Block) (front : List Bool) → length front < most_blocks → IsAdmissible blocks (padded front)
@@ -52,20 +63,19 @@ pub still_admissible : (blocks : List Block) (front : List Bool) → length fron
 still_admissible blocks front few admissible last =
     let e = padded-accepted front (padded front) refl few in
     subst (λ (xs : List Bool). IsAdmissible blocks xs) e
-    (still_set blocks (padded front) (length front) (length_padded front few) admissible (subst (λ (xs : List Bool). IsAllowed blocks xs (length front)) (sym e) last))
+    (still_set blocks (padded front) (length front) (length_padded front few) admissible
+    (subst (λ (xs : List Bool). IsAllowed blocks xs (length front)) (sym e) last))
 
 -- the last decision rejects its block
-pub still_rejected : (blocks : List Block) (front : List Bool) → length front < most_blocks → IsAdmissible blocks (padded front) → IsAdmissible blocks (padded (front ++ false ∷ []))
-still_rejected blocks front few admissible = subst (λ (xs : List Bool). IsAdmissible blocks xs) (padded-rejected front (padded front) refl few) admissible
+pub still_rejected : (blocks : List Block) (front : List Bool) → length front < most_blocks → IsAdmissible blocks (padded front)
+    → IsAdmissible blocks (padded (front ++ false ∷ []))
+still_rejected blocks front few admissible =
+    subst (λ (xs : List Bool). IsAdmissible blocks xs) (padded-rejected front (padded front) refl few) admissible
 
 accepts_none : (n i : ℕ) → accepts (replicate n false) i ≡ false
 accepts_none zero i = refl
 accepts_none (suc n) zero = refl
 accepts_none (suc n) (suc i) = accepts_none n i
-
--- nothing is decided
-pub none_admissible : (blocks : List Block) → IsAdmissible blocks (padded [])
-none_admissible blocks = record { each = λ i acc. absurd (let e = accepts_none most_blocks i in cc) }
 
 split_last : (p rest : List Bool) (n : ℕ) → length p ≡ suc n → p ≡ take n p ++ accepts (p ++ rest) n ∷ []
 split_last [] rest n h = absurd (omega (arith, h))
@@ -79,22 +89,27 @@ IsFrontAdmitted blocks p = (front : List Bool) (accept : Bool) → p ≡ front +
 
 last_is : (p taken : List Bool) (n : ℕ) (b : Bool) → length p ≡ suc n → taken ≡ padded p → accepts taken n ≡ b → p ≡ take n p ++ b ∷ []
 last_is p taken n b long is e =
-    split_last p (replicate (most_blocks - length p) false) n long ∙ ap (λ (x : Bool). take n p ++ x ∷ []) (ap (λ (xs : List Bool). accepts xs n) (sym is) ∙ e)
+    split_last p (replicate (most_blocks - length p) false) n long
+    ∙ ap (λ (x : Bool). take n p ++ x ∷ []) (ap (λ (xs : List Bool). accepts xs n) (sym is) ∙ e)
 
 front_long : (p : List Bool) (n : ℕ) → length p ≡ suc n → length (take n p) ≡ n
 front_long p n long = length-take-le n p (omega (arith, long))
 
-pub rejected_last : (blocks : List Block) (p taken : List Bool) (n : ℕ) → length p ≡ suc n → n < most_blocks → taken ≡ padded p → accepts taken n ≡ false → IsFrontAdmitted blocks p → IsAdmissible blocks (padded p)
+pub rejected_last : (blocks : List Block) (p taken : List Bool) (n : ℕ) → length p ≡ suc n → n < most_blocks → taken ≡ padded p
+    → accepts taken n ≡ false → IsFrontAdmitted blocks p → IsAdmissible blocks (padded p)
 rejected_last blocks p taken n long few is e front =
     let whole = last_is p taken n false long is e in
     subst (λ (xs : List Bool). IsAdmissible blocks (padded xs)) (sym whole)
     (still_rejected blocks (take n p) (omega (arith, front_long p n long, few)) (front (take n p) false whole))
 
-pub accepted_last : (blocks : List Block) (p taken : List Bool) (n : ℕ) → length p ≡ suc n → n < most_blocks → taken ≡ padded p → accepts taken n ≡ true → IsFrontAdmitted blocks p
+pub accepted_last : (blocks : List Block) (p taken : List Bool) (n : ℕ) → length p ≡ suc n → n < most_blocks → taken ≡ padded p
+    → accepts taken n ≡ true → IsFrontAdmitted blocks p
     → IsAllowed blocks taken n → IsAdmissible blocks (padded p)
 accepted_last blocks p taken n long few is e front allowed =
     let whole = last_is p taken n true long is e in
     let far = front_long p n long in
-    let here : IsAllowed blocks (padded (take n p ++ true ∷ [])) n = subst (λ (xs : List Bool). IsAllowed blocks xs n) (is ∙ ap padded whole) allowed in
+    let here : IsAllowed blocks (padded (take n p ++ true ∷ [])) n = subst (λ (xs : List Bool). IsAllowed blocks xs n)
+    (is ∙ ap padded whole) allowed in
     subst (λ (xs : List Bool). IsAdmissible blocks (padded xs)) (sym whole)
-    (still_admissible blocks (take n p) (omega (arith, far, few)) (front (take n p) true whole) (subst (λ (k : ℕ). IsAllowed blocks (padded (take n p ++ true ∷ [])) k) (sym far) here))
+    (still_admissible blocks (take n p) (omega (arith, far, few)) (front (take n p) true whole)
+    (subst (λ (k : ℕ). IsAllowed blocks (padded (take n p ++ true ∷ [])) k) (sym far) here))

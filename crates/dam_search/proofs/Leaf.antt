@@ -21,13 +21,16 @@ use Rattle.dam_search.proofs.Ranks.{ranks_with_itself}
 -- what says whether some accepted block loses
 abbrev pub TellsLoss : ProblemState → List Bool → Bool → Type 0
 TellsLoss problem prefix loss =
-    (prices : List ℤ) → ArePrices problem.blocks (padded prefix) 1 problem.hours prices → (loss ≡ false) ↔ HasNoLoss problem.blocks (padded prefix) prices
+    (prices : List ℤ) → ArePrices problem.blocks (padded prefix) 1 problem.hours prices
+    → (loss ≡ false) ↔ HasNoLoss problem.blocks (padded prefix) prices
 
-pub tells_of : (problem relaxed : ProblemState) (prefix : List Bool) (loss : Bool) → relaxed ≡ without_rows problem → TellsLoss relaxed prefix loss → TellsLoss problem prefix loss
+pub tells_of : (problem relaxed : ProblemState) (prefix : List Bool) (loss : Bool) → relaxed ≡ without_rows problem
+    → TellsLoss relaxed prefix loss → TellsLoss problem prefix loss
 tells_of problem relaxed prefix loss same tells = subst (λ (p : ProblemState). TellsLoss p prefix loss) same tells
 
 -- the total of the day is the welfare of each completion
-pub welfare_is_total : (problem relaxed : ProblemState) (prefix sel : List Bool) (day : Day) → relaxed ≡ without_rows problem → IsDay relaxed prefix day
+pub welfare_is_total : (problem relaxed : ProblemState) (prefix sel : List Bool) (day : Day) → relaxed ≡ without_rows problem
+    → IsDay relaxed prefix day
     → relaxed_welfare problem prefix ≡ selection_welfare problem sel → selection_welfare problem sel ≡ Some day.total
 welfare_is_total problem relaxed prefix sel day same is decided =
     sym (is.total_is ∙ ap (λ (p : ProblemState). relaxed_welfare p prefix) same ∙ decided)
@@ -41,7 +44,8 @@ welfare_is_told problem relaxed prefix sel trail total same is decided =
 -- what is told of a prefix, or what else is known
 pub if_told : (told : Option ℤ) (total : ℤ) (problem : ProblemState) (prefix : List Bool) (trail : Trail) (low : ℕ) → told ≡ Some total
     → MatchOption told (IsUnder problem prefix low) (IsDayIn problem prefix trail) → IsDayIn problem prefix trail total
-if_told (Some own) total problem prefix trail low e m = let same : own ≡ total = cc in subst (λ (z : ℤ). IsDayIn problem prefix trail z) same m
+if_told (Some own) total problem prefix trail low e m =
+    let same : own ≡ total = cc in subst (λ (z : ℤ). IsDayIn problem prefix trail z) same m
 if_told None total problem prefix trail low e m = absurd (cc)
 
 pub unless_told : (told : Option ℤ) (problem : ProblemState) (prefix : List Bool) (trail : Trail) (low : ℕ) → told ≡ None
@@ -50,24 +54,29 @@ unless_told (Some own) problem prefix trail low e m = absurd (cc)
 unless_told None problem prefix trail low e m = m
 
 -- the day, with the total as it is passed on
-pub as_passed : (problem : ProblemState) (prefix : List Bool) (trail : Trail) (total : ℤ) → SFits w64 total → IsDayIn problem prefix trail total
+pub as_passed : (problem : ProblemState) (prefix : List Bool) (trail : Trail) (total : ℤ) → SFits w64 total
+    → IsDayIn problem prefix trail total
     → IsDayIn problem prefix trail (to_z w64 (of_z w64 total))
 as_passed problem prefix trail total fits is = subst (λ (z : ℤ). IsDayIn problem prefix trail z) (sym (to_z-of_z w64 total fits)) is
 
 -- no more welfare than the prefix's bound
-pub under_read : (problem relaxed : ProblemState) (prefix sel : List Bool) (read : ℕ) (w : ℤ) → relaxed ≡ without_rows problem → IsUnder relaxed prefix read
+pub under_read : (problem relaxed : ProblemState) (prefix sel : List Bool) (read : ℕ) (w : ℤ) → relaxed ≡ without_rows problem
+    → IsUnder relaxed prefix read
     → relaxed_welfare problem prefix ≡ selection_welfare problem sel → selection_welfare problem sel ≡ Some w → w <ℤ pos read
-under_read problem relaxed prefix sel read w same under decided known = under w (ap (λ (p : ProblemState). relaxed_welfare p prefix) same ∙ decided ∙ known)
+under_read problem relaxed prefix sel read w same under decided known =
+    under w (ap (λ (p : ProblemState). relaxed_welfare p prefix) same ∙ decided ∙ known)
 
 pub same_welfare : (x : Option ℤ) (v w : ℤ) → x ≡ Some v → x ≡ Some w → v ≡ w
 same_welfare x v w e f = let both : Some v ≡ Some w = sym e ∙ f in cc
 
 -- a loss is told of no eligible selection
-pub losing : (problem : ProblemState) (prefix : List Bool) (loss : Bool) (w : ℤ) → loss ≡ true → TellsLoss problem prefix loss → IsEligible problem (padded prefix) w → ⊥
+pub losing : (problem : ProblemState) (prefix : List Bool) (loss : Bool) (w : ℤ) → loss ≡ true → TellsLoss problem prefix loss
+    → IsEligible problem (padded prefix) w → ⊥
 losing problem prefix loss w e tells is = let none : loss ≡ false = (tells is.prices is.are_prices).1 is.no_loss in absurd (cc)
 
 -- where none is told, the selection is eligible
-pub not_losing : (problem : ProblemState) (prefix : List Bool) (loss : Bool) (w : ℤ) → loss ≡ false → TellsLoss problem prefix loss → IsCompletion prefix (padded prefix)
+pub not_losing : (problem : ProblemState) (prefix : List Bool) (loss : Bool) (w : ℤ) → loss ≡ false → TellsLoss problem prefix loss
+    → IsCompletion prefix (padded prefix)
     → IsAdmissible problem.blocks (padded prefix) → selection_welfare problem (padded prefix) ≡ Some w
     → (prices : List ℤ) × ArePrices problem.blocks (padded prefix) 1 problem.hours prices → IsEligible problem (padded prefix) w
 not_losing problem prefix loss w e tells whole admissible welfare prices = record {
@@ -80,19 +89,24 @@ not_losing problem prefix loss w e tells whole admissible welfare prices = recor
 }
 
 -- the selection is found
-pub finds_selection : (problem : ProblemState) (prefix : List Bool) (before : Option Best) (best : Best) (total : ℤ) → best.selection ≡ padded prefix → pos best.welfare ≡ total
-    → IsCompletion prefix (padded prefix) → IsEligible problem (padded prefix) total → Rises before (Some best) → Finds problem prefix before (Some best)
+pub finds_selection : (problem : ProblemState) (prefix : List Bool) (before : Option Best) (best : Best) (total : ℤ)
+    → best.selection ≡ padded prefix → pos best.welfare ≡ total
+    → IsCompletion prefix (padded prefix) → IsEligible problem (padded prefix) total → Rises before (Some best)
+    → Finds problem prefix before (Some best)
 finds_selection problem prefix before best total e f whole is rises = record {
   found = inr (
     subst (λ (xs : List Bool). IsCompletion prefix xs) (sym e) whole,
-    subst (λ (xs : List Bool). IsEligible problem xs (pos best.welfare)) (sym e) (subst (λ (z : ℤ). IsEligible problem (padded prefix) z) (sym f) is),
+    subst (λ (xs : List Bool). IsEligible problem xs (pos best.welfare)) (sym e)
+        (subst (λ (z : ℤ). IsEligible problem (padded prefix) z) (sym f) is),
   );
   rises = rises;
 }
 
 -- it ranks with itself
-pub ranks_found : (sel prefix : List Bool) (w total : ℤ) (best : Best) → best.selection ≡ padded prefix → pos best.welfare ≡ total → sel ≡ padded prefix → w ≡ total
+pub ranks_found : (sel prefix : List Bool) (w total : ℤ) (best : Best) → best.selection ≡ padded prefix → pos best.welfare ≡ total
+    → sel ≡ padded prefix → w ≡ total
     → RanksAtOrBelow w sel (pos best.welfare) best.selection
 ranks_found sel prefix w total best e f g h =
     subst (λ (xs : List Bool). RanksAtOrBelow w xs (pos best.welfare) best.selection) (e ∙ sym g)
-    (subst (λ (z : ℤ). RanksAtOrBelow z best.selection (pos best.welfare) best.selection) (f ∙ sym h) (ranks_with_itself (pos best.welfare) best.selection))
+    (subst (λ (z : ℤ). RanksAtOrBelow z best.selection (pos best.welfare) best.selection) (f ∙ sym h)
+    (ranks_with_itself (pos best.welfare) best.selection))

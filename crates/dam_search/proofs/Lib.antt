@@ -1,3 +1,4 @@
+-- The lemmas that several proofs need, a file for each subject.
 pub mod Prefixes
 pub mod Ranks
 pub mod Walks

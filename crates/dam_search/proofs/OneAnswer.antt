@@ -8,35 +8,41 @@ use Rattle.dam_search.specs.declared.answer.PieceAnswer.{PieceAnswer}
 use Rattle.dam_search.specs.Piece.{Rises, welfare_found, IsSound}
 use Rattle.dam_search.specs.Answer.{IsSoundAnswer, AreAnswered, greatest_found, IsHighest, IsReached}
 use Rattle.dam_search.specs.Piece.{IsSpent}
-use Rattle.dam_search.specs.Search.{IsWorked}
+use Rattle.dam_search.specs.inside.Collect.{IsWorked}
 use Rattle.dam_search.proofs.Collecting.{reached_less, reached_greater, reached_found, spent_less}
 use Rattle.dam_search.proofs.Ranks.{ranks_with_itself}
 
 pub all_one : (P : PieceAnswer → Type 0) (a : PieceAnswer) → P a → All P (a ∷ [])
 all_one P a h = All-push P [] a (λ k d l. absurd (omega arith)) h
 
-pub answered : (problem : ProblemState) (a : PieceAnswer) → a.piece ≡ 0 → IsSound problem [] a.best a.read a.done → a.done ≡ true → AreAnswered problem 0 (a ∷ [])
+pub answered : (problem : ProblemState) (a : PieceAnswer) → a.piece ≡ 0 → IsSound problem [] a.best a.read a.done → a.done ≡ true
+    → AreAnswered problem 0 (a ∷ [])
 answered problem a zero sound done = record {
   sound = all_one (λ (x : PieceAnswer). IsSoundAnswer problem 0 x) a sound;
   done = all_one (λ (x : PieceAnswer). x.done ≡ true) a done;
   each = λ piece less. (a, (0, omega arith, refl), omega (arith, zero, less));
 }
 
-pub read_less : (a : PieceAnswer) (first : ℕ) → a.read ≤ max first (welfare_found a.best) → All (λ (x : PieceAnswer). x.read ≤ max first (greatest_found (a ∷ []))) (a ∷ [])
+pub read_less : (a : PieceAnswer) (first : ℕ) → a.read ≤ max first (welfare_found a.best)
+    → All (λ (x : PieceAnswer). x.read ≤ max first (greatest_found (a ∷ []))) (a ∷ [])
 read_less a first le = all_one (λ (x : PieceAnswer). x.read ≤ max first (greatest_found (a ∷ []))) a (omega (arith, le))
 
 pub highest : (a : PieceAnswer) (b : Best) → a.best ≡ Some b → IsHighest (a ∷ []) b
 highest a b e = record {
   among = (a, (0, omega arith, refl), e);
-  others = all_one (λ (x : PieceAnswer). Rises x.best (Some b)) a (subst (λ o. Rises o (Some b)) (sym e) (ranks_with_itself (pos b.welfare) b.selection));
+  others = all_one (λ (x : PieceAnswer). Rises x.best (Some b)) a
+      (subst (λ o. Rises o (Some b)) (sym e) (ranks_with_itself (pos b.welfare) b.selection));
 }
 
 -- the answer of the walk over the whole
-pub worked_is : (problem : ProblemState) (first told nodes : ℕ) (a : PieceAnswer) → a.piece ≡ 0 → IsSound problem [] a.best a.read a.done → IsReached problem first → a.read ≤ max first (welfare_found a.best)
+pub worked_is : (problem : ProblemState) (first told nodes : ℕ) (a : PieceAnswer) → a.piece ≡ 0 → IsSound problem [] a.best a.read a.done
+    → IsReached problem first → a.read ≤ max first (welfare_found a.best)
     → IsSpent problem [] (length problem.blocks - 0) told nodes a.visited a.done → IsWorked problem 0 nodes a
 worked_is problem first told nodes a zero sound reached read spent = record {
   in_cutting = omega (arith, zero);
   sound = sound;
-  reached = reached_less problem (max first (welfare_found a.best)) a.read read (reached_greater problem first (welfare_found a.best) reached (reached_found problem [] a.best (reached_less problem first 0 (omega arith) reached) sound.found));
+  reached = reached_less problem (max first (welfare_found a.best)) a.read read
+      (reached_greater problem first (welfare_found a.best) reached
+      (reached_found problem [] a.best (reached_less problem first 0 (omega arith) reached) sound.found));
   spent = spent_less problem [] (length problem.blocks - 0) told nodes a.visited a.done spent;
 }

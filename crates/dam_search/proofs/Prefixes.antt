@@ -1,5 +1,6 @@
 -- A prefix of decisions and the selection that accepts rejected other block.
-use Rattle.std.proofs.Common.{◌≡◌, ◌≢◌, inl, inr, not, Some, get_or, slice_set, ap₂, ℕ, zero, suc, ◌+◌, ◌-◌, ◌^◌, ◌<◌, ◌≤◌, Bool, true, false, cond, nat_lt, List, [], ◌∷◌, ◌++◌, length, replicate, take, length-append, ap, ◌∙◌, sym, refl, arith}
+use Rattle.std.proofs.Common.{◌≡◌, ◌≢◌, inl, inr, not, Some, get_or, slice_set, ap₂, ℕ, zero, suc, ◌+◌, ◌-◌, ◌^◌, ◌<◌, ◌≤◌, Bool, true}
+use Rattle.std.proofs.Common.{false, cond, nat_lt, List, [], ◌∷◌, ◌++◌, length, replicate, take, length-append, ap, ◌∙◌, sym, refl, arith}
 use Rattle.std.proofs.Math.ListN.{set}
 use Rattle.std.specs.List.{slice_get}
 use Rattle.std.proofs.lemmas.Bool.{cases_lt}
@@ -19,7 +20,8 @@ length-choice (suc n) k =
 -- the first places of a padded list are the list, and pad it again
 pub prefix_is : (prefix taken : List Bool) (n : ℕ) → taken ≡ padded prefix → length prefix ≡ n → take n taken ≡ prefix
 prefix_is prefix taken n is long =
-    ap (λ (xs : List Bool). take n xs) is ∙ ap (λ (m : ℕ). take m (padded prefix)) (sym long) ∙ take-append_seam prefix (replicate (most_blocks - length prefix) false)
+    ap (λ (xs : List Bool). take n xs) is ∙ ap (λ (m : ℕ). take m (padded prefix)) (sym long)
+    ∙ take-append_seam prefix (replicate (most_blocks - length prefix) false)
 
 pub prefix_kept : (prefix taken : List Bool) (n : ℕ) → taken ≡ padded prefix → length prefix ≡ n → taken ≡ padded (take n taken)
 prefix_kept prefix taken n is long = is ∙ ap padded (sym (prefix_is prefix taken n is long))
@@ -28,7 +30,8 @@ pub length_more : (prefix : List Bool) (b : Bool) → length (prefix ++ b ∷ []
 length_more prefix b = omega (arith, length-append prefix (b ∷ []))
 
 -- one decision more
-accept_next : (prefix : List Bool) (n : ℕ) → set (prefix ++ replicate (suc n) false) (length prefix) true ≡ (prefix ++ true ∷ []) ++ replicate n false
+accept_next : (prefix : List Bool) (n : ℕ) → set (prefix ++ replicate (suc n) false) (length prefix)
+    true ≡ (prefix ++ true ∷ []) ++ replicate n false
 accept_next [] n = refl
 accept_next (x ∷ prefix) n = ap (λ (xs : List Bool). x ∷ xs) (accept_next prefix n)
 
@@ -36,17 +39,22 @@ reject_next : (prefix : List Bool) (n : ℕ) → prefix ++ replicate (suc n) fal
 reject_next [] n = refl
 reject_next (x ∷ prefix) n = ap (λ (xs : List Bool). x ∷ xs) (reject_next prefix n)
 
-undecided : (prefix : List Bool) (b : Bool) → length prefix < most_blocks → most_blocks - length prefix ≡ suc (most_blocks - length (prefix ++ b ∷ []))
+undecided : (prefix : List Bool) (b : Bool) → length prefix < most_blocks
+    → most_blocks - length prefix ≡ suc (most_blocks - length (prefix ++ b ∷ []))
 undecided prefix b h = omega (arith, length_more prefix b)
 
-pub padded-accepted : (prefix taken : List Bool) → taken ≡ padded prefix → length prefix < most_blocks → set taken (length prefix) true ≡ padded (prefix ++ true ∷ [])
+pub padded-accepted : (prefix taken : List Bool) → taken ≡ padded prefix → length prefix < most_blocks
+    → set taken (length prefix) true ≡ padded (prefix ++ true ∷ [])
 padded-accepted prefix taken is h =
-    ap (λ (xs : List Bool). set xs (length prefix) true) is ∙ ap (λ (n : ℕ). set (prefix ++ replicate n false) (length prefix) true) (undecided prefix true h)
+    ap (λ (xs : List Bool). set xs (length prefix) true) is
+    ∙ ap (λ (n : ℕ). set (prefix ++ replicate n false) (length prefix) true) (undecided prefix true h)
     ∙ accept_next prefix (most_blocks - length (prefix ++ true ∷ []))
 
-pub padded-rejected : (prefix taken : List Bool) → taken ≡ padded prefix → length prefix < most_blocks → taken ≡ padded (prefix ++ false ∷ [])
+pub padded-rejected : (prefix taken : List Bool) → taken ≡ padded prefix → length prefix < most_blocks
+    → taken ≡ padded (prefix ++ false ∷ [])
 padded-rejected prefix taken is h =
-    is ∙ ap (λ (n : ℕ). prefix ++ replicate n false) (undecided prefix false h) ∙ reject_next prefix (most_blocks - length (prefix ++ false ∷ []))
+    is ∙ ap (λ (n : ℕ). prefix ++ replicate n false) (undecided prefix false h)
+    ∙ reject_next prefix (most_blocks - length (prefix ++ false ∷ []))
 
 -- the prefix is as long as it is deep
 pub length-prefix : (taken : List Bool) (n : ℕ) → taken ≡ padded (take n taken) → n ≤ most_blocks → length (take n taken) ≡ n
@@ -57,20 +65,23 @@ length-prefix taken n is few =
     length-take-le n taken (omega (arith, long, parts, rest))
 
 -- the selection of the prefix with the next decision
-pub taken_next : (prefix taken next : List Bool) (n : ℕ) (accept : Bool) → take n taken ≡ prefix → taken ≡ padded (take n taken) → n ≤ most_blocks → length prefix < most_blocks
+pub taken_next : (prefix taken next : List Bool) (n : ℕ) (accept : Bool) → take n taken ≡ prefix → taken ≡ padded (take n taken)
+    → n ≤ most_blocks → length prefix < most_blocks
     → (accept ≡ true → next ≡ set taken n true) → (accept ≡ false → next ≡ taken) → next ≡ padded (prefix ++ accept ∷ [])
 taken_next prefix taken next n true view is few h accepted rejected =
     let long : length prefix ≡ n = ap (λ (xs : List Bool). length xs) (sym view) ∙ length-prefix taken n is few in
     accepted refl ∙ ap (λ (m : ℕ). set taken m true) (sym long) ∙ padded-accepted prefix taken (is ∙ ap padded view) h
 taken_next prefix taken next n false view is few h accepted rejected = rejected refl ∙ padded-rejected prefix taken (is ∙ ap padded view) h
 
-pub length_next : (prefix taken : List Bool) (n : ℕ) (accept : Bool) → take n taken ≡ prefix → taken ≡ padded (take n taken) → n ≤ most_blocks → length (prefix ++ accept ∷ []) ≡ n + 1
+pub length_next : (prefix taken : List Bool) (n : ℕ) (accept : Bool) → take n taken ≡ prefix → taken ≡ padded (take n taken)
+    → n ≤ most_blocks → length (prefix ++ accept ∷ []) ≡ n + 1
 length_next prefix taken n accept view is few =
     let long : length prefix ≡ n = ap (λ (xs : List Bool). length xs) (sym view) ∙ length-prefix taken n is few in
     omega (arith, length_more prefix accept, long)
 
 -- what a prefix's parts are to the list of its decisions
-pub prefix_of : (taken prefix : List Bool) (n : ℕ) → take n taken ≡ prefix → taken ≡ padded (take n taken) → n ≤ most_blocks → (length prefix ≡ n) × (taken ≡ padded prefix)
+pub prefix_of : (taken prefix : List Bool) (n : ℕ) → take n taken ≡ prefix → taken ≡ padded (take n taken) → n ≤ most_blocks
+    → (length prefix ≡ n) × (taken ≡ padded prefix)
 prefix_of taken prefix n view is few = (ap (λ (xs : List Bool). length xs) (sym view) ∙ length-prefix taken n is few, is ∙ ap padded view)
 
 -- ---- a decision
@@ -79,9 +90,11 @@ at_front [] ys i l = absurd (omega (arith, l))
 at_front (x ∷ xs) ys zero l = refl
 at_front (x ∷ xs) ys (suc i) l = at_front xs ys i (omega (arith, l))
 
-pub decision_at : (taken prefix : List Bool) (n i : ℕ) → take n taken ≡ prefix → taken ≡ padded (take n taken) → i < length prefix → slice_get prefix i ≡ Some (get_or taken i false)
+pub decision_at : (taken prefix : List Bool) (n i : ℕ) → take n taken ≡ prefix → taken ≡ padded (take n taken) → i < length prefix
+    → slice_get prefix i ≡ Some (get_or taken i false)
 decision_at taken prefix n i view is l =
-    at_front prefix (replicate (most_blocks - length prefix) false) i l ∙ ap (λ (xs : List Bool). Some (get_or xs i false)) (sym (is ∙ ap padded view))
+    at_front prefix (replicate (most_blocks - length prefix) false) i l
+    ∙ ap (λ (xs : List Bool). Some (get_or xs i false)) (sym (is ∙ ap padded view))
 
 some_is : (a b : Bool) → Some a ≡ Some b → a ≡ b
 some_is a b e = cc
@@ -99,9 +112,11 @@ turned_more xs done place own a b inside less at here apart is =
     let ys = slice_set xs place (not (get_or xs place false)) in
     let long = length-set xs place (not (get_or xs place false)) in
     ap₂ (λ (zs : List Bool) (c : Bool). zs ++ c ∷ []) is (elim (cases_lt own place) [
-      | inl l ↦ (let other : own ≢ place = omega (arith, l) in apart other ∙ sym (get_or-set_other xs place own (not (get_or xs place false)) false other ∙ read_at xs own a at))
+      | inl l ↦ (let other : own ≢ place = omega (arith, l) in apart other
+          ∙ sym (get_or-set_other xs place own (not (get_or xs place false)) false other ∙ read_at xs own a at))
       | inr m ↦ elim (cases_lt place own) [
-        | inl l ↦ (let other : own ≢ place = omega (arith, l) in apart other ∙ sym (get_or-set_other xs place own (not (get_or xs place false)) false other ∙ read_at xs own a at))
+        | inl l ↦ (let other : own ≢ place = omega (arith, l) in apart other
+            ∙ sym (get_or-set_other xs place own (not (get_or xs place false)) false other ∙ read_at xs own a at))
         | inr k ↦ (let same : own ≡ place = omega (arith, m, k) in
             here same ∙ ap not (sym (read_at xs own a at) ∙ ap (λ (n : ℕ). get_or xs n false) same)
             ∙ sym (ap (λ (n : ℕ). get_or ys n false) same ∙ get_or-set_same xs place (not (get_or xs place false)) false inside))
@@ -114,7 +129,11 @@ pub decided_more : (taken prefix : List Bool) (n i : ℕ) → take n taken ≡ p
     → take (i + 1) prefix ≡ take i prefix ++ get_or taken i false ∷ []
 decided_more taken prefix n i view is few l =
     let long = (prefix_of taken prefix n view is few).0 in
-    take_more prefix i false (omega (arith, long, l)) ∙ ap (λ (b : Bool). take i prefix ++ b ∷ []) (read_at prefix i (get_or taken i false) (decision_at taken prefix n i view is (omega (arith, long, l))))
+    take_more prefix i false (omega (arith, long, l))
+    ∙ ap (λ (b : Bool). take i prefix ++ b ∷ []) (read_at prefix i (get_or taken i false)
+    (decision_at taken prefix n i view is (omega (arith, long, l))))
 
-pub front_long : (taken prefix : List Bool) (n i : ℕ) → take n taken ≡ prefix → taken ≡ padded (take n taken) → n ≤ most_blocks → i < n → length (take i prefix) ≡ i
-front_long taken prefix n i view is few l = let long = (prefix_of taken prefix n view is few).0 in length-take-le i prefix (omega (arith, long, l))
+pub front_long : (taken prefix : List Bool) (n i : ℕ) → take n taken ≡ prefix → taken ≡ padded (take n taken) → n ≤ most_blocks → i < n
+    → length (take i prefix) ≡ i
+front_long taken prefix n i view is few l =
+    let long = (prefix_of taken prefix n view is few).0 in length-take-le i prefix (omega (arith, long, l))

@@ -1,5 +1,6 @@
 -- The order of selections, and what is found as it rises.
-use Rattle.std.proofs.Common.{◌≡◌, ℕ, ◌≤◌, ◌<◌, ◌⊎◌, inl, inr, ℤ, pos, Bool, true, false, not, Option, Some, None, List, [], ◌∷◌, ◌++◌, length, append_assoc, ◌∙◌, sym, subst, refl, arith}
+use Rattle.std.proofs.Common.{◌≡◌, ℕ, ◌≤◌, ◌<◌, ◌⊎◌, inl, inr, ℤ, pos, Bool, true, false, not, Option, Some, None, List, [], ◌∷◌, ◌++◌}
+use Rattle.std.proofs.Common.{length, append_assoc, ◌∙◌, sym, subst, refl, arith}
 use Rattle.std.proofs.lemmas.Int.{ints}
 use Rattle.dam_book.specs.Limits.{most_blocks}
 use Rattle.dam_blocks.specs.declared.selection.Best.{Best}
@@ -51,10 +52,12 @@ pub long_find : (problem : ProblemState) (prefix : List Bool) (best : Option Bes
 long_find problem prefix None h = tt
 long_find problem prefix (Some b) h = h.0.as_long
 
-pub matched_rises : (w : ℤ) (sel : List Bool) (a b : Option Best) → IsTransitive → length sel ≡ most_blocks → IsLong a → IsLong b → IsMatched w sel a → Rises a b → IsMatched w sel b
+pub matched_rises : (w : ℤ) (sel : List Bool) (a b : Option Best) → IsTransitive → length sel ≡ most_blocks → IsLong a → IsLong b
+    → IsMatched w sel a → Rises a b → IsMatched w sel b
 matched_rises w sel None b through long la lb m h = absurd m
 matched_rises w sel (Some a) None through long la lb m h = absurd h
-matched_rises w sel (Some a) (Some b) through long la lb m h = through w (pos a.welfare) (pos b.welfare) sel a.selection b.selection long la lb m h
+matched_rises w sel (Some a) (Some b) through long la lb m h =
+    through w (pos a.welfare) (pos b.welfare) sel a.selection b.selection long la lb m h
 
 pub rises_twice : (a b c : Option Best) → IsTransitive → IsLong a → IsLong b → IsLong c → Rises a b → Rises b c → Rises a c
 rises_twice None b c through la lb lc h g = tt
@@ -69,11 +72,13 @@ pub any_find : (problem : ProblemState) (prefix : List Bool) (best : Option Best
 any_find problem prefix None h = tt
 any_find problem prefix (Some b) h = (record { as_long = h.0.as_long; rest = b.selection; agrees = refl }, h.1)
 
-shorter_find : (problem : ProblemState) (prefix extra : List Bool) (best : Option Best) → IsFind problem (prefix ++ extra) best → IsFind problem prefix best
+shorter_find : (problem : ProblemState) (prefix extra : List Bool) (best : Option Best) → IsFind problem (prefix ++ extra) best
+    → IsFind problem prefix best
 shorter_find problem prefix extra None h = tt
 shorter_find problem prefix extra (Some b) h = (shorter prefix extra b.selection h.0, h.1)
 
-pub found_after : (problem : ProblemState) (prefix : List Bool) (a b : Option Best) → IsFind problem [] a → Finds problem prefix a b → IsFind problem [] b
+pub found_after : (problem : ProblemState) (prefix : List Bool) (a b : Option Best) → IsFind problem [] a → Finds problem prefix a b
+    → IsFind problem [] b
 found_after problem prefix a b find f =
     elim f.found [
       | inl e ↦ subst (λ (o : Option Best). IsFind problem [] o) (sym e) find
@@ -83,11 +88,13 @@ found_after problem prefix a b find f =
 pub finds_nothing : (problem : ProblemState) (prefix : List Bool) (best : Option Best) → Finds problem prefix best best
 finds_nothing problem prefix best = record { found = inl refl; rises = stays best }
 
-pub finds_shorter : (problem : ProblemState) (prefix extra : List Bool) (a b : Option Best) → Finds problem (prefix ++ extra) a b → Finds problem prefix a b
+pub finds_shorter : (problem : ProblemState) (prefix extra : List Bool) (a b : Option Best) → Finds problem (prefix ++ extra) a b
+    → Finds problem prefix a b
 finds_shorter problem prefix extra a b f =
     record { found = elim f.found [ inl e ↦ inl e | inr g ↦ inr (shorter_find problem prefix extra b g) ]; rises = f.rises }
 
-pub finds_twice : (problem : ProblemState) (prefix : List Bool) (a b c : Option Best) → IsTransitive → IsFind problem [] a → Finds problem prefix a b → Finds problem prefix b c → Finds problem prefix a c
+pub finds_twice : (problem : ProblemState) (prefix : List Bool) (a b c : Option Best) → IsTransitive → IsFind problem [] a
+    → Finds problem prefix a b → Finds problem prefix b c → Finds problem prefix a c
 finds_twice problem prefix a b c through find f g =
     let find_b = found_after problem prefix a b find f in
     let find_c = found_after problem prefix b c find_b g in
@@ -96,15 +103,18 @@ finds_twice problem prefix a b c through find f g =
         | inl e ↦ elim f.found [ inl d ↦ inl (e ∙ d) | inr h ↦ inr (subst (λ (o : Option Best). IsFind problem prefix o) (sym e) h) ]
         | inr h ↦ inr h
       ];
-      rises = rises_twice a b c through (long_find problem [] a find) (long_find problem [] b find_b) (long_find problem [] c find_c) f.rises g.rises;
+      rises = rises_twice a b c through (long_find problem [] a find) (long_find problem [] b find_b)
+          (long_find problem [] c find_c) f.rises g.rises;
     }
 
 -- the law of dam_bound on the completions of a prefix
 abbrev pub AreExtended : Type 0
-AreExtended = (prefix sel : List Bool) → length prefix < most_blocks → IsCompletion prefix sel → IsCompletion (prefix ++ true ∷ []) sel ⊎ IsCompletion (prefix ++ false ∷ []) sel
+AreExtended = (prefix sel : List Bool) → length prefix < most_blocks → IsCompletion prefix sel
+    → IsCompletion (prefix ++ true ∷ []) sel ⊎ IsCompletion (prefix ++ false ∷ []) sel
 
 -- what is covered stays so as the value read and what is found rise
-covers_rises : (problem : ProblemState) (prefix : List Bool) (a b : Option Best) (read next : ℕ) → IsTransitive → IsFind problem [] a → IsFind problem [] b
+covers_rises : (problem : ProblemState) (prefix : List Bool) (a b : Option Best) (read next : ℕ) → IsTransitive → IsFind problem [] a
+    → IsFind problem [] b
     → Covers problem prefix a read → Rises a b → read ≤ next → Covers problem prefix b next
 covers_rises problem prefix a b read next through find find' covers h more sel w whole e =
     elim (covers sel w whole e) [
@@ -113,13 +123,17 @@ covers_rises problem prefix a b read next through find find' covers h more sel w
     ]
 
 -- of the two extensions, in either order
-extended_by : (first : Bool) (prefix sel : List Bool) → AreExtended → length prefix < most_blocks → IsCompletion prefix sel → IsCompletion (prefix ++ first ∷ []) sel ⊎ IsCompletion (prefix ++ not first ∷ []) sel
+extended_by : (first : Bool) (prefix sel : List Bool) → AreExtended → length prefix < most_blocks → IsCompletion prefix sel
+    → IsCompletion (prefix ++ first ∷ []) sel ⊎ IsCompletion (prefix ++ not first ∷ []) sel
 extended_by true prefix sel extended few whole = extended prefix sel few whole
-extended_by false prefix sel extended few whole = elim (extended prefix sel few whole) [ inl accepted ↦ inr accepted | inr rejected ↦ inl rejected ]
+extended_by false prefix sel extended few whole =
+    elim (extended prefix sel few whole) [ inl accepted ↦ inr accepted | inr rejected ↦ inl rejected ]
 
-pub covers_both : (problem : ProblemState) (prefix : List Bool) (first : Bool) (a b c : Option Best) (read next : ℕ) → IsTransitive → AreExtended → length prefix < most_blocks → IsFind problem [] a
+pub covers_both : (problem : ProblemState) (prefix : List Bool) (first : Bool) (a b c : Option Best) (read next : ℕ) → IsTransitive
+    → AreExtended → length prefix < most_blocks → IsFind problem [] a
     → Finds problem (prefix ++ first ∷ []) a b → Covers problem (prefix ++ first ∷ []) b read
-    → Finds problem (prefix ++ not first ∷ []) b c → Covers problem (prefix ++ not first ∷ []) c next → read ≤ next → Covers problem prefix c next
+    → Finds problem (prefix ++ not first ∷ []) b c → Covers problem (prefix ++ not first ∷ []) c next → read ≤ next
+    → Covers problem prefix c next
 covers_both problem prefix first a b c read next through extended few find f covers g covers' more sel w whole e =
     let find_b = found_after problem (prefix ++ first ∷ []) a b find f in
     let find_c = found_after problem (prefix ++ not first ∷ []) b c find_b g in

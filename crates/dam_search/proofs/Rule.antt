@@ -1,5 +1,6 @@
 -- Each step on the two words keeps their rule.
-use Rattle.std.proofs.Common.{◌≡◌, ℕ, zero, suc, ◌+◌, ◌^◌, ◌%◌, ◌<◌, ◌≤◌, inl, inr, min, max, nat_lt, cond, true, false, List, [], ◌∷◌, ◌++◌, length, set, ap, sym, subst, refl, ◌∙◌, arith, length-append}
+use Rattle.std.proofs.Common.{◌≡◌, ℕ, zero, suc, ◌+◌, ◌^◌, ◌%◌, ◌<◌, ◌≤◌, inl, inr, min, max, nat_lt, cond, true, false, List, [], ◌∷◌}
+use Rattle.std.proofs.Common.{◌++◌, length, set, ap, sym, subst, refl, ◌∙◌, arith, length-append}
 use Rattle.std.proofs.lemmas.Bool.Decides.{nat_tests}
 use Rattle.std.proofs.Math.Nat.{mod-eq_of_lt}
 use mathlib.Core.Option.{some, none, some-injective, some-ne-none}
@@ -8,41 +9,52 @@ use Rattle.std.specs.List.{slice_index}
 use Rattle.atomic_table.specs.Table.{State, Me, keeps, step, opening, Allows, Splits, Joins}
 use Rattle.atomic_table.proofs.Lists.{at_set, at_snoc, set_else}
 use Rattle.dam_search.specs.declared.view.View.{View}
-use Rattle.dam_search.specs.Words.{total, times, once_below, most_pieces, most_seats, first_view, spent_view, drawn_after, cut_left, cut_right, joined, IsFit, AreWordsOf, AreWords, IsDrawn, IsRead, IsOffered, IsClosed}
-use Rattle.dam_search.proofs.Sums.{total_set, total_snoc, part_of_total, greatest_set, greatest_snoc, total_less, part_of_greatest, total_none, greatest_none, placed, times_append}
+use Rattle.dam_search.specs.Words.{sum_of, times, once_below, most_pieces, most_seats, first_view, spent_view, drawn_after, cut_left}
+use Rattle.dam_search.specs.Words.{cut_right, joined, IsFit, AreWordsOf, AreWords, IsDrawn, IsRead, IsOffered, IsClosed}
+use Rattle.dam_search.proofs.Sums.{total_set, total_snoc, part_of_total, greatest_set, greatest_snoc, total_less, part_of_greatest}
+use Rattle.dam_search.proofs.Sums.{total_none, greatest_none, placed, times_append}
 
 -- ---- one view changes
 
 -- a step that changes one view, and with it the words, keeps the rule
-changed : (n claim incumbent claim' incumbent' : ℕ) (views : List View) (i : ℕ) (v w : View) → get_elem? views i ≡ some v → AreWordsOf n claim incumbent views
+changed : (n claim incumbent claim' incumbent' : ℕ) (views : List View) (i : ℕ) (v w : View) → get_elem? views i ≡ some v
+    → AreWordsOf n claim incumbent views
     → ((x : ℕ) → times x w.drawn + once_below x (min claim n) ≡ times x v.drawn + once_below x (min claim' n))
-    → claim' + (length v.drawn + v.past) ≡ claim + (length w.drawn + w.past) → min claim' n + length v.drawn ≡ min claim n + length w.drawn
-    → IsFit n w → w.seats + w.left ≤ v.seats + v.left → v.top ≤ w.top → incumbent' ≡ max incumbent w.top → w.told ≤ incumbent' → AreWordsOf n claim' incumbent' (set views i w)
+    → claim' + (length v.drawn + v.draws_past_the_end) ≡ claim + (length w.drawn + w.draws_past_the_end)
+    → min claim' n + length v.drawn ≡ min claim n + length w.drawn
+    → IsFit n w → w.seats + w.seats_left ≤ v.seats + v.seats_left → v.greatest_offer ≤ w.greatest_offer
+    → incumbent' ≡ max incumbent w.greatest_offer → w.greatest_read ≤ incumbent' → AreWordsOf n claim' incumbent' (set views i w)
 changed n claim incumbent claim' incumbent' views i v w at h drawn count many fits seats rises offer told =
     let lengths = total_set (λ (v : View). length v.drawn) views i v w at in
-    let pasts = total_set (λ (v : View). v.past) views i v w at in
+    let pasts = total_set (λ (v : View). v.draws_past_the_end) views i v w at in
     let counted = h.counted in let as_many = h.as_many in
     record {
-      once = λ x. (let before = h.once x in let now = total_set (λ (v : View). times x v.drawn) views i v w at in let add = drawn x in omega (arith, before, now, add));
+      once = λ x. (let before = h.once x in let now = total_set (λ (v : View). times x v.drawn) views i v w at in let add = drawn x in omega
+          (arith, before, now, add));
       as_many = omega (arith, lengths, as_many, many);
       counted = omega (arith, lengths, pasts, counted, count);
       fit = λ j u e. elim (at_set views i j w u e) [ inl here ↦ subst (IsFit n) here.1 fits | inr other ↦ h.fit j u other.1 ];
-      few_seats = (let all = total_set (λ (v : View). v.seats + v.left) views i v w at in let few = h.few_seats in omega (arith, all, few, seats));
+      few_seats = (let all = total_set (λ (v : View). v.seats + v.seats_left) views i v w at in let few = h.few_seats in omega
+          (arith, all, few, seats));
       greatest_offer =
-          (let all = greatest_set (λ (v : View). v.top) views i v w at in let part = part_of_greatest (λ (v : View). v.top) views i v at in let before = h.greatest_offer in
-          let after = part_of_greatest (λ (v : View). v.top) (set views i w) i w (placed views i v w at) in omega (arith, all, part, before, after, rises, offer));
+          (let all = greatest_set (λ (v : View). v.greatest_offer) views i v w at in let part = part_of_greatest
+          (λ (v : View). v.greatest_offer) views i v at in let before = h.greatest_offer in
+          let after = part_of_greatest (λ (v : View). v.greatest_offer) (set views i w) i w (placed views i v w at) in
+          omega (arith, all, part, before, after, rises, offer));
       none_above = λ j u e.
           elim (at_set views i j w u e) [
-            | inl here ↦ subst (λ (x : View). x.told ≤ incumbent') here.1 told
+            | inl here ↦ subst (λ (x : View). x.greatest_read ≤ incumbent') here.1 told
             | inr other ↦ (let before = h.none_above j u other.1 in omega (arith, before, offer))
           ];
     }
 
 -- the state of a table of two words whose word was set
-words_set : (s : State (Unit {0}) View) (claim incumbent new : ℕ) → s.words ≡ claim ∷ incumbent ∷ [] → set s.words 0 new ≡ new ∷ incumbent ∷ []
+words_set : (s : State (Unit {0}) View) (claim incumbent new : ℕ) → s.words ≡ claim ∷ incumbent ∷ []
+    → set s.words 0 new ≡ new ∷ incumbent ∷ []
 words_set s claim incumbent new e = ap (λ (ws : List ℕ). set ws 0 new) e
 
-words_set_1 : (s : State (Unit {0}) View) (claim incumbent new : ℕ) → s.words ≡ claim ∷ incumbent ∷ [] → set s.words 1 new ≡ claim ∷ new ∷ []
+words_set_1 : (s : State (Unit {0}) View) (claim incumbent new : ℕ) → s.words ≡ claim ∷ incumbent ∷ []
+    → set s.words 1 new ≡ claim ∷ new ∷ []
 words_set_1 s claim incumbent new e = ap (λ (ws : List ℕ). set ws 1 new) e
 
 -- ---- a draw
@@ -53,14 +65,14 @@ times_one x found = grind (arith, nat_tests)
 
 record IsStep (n found : ℕ) (v w : View) : Type 0 where
   drawn : (x : ℕ) → times x w.drawn + once_below x (min found n) ≡ times x v.drawn + once_below x (min (found + 1) n)
-  counted : (found + 1) + (length v.drawn + v.past) ≡ found + (length w.drawn + w.past)
+  counted : (found + 1) + (length v.drawn + v.draws_past_the_end) ≡ found + (length w.drawn + w.draws_past_the_end)
   many : min (found + 1) n + length v.drawn ≡ min found n + length w.drawn
   pieces : w.pieces ≡ v.pieces
   seats : w.seats ≡ v.seats
-  left : w.left ≡ v.left
-  top : w.top ≡ v.top
-  told : w.told ≡ v.told
-  past : w.past ≤ v.past + 1
+  seats_left : w.seats_left ≡ v.seats_left
+  greatest_offer : w.greatest_offer ≡ v.greatest_offer
+  greatest_read : w.greatest_read ≡ v.greatest_read
+  draws_past_the_end : w.draws_past_the_end ≤ v.draws_past_the_end + 1
 
 piece_drawn : (n found : ℕ) (v : View) → found < n → IsStep n found v (record v { drawn = v.drawn ++ found ∷ [] })
 piece_drawn n found v less =
@@ -75,51 +87,65 @@ piece_drawn n found v less =
       many = omega (arith, long, less);
       pieces = refl;
       seats = refl;
-      left = refl;
-      top = refl;
-      told = refl;
-      past = omega arith;
+      seats_left = refl;
+      greatest_offer = refl;
+      greatest_read = refl;
+      draws_past_the_end = omega arith;
     }
 
-past_drawn : (n found : ℕ) (v : View) → n ≤ found → IsStep n found v (record v { past = v.past + 1 })
+past_drawn : (n found : ℕ) (v : View) → n ≤ found → IsStep n found v (record v { draws_past_the_end = v.draws_past_the_end + 1 })
 past_drawn n found v over = record {
-  drawn = λ x. (let a : min found n ≡ min (found + 1) n = omega arith in let at_a = ap (λ (k : ℕ). once_below x k) a in omega (arith, at_a));
+  drawn =
+      λ x. (let a : min found n ≡ min (found + 1) n = omega arith in let at_a = ap (λ (k : ℕ). once_below x k) a in omega (arith, at_a));
   counted = omega arith;
   many = omega (arith, over);
   pieces = refl;
   seats = refl;
-  left = refl;
-  top = refl;
-  told = refl;
-  past = omega arith;
+  seats_left = refl;
+  greatest_offer = refl;
+  greatest_read = refl;
+  draws_past_the_end = omega arith;
 }
 
 drawn_step : (n found : ℕ) (v : View) → v.pieces ≡ n → IsStep n found v (drawn_after v found)
 drawn_step n found v e =
-    elim (nat_lt found v.pieces) as (λ b. nat_lt found v.pieces ≡ b → IsStep n found v (cond b (record v { drawn = v.drawn ++ found ∷ [] }) (record v { past = v.past + 1 }))) [
+    elim (nat_lt found v.pieces) as (λ b. nat_lt found v.pieces ≡ b
+    → IsStep n found v (cond b (record v { drawn = v.drawn ++ found ∷ [] })
+    (record v { draws_past_the_end = v.draws_past_the_end + 1 }))) [
       | true ↦ λ t. piece_drawn n found v (grind (arith, nat_tests, t, e))
       | false ↦ λ t. past_drawn n found v (grind (arith, nat_tests, t, e))
     ] refl
 
-past_few : (n claim incumbent : ℕ) (views : List View) → AreWordsOf n claim incumbent views → total (λ (v : View). v.past) views ≤ most_seats
-past_few n claim incumbent views h = let less = total_less (λ (v : View). v.past) (λ (v : View). v.seats + v.left) views (λ i v e. (let f = (h.fit i v e).few_past in omega (arith, f))) in let few = h.few_seats in omega (arith, less, few)
+past_few : (n claim incumbent : ℕ) (views : List View) → AreWordsOf n claim incumbent views
+    → sum_of (λ (v : View). v.draws_past_the_end) views ≤ most_seats
+past_few n claim incumbent views h = let less = total_less (λ (v : View). v.draws_past_the_end) (λ (v : View). v.seats + v.seats_left) views
+    (λ i v e. (let f = (h.fit i v e).few_past in omega (arith, f))) in let few = h.few_seats in omega (arith, less, few)
 
-pub draws : (n slots id : ℕ) (me : Me (Unit {0}) View) → me.0.past < me.0.seats → Allows (AreWords n) slots id me 0 (λ k. (k + 1) % 2 ^ 64) (IsDrawn me)
+pub draws : (n slots id : ℕ) (me : Me (Unit {0}) View) → me.0.draws_past_the_end < me.0.seats
+    → Allows (AreWords n) slots id me 0 (λ k. (k + 1) % 2 ^ 64) (IsDrawn me)
 draws n slots id me more s h homes at small =
     let found = slice_index s.words 0 in
     let is : found ≡ h.claim = ap (λ (ws : List ℕ). slice_index ws 0) h.words in
     let kept : AreWordsOf n found h.incumbent s.views = subst (λ (k : ℕ). AreWordsOf n k h.incumbent s.views) (sym is) h.kept in
-    let pieces_few = h.few_pieces in let pasts = past_few n found h.incumbent s.views kept in let counted = kept.counted in let as_many = kept.as_many in
+    let pieces_few = h.few_pieces in let pasts = past_few n found h.incumbent s.views kept in let counted = kept.counted in
+    let as_many = kept.as_many in
     let next : (found + 1) % 2 ^ 64 ≡ found + 1 = mod-eq_of_lt (omega (arith, pasts, counted, as_many, pieces_few)) in
     let fits = kept.fit id me.0 at in
     let step = drawn_step n found me.0 (fits.told_pieces (omega (arith, more))) in
-    let seats = step.seats in let left = step.left in let top = step.top in let told = step.told in let past = step.past in
-    let below = part_of_greatest (λ (v : View). v.top) s.views id me.0 at in let offers = kept.greatest_offer in let read = kept.none_above id me.0 at in
+    let seats = step.seats in let left = step.seats_left in let top = step.greatest_offer in let told = step.greatest_read in
+    let past = step.draws_past_the_end in
+    let below = part_of_greatest (λ (v : View). v.greatest_offer) s.views id me.0 at in let offers = kept.greatest_offer in
+    let read = kept.none_above id me.0 at in
     let after : AreWordsOf n (found + 1) h.incumbent (set s.views id (drawn_after me.0 found)) =
     changed n found h.incumbent (found + 1) h.incumbent s.views id me.0 (drawn_after me.0 found) at kept step.drawn step.counted step.many
-    (record { spent = λ z. absurd (omega (arith, z, seats, more)); told_pieces = λ z. step.pieces ∙ fits.told_pieces (omega (arith, more)); few_past = omega (arith, past, seats, more) }) (omega (arith, seats, left)) (omega (arith, top))
+    (record {
+      spent = λ z. absurd (omega (arith, z, seats, more));
+      told_pieces = λ z. step.pieces ∙ fits.told_pieces (omega (arith, more));
+      few_past = omega (arith, past, seats, more);
+    }) (omega (arith, seats, left)) (omega (arith, top))
     (omega (arith, below, offers, top)) (omega (arith, told, read)) in
-    let long = part_of_total (λ (v : View). length v.drawn) (set s.views id (drawn_after me.0 found)) id (drawn_after me.0 found) (placed s.views id me.0 (drawn_after me.0 found) at) in
+    let long = part_of_total (λ (v : View). length v.drawn) (set s.views id (drawn_after me.0 found)) id (drawn_after me.0 found)
+    (placed s.views id me.0 (drawn_after me.0 found) at) in
     let many = after.as_many in let same = step.pieces ∙ fits.told_pieces (omega (arith, more)) in (
       drawn_after me.0 found,
       keeps,
@@ -140,10 +166,12 @@ pub reads : (n slots id : ℕ) (me : Me (Unit {0}) View) → 0 < me.0.seats → 
 reads n slots id me alive s h homes at small =
     let found = slice_index s.words 1 in let is : found ≡ h.incumbent = ap (λ (ws : List ℕ). slice_index ws 1) h.words in
     let kept = h.kept in let fits = kept.fit id me.0 at in let read = kept.none_above id me.0 at in
-    let below = part_of_greatest (λ (v : View). v.top) s.views id me.0 at in let offers = kept.greatest_offer in
-    let w : View = record me.0 { told = found } in
+    let below = part_of_greatest (λ (v : View). v.greatest_offer) s.views id me.0 at in let offers = kept.greatest_offer in
+    let w : View = record me.0 { greatest_read = found } in
     let after : AreWordsOf n h.claim h.incumbent (set s.views id w) =
-    changed n h.claim h.incumbent h.claim h.incumbent s.views id me.0 w at kept (λ x. refl) refl refl (record { spent = λ z. absurd (omega (arith, z, alive)); told_pieces = fits.told_pieces; few_past = fits.few_past }) (omega arith) (omega arith)
+    changed n h.claim h.incumbent h.claim h.incumbent s.views id me.0 w at kept (λ x. refl) refl refl
+    (record { spent = λ z. absurd (omega (arith, z, alive)); told_pieces = fits.told_pieces; few_past = fits.few_past })
+    (omega arith) (omega arith)
     (omega (arith, below, offers)) (omega (arith, is)) in (
       w,
       keeps,
@@ -158,14 +186,16 @@ reads n slots id me alive s h homes at small =
       (omega (arith, is, read), refl, refl),
     )
 
-pub offers : (n slots id offer : ℕ) (me : Me (Unit {0}) View) → 0 < me.0.seats → Allows (AreWords n) slots id me 1 (λ k. max k offer) (IsOffered (step slots 1 offer 0 none) me)
+pub offers : (n slots id offer : ℕ) (me : Me (Unit {0}) View) → 0 < me.0.seats
+    → Allows (AreWords n) slots id me 1 (λ k. max k offer) (IsOffered (step slots 1 offer 0 none) me)
 offers n slots id offer me alive s h homes at small =
     let found = slice_index s.words 1 in let is : found ≡ h.incumbent = ap (λ (ws : List ℕ). slice_index ws 1) h.words in
     let kept = h.kept in let fits = kept.fit id me.0 at in let read = kept.none_above id me.0 at in
-    let below = part_of_greatest (λ (v : View). v.top) s.views id me.0 at in let greatest_offer = kept.greatest_offer in
-    let w : View = record me.0 { top = max me.0.top offer } in
+    let below = part_of_greatest (λ (v : View). v.greatest_offer) s.views id me.0 at in let greatest_offer = kept.greatest_offer in
+    let w : View = record me.0 { greatest_offer = max me.0.greatest_offer offer } in
     let after : AreWordsOf n h.claim (max h.incumbent offer) (set s.views id w) =
-    changed n h.claim h.incumbent h.claim (max h.incumbent offer) s.views id me.0 w at kept (λ x. refl) refl refl (record { spent = λ z. absurd (omega (arith, z, alive)); told_pieces = fits.told_pieces; few_past = fits.few_past }) (omega arith)
+    changed n h.claim h.incumbent h.claim (max h.incumbent offer) s.views id me.0 w at kept (λ x. refl) refl refl
+    (record { spent = λ z. absurd (omega (arith, z, alive)); told_pieces = fits.told_pieces; few_past = fits.few_past }) (omega arith)
     (omega arith) (omega (arith, below, greatest_offer)) (omega (arith, read)) in (
       w,
       keeps,
@@ -203,22 +233,26 @@ opens n few = record {
     none_below x n = let a : min 0 n ≡ 0 = omega arith in let b = ap (λ (k : ℕ). once_below x k) a in grind (arith, nat_tests, b)
 
     first_fits : (i : ℕ) (v : View) → get_elem? (first_view n ∷ []) i ≡ some v → IsFit n v
-    first_fits zero v e = subst (IsFit n) (some-injective (first_view n) v e) (record { spent = λ z. absurd (omega arith); told_pieces = λ z. refl; few_past = omega arith })
+    first_fits zero v e = subst (IsFit n) (some-injective (first_view n) v e)
+        (record { spent = λ z. absurd (omega arith); told_pieces = λ z. refl; few_past = omega arith })
     first_fits (suc i) v e = absurd (some-ne-none v (sym e))
 
-    first_told : (i : ℕ) (v : View) → get_elem? (first_view n ∷ []) i ≡ some v → v.told ≤ 0
-    first_told zero v e = subst (λ (u : View). u.told ≤ 0) (some-injective (first_view n) v e) (omega arith)
+    first_told : (i : ℕ) (v : View) → get_elem? (first_view n ∷ []) i ≡ some v → v.greatest_read ≤ 0
+    first_told zero v e = subst (λ (u : View). u.greatest_read ≤ 0) (some-injective (first_view n) v e) (omega arith)
     first_told (suc i) v e = absurd (some-ne-none v (sym e))
 
-pub splits : (n id : ℕ) (v : View) → 0 < v.seats → 0 < v.left → Splits (AreWords n) id v (cut_left v) (cut_right v)
+pub splits : (n id : ℕ) (v : View) → 0 < v.seats → 0 < v.seats_left → Splits (AreWords n) id v (cut_left v) (cut_right v)
 splits n id v alive more s h at =
     let kept = h.kept in let fits = kept.fit id v at in let l = cut_left v in let r = cut_right v in
-    let sums : (f : View → ℕ) → total f (set s.views id l ++ r ∷ []) + f v ≡ total f s.views + f l + f r = λ f. (let a = total_set f s.views id v l at in let b = total_snoc f (set s.views id l) r in omega (arith, a, b)) in
+    let sums : (f : View → ℕ) → sum_of f (set s.views id l ++ r ∷ []) + f v ≡ sum_of f s.views + f l + f r = λ f.
+    (let a = total_set f s.views id v l at in let b = total_snoc f (set s.views id l) r in omega (arith, a, b)) in
     let as_many = kept.as_many in let counted = kept.counted in let few = kept.few_seats in
-    let lengths = sums (λ (v : View). length v.drawn) in let pasts = sums (λ (v : View). v.past) in let seats = sums (λ (v : View). v.seats + v.left) in
-    let tops = greatest_set (λ (v : View). v.top) s.views id v l at in let snoc = greatest_snoc (λ (v : View). v.top) (set s.views id l) r in
-    let offer = kept.greatest_offer in let below = part_of_greatest (λ (v : View). v.top) s.views id v at in
-    let there = part_of_greatest (λ (v : View). v.top) (set s.views id l) id l (placed s.views id v l at) in
+    let lengths = sums (λ (v : View). length v.drawn) in let pasts = sums (λ (v : View). v.draws_past_the_end) in
+    let seats = sums (λ (v : View). v.seats + v.seats_left) in
+    let tops = greatest_set (λ (v : View). v.greatest_offer) s.views id v l at in
+    let snoc = greatest_snoc (λ (v : View). v.greatest_offer) (set s.views id l) r in
+    let offer = kept.greatest_offer in let below = part_of_greatest (λ (v : View). v.greatest_offer) s.views id v at in
+    let there = part_of_greatest (λ (v : View). v.greatest_offer) (set s.views id l) id l (placed s.views id v l at) in
     record {
       few_pieces = h.few_pieces;
       claim = h.claim;
@@ -231,20 +265,28 @@ splits n id v alive more s h at =
         fit = λ i u e.
             elim (at_snoc (set s.views id l) r u i e) [
               | inl old ↦ elim (at_set s.views id i l u old) [
-                | inl here ↦ subst (IsFit n) here.1 (record { spent = λ z. absurd (omega (arith, z, alive)); told_pieces = fits.told_pieces; few_past = fits.few_past })
+                | inl here ↦ subst (IsFit n) here.1 (record {
+                  spent = λ z. absurd (omega (arith, z, alive));
+                  told_pieces = fits.told_pieces;
+                  few_past = fits.few_past;
+                })
                 | inr other ↦ kept.fit i u other.1
               ]
-              | inr new ↦ subst (IsFit n) new (record { spent = λ z. absurd (omega arith); told_pieces = λ z. fits.told_pieces alive; few_past = omega arith })
+              | inr new ↦ subst (IsFit n) new (record {
+                spent = λ z. absurd (omega arith);
+                told_pieces = λ z. fits.told_pieces alive;
+                few_past = omega arith;
+              })
             ];
         few_seats = omega (arith, few, seats, more);
         greatest_offer = omega (arith, offer, tops, snoc, below, there);
         none_above = λ i u e.
             elim (at_snoc (set s.views id l) r u i e) [
               | inl old ↦ elim (at_set s.views id i l u old) [
-                | inl here ↦ subst (λ (x : View). x.told ≤ h.incumbent) here.1 (kept.none_above id v at)
+                | inl here ↦ subst (λ (x : View). x.greatest_read ≤ h.incumbent) here.1 (kept.none_above id v at)
                 | inr other ↦ kept.none_above i u other.1
               ]
-              | inr new ↦ subst (λ (x : View). x.told ≤ h.incumbent) new (omega arith)
+              | inr new ↦ subst (λ (x : View). x.greatest_read ≤ h.incumbent) new (omega arith)
             ];
       };
     }
@@ -254,27 +296,43 @@ joins n id other v w alive s h at apart there =
     let kept = h.kept in let fits = kept.fit id v at in let both = joined v w in
     let found : get_elem? s.views other ≡ some w = sym (set_else s.views id other both apart) ∙ there in
     let fits_w = kept.fit other w found in
-    let sums : (f : View → ℕ) → total f (set (set s.views id both) other spent_view) + f v + f w ≡ total f s.views + f both + f spent_view =
-    λ f. (let a = total_set f s.views id v both at in let b = total_set f (set s.views id both) other w spent_view there in omega (arith, a, b)) in
-    let as_many = kept.as_many in let counted = kept.counted in let few = kept.few_seats in let few_v = fits.few_past in let few_w = fits_w.few_past in
-    let lengths = sums (λ (v : View). length v.drawn) in let long = length-append v.drawn w.drawn in let pasts = sums (λ (v : View). v.past) in let seats = sums (λ (v : View). v.seats + v.left) in
-    let first = greatest_set (λ (v : View). v.top) s.views id v both at in let second = greatest_set (λ (v : View). v.top) (set s.views id both) other w spent_view there in
-    let offer = kept.greatest_offer in let below_v = part_of_greatest (λ (v : View). v.top) s.views id v at in let below_w = part_of_greatest (λ (v : View). v.top) s.views other w found in
-    let after = part_of_greatest (λ (v : View). v.top) (set (set s.views id both) other spent_view) id both (set_else (set s.views id both) other id spent_view (λ e. apart (sym e)) ∙ placed s.views id v both at) in
+    let sums : (f : View → ℕ) → sum_of f (set (set s.views id both) other spent_view) + f v + f w ≡ sum_of f
+    s.views + f both + f spent_view =
+    λ f. (let a = total_set f s.views id v both at in let b = total_set f (set s.views id both) other w spent_view
+    there in omega (arith, a, b)) in
+    let as_many = kept.as_many in let counted = kept.counted in let few = kept.few_seats in let few_v = fits.few_past in
+    let few_w = fits_w.few_past in
+    let lengths = sums (λ (v : View). length v.drawn) in let long = length-append v.drawn w.drawn in
+    let pasts = sums (λ (v : View). v.draws_past_the_end) in let seats = sums (λ (v : View). v.seats + v.seats_left) in
+    let first = greatest_set (λ (v : View). v.greatest_offer) s.views id v both at in
+    let second = greatest_set (λ (v : View). v.greatest_offer) (set s.views id both) other w spent_view there in
+    let offer = kept.greatest_offer in let below_v = part_of_greatest (λ (v : View). v.greatest_offer) s.views id v at in
+    let below_w = part_of_greatest (λ (v : View). v.greatest_offer) s.views other w found in
+    let after = part_of_greatest (λ (v : View). v.greatest_offer) (set (set s.views id both) other spent_view) id both
+    (set_else (set s.views id both) other id spent_view (λ e. apart (sym e)) ∙ placed s.views id v both at) in
     record {
       few_pieces = h.few_pieces;
       claim = h.claim;
       incumbent = h.incumbent;
       words = h.words;
       kept = record {
-        once = λ x. (let before = kept.once x in let now = sums (λ (v : View). times x v.drawn) in let more = times_append x v.drawn w.drawn in omega (arith, before, now, more));
+        once = λ x. (let before = kept.once x in let now = sums (λ (v : View). times x v.drawn) in let more = times_append x v.drawn
+            w.drawn in omega (arith, before, now, more));
         as_many = omega (arith, as_many, lengths, long);
         counted = omega (arith, counted, lengths, long, pasts);
         fit = λ i u e.
             elim (at_set (set s.views id both) other i spent_view u e) [
-              | inl here ↦ subst (IsFit n) here.1 (record { spent = λ z. refl; told_pieces = λ z. absurd (omega arith); few_past = omega arith })
+              | inl here ↦ subst (IsFit n) here.1 (record {
+                spent = λ z. refl;
+                told_pieces = λ z. absurd (omega arith);
+                few_past = omega arith;
+              })
               | inr rest ↦ elim (at_set s.views id i both u rest.1) [
-                | inl here ↦ subst (IsFit n) here.1 (record { spent = λ z. absurd (omega (arith, z, alive)); told_pieces = λ z. fits.told_pieces alive; few_past = omega (arith, few_v, few_w) })
+                | inl here ↦ subst (IsFit n) here.1 (record {
+                  spent = λ z. absurd (omega (arith, z, alive));
+                  told_pieces = λ z. fits.told_pieces alive;
+                  few_past = omega (arith, few_v, few_w);
+                })
                 | inr old ↦ kept.fit i u old.1
               ]
             ];
@@ -282,9 +340,10 @@ joins n id other v w alive s h at apart there =
         greatest_offer = omega (arith, offer, first, second, below_v, below_w, after);
         none_above = λ i u e.
             elim (at_set (set s.views id both) other i spent_view u e) [
-              | inl here ↦ subst (λ (x : View). x.told ≤ h.incumbent) here.1 (omega arith)
+              | inl here ↦ subst (λ (x : View). x.greatest_read ≤ h.incumbent) here.1 (omega arith)
               | inr rest ↦ elim (at_set s.views id i both u rest.1) [
-                | inl here ↦ subst (λ (x : View). x.told ≤ h.incumbent) here.1 (let a = kept.none_above id v at in let b = kept.none_above other w found in omega (arith, a, b))
+                | inl here ↦ subst (λ (x : View). x.greatest_read ≤ h.incumbent) here.1
+                    (let a = kept.none_above id v at in let b = kept.none_above other w found in omega (arith, a, b))
                 | inr old ↦ kept.none_above i u old.1
               ]
             ];
@@ -294,41 +353,45 @@ joins n id other v w alive s h at apart there =
 -- ---- the close
 
 -- where the seats of one view are all there are, every other view is spent
-pub closes : (n : ℕ) (s : State (Unit {0}) View) (i : ℕ) (v : View) → AreWords n s → get_elem? s.views i ≡ some v → v.seats + v.left ≡ most_seats → IsClosed n s.words v
+pub closes : (n : ℕ) (s : State (Unit {0}) View) (i : ℕ) (v : View) → AreWords n s → get_elem? s.views i ≡ some v
+    → v.seats + v.seats_left ≡ most_seats → IsClosed n s.words v
 closes n s i v h at all =
     let kept = h.kept in
     let claim_is : slice_index s.words 0 ≡ h.claim = ap (λ (ws : List ℕ). slice_index ws 0) h.words in
     let incumbent_is : slice_index s.words 1 ≡ h.incumbent = ap (λ (ws : List ℕ). slice_index ws 1) h.words in
     let rest = set s.views i spent_view in let few = kept.few_seats in
-    let seats = total_set (λ (v : View). v.seats + v.left) s.views i v spent_view at in
+    let seats = total_set (λ (v : View). v.seats + v.seats_left) s.views i v spent_view at in
     let spent : (j : ℕ) (u : View) → get_elem? rest j ≡ some u → u ≡ spent_view =
     λ j u e. elim (at_set s.views i j spent_view u e) [
       | inl here ↦ sym here.1
-      | inr other ↦ (let part = part_of_total (λ (v : View). v.seats + v.left) rest j u e in (kept.fit j u other.1).spent (omega (arith, part, seats, few, all)))
+      | inr other ↦ (let part = part_of_total (λ (v : View). v.seats + v.seats_left) rest j u e in (kept.fit j u other.1).spent
+          (omega (arith, part, seats, few, all)))
     ] in
-    let only : (f : View → ℕ) → f spent_view ≡ 0 → total f s.views ≡ f v =
-    λ f zero_is. (let none = total_none f rest (λ j u e. ap f (spent j u e) ∙ zero_is) in let changes = total_set f s.views i v spent_view at in omega (arith, none, changes, zero_is)) in
-    let lengths = only (λ (v : View). length v.drawn) refl in let pasts = only (λ (v : View). v.past) refl in
-    let tops = greatest_none (λ (v : View). v.top) rest (λ j u e. ap (λ (v : View). v.top) (spent j u e)) in
-    let top_set = greatest_set (λ (v : View). v.top) s.views i v spent_view at in
+    let only : (f : View → ℕ) → f spent_view ≡ 0 → sum_of f s.views ≡ f v =
+    λ f zero_is. (let none = total_none f rest (λ j u e. ap f (spent j u e) ∙ zero_is) in let changes = total_set f s.views i v spent_view
+    at in omega (arith, none, changes, zero_is)) in
+    let lengths = only (λ (v : View). length v.drawn) refl in let pasts = only (λ (v : View). v.draws_past_the_end) refl in
+    let tops = greatest_none (λ (v : View). v.greatest_offer) rest (λ j u e. ap (λ (v : View). v.greatest_offer) (spent j u e)) in
+    let top_set = greatest_set (λ (v : View). v.greatest_offer) s.views i v spent_view at in
     let as_many = kept.as_many in let counted = kept.counted in let offer = kept.greatest_offer in let told = kept.none_above i v at in
-    let top_is : h.incumbent ≡ v.top = omega (arith, tops, top_set, offer) in
+    let top_is : h.incumbent ≡ v.greatest_offer = omega (arith, tops, top_set, offer) in
     record {
       claim = omega (arith, claim_is, counted, lengths, pasts);
       each = λ past x.
           (let whole : min h.claim n ≡ n = omega (arith, as_many, counted, pasts, past) in
           sym (only (λ (v : View). times x v.drawn) refl) ∙ kept.once x ∙ ap (λ (k : ℕ). once_below x k) whole);
       incumbent = incumbent_is ∙ top_is;
-      told = omega (arith, told, top_is);
+      greatest_read = omega (arith, told, top_is);
     }
 
 -- the same of the words as they are read one by one
-pub closed_words : (n claim incumbent : ℕ) (words : List ℕ) (v : View) → IsClosed n words v → get_elem? words 0 ≡ some claim → get_elem? words 1 ≡ some incumbent → IsClosed n (claim ∷ incumbent ∷ []) v
+pub closed_words : (n claim incumbent : ℕ) (words : List ℕ) (v : View) → IsClosed n words v → get_elem? words 0 ≡ some claim
+    → get_elem? words 1 ≡ some incumbent → IsClosed n (claim ∷ incumbent ∷ []) v
 closed_words n claim incumbent [] v h first second = absurd (some-ne-none claim (sym first))
 closed_words n claim incumbent (x ∷ []) v h first second = absurd (some-ne-none incumbent (sym second))
 closed_words n claim incumbent (x ∷ y ∷ rest) v h first second = record {
   claim = sym (some-injective x claim first) ∙ h.claim;
   each = h.each;
   incumbent = sym (some-injective y incumbent second) ∙ h.incumbent;
-  told = h.told;
+  greatest_read = h.greatest_read;
 }

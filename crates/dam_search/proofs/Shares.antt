@@ -1,5 +1,6 @@
 -- Answers of a seat that draws one piece more, and of two seats that are joined.
-use Rattle.std.proofs.Common.{◌≡◌, ℕ, pos, cond, ◌==◌, ◌+◌, ◌-◌, ◌<◌, ◌≤◌, ◌^◌, max, List, [], ◌∷◌, ◌++◌, map, length, slice_index_or, ◌∙◌, ap, ap₂, sym, subst, refl, arith, length-append}
+use Rattle.std.proofs.Common.{◌≡◌, ℕ, pos, cond, ◌==◌, ◌+◌, ◌-◌, ◌<◌, ◌≤◌, ◌^◌, max, List, [], ◌∷◌, ◌++◌, map, length, slice_index_or, ◌∙◌}
+use Rattle.std.proofs.Common.{ap, ap₂, sym, subst, refl, arith, length-append}
 use Rattle.std.specs.List.{All}
 use Rattle.std.specs.Result.{IsErrOf}
 use Rattle.std.specs.declared.result.Result.{Result}
@@ -14,7 +15,7 @@ use Rattle.dam_search.specs.declared.view.View.{View}
 use Rattle.dam_search.specs.Piece.{welfare_found, IsSound, IsSpent}
 use Rattle.dam_blocks.specs.Selection.{choice}
 use Rattle.dam_search.specs.Answer.{IsReached, greatest_found}
-use Rattle.dam_search.specs.Search.{IsWorked, answers_about, AreOneEach, IsCollected}
+use Rattle.dam_search.specs.inside.Collect.{IsWorked, answers_about, AreOneEach, IsCollected}
 use Rattle.dam_search.specs.declared.fault.SearchFault.{SearchFault}
 use Rattle.dam_search.specs.declared.fault.SearchFault.TheVariants.{Collected}
 use Rattle.dam_blocks.specs.declared.selection.Best.{Best}
@@ -28,30 +29,40 @@ pub greatest_append : (xs ys : List PieceAnswer) → greatest_found (xs ++ ys) �
 greatest_append [] ys = omega arith
 greatest_append (x ∷ xs) ys = let rest = greatest_append xs ys in omega (arith, rest)
 
-read_more : (answers : List PieceAnswer) (told later : ℕ) → told ≤ later → All (λ (a : PieceAnswer). a.read ≤ told) answers → All (λ (a : PieceAnswer). a.read ≤ later) answers
-read_more answers told later le all = All-weaker (λ (a : PieceAnswer). a.read ≤ told) (λ (a : PieceAnswer). a.read ≤ later) (λ (a : PieceAnswer) (h : a.read ≤ told). omega (arith, h, le)) answers all
+read_more : (answers : List PieceAnswer) (told later : ℕ) → told ≤ later → All (λ (a : PieceAnswer). a.read ≤ told) answers
+    → All (λ (a : PieceAnswer). a.read ≤ later) answers
+read_more answers told later le all = All-weaker (λ (a : PieceAnswer). a.read ≤ told) (λ (a : PieceAnswer). a.read ≤ later)
+    (λ (a : PieceAnswer) (h : a.read ≤ told). omega (arith, h, le)) answers all
 
 -- a seat with the view w that drew the piece of the answer after v
-pub one_more : (problem : ProblemState) (depth nodes besides : ℕ) (v w : View) (answers : List PieceAnswer) (a : PieceAnswer) → AreAnswersOf problem depth nodes besides v answers
-    → w.drawn ≡ v.drawn ++ a.piece ∷ [] → w.told ≡ max v.told a.read → w.top ≡ max v.top (welfare_found a.best) → IsExplored problem depth nodes a → AreAnswersOf problem depth nodes besides w (answers ++ a ∷ [])
+pub one_more : (problem : ProblemState) (depth nodes besides : ℕ) (v w : View) (answers : List PieceAnswer) (a : PieceAnswer)
+    → AreAnswersOf problem depth nodes besides v answers
+    → w.drawn ≡ v.drawn ++ a.piece ∷ [] → w.greatest_read ≡ max v.greatest_read a.read
+    → w.greatest_offer ≡ max v.greatest_offer (welfare_found a.best) → IsExplored problem depth nodes a
+    → AreAnswersOf problem depth nodes besides w (answers ++ a ∷ [])
 one_more problem depth nodes besides v w answers a h drawn told top explored = record {
   pieces = map-append (λ (a : PieceAnswer). a.piece) answers (a ∷ []) ∙ ap (λ (xs : List ℕ). xs ++ a.piece ∷ []) h.pieces ∙ sym drawn;
   explored = All-push (λ (a : PieceAnswer). IsExplored problem depth nodes a) answers a h.explored explored;
-  told = All-push (λ (a : PieceAnswer). a.read ≤ w.told) answers a (read_more answers v.told w.told (omega (arith, told)) h.told) (omega (arith, told));
+  greatest_read = All-push (λ (a : PieceAnswer). a.read ≤ w.greatest_read) answers a
+      (read_more answers v.greatest_read w.greatest_read (omega (arith, told)) h.greatest_read) (omega (arith, told));
   offered = (let before = h.offered in let more = greatest_append answers (a ∷ []) in omega (arith, before, more, top));
 }
 
-pub both_answers : (problem : ProblemState) (depth nodes besides : ℕ) (v w : View) (xs ys : List PieceAnswer) → AreAnswersOf problem depth nodes besides v xs → AreAnswersOf problem depth nodes 0 w ys
+pub both_answers : (problem : ProblemState) (depth nodes besides : ℕ) (v w : View) (xs ys : List PieceAnswer)
+    → AreAnswersOf problem depth nodes besides v xs → AreAnswersOf problem depth nodes 0 w ys
     → AreAnswersOf problem depth nodes besides (joined v w) (xs ++ ys)
 both_answers problem depth nodes besides v w xs ys g h = record {
   pieces = map-append (λ (a : PieceAnswer). a.piece) xs ys ∙ ap₂ (λ (m n : List ℕ). m ++ n) g.pieces h.pieces;
   explored = All-append (λ (a : PieceAnswer). IsExplored problem depth nodes a) xs ys g.explored h.explored;
-  told = All-append (λ (a : PieceAnswer). a.read ≤ max v.told w.told) xs ys (read_more xs v.told (max v.told w.told) (omega arith) g.told) (read_more ys w.told (max v.told w.told) (omega arith) h.told);
+  greatest_read = All-append (λ (a : PieceAnswer). a.read ≤ max v.greatest_read w.greatest_read) xs ys
+      (read_more xs v.greatest_read (max v.greatest_read w.greatest_read) (omega arith) g.greatest_read)
+      (read_more ys w.greatest_read (max v.greatest_read w.greatest_read) (omega arith) h.greatest_read);
   offered = (let left = g.offered in let right = h.offered in let more = greatest_append xs ys in omega (arith, left, right, more));
 }
 
 -- the answer of a walk over a piece that was drawn
-pub explored_is : (problem : ProblemState) (depth nodes piece told : ℕ) (a : PieceAnswer) → a.piece ≡ piece → piece < 2 ^ depth → IsSound problem (choice depth piece) a.best a.read a.done
+pub explored_is : (problem : ProblemState) (depth nodes piece told : ℕ) (a : PieceAnswer) → a.piece ≡ piece → piece < 2 ^ depth
+    → IsSound problem (choice depth piece) a.best a.read a.done
     → IsSpent problem (choice depth piece) (length problem.blocks - depth) told nodes a.visited a.done → IsExplored problem depth nodes a
 explored_is problem depth nodes piece told a same within sound spent = record {
   in_cutting = subst (λ (n : ℕ). n < 2 ^ depth) (sym same) within;
@@ -60,101 +71,126 @@ explored_is problem depth nodes piece told a same within sound spent = record {
       (spent_less problem (choice depth piece) (length problem.blocks - depth) told nodes a.visited a.done spent);
 }
 
-pub none_yet : (problem : ProblemState) (depth nodes : ℕ) (v : View) → v.drawn ≡ [] → v.top ≡ 0 → AreAnswersOf problem depth nodes 0 v []
+pub none_yet : (problem : ProblemState) (depth nodes : ℕ) (v : View) → v.drawn ≡ [] → v.greatest_offer ≡ 0
+    → AreAnswersOf problem depth nodes 0 v []
 none_yet problem depth nodes v undrawn unoffered = record {
   pieces = sym undrawn;
   explored = λ k d l. absurd (omega arith);
-  told = λ k d l. absurd (omega arith);
+  greatest_read = λ k d l. absurd (omega arith);
   offered = omega (arith, unoffered);
 }
 
 -- the answers are as many as the pieces drawn
-pub as_many : (problem : ProblemState) (depth nodes besides : ℕ) (v : View) (answers : List PieceAnswer) → AreAnswersOf problem depth nodes besides v answers → length answers ≡ length v.drawn
-as_many problem depth nodes besides v answers h = sym (length-map answers (λ (a : PieceAnswer). a.piece)) ∙ ap (λ (xs : List ℕ). length xs) h.pieces
+pub as_many : (problem : ProblemState) (depth nodes besides : ℕ) (v : View) (answers : List PieceAnswer)
+    → AreAnswersOf problem depth nodes besides v answers → length answers ≡ length v.drawn
+as_many problem depth nodes besides v answers h =
+    sym (length-map answers (λ (a : PieceAnswer). a.piece)) ∙ ap (λ (xs : List ℕ). length xs) h.pieces
 
 -- a draw past the end changes nothing of the answers
-pub past_end : (problem : ProblemState) (depth nodes besides past : ℕ) (v w : View) (answers : List PieceAnswer) → w ≡ record v { past = past } → AreAnswersOf problem depth nodes besides v answers → AreAnswersOf problem depth nodes besides w answers
+pub past_end : (problem : ProblemState) (depth nodes besides past : ℕ) (v w : View) (answers : List PieceAnswer)
+    → w ≡ record v { draws_past_the_end = past } → AreAnswersOf problem depth nodes besides v answers
+    → AreAnswersOf problem depth nodes besides w answers
 past_end problem depth nodes besides past v w answers e h = record {
   pieces = h.pieces ∙ sym (ap (λ (u : View). u.drawn) e);
   explored = h.explored;
-  told = (let same = ap (λ (u : View). u.told) e in read_more answers v.told w.told (omega (arith, same)) h.told);
-  offered = ap (λ (u : View). u.top) e ∙ h.offered;
+  greatest_read = (let same = ap (λ (u : View). u.greatest_read) e in read_more answers v.greatest_read w.greatest_read
+      (omega (arith, same)) h.greatest_read);
+  offered = ap (λ (u : View). u.greatest_offer) e ∙ h.offered;
 }
 
 -- a seat with the view v that drew a piece, and then w, and then explored the piece
 pub record IsNext (v u : View) (piece : ℕ) : Type 0 where
   pub drawn : u.drawn ≡ v.drawn ++ piece ∷ []
-  pub past : u.past ≡ v.past
+  pub draws_past_the_end : u.draws_past_the_end ≡ v.draws_past_the_end
   pub pieces : u.pieces ≡ v.pieces
   pub seats : u.seats ≡ v.seats
-  pub left : u.left ≡ v.left
+  pub seats_left : u.seats_left ≡ v.seats_left
 
 pub next_view : (v w u : View) (piece : ℕ) → w ≡ record v { drawn = v.drawn ++ piece ∷ [] } → standing u ≡ standing w → IsNext v u piece
 next_view v w u piece e f = record {
   drawn = ap (λ (x : View). x.drawn) f ∙ ap (λ (x : View). x.drawn) e;
-  past = ap (λ (x : View). x.past) f ∙ ap (λ (x : View). x.past) e;
+  draws_past_the_end = ap (λ (x : View). x.draws_past_the_end) f ∙ ap (λ (x : View). x.draws_past_the_end) e;
   pieces = ap (λ (x : View). x.pieces) f ∙ ap (λ (x : View). x.pieces) e;
   seats = ap (λ (x : View). x.seats) f ∙ ap (λ (x : View). x.seats) e;
-  left = ap (λ (x : View). x.left) f ∙ ap (λ (x : View). x.left) e;
+  seats_left = ap (λ (x : View). x.seats_left) f ∙ ap (λ (x : View). x.seats_left) e;
 }
 
 -- a piece was drawn, and no more than there are
-pub one_drawn : (v w : View) (piece : ℕ) → w ≡ record v { drawn = v.drawn ++ piece ∷ [] } → length w.drawn ≤ w.pieces → length v.drawn + 1 ≤ v.pieces
+pub one_drawn : (v w : View) (piece : ℕ) → w ≡ record v { drawn = v.drawn ++ piece ∷ [] } → length w.drawn ≤ w.pieces
+    → length v.drawn + 1 ≤ v.pieces
 one_drawn v w piece e few =
-    let long = ap (λ (x : View). length x.drawn) e in let more = length-append v.drawn (piece ∷ []) in let pieces = ap (λ (x : View). x.pieces) e in omega (arith, few, long, more, pieces)
+    let long = ap (λ (x : View). length x.drawn) e in let more = length-append v.drawn (piece ∷ []) in
+    let pieces = ap (λ (x : View). x.pieces) e in omega (arith, few, long, more, pieces)
 
 pub none_joined : (problem : ProblemState) (depth nodes : ℕ) (v : View) → v.drawn ≡ [] → AreJoined problem depth nodes v 0 v []
 none_joined problem depth nodes v undrawn = record {
-  are_answers = record { pieces = sym undrawn; explored = λ k d l. absurd (omega arith); told = λ k d l. absurd (omega arith); offered = omega arith };
+  are_answers = record {
+    pieces = sym undrawn;
+    explored = λ k d l. absurd (omega arith);
+    greatest_read = λ k d l. absurd (omega arith);
+    offered = omega arith;
+  };
   seats = omega arith;
-  left = refl;
-  past = omega arith;
+  seats_left = refl;
+  draws_past_the_end = omega arith;
 }
 
-pub one_joined : (problem : ProblemState) (depth nodes : ℕ) (v : View) (workers : ℕ) (w u x : View) (xs ys : List PieceAnswer) → AreJoined problem depth nodes v workers w xs → u.seats ≡ 1 → u.left ≡ 0 → u.past ≡ 1
+pub one_joined : (problem : ProblemState) (depth nodes : ℕ) (v : View) (workers : ℕ) (w u x : View) (xs ys : List PieceAnswer)
+    → AreJoined problem depth nodes v workers w xs → u.seats ≡ 1 → u.seats_left ≡ 0 → u.draws_past_the_end ≡ 1
     → AreAnswersOf problem depth nodes 0 u ys → x ≡ joined w u → AreJoined problem depth nodes v (workers + 1) x (xs ++ ys)
 one_joined problem depth nodes v workers w u x xs ys h one none past are e =
-    let seats = h.seats in let left = h.left in let pasts = h.past in
+    let seats = h.seats in let left = h.seats_left in let pasts = h.draws_past_the_end in
     subst (λ (y : View). AreJoined problem depth nodes v (workers + 1) y (xs ++ ys)) (sym e)
-    (record { are_answers = both_answers problem depth nodes v.top w u xs ys h.are_answers are; seats = omega (arith, seats, one); left = omega (arith, left, none); past = omega (arith, pasts, past) })
+    (record {
+      are_answers = both_answers problem depth nodes v.greatest_offer w u xs ys h.are_answers are;
+      seats = omega (arith, seats, one);
+      seats_left = omega (arith, left, none);
+      draws_past_the_end = omega (arith, pasts, past);
+    })
 
 -- the first seat, which has offered at most
 pub record IsBegun (pieces : ℕ) (v : View) : Type 0 where
   pub pieces_are : v.pieces ≡ pieces
   pub undrawn : v.drawn ≡ []
-  pub going : v.past ≡ 0
+  pub going : v.draws_past_the_end ≡ 0
   pub seats : v.seats ≡ 1
-  pub left : v.left ≡ 8
+  pub seats_left : v.seats_left ≡ 8
 
 pub begun : (pieces : ℕ) (v w : View) → v ≡ first_view pieces → standing w ≡ standing v → IsBegun pieces w
 begun pieces v w e f = record {
   pieces_are = ap (λ (x : View). x.pieces) f ∙ ap (λ (x : View). x.pieces) e;
   undrawn = ap (λ (x : View). x.drawn) f ∙ ap (λ (x : View). x.drawn) e;
-  going = ap (λ (x : View). x.past) f ∙ ap (λ (x : View). x.past) e;
+  going = ap (λ (x : View). x.draws_past_the_end) f ∙ ap (λ (x : View). x.draws_past_the_end) e;
   seats = ap (λ (x : View). x.seats) f ∙ ap (λ (x : View). x.seats) e;
-  left = ap (λ (x : View). x.left) f ∙ ap (λ (x : View). x.left) e;
+  seats_left = ap (λ (x : View). x.seats_left) f ∙ ap (λ (x : View). x.seats_left) e;
 }
 
 -- at the close the answers are about every piece
-pub whole : (problem : ProblemState) (depth nodes first workers pieces : ℕ) (words : List ℕ) (v w : View) (answers : List PieceAnswer) → AreJoined problem depth nodes v workers w answers → v.past ≡ 0 → v.top ≡ first → 1 ≤ workers → pieces ≡ 2 ^ depth
+pub whole : (problem : ProblemState) (depth nodes first workers pieces : ℕ) (words : List ℕ) (v w : View) (answers : List PieceAnswer)
+    → AreJoined problem depth nodes v workers w answers → v.draws_past_the_end ≡ 0 → v.greatest_offer ≡ first → 1 ≤ workers
+    → pieces ≡ 2 ^ depth
     → IsClosed pieces words w → AreWhole problem depth nodes first answers
 whole problem depth nodes first workers pieces words v w answers h going top some e closed =
-    let past = h.past in let told = closed.told in let offered = h.are_answers.offered in
+    let past = h.draws_past_the_end in let told = closed.greatest_read in let offered = h.are_answers.offered in
     record {
-      each = λ x. ap (λ (xs : List ℕ). times x xs) h.are_answers.pieces ∙ closed.each (omega (arith, past, some)) x ∙ ap (λ (n : ℕ). once_below x n) e;
+      each = λ x. ap (λ (xs : List ℕ). times x xs) h.are_answers.pieces ∙ closed.each (omega (arith, past, some)) x
+          ∙ ap (λ (n : ℕ). once_below x n) e;
       explored = h.are_answers.explored;
-      told = read_more answers w.told (max first (greatest_found answers)) (omega (arith, told, offered, top)) h.are_answers.told;
+      greatest_read = read_more answers w.greatest_read (max first (greatest_found answers)) (omega (arith, told, offered, top))
+          h.are_answers.greatest_read;
     }
 
 -- what was read is no more than some eligible selection has
-pub all_worked : (problem : ProblemState) (depth nodes first : ℕ) (answers : List PieceAnswer) → IsReached problem first → AreWhole problem depth nodes first answers → All (λ (a : PieceAnswer). IsWorked problem depth nodes a) answers
+pub all_worked : (problem : ProblemState) (depth nodes first : ℕ) (answers : List PieceAnswer) → IsReached problem first
+    → AreWhole problem depth nodes first answers → All (λ (a : PieceAnswer). IsWorked problem depth nodes a) answers
 all_worked problem depth nodes first answers reached h =
-    let greatest = reached_greatest problem depth answers (reached_less problem first 0 (omega arith) reached) (λ k d l. (h.explored k d l).sound) in
+    let greatest = reached_greatest problem depth answers (reached_less problem first 0 (omega arith) reached)
+    (λ k d l. (h.explored k d l).sound) in
     let both = reached_greater problem first (greatest_found answers) reached greatest in
     λ k d l. (let explored = h.explored k d l in record {
       in_cutting = explored.in_cutting;
       sound = explored.sound;
-      reached = reached_less problem (max first (greatest_found answers)) (slice_index_or answers k d).read (h.told k d l) both;
+      reached = reached_less problem (max first (greatest_found answers)) (slice_index_or answers k d).read (h.greatest_read k d l) both;
       spent = explored.spent;
     })
 
@@ -163,17 +199,22 @@ first_reached problem b e = record { selection = b.selection; welfare = pos b.we
 
 -- ---- one answer about each piece
 
-about_times : (answers : List PieceAnswer) (piece : ℕ) → answers_about answers piece ≡ times piece (map (λ (a : PieceAnswer). a.piece) answers)
+about_times : (answers : List PieceAnswer) (piece : ℕ)
+    → answers_about answers piece ≡ times piece (map (λ (a : PieceAnswer). a.piece) answers)
 about_times [] piece = refl
 about_times (a ∷ answers) piece =
-    let f : PieceAnswer → ℕ = λ x. cond (x.piece == piece) 1 0 in let first = sum_by-append f (a ∷ []) answers in let rest = about_times answers piece in omega (arith, first, rest)
+    let f : PieceAnswer → ℕ = λ x. cond (x.piece == piece) 1 0 in let first = sum_by-append f (a ∷ []) answers in
+    let rest = about_times answers piece in omega (arith, first, rest)
 
 below_once : (x bound : ℕ) → x < bound → once_below x bound ≡ 1
 below_once x bound less = grind (arith, nat_tests, less)
 
-pub one_each : (problem : ProblemState) (depth nodes first : ℕ) (answers : List PieceAnswer) → AreWhole problem depth nodes first answers → AreOneEach answers (2 ^ depth)
+pub one_each : (problem : ProblemState) (depth nodes first : ℕ) (answers : List PieceAnswer) → AreWhole problem depth nodes first answers
+    → AreOneEach answers (2 ^ depth)
 one_each problem depth nodes first answers h piece less = about_times answers piece ∙ h.each piece ∙ below_once piece (2 ^ depth) less
 
 -- then no piece is faulty
-pub none_faulty : (depth : ℕ) (answers : List PieceAnswer) (result : Result Best SearchFault) (piece : ℕ) → IsCollected depth answers result → AreOneEach answers (2 ^ depth) → ¬ (IsErrOf result (Collected piece))
-none_faulty depth answers result piece h one e = let fault = subst (λ (r : Result Best SearchFault). IsCollected depth answers r) e h in fault.1.faulty (one piece fault.0)
+pub none_faulty : (depth : ℕ) (answers : List PieceAnswer) (result : Result Best SearchFault) (piece : ℕ) → IsCollected depth answers result
+    → AreOneEach answers (2 ^ depth) → ¬ (IsErrOf result (Collected piece))
+none_faulty depth answers result piece h one e =
+    let fault = subst (λ (r : Result Best SearchFault). IsCollected depth answers r) e h in fault.1.faulty (one piece fault.0)

@@ -1,5 +1,6 @@
 -- What one step of a walk costs, and two walks after one another.
-use Rattle.std.proofs.Common.{◌≡◌, ℕ, suc, ◌+◌, ◌-◌, ◌^◌, ◌<◌, ◌≤◌, ◌⊎◌, ℤ, pos, negsuc, Bool, true, false, not, Option, Some, None, List, [], ◌∷◌, ◌++◌, length, if◌then◌else◌, ◌∙◌, ap, subst, refl, arith}
+use Rattle.std.proofs.Common.{◌≡◌, ℕ, suc, ◌+◌, ◌-◌, ◌^◌, ◌<◌, ◌≤◌, ◌⊎◌, ℤ, pos, negsuc, Bool, true, false, not, Option, Some, None, List}
+use Rattle.std.proofs.Common.{[], ◌∷◌, ◌++◌, length, if◌then◌else◌, ◌∙◌, ap, subst, refl, arith}
 use Rattle.std.proofs.lemmas.Bool.Decides.{nat_tests}
 use Rattle.std.proofs.lemmas.Nat.{pow_pos}
 use Rattle.std.proofs.Math.Nat.{two-pow-succ}
@@ -22,21 +23,27 @@ reaches_less None value less h e = e
 reaches_less (Some (pos n)) value less h e = grind (arith, nat_tests)
 reaches_less (Some (negsuc n)) value less h e = absurd (cc)
 
-accepted_first : (problem : ProblemState) (prefix : List Bool) (value least left next : ℕ) → value ≤ least → reaches (relaxed_welfare problem prefix) least ≡ true → left ≡ suc next
-    → live_count problem value prefix left ≡ live_count problem value (prefix ++ true ∷ []) next + live_count problem value (prefix ++ false ∷ []) next + 1
+accepted_first : (problem : ProblemState) (prefix : List Bool) (value least left next : ℕ) → value ≤ least
+    → reaches (relaxed_welfare problem prefix) least ≡ true → left ≡ suc next
+    → live_count problem value prefix left ≡ live_count problem value (prefix ++ true ∷ []) next + live_count problem value
+    (prefix ++ false ∷ []) next + 1
 accepted_first problem prefix value least left next h r e =
     let alive = reaches_less (relaxed_welfare problem prefix) least value h r in
     ap (λ (n : ℕ). live_count problem value prefix n) e
-    ∙ ap (λ (b : Bool). live_count problem value (prefix ++ true ∷ []) next + live_count problem value (prefix ++ false ∷ []) next + (if b then 1 else 0)) alive
+    ∙ ap (λ (b : Bool). live_count problem value (prefix ++ true ∷ []) next + live_count problem value (prefix ++ false ∷ [])
+    next + (if b then 1 else 0)) alive
 
 -- the node reaches the value, and its two extensions are counted in either order
-pub live_here : (problem : ProblemState) (prefix : List Bool) (first : Bool) (value least left next : ℕ) → value ≤ least → reaches (relaxed_welfare problem prefix) least ≡ true → left ≡ suc next
-    → live_count problem value prefix left ≡ live_count problem value (prefix ++ first ∷ []) next + live_count problem value (prefix ++ not first ∷ []) next + 1
+pub live_here : (problem : ProblemState) (prefix : List Bool) (first : Bool) (value least left next : ℕ) → value ≤ least
+    → reaches (relaxed_welfare problem prefix) least ≡ true → left ≡ suc next
+    → live_count problem value prefix left ≡ live_count problem value (prefix ++ first ∷ []) next + live_count problem value
+    (prefix ++ not first ∷ []) next + 1
 live_here problem prefix true value least left next h r e = accepted_first problem prefix value least left next h r e
 live_here problem prefix false value least left next h r e = omega (arith, accepted_first problem prefix value least left next h r e)
 
 -- the limit was met before the node
-pub spends_none : (problem : ProblemState) (prefix : List Bool) (left told nodes before : ℕ) → before ≡ nodes → Spends problem prefix left told nodes before before false
+pub spends_none : (problem : ProblemState) (prefix : List Bool) (left told nodes before : ℕ) → before ≡ nodes
+    → Spends problem prefix left told nodes before before false
 spends_none problem prefix left told nodes before e =
     let some = two_or_more left in
     record {
@@ -50,7 +57,8 @@ spends_none problem prefix left told nodes before e =
     }
 
 -- no node was visited
-pub spends_nothing : (problem : ProblemState) (prefix : List Bool) (left told nodes before : ℕ) → before ≤ nodes → Spends problem prefix left told nodes before before true
+pub spends_nothing : (problem : ProblemState) (prefix : List Bool) (left told nodes before : ℕ) → before ≤ nodes
+    → Spends problem prefix left told nodes before before true
 spends_nothing problem prefix left told nodes before h =
     let some = two_or_more left in
     record {
@@ -64,7 +72,8 @@ spends_nothing problem prefix left told nodes before h =
     }
 
 -- the node alone was visited
-pub spends_one : (problem : ProblemState) (prefix : List Bool) (left told nodes before : ℕ) → before < nodes → Spends problem prefix left told nodes before (before + 1) true
+pub spends_one : (problem : ProblemState) (prefix : List Bool) (left told nodes before : ℕ) → before < nodes
+    → Spends problem prefix left told nodes before (before + 1) true
 spends_one problem prefix left told nodes before h =
     let some = two_or_more left in
     record {
@@ -82,7 +91,7 @@ pub reads_nothing : (left before after read told told' : ℕ) → read ≤ told 
     → Reads left before after read read told told'
 reads_nothing left before after read told told' h e none = record {
   grows = omega arith;
-  told = omega (arith, h, e);
+  greatest_read = omega (arith, h, e);
   kept = λ f. omega (arith, e, f);
   asked = λ more some. absurd (omega (arith, none, more, some));
   unvisited = λ f. refl;
@@ -95,7 +104,7 @@ pub reads_asked : (left before after read_before read_after told_before told_aft
     → Reads left before after read_before read_after told_before told_after
 reads_asked left before after read_before read_after told_before told_after some more h h' e = record {
   grows = omega (arith, h, h');
-  told = omega (arith, h', e);
+  greatest_read = omega (arith, h', e);
   kept = λ f. omega (arith, e);
   asked = λ m n. omega (arith, e);
   unvisited = λ f. absurd (omega (arith, f, more));
@@ -108,14 +117,17 @@ one_less n prefix b h = omega (arith, length_more prefix b)
 
 twice_over : (n : ℕ) (prefix : List Bool) (b : Bool) → length prefix < n
     → 2 ^ (n - length prefix + 1) ≡ 2 ^ (n - length (prefix ++ b ∷ []) + 1) + 2 ^ (n - length (prefix ++ b ∷ []) + 1)
-twice_over n prefix b h = ap (λ (k : ℕ). 2 ^ (k + 1)) (one_less n prefix b h) ∙ ap (λ (k : ℕ). 2 ^ k) (more (n - length (prefix ++ b ∷ []))) ∙ doubled (n - length (prefix ++ b ∷ []) + 1)
+twice_over n prefix b h = ap (λ (k : ℕ). 2 ^ (k + 1)) (one_less n prefix b h) ∙ ap (λ (k : ℕ). 2 ^ k) (more (n - length (prefix ++ b ∷ [])))
+    ∙ doubled (n - length (prefix ++ b ∷ []) + 1)
   where
     more : (k : ℕ) → suc k + 1 ≡ (k + 1) + 1
     more k = omega arith
 
 -- the node and the first of its extensions, where the limit was met
-pub spends_first : (problem : ProblemState) (prefix : List Bool) (first : Bool) (n told least nodes before after : ℕ) → length prefix < n → told ≤ least → reaches (relaxed_welfare problem prefix) least ≡ true
-    → Spends problem (prefix ++ first ∷ []) (n - length (prefix ++ first ∷ [])) least nodes (before + 1) after false → Spends problem prefix (n - length prefix) told nodes before after false
+pub spends_first : (problem : ProblemState) (prefix : List Bool) (first : Bool) (n told least nodes before after : ℕ) → length prefix < n
+    → told ≤ least → reaches (relaxed_welfare problem prefix) least ≡ true
+    → Spends problem (prefix ++ first ∷ []) (n - length (prefix ++ first ∷ [])) least nodes (before + 1) after false
+    → Spends problem prefix (n - length prefix) told nodes before after false
 spends_first problem prefix first n told least nodes before after few h r s =
     let next = n - length (prefix ++ first ∷ []) in
     let less = one_less n prefix first few in
@@ -126,7 +138,8 @@ spends_first problem prefix first n told least nodes before after few h r s =
       grows = omega (arith, grows);
       within = s.within;
       all = omega (arith, all, twice, some);
-      live = λ v m. (let m' : v ≤ least = omega (arith, m, h) in let l = s.live v m' in let here = live_here problem prefix first v least (n - length prefix) next m' r less in omega (arith, l, here));
+      live = λ v m. (let m' : v ≤ least = omega (arith, m, h) in let l = s.live v m' in let here = live_here problem prefix first v least
+          (n - length prefix) next m' r less in omega (arith, l, here));
       unfinished = λ f. s.unfinished refl;
       over_all = λ f. omega (arith, over, twice, some);
       over_live = λ f v m. (let m' : v ≤ least = omega (arith, m, h) in let l = s.over_live refl v m' in
@@ -134,14 +147,16 @@ spends_first problem prefix first n told least nodes before after few h r s =
     }
 
 -- the node and both of its extensions
-pub spends_both : (problem : ProblemState) (prefix : List Bool) (first : Bool) (n told least later nodes before middle after : ℕ) (done : Bool) → length prefix < n → told ≤ least → least ≤ later
+pub spends_both : (problem : ProblemState) (prefix : List Bool) (first : Bool) (n told least later nodes before middle after : ℕ)
+    (done : Bool) → length prefix < n → told ≤ least → least ≤ later
     → reaches (relaxed_welfare problem prefix) least ≡ true
     → Spends problem (prefix ++ first ∷ []) (n - length (prefix ++ first ∷ [])) least nodes (before + 1) middle true
     → Spends problem (prefix ++ not first ∷ []) (n - length (prefix ++ not first ∷ [])) later nodes middle after done
     → Spends problem prefix (n - length prefix) told nodes before after done
 spends_both problem prefix first n told least later nodes before middle after done few h h' r s t' =
     let next = n - length (prefix ++ first ∷ []) in
-    let same : n - length (prefix ++ not first ∷ []) ≡ next = omega (arith, one_less n prefix first few, one_less n prefix (not first) few) in
+    let same : n - length (prefix ++ not first ∷ []) ≡ next = omega
+    (arith, one_less n prefix first few, one_less n prefix (not first) few) in
     let t = subst (λ (k : ℕ). Spends problem (prefix ++ not first ∷ []) k later nodes middle after done) same t' in
     let less = one_less n prefix first few in
     let twice = twice_over n prefix first few in
@@ -151,15 +166,18 @@ spends_both problem prefix first n told least later nodes before middle after do
       within = t.within;
       all = omega (arith, all, all', twice);
       live = λ v m. (let m' : v ≤ least = omega (arith, m, h) in let l' : v ≤ later = omega (arith, m', h') in
-          let one = s.live v m' in let two = t.live v l' in let here = live_here problem prefix first v least (n - length prefix) next m' r less in omega (arith, one, two, here));
+          let one = s.live v m' in let two = t.live v l' in
+          let here = live_here problem prefix first v least (n - length prefix) next m' r less in omega (arith, one, two, here));
       unfinished = t.unfinished;
       over_all = λ f. (let over = t.over_all f in omega (arith, over, all, twice));
       over_live = λ f v m. (let m' : v ≤ least = omega (arith, m, h) in let l' : v ≤ later = omega (arith, m', h') in
-          let one = s.live v m' in let two = t.over_live f v l' in let here = live_here problem prefix first v least (n - length prefix) next m' r less in omega (arith, one, two, here));
+          let one = s.live v m' in let two = t.over_live f v l' in
+          let here = live_here problem prefix first v least (n - length prefix) next m' r less in omega (arith, one, two, here));
     }
 
 -- a whole walk, before which nothing was visited
-pub spent_from : (problem : ProblemState) (prefix : List Bool) (left told nodes visited : ℕ) (done : Bool) → Spends problem prefix left told nodes 0 visited done
+pub spent_from : (problem : ProblemState) (prefix : List Bool) (left told nodes visited : ℕ) (done : Bool)
+    → Spends problem prefix left told nodes 0 visited done
     → IsSpent problem prefix left told nodes visited done
 spent_from problem prefix left told nodes visited done s =
     let all = s.all in let some = two_or_more left in

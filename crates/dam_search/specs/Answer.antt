@@ -1,7 +1,7 @@
--- The answers about the pieces of a search, and what they come to.
-use Rattle.std.specs.Prelude.{◌≡◌, ℕ, ◌^◌, ◌<◌, max, ℤ, pos, ◌≤ℤ◌, Bool, true, Some, List, [], ◌∷◌, All, Contains}
+-- The answers about the pieces of a search, and which of them settle its result.
+use Rattle.std.specs.Prelude.{◌≡◌, ℕ, ◌^◌, ◌<◌, ◌≤◌, max, ℤ, pos, ◌≤ℤ◌, Bool, true, Some, List, [], ◌∷◌, length, All, Contains}
 use Rattle.dam_blocks.specs.declared.selection.Best.{Best}
-use Rattle.dam_blocks.specs.Problem.{ProblemState}
+use Rattle.dam_blocks.specs.Problem.{ProblemState, IsProblem}
 use Rattle.dam_blocks.specs.Selection.{choice}
 use Rattle.dam_blocks.specs.Eligible.{IsEligible}
 use Rattle.dam_search.specs.declared.answer.PieceAnswer.{PieceAnswer}
@@ -26,7 +26,16 @@ pub record IsReached (problem : ProblemState) (value : ℕ) : Type 0 where
   pub eligible : IsEligible problem selection welfare
   pub reaches : pos value ≤ℤ welfare
 
--- the greatest welfare of what the answers found, 0 where they found nothing
+-- answers that settle which selection is the result: about every piece of the problem's cutting,
+-- sound and done, and none of them read more than some eligible selection has
+pub record AreConclusive (problem : ProblemState) (depth : ℕ) (answers : List PieceAnswer)
+    : Type 0 where
+  pub is_problem : IsProblem problem
+  pub in_blocks : depth ≤ length problem.blocks
+  pub answered : AreAnswered problem depth answers
+  pub reached : All (λ (a : PieceAnswer). IsReached problem a.read) answers
+
+-- the greatest welfare of what the answers found, 0 if they found nothing
 abbrev pub greatest_found : List PieceAnswer → ℕ
 greatest_found [] = 0
 greatest_found (a ∷ answers) = max (welfare_found a.best) (greatest_found answers)

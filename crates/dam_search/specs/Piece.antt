@@ -7,8 +7,8 @@ use Rattle.dam_blocks.specs.Result.{RanksAtOrBelow}
 use Rattle.dam_bound.specs.Prefix.{IsCompletion}
 use Rattle.dam_bound.specs.Relaxed.{live_count}
 
--- A cutting of a depth decides so many of the first blocks. Its pieces are the completions of the
--- prefixes of that length; that of piece j is `choice depth j`.
+-- A cutting of depth k decides the first k blocks. Its pieces are the completions of the prefixes of
+-- that length; that of piece j is `choice depth j`.
 
 -- what was found: nothing, or an eligible completion of the prefix with its welfare
 abbrev pub IsFind : ProblemState → List Bool → Option Best → Type 0
@@ -26,12 +26,12 @@ abbrev pub Rises : Option Best → Option Best → Type 0
 Rises None next = Unit {0}
 Rises (Some b) next = IsMatched (pos b.welfare) b.selection next
 
--- the welfare of what was found, 0 where nothing was
+-- the welfare of what was found, 0 if nothing was
 abbrev pub welfare_found : Option Best → ℕ
 welfare_found None = 0
 welfare_found (Some b) = b.welfare
 
--- a sound answer about the completions of this prefix: what was found is one of them, and where the
+-- a sound answer about the completions of this prefix: what was found is one of them, and if the
 -- answer is done, each eligible one ranks at or below it or has less welfare than the value read
 pub record IsSound (problem : ProblemState) (prefix : List Bool) (best : Option Best) (read : ℕ)
     (done : Bool) : Type 0 where
@@ -40,22 +40,23 @@ pub record IsSound (problem : ProblemState) (prefix : List Bool) (best : Option 
       → IsEligible problem sel welfare
       → (welfare <ℤ pos read) ⊎ IsMatched welfare sel best
 
--- how many nodes there are at most where so many blocks are undecided
+-- how many nodes there are at most if this number of blocks is undecided
 abbrev pub all_nodes : ℕ → ℕ
 all_nodes left = 2 ^ (left + 1) - 1
 
--- how many nodes are visited at most where so many blocks are undecided and a value was read before
+-- how many nodes are visited at most if this number of blocks is undecided and the value was read
+-- before
 abbrev pub live_nodes : ProblemState → ℕ → List Bool → ℕ → ℕ
 live_nodes problem value prefix left = 1 + 2 * live_count problem value prefix left
 
--- what a walk over the completions of this prefix has cost, where a value was read before it and it
--- may visit so many nodes
-pub record IsSpent (problem : ProblemState) (prefix : List Bool) (left told nodes visited : ℕ)
-    (done : Bool) : Type 0 where
+-- what a walk over the completions of this prefix has cost, if the greatest value read before it is
+-- this and it may visit this number of nodes
+pub record IsSpent (problem : ProblemState) (prefix : List Bool)
+    (left greatest_read nodes visited : ℕ) (done : Bool) : Type 0 where
   pub within : visited ≤ nodes
   pub all : visited ≤ all_nodes left
-  pub live : (value : ℕ) → value ≤ told → visited ≤ live_nodes problem value prefix left
+  pub live : (value : ℕ) → value ≤ greatest_read → visited ≤ live_nodes problem value prefix left
   pub unfinished : done ≡ false → visited ≡ nodes
   pub done_by_all : all_nodes left ≤ nodes → done ≡ true
-  pub done_by_live : (value : ℕ) → value ≤ told → live_nodes problem value prefix left ≤ nodes
-      → done ≡ true
+  pub done_by_live : (value : ℕ) → value ≤ greatest_read
+      → live_nodes problem value prefix left ≤ nodes → done ≡ true

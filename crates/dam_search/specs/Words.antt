@@ -4,15 +4,16 @@ use Rattle.std.specs.Prelude.{◌≡◌, ℕ, ◌+◌, ◌-◌, ◌^◌, ◌<◌
 use mathlib.Core.Option.{some}
 use lib.ListN.{get_elem?}
 use Rattle.atomic_table.specs.Table.{State, Me, Step}
+use Rattle.atomic_table.specs.declared.shared.Seat.{Seat}
 use Rattle.dam_search.specs.declared.view.View.{View}
 use Rattle.dam_plan.specs.Limits.{most_workers, most_cut}
 
 -- a number of each view, added up
-abbrev pub total : (View → ℕ) → List View → ℕ
-total f [] = 0
-total f (v ∷ views) = f v + total f views
+abbrev pub sum_of : (View → ℕ) → List View → ℕ
+sum_of f [] = 0
+sum_of f (v ∷ views) = f v + sum_of f views
 
--- a number of each view, the greatest of them, 0 where there is none
+-- a number of each view, the greatest of them, 0 if there is none
 abbrev pub greatest : (View → ℕ) → List View → ℕ
 greatest f [] = 0
 greatest f (v ∷ views) = max (f v) (greatest f views)
@@ -22,7 +23,7 @@ abbrev pub times : ℕ → List ℕ → ℕ
 times x [] = 0
 times x (y ∷ ys) = (if y == x then 1 else 0) + times x ys
 
--- 1 where the number is under the bound, and else 0
+-- 1 if the number is under the bound, and otherwise 0
 abbrev pub once_below : ℕ → ℕ → ℕ
 once_below x bound = if nat_lt x bound then 1 else 0
 
@@ -35,16 +36,20 @@ most_seats = most_workers + 1
 
 -- ---- the views
 
--- a new seat, which may split off so many others
+-- what a seat knows
+abbrev pub view_of : Seat (Unit {0}) View → View
+view_of seat = seat.me.0
+
+-- a new seat, off which this number of others may be split
 abbrev pub new_view : ℕ → ℕ → View
 new_view pieces left = record {
   pieces = pieces;
   drawn = [];
-  past = 0;
+  draws_past_the_end = 0;
   seats = 1;
-  left = left;
-  top = 0;
-  told = 0;
+  seats_left = left;
+  greatest_offer = 0;
+  greatest_read = 0;
 }
 
 -- the first seat
@@ -53,17 +58,25 @@ first_view pieces = new_view pieces most_workers
 
 -- a seat that was joined into another
 abbrev pub spent_view : View
-spent_view = record { pieces = 0; drawn = []; past = 0; seats = 0; left = 0; top = 0; told = 0 }
+spent_view = record {
+  pieces = 0;
+  drawn = [];
+  draws_past_the_end = 0;
+  seats = 0;
+  seats_left = 0;
+  greatest_offer = 0;
+  greatest_read = 0;
+}
 
 -- a draw that found this number in the claim word
 abbrev pub drawn_after : View → ℕ → View
 drawn_after v found =
     if nat_lt found v.pieces then record v { drawn = v.drawn ++ found ∷ [] }
-    else record v { past = v.past + 1 }
+    else record v { draws_past_the_end = v.draws_past_the_end + 1 }
 
 -- the giver, and the seat that is split off it
 abbrev pub cut_left : View → View
-cut_left v = record v { left = v.left - 1 }
+cut_left v = record v { seats_left = v.seats_left - 1 }
 
 abbrev pub cut_right : View → View
 cut_right v = new_view v.pieces 0
@@ -73,16 +86,16 @@ abbrev pub joined : View → View → View
 joined v w = record {
   pieces = v.pieces;
   drawn = v.drawn ++ w.drawn;
-  past = v.past + w.past;
+  draws_past_the_end = v.draws_past_the_end + w.draws_past_the_end;
   seats = v.seats + w.seats;
-  left = v.left + w.left;
-  top = max v.top w.top;
-  told = max v.told w.told;
+  seats_left = v.seats_left + w.seats_left;
+  greatest_offer = max v.greatest_offer w.greatest_offer;
+  greatest_read = max v.greatest_read w.greatest_read;
 }
 
 -- what neither a read nor an offer changes of a view
 abbrev pub standing : View → View
-standing v = record v { top = 0; told = 0 }
+standing v = record v { greatest_offer = 0; greatest_read = 0 }
 
 -- ---- the rule
 
@@ -91,22 +104,23 @@ standing v = record v { top = 0; told = 0 }
 pub record IsFit (pieces : ℕ) (v : View) : Type 0 where
   pub spent : v.seats ≡ 0 → v ≡ spent_view
   pub told_pieces : 0 < v.seats → v.pieces ≡ pieces
-  pub few_past : v.past ≤ v.seats
+  pub few_past : v.draws_past_the_end ≤ v.seats
 
 -- the two words, and all views
 pub record AreWordsOf (pieces claim incumbent : ℕ) (views : List View) : Type 0 where
   -- what was drawn: each piece under the claim word once, and nothing else
   pub once : (x : ℕ)
-      → total (λ (v : View). times x v.drawn) views ≡ once_below x (min claim pieces)
-  pub as_many : total (λ (v : View). length v.drawn) views ≡ min claim pieces
+      → sum_of (λ (v : View). times x v.drawn) views ≡ once_below x (min claim pieces)
+  pub as_many : sum_of (λ (v : View). length v.drawn) views ≡ min claim pieces
   -- the claim word counts the draws
   pub counted : claim
-      ≡ total (λ (v : View). length v.drawn) views + total (λ (v : View). v.past) views
+      ≡ sum_of (λ (v : View). length v.drawn) views
+      + sum_of (λ (v : View). v.draws_past_the_end) views
   pub fit : (i : ℕ) (v : View) → get_elem? views i ≡ some v → IsFit pieces v
-  pub few_seats : total (λ (v : View). v.seats + v.left) views ≤ most_seats
+  pub few_seats : sum_of (λ (v : View). v.seats + v.seats_left) views ≤ most_seats
   -- the incumbent word is the greatest offer, and nothing that was read exceeds it
-  pub greatest_offer : incumbent ≡ greatest (λ (v : View). v.top) views
-  pub none_above : (i : ℕ) (v : View) → get_elem? views i ≡ some v → v.told ≤ incumbent
+  pub greatest_offer : incumbent ≡ greatest (λ (v : View). v.greatest_offer) views
+  pub none_above : (i : ℕ) (v : View) → get_elem? views i ≡ some v → v.greatest_read ≤ incumbent
 
 pub record AreWords (pieces : ℕ) (s : State (Unit {0}) View) : Type 0 where
   pub few_pieces : pieces ≤ most_pieces
@@ -115,7 +129,7 @@ pub record AreWords (pieces : ℕ) (s : State (Unit {0}) View) : Type 0 where
   pub words : s.words ≡ claim ∷ incumbent ∷ []
   pub kept : AreWordsOf pieces claim incumbent s.views
 
--- ---- what a step tells the seat that steps: its view before, the number found, its view after
+-- ---- what a seat learns of its own step: its view before, the number found, its view after
 
 -- the number found is a piece that joins those drawn, or a draw past the last one
 abbrev pub IsDrawn : Me (Unit {0}) View → ℕ → Me (Unit {0}) View → Type 0
@@ -126,20 +140,22 @@ IsDrawn before found after =
 -- the value found is the greatest read so far
 abbrev pub IsRead : Me (Unit {0}) View → ℕ → Me (Unit {0}) View → Type 0
 IsRead before found after =
-    (before.0.told ≤ found) × (after.0 ≡ record before.0 { told = found }) × (after.1 ≡ before.1)
+    (before.0.greatest_read ≤ found) × (after.0 ≡ record before.0 { greatest_read = found })
+    × (after.1 ≡ before.1)
 
 -- the offer is among those made
 abbrev pub IsOffered : Step (Unit {0}) → Me (Unit {0}) View → ℕ → Me (Unit {0}) View → Type 0
 IsOffered step before found after =
-    (after.0 ≡ record before.0 { top = max before.0.top step.first }) × (after.1 ≡ before.1)
+    (after.0 ≡ record before.0 { greatest_offer = max before.0.greatest_offer step.first })
+    × (after.1 ≡ before.1)
 
 -- ---- the close
 
--- what the words hold at the close, where all seats were joined into the one of this view: the
+-- what the words hold at the close, if all seats were joined into the one of this view: the
 -- claim word counts its draws, which were each piece once if one was past the end; the
 -- incumbent word is its greatest offer, and it read no more than that
 pub record IsClosed (pieces : ℕ) (words : List ℕ) (v : View) : Type 0 where
-  pub claim : slice_index words 0 ≡ length v.drawn + v.past
-  pub each : 0 < v.past → (x : ℕ) → times x v.drawn ≡ once_below x pieces
-  pub incumbent : slice_index words 1 ≡ v.top
-  pub told : v.told ≤ v.top
+  pub claim : slice_index words 0 ≡ length v.drawn + v.draws_past_the_end
+  pub each : 0 < v.draws_past_the_end → (x : ℕ) → times x v.drawn ≡ once_below x pieces
+  pub incumbent : slice_index words 1 ≡ v.greatest_offer
+  pub greatest_read : v.greatest_read ≤ v.greatest_offer

@@ -1,5 +1,5 @@
 -- A worker's whole share of a search.
-use Rattle.std.specs.Prelude.{◌≡◌, ℕ, ◌-◌, ◌^◌, ◌<◌, ◌≤◌, max, List, map, length, All}
+use Rattle.std.specs.Prelude.{◌≡◌, ℕ, ◌-◌, ◌^◌, ◌<◌, ◌≤◌, max, List, [], map, length, All}
 use Rattle.dam_blocks.specs.Problem.{ProblemState}
 use Rattle.dam_blocks.specs.Selection.{choice}
 use Rattle.dam_search.specs.declared.answer.PieceAnswer.{PieceAnswer}
@@ -14,12 +14,19 @@ pub record IsExplored (problem : ProblemState) (depth nodes : ℕ) (a : PieceAns
   pub spent : IsSpent problem (choice depth a.piece) (length problem.blocks - depth) 0 nodes
       a.visited a.done
 
+-- a seat for this number of pieces, which drew and offered nothing
+pub record IsFresh (pieces : ℕ) (v : View) : Type 0 where
+  pub pieces_are : v.pieces ≡ pieces
+  pub undrawn : v.drawn ≡ []
+  pub going : v.draws_past_the_end ≡ 0
+  pub unoffered : v.greatest_offer ≡ 0
+
 -- the answers about the pieces that a seat drew, in the order of its draws; it offered the
 -- greatest welfare that they found, or what was offered besides, and none of them read more
--- than it was told
+-- than it did
 pub record AreAnswersOf (problem : ProblemState) (depth nodes besides : ℕ) (v : View)
     (answers : List PieceAnswer) : Type 0 where
   pub pieces : map (λ (a : PieceAnswer). a.piece) answers ≡ v.drawn
   pub explored : All (λ (a : PieceAnswer). IsExplored problem depth nodes a) answers
-  pub told : All (λ (a : PieceAnswer). a.read ≤ v.told) answers
-  pub offered : v.top ≡ max besides (greatest_found answers)
+  pub greatest_read : All (λ (a : PieceAnswer). a.read ≤ v.greatest_read) answers
+  pub offered : v.greatest_offer ≡ max besides (greatest_found answers)

@@ -2,7 +2,8 @@ ghost use Rattle.std.specs.Prelude.{◌≡◌, ◌≤◌, max, ℕ, pos, true, [
 ghost use Rattle.dam_blocks.specs.Result.{IsResult};
 ghost use Rattle.dam_search.specs.Answer.{IsReached};
 ghost use Rattle.dam_search.specs.Piece.{IsSound, welfare_found};
-ghost use Rattle.dam_search.specs.Search.{IsUnfinished, IsWorked};
+ghost use Rattle.dam_search.specs.Search.{IsUnfinished};
+ghost use Rattle.dam_search.specs.inside.Collect.{IsWorked};
 
 use crate::answer::PieceAnswer;
 use crate::fault::SearchFault;
@@ -10,11 +11,12 @@ use crate::first::first_selection;
 use crate::incumbent::{Incumbent, Private};
 use crate::laws;
 use crate::piece::search_piece;
+use crate::space::kept;
 use dam_blocks::{Best, Problem};
 use dam_bound::Relaxed;
 use std::alloc::Global;
 
-/// What a finished walk over the one piece found, if this welfare was offered before it.
+/// The selection that a finished walk over the one piece found, if this welfare was offered before it.
 fn only_best(problem: &Problem, first: u64, answer: &PieceAnswer) -> Best
     requires piece { answer.now.piece ≡ 0 }
     requires sound { IsSound problem.now [] answer.now.best answer.now.read answer.now.done }
@@ -24,15 +26,14 @@ fn only_best(problem: &Problem, first: u64, answer: &PieceAnswer) -> Best
     ensures { IsResult problem.now result.selection (pos result.welfare) }
 {
     laws::collecting();
-    // What every problem keeps, as a clause of this reader tells it.
-    let _kept = problem.periods();
+    kept(problem);
     match answer.best {
         Some(best) => best,
         None => unreachable!(),
     }
 }
 
-/// What the walk over the one piece comes to, if this welfare was offered before it.
+/// The result of the walk over the one piece, or its fault, if this welfare was offered before it.
 fn concluded(
     problem: &Problem,
     first: u64,

@@ -3,17 +3,23 @@ ghost use Rattle.std.specs.Prelude.{MatchOption, IfOk, IsErrOf};
 ghost use Rattle.dam_blocks.specs.Result.{IsResult};
 ghost use Rattle.dam_plan.specs.Limits.{most_cut};
 ghost use Rattle.dam_search.specs.Piece.{Rises};
-ghost use Rattle.dam_search.specs.Search.{IsWorked, answers_about, AreOneEach, IsFirstFaulty};
-ghost use Rattle.dam_search.specs.Search.{IsLeastUnfinished, IsUnfinished, IsCollected};
+ghost use Rattle.dam_search.specs.Search.{IsUnfinished};
+ghost use Rattle.dam_search.specs.inside.Collect.{IsWorked, AreOneEach, IsFirstFaulty, AreCounts};
+ghost use Rattle.dam_search.specs.inside.Collect.{is_lesser, IsLeastUnfinished};
+ghost use Rattle.dam_search.specs.inside.Collect.{IsLong, IsHighestFound, IsCollected};
 ghost use Rattle.dam_search.specs.Words.{most_pieces};
-ghost use Rattle.dam_search.specs.inside.Collect.{is_lesser, IsLong, IsHighestFound};
 
 use crate::answer::PieceAnswer;
 use crate::fault::SearchFault;
 use crate::laws;
 use crate::piece::surpasses;
+use crate::space::kept;
 use dam_blocks::{Best, Problem};
+use dam_plan::MOST_CUT;
 use std::alloc::Allocator;
+
+/// The most pieces that a search is cut into.
+const MOST_PIECES: usize = 1 << MOST_CUT;
 
 /// The number of pieces of a cutting of this depth.
 pub(crate) fn pieces(depth: usize) -> u32
@@ -24,23 +30,28 @@ pub(crate) fn pieces(depth: usize) -> u32
     1 << depth
 }
 
-/// How many answers there are about a piece.
-fn answers_about(answers: &[PieceAnswer], piece: u32) -> usize
-    ensures { result ≡ answers_about answers.now piece }
+/// How many answers there are about each piece, of which there are at most 256.
+fn counts_of(answers: &[PieceAnswer]) -> [usize; MOST_PIECES]
+    requires { All (λ a. a.piece < most_pieces) answers.now }
+    ensures { AreCounts answers.now result }
 {
-    answers
-        .iter()
-        .filter(|answer| answer.piece == piece)
-        .count()
+    let mut counts = [0; MOST_PIECES];
+    for answer in answers {
+        counts[answer.piece as usize] += 1;
+    }
+    counts
 }
 
 /// The first piece that has no answer or more than one.
 fn first_faulty(answers: &[PieceAnswer], pieces: u32) -> Option<u32>
+    requires few { pieces ≤ most_pieces }
+    requires in_cutting { All (λ a. a.piece < most_pieces) answers.now }
     ensures { MatchOption result (AreOneEach answers.now pieces)
         (λ piece. (piece < pieces) × IsFirstFaulty answers.now piece) }
 {
+    let counts = counts_of(answers);
     for piece in 0..pieces {
-        if answers_about(answers, piece) != 1 {
+        if counts[piece as usize] != 1 {
             return Some(piece);
         }
     }
@@ -99,8 +110,8 @@ fn highest(answers: &[PieceAnswer]) -> Option<Best>
     best
 }
 
-/// What the workers' answers come to: the result, or the first fault. The first piece that lacks an
-/// answer or has several comes before the least one that is unfinished.
+/// The result of the workers' answers, or the first fault. The first piece that lacks an answer or
+/// has several comes before the least one that is unfinished.
 pub(crate) fn collected<A: Allocator>(
     problem: &Problem<A>,
     depth: usize,
@@ -117,8 +128,7 @@ pub(crate) fn collected<A: Allocator>(
         → IsUnfinished problem.now depth nodes piece visited }
 {
     laws::collecting();
-    // What every problem keeps, as a clause of this reader tells it.
-    let _kept = problem.periods();
+    kept(problem);
     if let Some(piece) = first_faulty(answers, pieces(depth)) {
         return Err(SearchFault::Collected { piece });
     }

@@ -13,7 +13,8 @@ ghost use Rattle.dam_blocks.specs.Problem.{ProblemState, IsProblem};
 ghost use Rattle.dam_blocks.specs.Result.{IsResult};
 ghost use Rattle.dam_search.specs.declared.answer.PieceAnswer.{PieceAnswer};
 ghost use Rattle.dam_plan.specs.Limits.{most_workers, most_cut, most_nodes};
-ghost use Rattle.dam_search.specs.Answer.{AreAnswered, IsReached, greatest_found, IsHighest};
+ghost use Rattle.dam_search.specs.Answer.{AreAnswered, AreConclusive, IsReached};
+ghost use Rattle.dam_search.specs.Answer.{greatest_found, IsHighest};
 
 use dam_plan::{MOST_CUT, MOST_NODES, MOST_WORKERS};
 
@@ -24,34 +25,26 @@ pub fn limits()
     ensures nodes { most_nodes ≡ MOST_NODES }
 {}
 
-/// The collecting law: of sound answers about every piece, all of them done, some found a
-/// selection, and the highest that was found is the result, provided that no value read exceeds the
-/// greatest welfare found.
+/// The collecting law: the highest selection that conclusive answers found is the result, and they
+/// found one.
 ///
-/// The value may also be that of another eligible selection, as one that was offered to the workers
-/// before they started: it is enough that some eligible selection has at least the value read.
+/// Sound answers about every piece, all of them done, are conclusive if no value read exceeds the greatest
+/// welfare that they found, or that of another eligible selection, as one that was offered to the workers
+/// before they started.
 pub fn collecting()
-    ensures bests { (problem : ProblemState) (depth : ℕ) (answers : List PieceAnswer) (b : Best)
+    ensures result { (problem : ProblemState) (depth : ℕ) (answers : List PieceAnswer) (b : Best)
+        → AreConclusive problem depth answers
+        → IsHighest answers b → IsResult problem b.selection (pos b.welfare) }
+    ensures found { (problem : ProblemState) (depth : ℕ) (answers : List PieceAnswer)
+        → AreConclusive problem depth answers → ¬ (All (λ a. a.best ≡ None) answers) }
+    ensures conclusive { (problem : ProblemState) (depth : ℕ) (answers : List PieceAnswer)
         → IsProblem problem → depth ≤ length problem.blocks → AreAnswered problem depth answers
         → All (λ a. a.read ≤ greatest_found answers) answers
-        → IsHighest answers b → IsResult problem b.selection (pos b.welfare) }
-    ensures bests_found { (problem : ProblemState) (depth : ℕ) (answers : List PieceAnswer)
+        → AreConclusive problem depth answers }
+    ensures offered { (problem : ProblemState) (depth first : ℕ) (answers : List PieceAnswer)
         → IsProblem problem → depth ≤ length problem.blocks → AreAnswered problem depth answers
-        → All (λ a. a.read ≤ greatest_found answers) answers
-        → ¬ (All (λ a. a.best ≡ None) answers) }
-    ensures first { (problem : ProblemState) (depth first : ℕ) (answers : List PieceAnswer)
-        (b : Best) → IsProblem problem → depth ≤ length problem.blocks
-        → AreAnswered problem depth answers → IsReached problem first
-        → All (λ a. a.read ≤ max first (greatest_found answers)) answers
-        → IsHighest answers b → IsResult problem b.selection (pos b.welfare) }
-    ensures reached { (problem : ProblemState) (depth : ℕ) (answers : List PieceAnswer) (b : Best)
-        → IsProblem problem → depth ≤ length problem.blocks → AreAnswered problem depth answers
-        → All (λ a. IsReached problem a.read) answers
-        → IsHighest answers b → IsResult problem b.selection (pos b.welfare) }
-    ensures reached_found { (problem : ProblemState) (depth : ℕ) (answers : List PieceAnswer)
-        → IsProblem problem → depth ≤ length problem.blocks → AreAnswered problem depth answers
-        → All (λ a. IsReached problem a.read) answers
-        → ¬ (All (λ a. a.best ≡ None) answers) }
+        → IsReached problem first → All (λ a. a.read ≤ max first (greatest_found answers)) answers
+        → AreConclusive problem depth answers }
 {
     dam_blocks::laws::empty_is_eligible();
     dam_blocks::laws::eligible_welfare();
@@ -60,11 +53,11 @@ pub fn collecting()
     dam_blocks::laws::choices();
 }
 
-/// The closing law of the two words: where one seat has all seats joined into it, the claim word is
-/// the number of its draws, which were every piece once if one of them was past the last piece; and
-/// the incumbent word is its greatest offer, and it read no more than that.
+/// The closing law of the two words. If one seat has all seats joined into it, the claim word is the
+/// number of its draws, which were every piece once if one of them was past the last piece; the
+/// incumbent word is its greatest offer, and it read no more than that.
 pub fn closing()
     ensures { (pieces seat : ℕ) (state : State (Unit {0}) View) (v : View)
         → AreWords pieces state → get_elem? state.views seat ≡ some v
-        → v.seats + v.left ≡ most_seats → IsClosed pieces state.words v }
+        → v.seats + v.seats_left ≡ most_seats → IsClosed pieces state.words v }
 {}

@@ -5,14 +5,14 @@
 //! let best = search(rt, alloc, &problem, plan, &FreeTurn)?;
 //! ```
 //!
-//! What these words mean stands in `specs/`: a plan, a piece and a sound answer about it, and what
-//! the answers of the workers come to. A contract sees a [`Plan`] as its three numbers, an
-//! [`Incumbent`] as the greatest value read of it and the greatest welfare offered to it, and a
-//! selection as its list of acceptances. Only tested is that a piece tells as visited the nodes
-//! that it visits, and reads its incumbent at each; which of several unfinished pieces is named;
-//! that the first selection is a good one; that a turnstile is passed; that pieces are explored
-//! side by side, and that one worker reads what another offered; and that memory isn't said to have
-//! run out where it hasn't.
+//! `specs/` defines these words: a plan, a piece and a sound answer about it, and the rule of the
+//! words that workers share. A contract sees a [`Plan`] as its three numbers, an [`Incumbent`] as
+//! the greatest value read of it and the greatest welfare offered to it, and a selection as its list
+//! of acceptances. Only tests show that the number of visited nodes in an answer is the number
+//! visited, and that the incumbent is read at each; which of several unfinished pieces is named;
+//! that the first selection is a good one; that a turnstile is called; that pieces are explored at
+//! the same time, and that one worker reads what another offered; and that memory is reported to
+//! have run out only if it has.
 //!
 //! The crate knows nothing of how prices are found, nor of texts.
 #![tactic(auto)]
@@ -27,6 +27,7 @@ pub mod laws;
 mod piece;
 mod prefix;
 mod shared;
+mod space;
 mod turnstile;
 mod view;
 mod words;

@@ -1,5 +1,5 @@
 ghost use Rattle.std.specs.Prelude.{◌≡◌, ◌+◌, ◌-◌, ◌^◌, ◌<◌, ◌≤◌, ℤ, pos, ◌<ℤ◌, true, false, Some};
-ghost use Rattle.std.specs.Prelude.{ℕ, List, Bool, [], ◌∷◌, ◌++◌, length, slice_get, slice_set, slice_index_or, not, IsTrue, ◌↔◌, MatchOption};
+ghost use Rattle.std.specs.Prelude.{ℕ, List, Bool, [], ◌∷◌, ◌++◌, length, slice_get, IsTrue, ◌↔◌, MatchOption};
 ghost use Rattle.dam_book.specs.Limits.{most_blocks};
 ghost use Rattle.dam_blocks.specs.Problem.{ProblemState};
 ghost use Rattle.dam_blocks.specs.Selection.{choice, padded, IsAdmissible};
@@ -9,8 +9,9 @@ ghost use Rattle.dam_bound.specs.Relaxed.{relaxed_welfare, reaches};
 ghost use Rattle.dam_bound.specs.Day.{IsDay, IsUnder};
 ghost use Rattle.dam_bound.specs.Trail.{IsDayIn};
 ghost use Rattle.dam_bound.specs.declared.trail.Trail.{Trail};
-ghost use Rattle.dam_search.specs.inside.Walk.{IsDayFrom};
+ghost use Rattle.dam_search.specs.inside.Walk.{IsDayFrom, turned_at};
 
+use crate::space::kept;
 use dam_blocks::{Problem, Selection, admissible, is_allowed};
 use dam_bound::{Day, Relaxed, Trail};
 use std::alloc::Allocator;
@@ -99,21 +100,20 @@ impl Prefix {
         }
     }
 
-    /// Whether the links and the groups admit the selection that accepts no other block. Where they
-    /// don't, they admit no completion: a block stands behind its parent.
+    /// Whether the links and the groups admit the selection that accepts no other block. If they don't,
+    /// they admit no completion, because a block comes after its parent.
     pub(crate) fn is_admissible<A: Allocator>(&self, problem: &Problem<A>) -> bool
         ensures value { IsTrue result ↔ IsAdmissible problem.now.blocks (padded self.now) }
         ensures completions { result ≡ false → (sel : List Bool) → IsCompletion self.now sel
             → ¬ (IsAdmissible problem.now.blocks sel) }
     {
         dam_blocks::laws::fronts();
-        // What every problem keeps, as a clause of this reader tells it.
-        let _kept = problem.periods();
+        kept(problem);
         admissible(problem, self.taken)
     }
 
-    /// Whether the links and the groups admit the selection that accepts no other block, where they
-    /// admit that of the prefix without its last decision: only the last block is looked at.
+    /// Whether the links and the groups admit the selection that accepts no other block, given that they
+    /// admit that of the prefix without its last decision. Only the last block is looked at.
     pub(crate) fn is_still_admissible<A: Allocator>(&self, problem: &Problem<A>) -> bool
         requires { (front : List Bool) (accept : Bool) → self.now ≡ front ++ accept ∷ []
             → IsAdmissible problem.now.blocks (padded front) }
@@ -122,8 +122,7 @@ impl Prefix {
             → ¬ (IsAdmissible problem.now.blocks sel) }
     {
         dam_blocks::laws::fronts();
-        // What every problem keeps, as a clause of this reader tells it.
-        let _kept = problem.periods();
+        kept(problem);
         if self.depth == 0 {
             return true;
         }
@@ -134,8 +133,8 @@ impl Prefix {
         is_allowed(problem, self.taken, last)
     }
 
-    /// Makes the days of the prefix and of the shorter ones, and returns its bound; `None` only where it
-    /// has no bound or one below 0.
+    /// Makes the days of the prefix and of the shorter ones, and returns its bound; `None` only if it has
+    /// no bound or one below 0.
     pub(crate) fn walked<A: Allocator>(
         &self,
         relaxed: &Relaxed<A>,
@@ -157,7 +156,7 @@ impl Prefix {
         Some(total)
     }
 
-    /// The day of the prefix, which decides every block; `None` only where it has no bound or one below 0.
+    /// The day of the prefix, which decides every block; `None` only if it has no bound or one below 0.
     /// It is made in the slots.
     pub(crate) fn day<A: Allocator>(&self, relaxed: &Relaxed<A>, trail: &mut Trail) -> Option<Day>
         requires { length self.now ≡ length relaxed.now.blocks }
@@ -177,10 +176,10 @@ impl Prefix {
         self.taken.has(place)
     }
 
-    /// The prefix with the decision on the block at the place turned round.
+    /// The prefix with the decision on the block at the place reversed.
     pub(crate) fn turned(&self, place: usize) -> Prefix
         requires { place < length self.now }
-        ensures { result ≡ slice_set self.now place (not (slice_index_or self.now place false)) }
+        ensures { result ≡ turned_at self.now place }
     {
         let mut turned = Prefix::of_piece(0, 0);
         for own in 0..self.depth {
@@ -208,8 +207,8 @@ impl Prefix {
         false
     }
 
-    /// The prefix's bound, where it is at least the value; nothing where it has no bound or a lesser
-    /// one, and so each of its completions has less welfare than the value. If none is told, it is known
+    /// The prefix's bound, if it is at least the value; `None` if it has no bound or a lesser one, and so
+    /// each of its completions has less welfare than the value. If there is no total, the bound is known
     /// to be under what was read before.
     pub(crate) fn open_bound(&self, total: Option<i64>, least: u64) -> Option<i64>
         ensures { (relaxed : ProblemState) (trail : Trail) (low : ℕ) → low ≤ least

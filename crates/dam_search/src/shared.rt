@@ -1,13 +1,13 @@
 ghost use Rattle.std.specs.Prelude.{◌≡◌, ◌<◌, ◌≤◌, length, [], ◌∷◌, ◌++◌, None, IfSome};
 ghost use Rattle.atomic_table.specs.Seated.{TableId};
 ghost use Rattle.dam_search.specs.declared.view.View.{View};
-ghost use Rattle.dam_search.specs.Words.{first_view, cut_left, cut_right, joined, standing};
+ghost use Rattle.dam_search.specs.Words.{view_of, first_view, cut_left, cut_right, joined, standing};
 
 use crate::incumbent::Incumbent;
-use crate::words::{CLAIM, Cut, Draw, Glue, INCUMBENT, Offer, Read, Seat, Words};
+use crate::words::{CLAIM, Draw, INCUMBENT, JoinIn, Offer, Read, Seat, SplitOff, Words};
 
 /// A worker's seat at the two words of a search: it draws pieces, and it is the incumbent that the
-/// worker's pieces are pruned by. A contract sees what it knows as `seat.me.0`.
+/// worker's pieces are pruned by. A contract sees what it knows as `view_of seat`.
 ///
 /// In the program [`search`](crate::search) alone makes seats, as no other crate can: one for each
 /// worker is split off the first one, all are joined into it after their work, and with it the words
@@ -27,8 +27,8 @@ pub struct Shared<'a> {
     pieces: u32,
     ghost seated: { seat.table_id ≡ words.now.shared.table_id },
     ghost two_words: { words.now.shared.table_id.words ≡ 2 },
-    ghost counted: { pieces ≡ seat.me.0.pieces },
-    ghost alive: { 0 < seat.me.0.seats },
+    ghost counted: { pieces ≡ (view_of seat).pieces },
+    ghost alive: { 0 < (view_of seat).seats },
     ghost empty: { seat.me.1 ≡ [] },
 }
 
@@ -49,13 +49,13 @@ impl<'a> Shared<'a> {
 
     /// A new seat for a worker, which has drawn, read and offered nothing.
     pub(crate) fn split(&mut self) -> Shared<'a>
-        requires { 0 < self.old.seat.me.0.left }
+        requires { 0 < (view_of self.old.seat).seats_left }
         ensures table { self.new.seat.table_id ≡ self.old.seat.table_id }
         ensures same { result.seat.table_id ≡ self.old.seat.table_id }
-        ensures left { self.new.seat.me.0 ≡ cut_left self.old.seat.me.0 }
-        ensures right { result.seat.me.0 ≡ cut_right self.old.seat.me.0 }
+        ensures left { view_of self.new.seat ≡ cut_left (view_of self.old.seat) }
+        ensures right { view_of result.seat ≡ cut_right (view_of self.old.seat) }
     {
-        let seat = self.words.shared.split_seat::<Cut>(&mut self.seat);
+        let seat = self.words.shared.split_seat::<SplitOff>(&mut self.seat);
         Shared {
             words: self.words,
             seat,
@@ -67,10 +67,11 @@ impl<'a> Shared<'a> {
     pub(crate) fn join(&mut self, other: Shared<'a>)
         requires { other.seat.table_id ≡ self.old.seat.table_id }
         ensures table { self.new.seat.table_id ≡ self.old.seat.table_id }
-        ensures view { self.new.seat.me.0 ≡ joined self.old.seat.me.0 other.entry.seat.me.0 }
+        ensures view { view_of self.new.seat
+            ≡ joined (view_of self.old.seat) (view_of other.entry.seat) }
     {
         let seat = other.into_seat();
-        self.words.shared.join_seat::<Glue>(&mut self.seat, seat);
+        self.words.shared.join_seat::<JoinIn>(&mut self.seat, seat);
     }
 
     /// The right to step on the words, once nobody needs them.
@@ -87,7 +88,7 @@ impl<'a> Shared<'a> {
 
     /// The number of pieces.
     pub fn pieces(&self) -> u32
-        ensures { result ≡ self.now.seat.me.0.pieces }
+        ensures { result ≡ (view_of self.now.seat).pieces }
     {
         self.pieces
     }
@@ -95,15 +96,15 @@ impl<'a> Shared<'a> {
     /// Draws the next piece that nobody has drawn, or `None` past the last one. Takes no memory, and
     /// waits for nobody.
     pub fn draw(&mut self) -> Option<u32>
-        requires { self.old.seat.me.0.past ≡ 0 }
+        requires { (view_of self.old.seat).draws_past_the_end ≡ 0 }
         ensures table { self.new.seat.table_id ≡ self.old.seat.table_id }
-        ensures piece { IfSome result (λ piece. (piece < self.old.seat.me.0.pieces)
-            × (self.new.seat.me.0 ≡ record self.old.seat.me.0 {
-              drawn = self.old.seat.me.0.drawn ++ piece ∷ [];
+        ensures piece { IfSome result (λ piece. (piece < (view_of self.old.seat).pieces)
+            × (view_of self.new.seat ≡ record (view_of self.old.seat) {
+              drawn = (view_of self.old.seat).drawn ++ piece ∷ [];
             })) }
-        ensures past { result ≡ None
-            → self.new.seat.me.0 ≡ record self.old.seat.me.0 { past = 1 } }
-        ensures few { length self.new.seat.me.0.drawn ≤ self.new.seat.me.0.pieces }
+        ensures draws_past_the_end { result ≡ None
+            → view_of self.new.seat ≡ record (view_of self.old.seat) { draws_past_the_end = 1 } }
+        ensures few { length (view_of self.new.seat).drawn ≤ (view_of self.new.seat).pieces }
     {
         let next = self
             .words
@@ -118,13 +119,13 @@ impl<'a> Shared<'a> {
 }
 
 impl Incumbent for Shared<'_> {
-    ghost told = { λ s. s.seat.me.0.told };
+    ghost greatest_read = { λ s. (view_of s.seat).greatest_read };
 
-    ghost top = { λ s. s.seat.me.0.top };
+    ghost greatest_offer = { λ s. (view_of s.seat).greatest_offer };
 
     ghost Kept = { View × TableId };
 
-    ghost kept = { λ s. (standing s.seat.me.0, s.seat.table_id) };
+    ghost kept = { λ s. (standing (view_of s.seat), s.seat.table_id) };
 
     fn read(&mut self) -> u64 {
         self.words.shared.load::<Read>(&mut self.seat, INCUMBENT)

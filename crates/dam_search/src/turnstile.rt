@@ -1,7 +1,7 @@
-/// What is called round each job's work, on the thread that does it.
+/// Callbacks before and after each job's work, on the thread that does it.
 ///
-/// A search calls it round each piece, with the piece's number. So a caller can see which jobs are
-/// at work side by side, or have one wait for another. It can't change what the work comes to.
+/// A search calls them before and after each piece, with the piece's number. So a caller can see which
+/// jobs are at work at the same time, or have one wait for another. They can't change the results.
 pub trait Turnstile {
     /// Called before the work of a job, which begins when the call returns: it may take as long as
     /// it likes. Jobs are numbered from 0.

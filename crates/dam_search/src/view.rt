@@ -3,7 +3,7 @@ ghost use Rattle.std.specs.Borrow.{ftrue};
 
 use std::marker::Model;
 
-/// What a seat knows. No value of it is made: it stands in proofs alone.
+/// What a seat knows. No value of it is made: it exists only in proofs.
 pub struct View {
     /// How many pieces there are.
     pub ghost pieces: { ℕ },
@@ -12,19 +12,19 @@ pub struct View {
     pub ghost drawn: { List ℕ },
 
     /// How often it drew past the last piece.
-    pub ghost past: { ℕ },
+    pub ghost draws_past_the_end: { ℕ },
 
     /// Itself and the seats that were joined into it.
     pub ghost seats: { ℕ },
 
     /// How many seats may still be split off it.
-    pub ghost left: { ℕ },
+    pub ghost seats_left: { ℕ },
 
-    /// The greatest welfare that it offered, 0 where it offered none.
-    pub ghost top: { ℕ },
+    /// The greatest welfare that it offered, 0 if it offered none.
+    pub ghost greatest_offer: { ℕ },
 
-    /// The greatest value that it read, 0 where it read none.
-    pub ghost told: { ℕ },
+    /// The greatest value that it read, 0 if it read none.
+    pub ghost greatest_read: { ℕ },
 }
 
 impl Model for View {

@@ -4,7 +4,7 @@
 //! welfare that was offered. `docs/WORDS.md` has the rule in words and a drawing.
 ghost use Rattle.std.specs.Prelude.{◌≡◌, ◌+◌, ◌≤◌, [], ◌∷◌, IfOk};
 ghost use Rattle.dam_search.specs.Words.{most_pieces, most_seats, AreWords, IsDrawn, IsRead, IsOffered};
-ghost use Rattle.dam_search.specs.Words.{first_view, spent_view, cut_left, cut_right, joined, IsClosed};
+ghost use Rattle.dam_search.specs.Words.{view_of, first_view, spent_view, cut_left, cut_right, joined, IsClosed};
 
 use crate::view::View;
 use atomic_table::{Join, Play, Split, Table, TableRule};
@@ -16,7 +16,7 @@ pub(crate) const CLAIM: usize = 0;
 /// The place of the incumbent word.
 pub(crate) const INCUMBENT: usize = 1;
 
-/// The rule of the two words; the table is told the number of pieces.
+/// The rule of the two words; the key of the table is the number of pieces.
 pub(crate) struct WordRule;
 
 impl TableRule<(), View, u64> for WordRule {
@@ -53,24 +53,24 @@ impl Play<(), View> for Offer {
 }
 
 /// A new seat is split off.
-pub(crate) struct Cut;
+pub(crate) struct SplitOff;
 
-impl Split<View> for Cut {
+impl Split<View> for SplitOff {
     ghost left = { cut_left };
 
     ghost right = { cut_right };
 }
 
 /// A seat is joined into another.
-pub(crate) struct Glue;
+pub(crate) struct JoinIn;
 
-impl Join<View> for Glue {
+impl Join<View> for JoinIn {
     ghost both = { joined };
 
     ghost spent = { spent_view };
 }
 
-/// The two words of a search of so many pieces, both 0, and their first seat.
+/// The two words of a search of this number of pieces, both 0, and their first seat.
 pub(crate) fn new_words(alloc: Global, pieces: u32) -> Result<(Words, Seat), AllocError>
     requires { pieces ≤ most_pieces }
     ensures words { IfOk result (λ made. (made.0.shared.table_id.words ≡ 2)
@@ -83,7 +83,7 @@ pub(crate) fn new_words(alloc: Global, pieces: u32) -> Result<(Words, Seat), All
 
 /// What the two words held at the close.
 #[derive(Clone, Copy, PartialEq, Eq, Debug)]
-pub(crate) struct Totals {
+pub(crate) struct ClosedWords {
     /// How many draws there were.
     pub(crate) draws: u64,
     /// The greatest welfare that was offered.
@@ -91,15 +91,15 @@ pub(crate) struct Totals {
 }
 
 /// Closes the words, of which this seat is the only one left.
-pub(crate) fn close(words: Words, seat: Seat) -> Totals
+pub(crate) fn close(words: Words, seat: Seat) -> ClosedWords
     requires seat { seat.table_id ≡ words.shared.table_id }
     requires words { (words.shared.table_id.words ≡ 2) × (words.shared.table_id.slots ≡ 0) }
-    requires all { seat.me.0.seats + seat.me.0.left ≡ most_seats }
-    ensures { IsClosed words.shared.key (result.draws ∷ result.offered ∷ []) seat.me.0 }
+    requires all { (view_of seat).seats + (view_of seat).seats_left ≡ most_seats }
+    ensures { IsClosed words.shared.key (result.draws ∷ result.offered ∷ []) (view_of seat) }
 {
     let closed = words.close_with(seat);
     let draws = closed.word(CLAIM);
     let offered = closed.word(INCUMBENT);
     closed.free();
-    Totals { draws, offered }
+    ClosedWords { draws, offered }
 }

@@ -1,7 +1,8 @@
 ghost use Rattle.std.specs.Prelude.{◌≡◌, ◌^◌, ◌≤◌, [], length, IfOk, IfErr};
 ghost use Rattle.dam_bound.specs.Relaxed.{without_rows};
 ghost use Rattle.dam_search.specs.Answer.{greatest_found};
-ghost use Rattle.dam_search.specs.Work.{AreAnswersOf};
+ghost use Rattle.dam_search.specs.Work.{IsFresh, AreAnswersOf};
+ghost use Rattle.dam_search.specs.Words.{view_of};
 
 use crate::answer::PieceAnswer;
 use crate::piece::search_piece;
@@ -20,8 +21,8 @@ use std::alloc::{AllocError, Global};
 ///
 /// Only [`search`](crate::search) makes seats, and so it alone can call this, once for each worker, on a
 /// thread of its own. It gives a fresh seat, made for the pieces of a cutting of this depth, and the
-/// bounds of this very problem; and it has every piece answered only where all seats of the words
-/// have worked and none was refused. While it works it waits for nobody but the turnstile.
+/// bounds of this very problem. Every piece is answered only if all seats of the words have worked and
+/// none was refused memory. A worker waits for nothing but the turnstile.
 pub fn work<T: Turnstile>(
     alloc: Global,
     problem: &Problem,
@@ -34,21 +35,17 @@ pub fn work<T: Turnstile>(
     requires same { relaxed.now ≡ without_rows problem.now }
     requires depth { depth ≤ length problem.now.blocks }
 
-    // The seat is for the pieces of this depth, and nothing was drawn or offered by it.
-    requires pieces { seat.old.seat.me.0.pieces ≡ 2 ^ depth }
-    requires undrawn { seat.old.seat.me.0.drawn ≡ [] }
-    requires going { seat.old.seat.me.0.past ≡ 0 }
-    requires unoffered { seat.old.seat.me.0.top ≡ 0 }
+    requires fresh { IsFresh (2 ^ depth) (view_of seat.old.seat) }
     ensures answers { IfOk result (λ answers.
-        AreAnswersOf problem.now depth nodes 0 seat.new.seat.me.0 answers.items) }
+        AreAnswersOf problem.now depth nodes 0 (view_of seat.new.seat) answers.items) }
     ensures offered { IfOk result (λ answers.
-        seat.new.seat.me.0.top ≡ greatest_found answers.items) }
-    ensures stopped { IfOk result (λ _. seat.new.seat.me.0.past ≡ 1) }
-    ensures refused { IfErr result (λ _. seat.new.seat.me.0 ≡ seat.old.seat.me.0) }
+        (view_of seat.new.seat).greatest_offer ≡ greatest_found answers.items) }
+    ensures stopped { IfOk result (λ _. (view_of seat.new.seat).draws_past_the_end ≡ 1) }
+    ensures refused { IfErr result (λ _. view_of seat.new.seat ≡ view_of seat.old.seat) }
 
     // It is the same seat.
-    ensures seats { seat.new.seat.me.0.seats ≡ seat.old.seat.me.0.seats }
-    ensures left { seat.new.seat.me.0.left ≡ seat.old.seat.me.0.left }
+    ensures seats { (view_of seat.new.seat).seats ≡ (view_of seat.old.seat).seats }
+    ensures seats_left { (view_of seat.new.seat).seats_left ≡ (view_of seat.old.seat).seats_left }
     ensures table { seat.new.seat.table_id ≡ seat.old.seat.table_id }
 {
     let mut answers = Vec::with_capacity(alloc, seat.pieces() as usize)?;

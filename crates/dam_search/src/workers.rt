@@ -2,9 +2,9 @@ ghost use Rattle.std.specs.Prelude.{◌≡◌, ◌<◌, ◌≤◌, ◌-◌, ◌^
 ghost use Rattle.std.specs.Prelude.{vec_len, All, IfOk, IsErrOf};
 ghost use Rattle.atomic_table.specs.Seated.{TableId};
 ghost use Rattle.dam_blocks.specs.Result.{IsResult};
-ghost use Rattle.dam_bound.specs.Relaxed.{without_rows};
 ghost use Rattle.dam_plan.specs.Limits.{most_workers, most_cut};
 ghost use Rattle.dam_search.specs.Search.{IsUnfinished};
+ghost use Rattle.dam_search.specs.Words.{view_of};
 ghost use Rattle.dam_search.specs.inside.Share.{IsNewSeat, IsShare, AreJoined, AreWhole};
 
 use crate::answer::PieceAnswer;
@@ -13,8 +13,9 @@ use crate::fault::SearchFault;
 use crate::first::first_selection;
 use crate::incumbent::Incumbent;
 use crate::shared::Shared;
+use crate::space::SearchSpace;
 use crate::turnstile::Turnstile;
-use crate::words::{Totals, close, new_words};
+use crate::words::{ClosedWords, close, new_words};
 use crate::worker::work;
 use dam_blocks::{Best, Problem};
 use dam_bound::Relaxed;
@@ -30,17 +31,17 @@ pub(crate) struct Share<'a> {
     answers: Result<Vec<PieceAnswer>, AllocError>,
 }
 
-/// What all workers are told.
-#[derive(Clone, Copy)]
+/// What all workers share.
+#[derive(Drop)]
 pub(crate) struct Task<'a> {
     pub(crate) alloc: Global,
-    pub(crate) problem: &'a Problem,
-    pub(crate) relaxed: &'a Relaxed,
+    pub(crate) space: SearchSpace<'a, Global, Global>,
     pub(crate) depth: usize,
     pub(crate) nodes: u32,
     pub(crate) workers: u8,
     /// The welfare that is offered before any worker starts.
     pub(crate) first: u64,
+    ghost inside: { depth ≤ length space.problem.now.blocks },
 }
 
 /// A seat for each worker, split off the first one.
@@ -49,14 +50,14 @@ fn seats_for<'a>(
     alloc: Global,
     workers: u8,
 ) -> Result<Vec<Shared<'a>>, AllocError>
-    requires { workers ≤ first.old.seat.me.0.left }
+    requires { workers ≤ (view_of first.old.seat).seats_left }
     ensures table { first.new.seat.table_id ≡ first.old.seat.table_id }
-    ensures first { IfOk result (λ _. first.new.seat.me.0 ≡ record first.old.seat.me.0 {
-      left = first.old.seat.me.0.left - workers;
+    ensures first { IfOk result (λ _. view_of first.new.seat ≡ record (view_of first.old.seat) {
+      seats_left = (view_of first.old.seat).seats_left - workers;
     }) }
     ensures many { IfOk result (λ seats. vec_len seats ≡ workers) }
     ensures seats { IfOk result (λ seats. All (λ s.
-        IsNewSeat first.old.seat.table_id first.old.seat.me.0.pieces s) seats.items) }
+        IsNewSeat first.old.seat.table_id (view_of first.old.seat).pieces s) seats.items) }
 {
     let mut seats = Vec::with_capacity(alloc, usize::from(workers))?;
     for _ in 0..workers {
@@ -67,17 +68,15 @@ fn seats_for<'a>(
 
 /// A worker's work at its seat.
 fn share_of<'a, T: Turnstile>(task: &Task, turnstile: &T, seat: Shared<'a>) -> Share<'a>
-    requires same { task.now.relaxed.now ≡ without_rows task.now.problem.now }
-    requires depth { task.now.depth ≤ length task.now.problem.now.blocks }
     requires new { IsNewSeat seat.seat.table_id (2 ^ task.now.depth) seat }
-    ensures { IsShare task.now.problem.now task.now.depth task.now.nodes
+    ensures { IsShare task.now.space.problem.now task.now.depth task.now.nodes
         seat.entry.seat.table_id result }
 {
     let mut seat = seat;
     let answers = work(
         task.alloc,
-        task.problem,
-        task.relaxed,
+        task.space.problem,
+        task.space.relaxed,
         task.depth,
         task.nodes,
         &mut seat,
@@ -86,31 +85,27 @@ fn share_of<'a, T: Turnstile>(task: &Task, turnstile: &T, seat: Shared<'a>) -> S
     Share { seat, answers }
 }
 
-/// Runs the workers, each on a thread of its own where threads can be made.
+/// Runs the workers, each on a thread of its own if threads can be made.
 fn work_all<'a, R: Threads + Sync, T: Turnstile + Sync>(
     rt: &R,
     task: &Task,
     turnstile: &T,
     seats: Vec<Shared<'a>>,
 ) -> Result<Vec<Share<'a>>, AllocError>
-    requires same { task.now.relaxed.now ≡ without_rows task.now.problem.now }
-    requires depth { task.now.depth ≤ length task.now.problem.now.blocks }
     requires new { All (λ s. IsNewSeat s.seat.table_id (2 ^ task.now.depth) s) seats.items }
     ensures many { IfOk result (λ shares. vec_len shares ≡ vec_len seats.entry) }
     ensures shares { (table : TableId)
         → All (λ s. IsNewSeat table (2 ^ task.now.depth) s) seats.entry.items
-        → IfOk result (λ shares. All (λ s. IsShare task.now.problem.now task.now.depth
+        → IfOk result (λ shares. All (λ s. IsShare task.now.space.problem.now task.now.depth
         task.now.nodes table s) shares.items) }
 {
     thread::map_vec(
         rt,
         seats,
         &|seat: Shared| -> Share
-            requires { (task.now.relaxed.now ≡ without_rows task.now.problem.now)
-                × (task.now.depth ≤ length task.now.problem.now.blocks)
-                × IsNewSeat seat.seat.table_id (2 ^ task.now.depth) seat }
-            ensures { IsShare task.entry.now.problem.now task.entry.now.depth task.entry.now.nodes
-                seat.entry.seat.table_id result }
+            requires { IsNewSeat seat.seat.table_id (2 ^ task.now.depth) seat }
+            ensures { IsShare task.entry.now.space.problem.now task.entry.now.depth
+                task.entry.now.nodes seat.entry.seat.table_id result }
         { share_of(task, turnstile, seat) },
     )
 }
@@ -124,13 +119,13 @@ fn gathered<'a>(
     mut answers: Vec<PieceAnswer>,
 ) -> Result<Vec<PieceAnswer>, AllocError>
     requires empty { answers.items ≡ [] }
-    requires undrawn { first.old.seat.me.0.drawn ≡ [] }
-    requires shares { All (λ s. IsShare task.now.problem.now task.now.depth task.now.nodes
+    requires undrawn { (view_of first.old.seat).drawn ≡ [] }
+    requires shares { All (λ s. IsShare task.now.space.problem.now task.now.depth task.now.nodes
         first.old.seat.table_id s) shares.items }
     ensures table { first.new.seat.table_id ≡ first.old.seat.table_id }
     ensures joined { IfOk result (λ answers.
-        AreJoined task.now.problem.now task.now.depth task.now.nodes first.old.seat.me.0
-        (vec_len shares.entry) first.new.seat.me.0 answers.items) }
+        AreJoined task.now.space.problem.now task.now.depth task.now.nodes (view_of first.old.seat)
+        (vec_len shares.entry) (view_of first.new.seat) answers.items) }
 {
     while let Some(share) = shares.pop() {
         let Share {
@@ -151,16 +146,16 @@ fn shared_out<'a, R: Threads + Sync, T: Turnstile + Sync>(
     turnstile: &T,
     first: &mut Shared<'a>,
 ) -> Result<Vec<PieceAnswer>, AllocError>
-    requires same { task.now.relaxed.now ≡ without_rows task.now.problem.now }
-    requires depth { task.now.depth ≤ length task.now.problem.now.blocks }
-    requires pieces { first.old.seat.me.0.pieces ≡ 2 ^ task.now.depth }
-    requires undrawn { first.old.seat.me.0.drawn ≡ [] }
-    requires left { task.now.workers ≤ first.old.seat.me.0.left }
+    requires pieces { (view_of first.old.seat).pieces ≡ 2 ^ task.now.depth }
+    requires undrawn { (view_of first.old.seat).drawn ≡ [] }
+    requires left { task.now.workers ≤ (view_of first.old.seat).seats_left }
     ensures table { first.new.seat.table_id ≡ first.old.seat.table_id }
     ensures joined { IfOk result (λ answers.
-        AreJoined task.now.problem.now task.now.depth task.now.nodes
-        (record first.old.seat.me.0 { left = first.old.seat.me.0.left - task.now.workers })
-        task.now.workers first.new.seat.me.0 answers.items) }
+        AreJoined task.now.space.problem.now task.now.depth task.now.nodes
+        (record (view_of first.old.seat) {
+          seats_left = (view_of first.old.seat).seats_left - task.now.workers;
+        })
+        task.now.workers (view_of first.new.seat) answers.items) }
 {
     let answers = Vec::with_capacity(task.alloc, first.pieces() as usize)?;
     let seats = seats_for(first, task.alloc, task.workers)?;
@@ -172,7 +167,7 @@ fn shared_out<'a, R: Threads + Sync, T: Turnstile + Sync>(
 #[derive(Drop)]
 pub(crate) struct Explored {
     pub(crate) answers: Vec<PieceAnswer>,
-    pub(crate) totals: Totals,
+    pub(crate) totals: ClosedWords,
 }
 
 /// Explores every piece, each of them once, beginning with the first welfare as offered.
@@ -181,13 +176,11 @@ pub(crate) fn explore_all<R: Threads + Sync, T: Turnstile + Sync>(
     task: &Task,
     turnstile: &T,
 ) -> Result<Explored, AllocError>
-    requires same { task.now.relaxed.now ≡ without_rows task.now.problem.now }
-    requires depth { task.now.depth ≤ length task.now.problem.now.blocks }
     requires few { task.now.depth ≤ most_cut }
     requires some_worker { 1 ≤ task.now.workers }
     requires few_workers { task.now.workers ≤ most_workers }
-    ensures { IfOk result (λ explored. AreWhole task.now.problem.now task.now.depth task.now.nodes
-        task.now.first explored.answers.items) }
+    ensures { IfOk result (λ explored. AreWhole task.now.space.problem.now task.now.depth
+        task.now.nodes task.now.first explored.answers.items) }
 {
     let count = pieces(task.depth);
     let (words, seat) = new_words(task.alloc, count)?;
@@ -206,7 +199,7 @@ pub(crate) fn explore_all<R: Threads + Sync, T: Turnstile + Sync>(
 /// A first good selection is found, and its welfare is offered before any worker starts. The
 /// workers, each on a thread of its own, draw the pieces of the cutting that decides as many of the
 /// first blocks as the plan says, or all of them, as they come free, and prune by the greatest
-/// welfare that any of them has found; where no thread can be made the calling one does its work.
+/// welfare that any of them has found. If a thread can't be made, the calling one does its work.
 /// `Memory` comes first of the faults, then `Collected`, and then `Unfinished`.
 pub fn search<R: Threads + Sync, T: Turnstile + Sync>(
     rt: &R,
@@ -227,8 +220,10 @@ pub fn search<R: Threads + Sync, T: Turnstile + Sync>(
     let relaxed = Relaxed::build(alloc, problem)?;
     let task = Task {
         alloc,
-        problem,
-        relaxed: &relaxed,
+        space: SearchSpace {
+            problem,
+            relaxed: &relaxed,
+        },
         depth: plan.depth(problem.block_count()),
         nodes: plan.nodes(),
         workers: plan.workers(),

@@ -1,9 +1,44 @@
--- What is found on the way through the answers of the workers.
-use Rattle.std.specs.Prelude.{◌≡◌, Bool, not, ◌&&◌, nat_lt, Option, Some, None, List, length, All}
+-- The answers of the workers, what is found on the way through them, and the result of it all.
+use Rattle.std.specs.Prelude.{◌≡◌, ◌≢◌, ℕ, ◌-◌, ◌^◌, ◌<◌, ◌≤◌, ◌==◌, Bool, true, false, not, ◌&&◌, nat_lt, Result, Ok, Err}
+use Rattle.std.specs.Prelude.{Option, Some, None, List, length, slice_index_or, All, Contains, count_by}
 use Rattle.dam_book.specs.Limits.{most_blocks}
 use Rattle.dam_blocks.specs.declared.selection.Best.{Best}
+use Rattle.dam_blocks.specs.Problem.{ProblemState}
+use Rattle.dam_blocks.specs.Selection.{choice}
 use Rattle.dam_search.specs.declared.answer.PieceAnswer.{PieceAnswer}
-use Rattle.dam_search.specs.Answer.{IsHighest}
+use Rattle.dam_search.specs.declared.fault.SearchFault.{SearchFault}
+use Rattle.dam_search.specs.declared.fault.SearchFault.TheVariants.{Memory, Collected, Unfinished}
+use Rattle.dam_search.specs.Piece.{IsSpent}
+use Rattle.dam_search.specs.Answer.{IsSoundAnswer, IsReached, IsHighest}
+use Rattle.dam_search.specs.Words.{most_pieces}
+
+-- a worker's answer about a piece of the cutting: it is sound, read no more than some eligible
+-- selection has, and kept to the limit
+pub record IsWorked (problem : ProblemState) (depth nodes : ℕ) (a : PieceAnswer) : Type 0 where
+  pub in_cutting : a.piece < 2 ^ depth
+  pub sound : IsSoundAnswer problem depth a
+  pub reached : IsReached problem a.read
+  pub spent : IsSpent problem (choice depth a.piece) (length problem.blocks - depth) 0 nodes
+      a.visited a.done
+
+-- how many answers there are about the piece
+abbrev pub answers_about : List PieceAnswer → ℕ → ℕ
+answers_about answers piece = count_by (λ (a : PieceAnswer). a.piece == piece) answers
+
+-- there is one answer about each of this number of pieces
+abbrev pub AreOneEach : List PieceAnswer → ℕ → Type 0
+AreOneEach answers pieces = (piece : ℕ) → piece < pieces → answers_about answers piece ≡ 1
+
+-- the piece has no answer or more than one, and each before it has one
+pub record IsFirstFaulty (answers : List PieceAnswer) (piece : ℕ) : Type 0 where
+  pub faulty : answers_about answers piece ≢ 1
+  pub before : AreOneEach answers piece
+
+-- how many answers there are about each piece
+pub record AreCounts (answers : List PieceAnswer) (counts : List ℕ) : Type 0 where
+  pub long : length counts ≡ most_pieces
+  pub each : (piece d : ℕ) → piece < most_pieces
+      → slice_index_or counts piece d ≡ answers_about answers piece
 
 -- whether the answer isn't done, and is about a lesser piece than that one
 abbrev pub is_lesser : PieceAnswer → Option PieceAnswer → Bool
@@ -15,7 +50,27 @@ abbrev pub IsLong : Option Best → Type 0
 IsLong None = Unit {0}
 IsLong (Some b) = length b.selection ≡ most_blocks
 
--- the highest of what the answers found, nothing where they found nothing
+-- the highest of what the answers found, nothing if they found nothing
 abbrev pub IsHighestFound : List PieceAnswer → Option Best → Type 0
 IsHighestFound answers None = All (λ (a : PieceAnswer). a.best ≡ None) answers
 IsHighestFound answers (Some b) = IsHighest answers b
+
+-- the answer about the least piece of those that aren't done
+abbrev pub IsLeastUnfinished : List PieceAnswer → Option PieceAnswer → Type 0
+IsLeastUnfinished answers None = All (λ (a : PieceAnswer). a.done ≡ true) answers
+IsLeastUnfinished answers (Some u) =
+    Contains answers u × (u.done ≡ false)
+    × All (λ (a : PieceAnswer). a.done ≡ false → u.piece ≤ a.piece) answers
+
+-- what is made of answers about the pieces of a cutting of this depth: the first piece that lacks one
+-- or has several, else the least unfinished one, else the highest selection that was found
+abbrev pub IsCollected : ℕ → List PieceAnswer → Result Best SearchFault → Type 0
+IsCollected depth answers (Err Memory) = ⊥
+IsCollected depth answers (Err (Collected piece)) =
+    (piece < 2 ^ depth) × IsFirstFaulty answers piece
+IsCollected depth answers (Err (Unfinished piece visited)) =
+    AreOneEach answers (2 ^ depth)
+    × ((u : PieceAnswer) × IsLeastUnfinished answers (Some u) × (u.piece ≡ piece)
+    × (u.visited ≡ visited))
+IsCollected depth answers (Ok best) =
+    AreOneEach answers (2 ^ depth) × IsLeastUnfinished answers None × IsHighest answers best

@@ -7,6 +7,11 @@ use Rattle.dam_search.proofs.alone.search_alone.Goals as goal
 
 pub concluded-requires-clause-worked : goal.concluded-requires-clause-worked
 concluded-requires-clause-worked c =
-    let problem = c.args.problem.now in let a = c.search_piece-answer.result in let first = c.first_selection-first.result in let walk = c.search_piece-answer.ensures in
-    let read : a.read ≤ max first.welfare (welfare_found a.best) = (let told = walk.told in let top = walk.offered in let known = c.search_piece-answer.new.incumbent.known in let offered = c.offer.ensures.top in let none = c.new-incumbent.ensures.top in omega (arith, told, top, known, offered, none)) in
-    worked_is problem first.welfare _ c.args.nodes a walk.piece walk.sound (first_reached problem first c.first_selection-first.ensures) read walk.spent
+    let problem = c.args.problem.now in let a = c.search_piece-answer.result in let first = c.first_selection-first.result in
+    let walk = c.search_piece-answer.ensures in
+    let read : a.read ≤ max first.welfare (welfare_found a.best) =
+    (let told = walk.greatest_read in let top = walk.offered in let known = c.search_piece-answer.new.incumbent.known in let offered =
+    c.offer.ensures.greatest_offer in let none =
+    c.new-incumbent.ensures.greatest_offer in omega (arith, told, top, known, offered, none)) in
+    worked_is problem first.welfare _ c.args.nodes a walk.piece walk.sound
+    (first_reached problem first c.first_selection-first.ensures) read walk.spent

@@ -9,7 +9,8 @@ pub returns-in_default-clause-before : goal.returns-in_default-clause-before
 returns-in_default-clause-before c = stays c.args.best
 
 pub returns-then-surpasses-clause-answer : goal.returns-then-surpasses-clause-answer
-returns-then-surpasses-clause-answer c = subst (λ (o : Option Best). Rises o (Some c.in-Some.candidate)) (sym c.in-Some.is) (stays (Some c.in-Some.candidate))
+returns-then-surpasses-clause-answer c =
+    subst (λ (o : Option Best). Rises o (Some c.in-Some.candidate)) (sym c.in-Some.is) (stays (Some c.in-Some.candidate))
 
 pub returns-else-surpasses-clause-before : goal.returns-else-surpasses-clause-before
 returns-else-surpasses-clause-before c = stays c.args.best

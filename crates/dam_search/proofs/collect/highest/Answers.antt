@@ -13,10 +13,12 @@ loop-answer-preserved c =
     let before = c.loop-answer.invariant in
     let more : take (i + 1) answers ≡ take i answers ++ a ∷ [] =
     take_more answers i a c.loop-answer-test.true ∙ ap (λ (x : PieceAnswer). take i answers ++ x ∷ []) (sym c.answer-item.is) in
-    let long_a : IsLong a.best = subst (λ (x : PieceAnswer). IsLong x.best) (sym c.answer-item.is) (All-get_or (λ (x : PieceAnswer). IsLong x.best) answers i a c.loop-answer-test.true c.requires) in
+    let long_a : IsLong a.best = subst (λ (x : PieceAnswer). IsLong x.best) (sym c.answer-item.is)
+    (All-get_or (λ (x : PieceAnswer). IsLong x.best) answers i a c.loop-answer-test.true c.requires) in
     let long = long_from c.loop-answer.best a.best c.higher-best.result before.1 long_a c.higher-best.ensures.either in (
       subst (λ (xs : List PieceAnswer). IsHighestFound xs c.higher-best.result) (sym more)
-          (highest_step (take i answers) a c.loop-answer.best c.higher-best.result c.ranking.ensures.transitive (All-take (λ (x : PieceAnswer). IsLong x.best) i answers c.requires) before.1 long before.0
+          (highest_step (take i answers) a c.loop-answer.best c.higher-best.result c.ranking.ensures.transitive
+          (All-take (λ (x : PieceAnswer). IsLong x.best) i answers c.requires) before.1 long before.0
           c.higher-best.ensures.either c.higher-best.ensures.before c.higher-best.ensures.answer),
       long,
     )

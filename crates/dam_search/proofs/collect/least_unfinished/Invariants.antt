@@ -1,6 +1,6 @@
 -- The least unfinished of the answers so far.
 use Rattle.std.proofs.Common.{take}
-use Rattle.dam_search.specs.Search.{IsLeastUnfinished}
+use Rattle.dam_search.specs.inside.Collect.{IsLeastUnfinished}
 use Rattle.dam_search.proofs.collect.least_unfinished.Given as goal
 
 abbrev pub invariant-loop-answer : goal.invariant-loop-answer

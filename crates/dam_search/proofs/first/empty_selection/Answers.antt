@@ -5,6 +5,6 @@ use Rattle.dam_search.proofs.first.empty_selection.Goals as goal
 
 pub unreachable-requires : goal.unreachable-requires
 unreachable-requires g c =
-    let some = c.empty_is_eligible.ensures c.args.problem.now c.periods-kept.ensures.valid in
+    let some = c.empty_is_eligible.ensures c.args.problem.now c.kept.ensures in
     let e = subst (λ (sel : List Bool). IsEligible c.args.problem.now sel some.0) (sym c.none-selection.ensures) some.1 in
     c.verdict.ensures.other c.args.problem.now c.none-selection.result c.score.result some.0 c.score.ensures c.in_default.not-Eligible e

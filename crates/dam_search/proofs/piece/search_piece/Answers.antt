@@ -40,16 +40,20 @@ pub returns-clause-sound : goal.returns-clause-sound
 returns-clause-sound g c =
     let found = c.explore-done.new.found in
     subst (λ (prefix : List Bool). IsSound c.args.problem.now prefix found.best found.read c.explore-done.result) c.of_piece-prefix.ensures
-    (sound c.args.problem.now c.of_piece-prefix.result found.best found.read c.explore-done.result c.explore-done.ensures.walked.finds c.explore-done.ensures.walked.covers)
+    (sound c.args.problem.now c.of_piece-prefix.result found.best found.read c.explore-done.result c.explore-done.ensures.walked.finds
+    c.explore-done.ensures.walked.covers)
 
 pub returns-clause-spent : goal.returns-clause-spent
 returns-clause-spent g c =
-    let told = g.I.Incumbent.told c.args.incumbent.now in let n = length c.args.problem.now.blocks in
+    let told = g.I.Incumbent.greatest_read c.args.incumbent.now in let n = length c.args.problem.now.blocks in
     let long = as_long c.of_piece-prefix.result c.args.depth c.args.piece c.of_piece-prefix.ensures in
     let visited = c.explore-done.new.found.visited in
-    subst (λ (left : ℕ). IsSpent c.args.problem.now (choice c.args.depth c.args.piece) (n - left) told c.args.nodes visited c.explore-done.result) long
-    (subst (λ (prefix : List Bool). IsSpent c.args.problem.now prefix (n - length c.of_piece-prefix.result) told c.args.nodes visited c.explore-done.result) c.of_piece-prefix.ensures
-    (spent_from c.args.problem.now c.of_piece-prefix.result (n - length c.of_piece-prefix.result) told c.args.nodes visited c.explore-done.result c.explore-done.ensures.walked.spends))
+    subst (λ (left : ℕ). IsSpent c.args.problem.now (choice c.args.depth c.args.piece) (n - left) told c.args.nodes visited
+    c.explore-done.result) long
+    (subst (λ (prefix : List Bool). IsSpent c.args.problem.now prefix (n - length c.of_piece-prefix.result) told c.args.nodes visited
+    c.explore-done.result) c.of_piece-prefix.ensures
+    (spent_from c.args.problem.now c.of_piece-prefix.result (n - length c.of_piece-prefix.result) told c.args.nodes visited
+    c.explore-done.result c.explore-done.ensures.walked.spends))
 
 pub returns-clause-read : goal.returns-clause-read
 returns-clause-read g c some few =

@@ -10,59 +10,73 @@ use Rattle.dam_search.proofs.worker.work.Goals as goal
 
 pub loop-piece-init : goal.loop-piece-init
 loop-piece-init g c = record {
-  answers = subst (λ (xs : List PieceAnswer). AreAnswersOf c.args.problem.now c.args.depth c.args.nodes 0 c.args.seat.now.seat.me.0 xs) (sym c.in_ok-answers.ensures.items)
-      (none_yet c.args.problem.now c.args.depth c.args.nodes c.args.seat.now.seat.me.0 c.requires.undrawn c.requires.unoffered);
-  going = c.requires.going;
-  pieces = c.requires.pieces;
+  answers = subst (λ (xs : List PieceAnswer). AreAnswersOf c.args.problem.now c.args.depth c.args.nodes 0 c.args.seat.now.seat.me.0 xs)
+      (sym c.in_ok-answers.ensures.items)
+      (none_yet c.args.problem.now c.args.depth c.args.nodes c.args.seat.now.seat.me.0 c.requires.fresh.undrawn c.requires.fresh.unoffered);
+  going = c.requires.fresh.going;
+  pieces = c.requires.fresh.pieces_are;
   seats = refl;
-  left = refl;
+  seats_left = refl;
   table = refl;
-  room = (let room = c.in_ok-answers.ensures.capacity in let count = c.pieces.ensures in let pieces = c.requires.pieces in omega (arith, room, count, pieces));
+  room = (let room = c.in_ok-answers.ensures.capacity in let count = c.pieces.ensures in let pieces = c.requires.fresh.pieces_are in omega
+      (arith, room, count, pieces));
 }
 
 pub draw-requires : goal.draw-requires
 draw-requires g c = c.loop-piece.invariant.going
 
 pub search_piece-requires-clause-piece : goal.search_piece-requires-clause-piece
-search_piece-requires-clause-piece g c = let less = c.in-Some.ensures.piece.0 in let pieces = c.loop-piece.invariant.pieces in omega (arith, less, pieces)
+search_piece-requires-clause-piece g c =
+    let less = c.in-Some.ensures.piece.0 in let pieces = c.loop-piece.invariant.pieces in omega (arith, less, pieces)
 
 pub push_reserved-requires : goal.push_reserved-requires
 push_reserved-requires g c =
     let i = c.loop-piece.invariant in let v = c.loop-piece.seat.seat.me.0 in
-    let many = as_many c.args.problem.now c.args.depth c.args.nodes 0 v c.loop-piece.answers.items i.answers in let long = c.loop-piece.answers.ok.0 in let room = i.room in
-    let drawn = one_drawn v c.draw.new.self.seat.me.0 c.in-Some.piece c.in-Some.ensures.piece.1 c.in-Some.ensures.few in let pieces = i.pieces in
+    let many = as_many c.args.problem.now c.args.depth c.args.nodes 0 v c.loop-piece.answers.items i.answers in
+    let long = c.loop-piece.answers.ok.0 in let room = i.room in
+    let drawn = one_drawn v c.draw.new.self.seat.me.0 c.in-Some.piece c.in-Some.ensures.piece.1 c.in-Some.ensures.few in
+    let pieces = i.pieces in
     omega (arith, many, long, room, drawn, pieces)
 
 pub loop-piece-smaller : goal.loop-piece-smaller
 loop-piece-smaller g c =
     let i = c.loop-piece.invariant in let v = c.loop-piece.seat.seat.me.0 in
-    let next = next_view v c.draw.new.self.seat.me.0 c.search_piece.new.incumbent.seat.me.0 c.in-Some.piece c.in-Some.ensures.piece.1 (ap (λ (k : View × TableId). k.0) c.search_piece.ensures.kept) in
+    let next = next_view v c.draw.new.self.seat.me.0 c.search_piece.new.incumbent.seat.me.0 c.in-Some.piece c.in-Some.ensures.piece.1
+    (ap (λ (k : View × TableId). k.0) c.search_piece.ensures.kept) in
     let long = ap (λ (xs : List ℕ). length xs) next.drawn ∙ length-append v.drawn (c.in-Some.piece ∷ []) in
-    let drawn = one_drawn v c.draw.new.self.seat.me.0 c.in-Some.piece c.in-Some.ensures.piece.1 c.in-Some.ensures.few in let pieces = i.pieces in
+    let drawn = one_drawn v c.draw.new.self.seat.me.0 c.in-Some.piece c.in-Some.ensures.piece.1 c.in-Some.ensures.few in
+    let pieces = i.pieces in
     omega (arith, long, drawn, pieces)
 
 pub loop-piece-preserved : goal.loop-piece-preserved
 loop-piece-preserved g c =
-    let i = c.loop-piece.invariant in let v = c.loop-piece.seat.seat.me.0 in let w = c.draw.new.self.seat.me.0 in let u = c.search_piece.new.incumbent.seat.me.0 in let a = c.search_piece.result in
+    let i = c.loop-piece.invariant in let v = c.loop-piece.seat.seat.me.0 in let w = c.draw.new.self.seat.me.0 in
+    let u = c.search_piece.new.incumbent.seat.me.0 in let a = c.search_piece.result in
     let drawn = c.in-Some.ensures.piece.1 in let kept = c.search_piece.ensures.kept in
     let next = next_view v w u c.in-Some.piece drawn (ap (λ (k : View × TableId). k.0) kept) in
-    let told = c.search_piece.ensures.told ∙ ap (λ (x : View). max x.told a.read) drawn in
-    let top = c.search_piece.ensures.offered ∙ ap (λ (x : View). max x.top (welfare_found a.best)) drawn in
-    let explored : IsExplored c.args.problem.now c.args.depth c.args.nodes a = explored_is c.args.problem.now c.args.depth c.args.nodes c.in-Some.piece w.told a c.search_piece.ensures.piece (omega (arith, c.in-Some.ensures.piece.0, i.pieces)) c.search_piece.ensures.sound c.search_piece.ensures.spent in
+    let told = c.search_piece.ensures.greatest_read ∙ ap (λ (x : View). max x.greatest_read a.read) drawn in
+    let top = c.search_piece.ensures.offered ∙ ap (λ (x : View). max x.greatest_offer (welfare_found a.best)) drawn in
+    let explored : IsExplored c.args.problem.now c.args.depth c.args.nodes a = explored_is c.args.problem.now c.args.depth c.args.nodes
+    c.in-Some.piece w.greatest_read a c.search_piece.ensures.piece (omega (arith, c.in-Some.ensures.piece.0, i.pieces))
+    c.search_piece.ensures.sound c.search_piece.ensures.spent in
     record {
-      answers = subst (λ (xs : List PieceAnswer). AreAnswersOf c.args.problem.now c.args.depth c.args.nodes 0 u xs) (sym c.push_reserved.ensures.items)
-          (one_more c.args.problem.now c.args.depth c.args.nodes 0 v u c.loop-piece.answers.items a i.answers (next.drawn ∙ ap (λ (n : ℕ). v.drawn ++ n ∷ []) (sym c.search_piece.ensures.piece)) told top explored);
-      going = next.past ∙ i.going;
+      answers = subst (λ (xs : List PieceAnswer). AreAnswersOf c.args.problem.now c.args.depth c.args.nodes 0 u xs)
+          (sym c.push_reserved.ensures.items)
+          (one_more c.args.problem.now c.args.depth c.args.nodes 0 v u c.loop-piece.answers.items a i.answers
+          (next.drawn ∙ ap (λ (n : ℕ). v.drawn ++ n ∷ []) (sym c.search_piece.ensures.piece)) told top explored);
+      going = next.draws_past_the_end ∙ i.going;
       pieces = next.pieces ∙ i.pieces;
       seats = next.seats ∙ i.seats;
-      left = next.left ∙ i.left;
+      seats_left = next.seats_left ∙ i.seats_left;
       table = ap (λ (k : View × TableId). k.1) kept ∙ c.in-Some.ensures.table ∙ i.table;
       room = subst (λ (n : ℕ). 2 ^ c.args.depth ≤ n) (sym c.push_reserved.ensures.capacity) i.room;
     }
 
 pub returns-clause-answers : goal.returns-clause-answers
 returns-clause-answers g c =
-    past_end c.args.problem.now c.args.depth c.args.nodes 0 1 c.loop-piece.seat.seat.me.0 c.draw.new.self.seat.me.0 c.loop-piece.answers.items (c.in_default.ensures.past refl) c.loop-piece.invariant.answers
+    past_end c.args.problem.now c.args.depth c.args.nodes 0 1 c.loop-piece.seat.seat.me.0 c.draw.new.self.seat.me.0
+    c.loop-piece.answers.items (c.in_default.ensures.draws_past_the_end refl) c.loop-piece.invariant.answers
 
 pub returns-clause-offered : goal.returns-clause-offered
-returns-clause-offered g c = let same = ap (λ (x : View). x.top) (c.in_default.ensures.past refl) in let offered = c.loop-piece.invariant.answers.offered in omega (arith, same, offered)
+returns-clause-offered g c = let same = ap (λ (x : View). x.greatest_offer) (c.in_default.ensures.draws_past_the_end refl) in let offered =
+    c.loop-piece.invariant.answers.offered in omega (arith, same, offered)

@@ -11,41 +11,51 @@ use Rattle.dam_search.proofs.workers.explore_all.Goals as goal
 pub shared_out-requires-clause-pieces : goal.shared_out-requires-clause-pieces
 shared_out-requires-clause-pieces g c κs within =
     let is = ap (λ (x : View × TableId). x.0) c.offer.ensures.kept in
-    let first = ap (λ (s : Seat (Unit {0}) View). s.me.0) c.first-first.ensures ∙ ap (λ (m : Me (Unit {0}) View). m.0) c.in_ok-words.ensures.seat.1 in
-    (begun c.pieces-count.result c.first-first.result.seat.me.0 c.offer.new.self.seat.me.0 first is).pieces_are ∙ c.pieces-count.ensures.value
+    let first = ap (λ (s : Seat (Unit {0}) View). s.me.0) c.first-first.ensures
+    ∙ ap (λ (m : Me (Unit {0}) View). m.0) c.in_ok-words.ensures.seat.1 in
+    (begun c.pieces-count.result c.first-first.result.seat.me.0 c.offer.new.self.seat.me.0 first is).pieces_are
+    ∙ c.pieces-count.ensures.value
 
 pub shared_out-requires-clause-undrawn : goal.shared_out-requires-clause-undrawn
 shared_out-requires-clause-undrawn g c κs within =
     let is = ap (λ (x : View × TableId). x.0) c.offer.ensures.kept in
-    let first = ap (λ (s : Seat (Unit {0}) View). s.me.0) c.first-first.ensures ∙ ap (λ (m : Me (Unit {0}) View). m.0) c.in_ok-words.ensures.seat.1 in
+    let first = ap (λ (s : Seat (Unit {0}) View). s.me.0) c.first-first.ensures
+    ∙ ap (λ (m : Me (Unit {0}) View). m.0) c.in_ok-words.ensures.seat.1 in
     (begun c.pieces-count.result c.first-first.result.seat.me.0 c.offer.new.self.seat.me.0 first is).undrawn
 
 pub shared_out-requires-clause-left : goal.shared_out-requires-clause-left
 shared_out-requires-clause-left g c κs within =
     let is = ap (λ (x : View × TableId). x.0) c.offer.ensures.kept in
-    let first = ap (λ (s : Seat (Unit {0}) View). s.me.0) c.first-first.ensures ∙ ap (λ (m : Me (Unit {0}) View). m.0) c.in_ok-words.ensures.seat.1 in
-    let left = (begun c.pieces-count.result c.first-first.result.seat.me.0 c.offer.new.self.seat.me.0 first is).left in let few = c.requires.few_workers in omega (arith, left, few)
+    let first = ap (λ (s : Seat (Unit {0}) View). s.me.0) c.first-first.ensures
+    ∙ ap (λ (m : Me (Unit {0}) View). m.0) c.in_ok-words.ensures.seat.1 in
+    let left = (begun c.pieces-count.result c.first-first.result.seat.me.0 c.offer.new.self.seat.me.0 first is).seats_left in
+    let few = c.requires.few_workers in omega (arith, left, few)
 
 pub close-totals-requires-clause-all : goal.close-totals-requires-clause-all
 close-totals-requires-clause-all g c =
     let is = ap (λ (x : View × TableId). x.0) c.offer.ensures.kept in
-    let first = ap (λ (s : Seat (Unit {0}) View). s.me.0) c.first-first.ensures ∙ ap (λ (m : Me (Unit {0}) View). m.0) c.in_ok-words.ensures.seat.1 in
-    let b = begun c.pieces-count.result c.first-first.result.seat.me.0 c.offer.new.self.seat.me.0 first is in let one = b.seats in let most = b.left in
+    let first = ap (λ (s : Seat (Unit {0}) View). s.me.0) c.first-first.ensures
+    ∙ ap (λ (m : Me (Unit {0}) View). m.0) c.in_ok-words.ensures.seat.1 in
+    let b = begun c.pieces-count.result c.first-first.result.seat.me.0 c.offer.new.self.seat.me.0 first is in let one = b.seats in
+    let most = b.seats_left in
     let last = ap (λ (s : Seat (Unit {0}) View). s.me.0) c.into_seat-seat.ensures in
-    let seats = ap (λ (x : View). x.seats) last in let left = ap (λ (x : View). x.left) last in
-    let joined = c.in_ok-answers.ensures.joined in let all = joined.seats in let rest = joined.left in let few = c.requires.few_workers in
+    let seats = ap (λ (x : View). x.seats) last in let left = ap (λ (x : View). x.seats_left) last in
+    let joined = c.in_ok-answers.ensures.joined in let all = joined.seats in let rest = joined.seats_left in
+    let few = c.requires.few_workers in
     omega (arith, one, most, seats, left, all, rest, few)
 
 pub returns : goal.returns
 returns g c =
     let task = c.args.task.now in let v = c.offer.new.self.seat.me.0 in
     let is = ap (λ (x : View × TableId). x.0) c.offer.ensures.kept in
-    let first = ap (λ (s : Seat (Unit {0}) View). s.me.0) c.first-first.ensures ∙ ap (λ (m : Me (Unit {0}) View). m.0) c.in_ok-words.ensures.seat.1 in
+    let first = ap (λ (s : Seat (Unit {0}) View). s.me.0) c.first-first.ensures
+    ∙ ap (λ (m : Me (Unit {0}) View). m.0) c.in_ok-words.ensures.seat.1 in
     let b = begun c.pieces-count.result c.first-first.result.seat.me.0 v first is in
     let last = ap (λ (s : Seat (Unit {0}) View). s.me.0) c.into_seat-seat.ensures in
     let key = c.in_ok-words.ensures.words.2 in let count = c.pieces-count.ensures.value in
-    let top = c.offer.ensures.top in let none = ap (λ (x : View). x.top) first in
+    let top = c.offer.ensures.greatest_offer in let none = ap (λ (x : View). x.greatest_offer) first in
     let totals = c.close-totals.result.draws ∷ c.close-totals.result.offered ∷ [] in
     let closed = subst (λ (x : View). IsClosed c.in_ok-words.words.shared.key totals x) last c.close-totals.ensures in
-    whole task.problem.now task.depth task.nodes task.first task.workers c.in_ok-words.words.shared.key totals (record v { left = v.left - task.workers }) c.shared_out.new.first.seat.me.0 c.in_ok-answers.answers.items
+    whole task.space.problem.now task.depth task.nodes task.first task.workers c.in_ok-words.words.shared.key totals
+    (record v { seats_left = v.seats_left - task.workers }) c.shared_out.new.first.seat.me.0 c.in_ok-answers.answers.items
     c.in_ok-answers.ensures.joined b.going (omega (arith, top, none)) c.requires.some_worker (key ∙ count) closed

@@ -10,6 +10,6 @@ invariant-loop l = record {
   many : vec_len l.seats ≡ l.counter;
   room : l.workers ≤ vec_capacity l.seats;
   table : l.first.seat.table_id ≡ l.fn.first.seat.table_id;
-  first : l.first.seat.me.0 ≡ record l.fn.first.seat.me.0 { left = l.fn.first.seat.me.0.left - l.counter };
+  first : l.first.seat.me.0 ≡ record l.fn.first.seat.me.0 { seats_left = l.fn.first.seat.me.0.seats_left - l.counter };
   seats : All (λ (s : Shared). IsNewSeat l.fn.first.seat.table_id l.fn.first.seat.me.0.pieces s) l.seats.items;
 }

@@ -1,5 +1,6 @@
 -- Less than the value by the bound law, where the prefix isn't opened.
-use Rattle.std.proofs.Common.{◌≡◌, ℕ, ◌<◌, ℤ, pos, negsuc, ◌≤ℤ◌, ◌<ℤ◌, Option, Some, List, Bool, false, ◌∙◌, ap, sym, subst, true, rules, arith}
+use Rattle.std.proofs.Common.{◌≡◌, ℕ, ◌<◌, ℤ, pos, negsuc, ◌≤ℤ◌, ◌<ℤ◌, Option, Some, List, Bool, false, ◌∙◌, ap, sym, subst, true, rules}
+use Rattle.std.proofs.Common.{arith}
 use Rattle.std.proofs.lemmas.Bool.Decides.{nat_tests}
 use Rattle.std.proofs.lemmas.Int.{ints, to_z-of_z}
 use mir.Syntax.{w64}
@@ -17,7 +18,8 @@ less w (pos n) value h e = let under : n < value = grind (arith, nat_tests) in o
 less w (negsuc n) value h e = omega (arith, ints)
 
 -- the total that stands in the slots is the bound
-bound_is : (relaxed : ProblemState) (prefix : List Bool) (trail : Trail) (total : ℤ) → IsDayIn relaxed prefix trail total → Some total ≡ relaxed_welfare relaxed prefix
+bound_is : (relaxed : ProblemState) (prefix : List Bool) (trail : Trail) (total : ℤ) → IsDayIn relaxed prefix trail total
+    → Some total ≡ relaxed_welfare relaxed prefix
 bound_is relaxed prefix trail total is = ap (λ (z : ℤ). Some z) (sym is.total_is) ∙ is.day_is.total_is
 
 pub returns-in_default : goal.returns-in_default
@@ -31,7 +33,9 @@ pub returns-then-reaches : goal.returns-then-reaches
 returns-then-reaches c relaxed trail low few day =
     let own = if_told c.args.total c.in-Some.total relaxed c.args.self.now trail low c.in-Some.is day in
     let fits : SFits w64 c.in-Some.total = search rules in (
-      subst (λ (bound : Option ℤ). reaches bound c.args.least ≡ true) (ap (λ (z : ℤ). Some z) (to_z-of_z w64 c.in-Some.total fits) ∙ bound_is relaxed c.args.self.now trail c.in-Some.total own) (sym c.reaches.ensures ∙ c.if-reaches.true),
+      subst (λ (bound : Option ℤ). reaches bound c.args.least ≡ true)
+          (ap (λ (z : ℤ). Some z) (to_z-of_z w64 c.in-Some.total fits) ∙ bound_is relaxed c.args.self.now trail c.in-Some.total own)
+          (sym c.reaches.ensures ∙ c.if-reaches.true),
       as_passed relaxed c.args.self.now trail c.in-Some.total fits own,
     )
 
@@ -40,5 +44,7 @@ returns-else-reaches c relaxed trail low few day sel w whole e =
     let own = if_told c.args.total c.in-Some.total relaxed c.args.self.now trail low c.in-Some.is day in
     let fits : SFits w64 c.in-Some.total = search rules in
     let most = c.bound.ensures.most relaxed c.args.self.now sel w whole e in
-    let is = ap (λ (z : ℤ). Some z) (to_z-of_z w64 c.in-Some.total fits) ∙ bound_is relaxed c.args.self.now trail c.in-Some.total own ∙ most.1 in
-    less w most.0 c.args.least most.2 (subst (λ (bound : Option ℤ). reaches bound c.args.least ≡ false) is (sym c.reaches.ensures ∙ c.if-reaches.false))
+    let is = ap (λ (z : ℤ). Some z) (to_z-of_z w64 c.in-Some.total fits) ∙ bound_is relaxed c.args.self.now trail c.in-Some.total own
+    ∙ most.1 in
+    less w most.0 c.args.least most.2 (subst (λ (bound : Option ℤ). reaches bound c.args.least ≡ false) is
+    (sym c.reaches.ensures ∙ c.if-reaches.false))

@@ -1,7 +1,7 @@
 -- The greatest so far is eligible.
 use Rattle.std.proofs.Common.{pos}
 use Rattle.dam_blocks.specs.Eligible.{IsEligible}
-use Rattle.dam_search.proofs.first.best_turn.Given as goal
+use Rattle.dam_search.proofs.space.SearchSpace.best_turn.Given as goal
 
 abbrev pub invariant-loop-place : goal.invariant-loop-place
-invariant-loop-place g l = IsEligible l.problem l.greatest.selection (pos l.greatest.welfare)
+invariant-loop-place g l = IsEligible l.self.problem.now l.greatest.selection (pos l.greatest.welfare)

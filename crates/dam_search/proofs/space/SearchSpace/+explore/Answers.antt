@@ -1,5 +1,6 @@
 -- One node, and the walks from its two extensions.
-use Rattle.std.proofs.Common.{◌≡◌, ◌≢◌, inl, inr, Option, Some, MatchOption, ℤ, ℕ, ◌+◌, ◌-◌, ◌≤◌, ◌<◌, true, false, not, List, Bool, [], ◌∷◌, ◌++◌}
+use Rattle.std.proofs.Common.{◌≡◌, ◌≢◌, inl, inr, Option, Some, MatchOption, ℤ, ℕ, ◌+◌, ◌-◌, ◌≤◌, ◌<◌, true, false, not, List, Bool, []}
+use Rattle.std.proofs.Common.{◌∷◌, ◌++◌}
 use Rattle.std.proofs.Common.{length, length-append, ◌∙◌, ap, sym, subst, refl, rules, arith}
 use Rattle.dam_book.specs.Limits.{most_blocks}
 use Rattle.dam_blocks.specs.Problem.{ProblemState}
@@ -16,9 +17,9 @@ use Rattle.dam_search.proofs.Ranks.{found_after, finds_nothing, finds_shorter, f
 use Rattle.dam_search.proofs.Leaf.{as_passed}
 use Rattle.dam_search.proofs.LastBlock.{still_rejected}
 use Rattle.dam_search.proofs.Walks.{spends_none, spends_nothing, spends_one, spends_first, spends_both, reads_nothing, reads_asked}
-use Rattle.dam_search.proofs.piece.+explore.Goals.{decide-else-accept-via-then-accept+else-not-is_still_admissible}
-use Rattle.dam_search.proofs.piece.+explore.Goals.{decide-else-accept-via-else-accept}
-use Rattle.dam_search.proofs.piece.+explore.Goals as goal
+use Rattle.dam_search.proofs.space.SearchSpace.+explore.Goals.{decide-else-accept-via-then-accept+else-not-is_still_admissible}
+use Rattle.dam_search.proofs.space.SearchSpace.+explore.Goals.{decide-else-accept-via-else-accept}
+use Rattle.dam_search.proofs.space.SearchSpace.+explore.Goals as goal
 
 -- the walk is of a problem with its relaxation
 alive_here : (problem relaxed : ProblemState) (prefix : List Bool) (least : ℕ) → relaxed ≡ without_rows problem
@@ -53,8 +54,8 @@ rejected_here blocks next prefix accept e f few admissible =
 
 pub decide-returns-then-not-is_still_admissible-clause-walked : goal.decide-returns-then-not-is_still_admissible-clause-walked
 decide-returns-then-not-is_still_admissible-clause-walked g t c =
-    let problem = c.args.problem.now in let prefix = c.args.prefix.now ++ c.args.accept ∷ [] in let found = c.args.found.now in
-    let left = length problem.blocks - length prefix in let told = g.I.Incumbent.told c.args.incumbent.now in
+    let problem = c.args.self.now.problem.now in let prefix = c.args.prefix.now ++ c.args.accept ∷ [] in let found = c.args.found.now in
+    let left = length problem.blocks - length prefix in let told = g.I.Incumbent.greatest_read c.args.incumbent.now in
     let going = c.requires.going in
     let passed : (sel : List Bool) → IsCompletion prefix sel → ¬ (IsAdmissible problem.blocks sel) =
     λ sel whole. c.is_still_admissible.ensures.completions c.if-not-is_still_admissible.true sel
@@ -69,12 +70,12 @@ decide-returns-then-not-is_still_admissible-clause-walked g t c =
 
 pub decide-explore-requires : goal.decide-explore-requires
 decide-explore-requires g t c =
-    let blocks = c.args.problem.now.blocks in let relaxed = c.args.relaxed.now in let prefix = c.args.prefix.now in
+    let blocks = c.args.self.now.problem.now.blocks in let relaxed = c.args.self.now.relaxed.now in let prefix = c.args.prefix.now in
     let next = c.extended-extended.result in let is = c.extended-extended.ensures in let read = c.args.found.now.read in
     let total = c.extend-next.result in let trail = c.extend-next.new.trail in
     let long : length next ≡ length prefix + 1 =
     omega (arith, ap (λ (xs : List Bool). length xs) is, length-append prefix (c.args.accept ∷ [])) in
-    let few : length prefix < most_blocks = omega (arith, c.requires.depth, c.periods-kept.ensures.valid.few_blocks) in
+    let few : length prefix < most_blocks = omega (arith, c.requires.depth, c.kept.ensures.few_blocks) in
     let is_day : MatchOption total (IsUnder relaxed next read) (IsDayIn relaxed next trail) =
     next_day relaxed next prefix c.args.accept c.depth.result read total trail is c.depth.ensures.value
     (λ e. c.extend-next.ensures.day prefix e
@@ -88,8 +89,10 @@ decide-explore-requires g t c =
 
 pub decide-returns-clause-walked : goal.decide-returns-clause-walked
 decide-returns-clause-walked g t c =
-    let told = g.I.Incumbent.told in let top = g.I.Incumbent.top in let before = c.args.incumbent.now in let after = c.explore.new.incumbent in
-    subst (λ (xs : List Bool). IsWalked c.args.problem.now xs c.args.nodes (told before) (top before) (told after) (top after) c.args.found.now
+    let told = g.I.Incumbent.greatest_read in let top = g.I.Incumbent.greatest_offer in let before = c.args.incumbent.now in
+    let after = c.explore.new.incumbent in
+    subst (λ (xs : List Bool). IsWalked c.args.self.now.problem.now xs c.args.nodes (told before) (top before) (told after)
+    (top after) c.args.found.now
     c.explore.new.found c.explore.result) c.extended-extended.ensures c.explore.ensures.walked
 
 pub decide-returns-clause-days : goal.decide-returns-clause-days
@@ -104,8 +107,8 @@ decide-returns-clause-days g t c prefix total few day =
 
 pub explore-returns-then-found-nodes-clause-walked : goal.explore-returns-then-found-nodes-clause-walked
 explore-returns-then-found-nodes-clause-walked g t c =
-    let problem = c.args.problem.now in let prefix = c.args.prefix in let found = c.args.found.now in
-    let left = length problem.blocks - length prefix in let told = g.I.Incumbent.told c.args.incumbent.now in
+    let problem = c.args.self.now.problem.now in let prefix = c.args.prefix in let found = c.args.found.now in
+    let left = length problem.blocks - length prefix in let told = g.I.Incumbent.greatest_read c.args.incumbent.now in
     let going = c.requires.going in
     record {
       finds = finds_nothing problem prefix found.best;
@@ -117,8 +120,8 @@ explore-returns-then-found-nodes-clause-walked g t c =
 
 pub explore-returns-then-depth-block_count-clause-walked : goal.explore-returns-then-depth-block_count-clause-walked
 explore-returns-then-depth-block_count-clause-walked g t c =
-    let problem = c.args.problem.now in let prefix = c.args.prefix in let found = c.args.found.now in
-    let left = length problem.blocks - length prefix in let told = g.I.Incumbent.told in
+    let problem = c.args.self.now.problem.now in let prefix = c.args.prefix in let found = c.args.found.now in
+    let left = length problem.blocks - length prefix in let told = g.I.Incumbent.greatest_read in
     let going = c.requires.going in let after = c.try_selection.new.found in
     let visited : after.visited ≡ found.visited + 1 = c.try_selection.ensures.visited in
     let full : left ≡ 0 = omega (arith, c.depth.ensures.value, c.block_count.ensures.value, c.if-depth-block_count.true) in
@@ -130,17 +133,20 @@ explore-returns-then-depth-block_count-clause-walked g t c =
           subst (λ (n : ℕ). Spends problem prefix left (told c.args.incumbent.now) c.args.nodes found.visited n true) (sym visited)
           (spends_one problem prefix left (told c.args.incumbent.now) c.args.nodes found.visited room);
       reads =
-          subst (λ (n : ℕ). Reads left found.visited after.visited found.read n (told c.args.incumbent.now) (told c.try_selection.new.incumbent))
+          subst (λ (n : ℕ). Reads left found.visited after.visited found.read n (told c.args.incumbent.now)
+          (told c.try_selection.new.incumbent))
           (sym c.try_selection.ensures.read)
-          (reads_nothing left found.visited after.visited found.read (told c.args.incumbent.now) (told c.try_selection.new.incumbent) going.read
-          c.try_selection.ensures.told (inr full));
+          (reads_nothing left found.visited after.visited found.read (told c.args.incumbent.now)
+          (told c.try_selection.new.incumbent) going.read
+          c.try_selection.ensures.greatest_read (inr full));
       offered = c.try_selection.ensures.offered;
     }
 
 pub explore-returns-in_default-clause-walked : goal.explore-returns-in_default-clause-walked
 explore-returns-in_default-clause-walked g t c =
-    let problem = c.args.problem.now in let relaxed = c.args.relaxed.now in let prefix = c.args.prefix in let found = c.args.found.now in
-    let left = length problem.blocks - length prefix in let told = g.I.Incumbent.told in
+    let problem = c.args.self.now.problem.now in let relaxed = c.args.self.now.relaxed.now in let prefix = c.args.prefix in
+    let found = c.args.found.now in
+    let left = length problem.blocks - length prefix in let told = g.I.Incumbent.greatest_read in
     let going = c.requires.going in let read = going.read in let offered = going.offered in
     let low : found.read ≤ c.read-found.result = omega (arith, read, c.read-found.ensures.rises) in
     let inside =
@@ -149,46 +155,49 @@ explore-returns-in_default-clause-walked g t c =
     record {
       finds = finds_nothing problem prefix found.best;
       covers = λ done sel w whole e.
-          (let welfare = subst (λ (p : ProblemState). selection_welfare p sel ≡ Some w) (sym c.requires.same) e.welfare_is in
+          (let welfare = subst (λ (p : ProblemState). selection_welfare p sel ≡ Some w) (sym c.args.self.now.same) e.welfare_is in
           inl (c.in_default.ensures relaxed c.args.trail.now found.read low c.requires.day sel w whole welfare));
       spends =
           spends_one problem prefix left (told c.args.incumbent.now) c.args.nodes found.visited
           (unmet found.visited c.args.nodes going.room c.if-found-nodes.false);
       reads =
           reads_asked left found.visited (found.visited + 1) found.read c.read-found.result (told c.args.incumbent.now)
-          (told c.read-found.new.self) (omega (arith, inside)) (omega arith) read c.read-found.ensures.rises c.read-found.ensures.told;
-      offered = omega (arith, offered, c.read-found.ensures.top);
+          (told c.read-found.new.self) (omega (arith, inside)) (omega arith) read c.read-found.ensures.rises
+          c.read-found.ensures.greatest_read;
+      offered = omega (arith, offered, c.read-found.ensures.greatest_offer);
     }
 
 -- ---- its two extensions
 
 pub explore-decide-requires : goal.explore-decide-requires
 explore-decide-requires g t c =
-    let problem = c.args.problem.now in let relaxed = c.args.relaxed.now in let prefix = c.args.prefix in
+    let problem = c.args.self.now.problem.now in let relaxed = c.args.self.now.relaxed.now in let prefix = c.args.prefix in
     let low : c.args.found.now.read ≤ c.read-found.result = omega (arith, c.requires.going.read, c.read-found.ensures.rises) in
     let is = c.in-Some.ensures relaxed c.args.trail.now c.args.found.now.read low c.requires.day in
     let depth : length prefix < length problem.blocks =
     undecided prefix c.depth.result c.block_count.result (length problem.blocks) c.depth.ensures.value c.block_count.ensures.value
     c.requires.depth c.if-depth-block_count.false in
     let day : IsDayIn relaxed prefix c.args.trail.now c.in-Some.bound = is.1 in
-    let going : IsGoing problem c.args.nodes (g.I.Incumbent.told c.read-found.new.self) (g.I.Incumbent.top c.read-found.new.self)
+    let going : IsGoing problem c.args.nodes (g.I.Incumbent.greatest_read c.read-found.new.self)
+    (g.I.Incumbent.greatest_offer c.read-found.new.self)
     (record { best = c.args.found.now.best; read = c.read-found.result; visited = c.args.found.now.visited + 1 }) =
     let offered = c.requires.going.offered in
     let room = unmet c.args.found.now.visited c.args.nodes c.requires.going.room c.if-found-nodes.false in
     record {
       room = omega (arith, room);
-      read = omega (arith, c.read-found.ensures.told);
+      read = omega (arith, c.read-found.ensures.greatest_read);
       best = c.requires.going.best;
-      offered = omega (arith, offered, c.read-found.ensures.top);
+      offered = omega (arith, offered, c.read-found.ensures.greatest_offer);
     } in
     search rules
 
 pub explore-returns-then-not-decide-clause-walked : goal.explore-returns-then-not-decide-clause-walked
 explore-returns-then-not-decide-clause-walked g t c =
-    let problem = c.args.problem.now in let prefix = c.args.prefix in let n = length problem.blocks in let first = c.equals-first.result in
-    let nodes = c.args.nodes in let told = g.I.Incumbent.told in
+    let problem = c.args.self.now.problem.now in let prefix = c.args.prefix in let n = length problem.blocks in
+    let first = c.equals-first.result in
+    let nodes = c.args.nodes in let told = g.I.Incumbent.greatest_read in
     let low : c.args.found.now.read ≤ c.read-found.result = omega (arith, c.requires.going.read, c.read-found.ensures.rises) in
-    let is = c.in-Some.ensures c.args.relaxed.now c.args.trail.now c.args.found.now.read low c.requires.day in
+    let is = c.in-Some.ensures c.args.self.now.relaxed.now c.args.trail.now c.args.found.now.read low c.requires.day in
     let inside =
     undecided prefix c.depth.result c.block_count.result n c.depth.ensures.value c.block_count.ensures.value
     c.requires.depth c.if-depth-block_count.false in
@@ -196,29 +205,30 @@ explore-returns-then-not-decide-clause-walked g t c =
     let here = c.decide.ensures.walked.spends in
     let read =
     subst (λ (v : ℕ). Spends problem (prefix ++ first ∷ []) (n - length (prefix ++ first ∷ [])) v nodes (before + 1) after c.decide.result)
-    c.read-found.ensures.told here in
+    c.read-found.ensures.greatest_read here in
     let unfinished =
     subst (λ (b : Bool). Spends problem (prefix ++ first ∷ []) (n - length (prefix ++ first ∷ [])) least nodes (before + 1) after b)
     c.if-not-decide.true read in
     let a = c.args.found.now.best in let b = c.decide.new.found.best in let walked = c.decide.ensures.walked in
-    let offered = walked.offered in let grows = walked.reads.grows in let reads = walked.reads.told in let more = walked.spends.grows in
+    let offered = walked.offered in let grows = walked.reads.grows in let reads = walked.reads.greatest_read in
+    let more = walked.spends.grows in
     record {
       finds =
           finds_shorter problem prefix (first ∷ []) a b walked.finds;
       covers = λ done. absurd (cc);
       spends =
           spends_first problem prefix first n (told c.args.incumbent.now) least nodes before after inside c.read-found.ensures.rises
-          (alive_here problem c.args.relaxed.now prefix least c.requires.same is.0) unfinished;
+          (alive_here problem c.args.self.now.relaxed.now prefix least c.args.self.now.same is.0) unfinished;
       reads =
           reads_asked (n - length prefix) before after c.args.found.now.read c.decide.new.found.read (told c.args.incumbent.now)
           (told c.decide.new.incumbent) (omega (arith, inside)) (omega (arith, more)) c.requires.going.read
-          (omega (arith, c.read-found.ensures.rises, grows)) (omega (arith, c.read-found.ensures.told, grows, reads));
-      offered = omega (arith, offered, c.read-found.ensures.top);
+          (omega (arith, c.read-found.ensures.rises, grows)) (omega (arith, c.read-found.ensures.greatest_read, grows, reads));
+      offered = omega (arith, offered, c.read-found.ensures.greatest_offer);
     }
 
 pub explore-decide-requires-2 : goal.explore-decide-requires-2
 explore-decide-requires-2 g t c =
-    let problem = c.args.problem.now in let relaxed = c.args.relaxed.now in let prefix = c.args.prefix in
+    let problem = c.args.self.now.problem.now in let relaxed = c.args.self.now.relaxed.now in let prefix = c.args.prefix in
     let low : c.args.found.now.read ≤ c.read-found.result = omega (arith, c.requires.going.read, c.read-found.ensures.rises) in
     let is = c.in-Some.ensures relaxed c.args.trail.now c.args.found.now.read low c.requires.day in
     let depth : length prefix < length problem.blocks =
@@ -226,8 +236,8 @@ explore-decide-requires-2 g t c =
     c.requires.depth c.if-depth-block_count.false in
     let day : IsDayIn relaxed prefix c.decide.new.trail c.in-Some.bound = c.decide.ensures.days prefix c.in-Some.bound (omega arith) is.1 in
     let now = c.decide.new.found in let incumbent = c.decide.new.incumbent in
-    let walked = c.decide.ensures.walked in let told = walked.reads.told in let top = walked.offered in
-    let going : IsGoing problem c.args.nodes (g.I.Incumbent.told incumbent) (g.I.Incumbent.top incumbent) now = record {
+    let walked = c.decide.ensures.walked in let told = walked.reads.greatest_read in let top = walked.offered in
+    let going : IsGoing problem c.args.nodes (g.I.Incumbent.greatest_read incumbent) (g.I.Incumbent.greatest_offer incumbent) now = record {
       room = walked.spends.within;
       read = omega (arith, told);
       best = found_after problem (prefix ++ c.equals-first.result ∷ []) c.args.found.now.best now.best c.requires.going.best walked.finds;
@@ -237,16 +247,17 @@ explore-decide-requires-2 g t c =
 
 pub explore-returns-clause-walked : goal.explore-returns-clause-walked
 explore-returns-clause-walked g t c =
-    let problem = c.args.problem.now in let prefix = c.args.prefix in let n = length problem.blocks in let first = c.equals-first.result in
-    let nodes = c.args.nodes in let told = g.I.Incumbent.told in
+    let problem = c.args.self.now.problem.now in let prefix = c.args.prefix in let n = length problem.blocks in
+    let first = c.equals-first.result in
+    let nodes = c.args.nodes in let told = g.I.Incumbent.greatest_read in
     let low : c.args.found.now.read ≤ c.read-found.result = omega (arith, c.requires.going.read, c.read-found.ensures.rises) in
-    let is = c.in-Some.ensures c.args.relaxed.now c.args.trail.now c.args.found.now.read low c.requires.day in
+    let is = c.in-Some.ensures c.args.self.now.relaxed.now c.args.trail.now c.args.found.now.read low c.requires.day in
     let inside =
     undecided prefix c.depth.result c.block_count.result n c.depth.ensures.value c.block_count.ensures.value
     c.requires.depth c.if-depth-block_count.false in
     let least = c.read-found.result in let later = told c.decide.new.incumbent in
     let before = c.args.found.now.visited in let middle = c.decide.new.found.visited in let after = c.decide-2.new.found.visited in
-    let asked = c.read-found.ensures.told in let raised = c.decide.ensures.walked.reads.told in
+    let asked = c.read-found.ensures.greatest_read in let raised = c.decide.ensures.walked.reads.greatest_read in
     let here =
     subst (λ (b : Bool).
     Spends problem (prefix ++ first ∷ []) (n - length (prefix ++ first ∷ [])) (told c.read-found.new.self) nodes
@@ -260,12 +271,13 @@ explore-returns-clause-walked g t c =
     let w = c.decide.ensures.walked in let v = c.decide-2.ensures.walked in
     let few : length prefix < most_blocks = omega (arith, inside, c.block_count.ensures.valid.few_blocks) in
     let here = w.finds in let there = v.finds in
-    let grows = w.reads.grows in let grows' = v.reads.grows in let raised' = v.reads.told in
+    let grows = w.reads.grows in let grows' = v.reads.grows in let raised' = v.reads.greatest_read in
     let more = w.spends.grows in let more' = v.spends.grows in
     let top = w.offered in let top' = v.offered in
     record {
       finds =
-          finds_twice problem prefix a b z c.ranking.ensures.transitive c.requires.going.best (finds_shorter problem prefix (first ∷ []) a b here)
+          finds_twice problem prefix a b z c.ranking.ensures.transitive c.requires.going.best
+          (finds_shorter problem prefix (first ∷ []) a b here)
           (finds_shorter problem prefix (not first ∷ []) b z there);
       covers = λ done.
           covers_both problem prefix first a b z c.decide.new.found.read c.decide-2.new.found.read c.ranking.ensures.transitive
@@ -274,14 +286,16 @@ explore-returns-clause-walked g t c =
       spends =
           spends_both problem prefix first n (told c.args.incumbent.now) least later nodes before middle after c.decide-2.result inside
           c.read-found.ensures.rises (omega (arith, asked, raised))
-          (alive_here problem c.args.relaxed.now prefix least c.requires.same is.0) one other;
+          (alive_here problem c.args.self.now.relaxed.now prefix least c.args.self.now.same is.0) one other;
       reads =
           reads_asked (n - length prefix) before after c.args.found.now.read c.decide-2.new.found.read (told c.args.incumbent.now)
           (told c.decide-2.new.incumbent) (omega (arith, inside)) (omega (arith, more, more')) c.requires.going.read
           (omega (arith, c.read-found.ensures.rises, grows, grows')) (omega (arith, asked, raised, raised', grows, grows'));
       offered =
-          let rises = welfare_rises b z v.finds.rises in omega (arith, rises, top, top', c.requires.going.offered, c.read-found.ensures.top);
+          let rises = welfare_rises b z v.finds.rises in
+          omega (arith, rises, top, top', c.requires.going.offered, c.read-found.ensures.greatest_offer);
     }
 
 pub explore-returns-clause-days : goal.explore-returns-clause-days
-explore-returns-clause-days g t c prefix total few day = c.decide-2.ensures.days prefix total few (c.decide.ensures.days prefix total few day)
+explore-returns-clause-days g t c prefix total few day =
+    c.decide-2.ensures.days prefix total few (c.decide.ensures.days prefix total few day)

@@ -8,7 +8,7 @@ use Rattle.dam_book.specs.Limits.{most_blocks}
 use Rattle.dam_blocks.specs.Selection.{padded}
 use Rattle.dam_blocks.specs.Eligible.{IsEligible}
 use Rattle.dam_search.proofs.Leaf.{tells_of, welfare_is_total, not_losing}
-use Rattle.dam_search.proofs.first.eligible_or.Goals as goal
+use Rattle.dam_search.proofs.space.SearchSpace.eligible_or.Goals as goal
 
 not_below : (z : ℤ) → lt_z z (pos 0) ≡ false → pos (nat_abs z) ≡ z
 not_below (pos n) h = refl
@@ -16,14 +16,18 @@ not_below (negsuc n) h = absurd (cc)
 
 pub returns : goal.returns
 returns g c =
-    let problem = c.args.problem.now in let prefix = c.args.prefix.now in
-    let full = c.requires.full in let blocks = c.periods-kept.ensures.valid.few_blocks in
+    let problem = c.args.self.now.problem.now in let prefix = c.args.prefix.now in
+    let full = c.requires.full in let blocks = c.kept.ensures.few_blocks in
     let few : length prefix ≤ most_blocks = omega (arith, full, blocks) in
     let whole = c.completions.ensures.padded prefix few in
-    let total = welfare_is_total problem c.args.relaxed.now prefix (padded prefix) c.args.day.now c.requires.same c.requires.day (c.decided.ensures problem prefix (padded prefix) (omega (arith, full)) whole) in
+    let total = welfare_is_total problem c.args.self.now.relaxed.now prefix (padded prefix) c.args.day.now c.args.self.now.same
+    c.requires.day (c.decided.ensures problem prefix (padded prefix) (omega (arith, full)) whole) in
     let fits : SFits w64 c.args.day.now.total = search rules in
     let value = to_z-of_z w64 c.args.day.now.total fits in
-    let is = not_losing problem prefix c.has_loss.result c.args.day.now.total c.if-has_loss.false (tells_of problem c.args.relaxed.now prefix c.has_loss.result c.requires.same c.has_loss.ensures)
-    whole (c.is_admissible.ensures.value.0 (search rules)) total (c.prices.ensures problem (padded prefix) c.args.day.now.total c.periods-kept.ensures.valid total) in
+    let is = not_losing problem prefix c.has_loss.result c.args.day.now.total c.if-has_loss.false
+    (tells_of problem c.args.self.now.relaxed.now prefix c.has_loss.result c.args.self.now.same c.has_loss.ensures)
+    whole (c.is_admissible.ensures.value.0 (search rules)) total
+    (c.prices.ensures problem (padded prefix) c.args.day.now.total c.kept.ensures total) in
     subst (λ (xs : List Bool). IsEligible problem xs (pos (nat_abs (to_z w64 (of_z w64 c.args.day.now.total))))) (sym c.selection.ensures)
-    (subst (λ (z : ℤ). IsEligible problem (padded prefix) z) (sym (not_below (to_z w64 (of_z w64 c.args.day.now.total)) c.if-day-lt0.false ∙ value)) is)
+    (subst (λ (z : ℤ). IsEligible problem (padded prefix) z) (sym
+    (not_below (to_z w64 (of_z w64 c.args.day.now.total)) c.if-day-lt0.false ∙ value)) is)

@@ -1,9 +1,0 @@
--- A decision is on one block more.
-use Rattle.std.proofs.Common.{◌*◌, ◌-◌, length}
-use Rattle.dam_search.proofs.piece.+explore.Given as goal
-
-abbrev pub decreases-explore : goal.decreases-explore
-decreases-explore g l = 2 * (length l.problem.now.blocks - length l.prefix)
-
-abbrev pub decreases-decide : goal.decreases-decide
-decreases-decide g l = 2 * (length l.problem.now.blocks - length l.prefix.now) - 1
