@@ -1,5 +1,5 @@
 -- What the gate answers.
-use Rattle.std.specs.Prelude.{◌≡◌, ℕ, ◌≤◌, true, false, List, [], ◌∷◌, ◌++◌, length}
+use Rattle.std.specs.Prelude.{◌≡◌, ℕ, ◌<◌, ◌≤◌, true, false, List, [], ◌∷◌, ◌++◌, length}
 use mathlib.Core.List.{IsPrefix}
 use Rattle.dam_book.specs.Book.{Key, run, commands_of, is_day, order_at}
 use Rattle.dam_book.specs.Limits.{most_entries}
@@ -13,7 +13,7 @@ use Rattle.dam_gate.specs.declared.gate.GateFault.{GateFault}
 use Rattle.dam_gate.specs.declared.gate.GateFault.TheVariants.{NotYours, JournalFull, Memory, NoVersion}
 use Rattle.dam_gate.specs.declared.pass.Look.{Look}
 use Rattle.dam_gate.specs.Journal.{IsHistory, is_full}
-use Rattle.dam_gate.specs.Pass.{PassState, Knowledge, is_own}
+use Rattle.dam_gate.specs.Pass.{PassState, Knowledge, after_call, is_own}
 
 -- what may be answered in place of a keeper or a gate of a day of so many periods
 abbrev pub IsBeginFault : ℕ → BeginFault → Type 0
@@ -30,7 +30,8 @@ gate_fault_of (KeeperFull n) = JournalFull n
 gate_fault_of KeeperMemory = Memory
 
 -- what a gate may answer to the command of a pass in place of its entry: that the pass may not give it; or, if it may, that a
--- journal of as many entries is full for it, that memory ran out, or that no version could be shown
+-- journal of as many entries is full for it, that memory ran out, or that no version could be shown. It mentions no journal,
+-- since other threads may change it, and so it doesn't say that there was room where one of the last two is the answer
 abbrev pub IsGateFault : PassState → Command → GateFault → Type 0
 IsGateFault p c NotYours = is_own p.holder c ≡ false
 IsGateFault p c (JournalFull held) = (is_own p.holder c ≡ true) × (held ≤ most_entries) × (is_full held c ≡ true)
@@ -46,6 +47,12 @@ pub record IsAnswered (periods : ℕ) (k : Knowledge) (history : List Entry) (e 
   pub number : e.number ≡ length history
   pub seen : IsPrefix k.history before
   pub told : IsPrefix k.told before
+
+-- a call of a pass, which knew this before and knows that after, was answered with the entry
+pub record IsCalled (periods : ℕ) (before after : Knowledge) (e : Entry) : Type 0 where
+  pub later : before.account.seen < e.number
+  pub receipt : after ≡ after_call before after.history e
+  pub history : IsAnswered periods before after.history e
 
 -- the history is one that a journal of a day of so many periods may hold, and its run shows what was looked for
 pub record IsLook (periods : ℕ) (history : List Entry) (key : Key) (look : Look) : Type 0 where

@@ -1,8 +1,8 @@
-ghost use Rattle.std.specs.Prelude.{◌≡◌, ◌<◌, true, Some, None, IfOk, IfErr, OnOk, OnErr};
+ghost use Rattle.std.specs.Prelude.{◌≡◌, true, Some, None, IfOk, IfErr, OnOk, OnErr};
 ghost use Rattle.dam_book.specs.Book.{is_day};
 ghost use Rattle.dam_gate.specs.Journal.{IsJournal};
-ghost use Rattle.dam_gate.specs.Pass.{after_call, is_own, knowing_nothing};
-ghost use Rattle.dam_gate.specs.Gate.{IsAnswered, IsBeginFault, IsGateFault};
+ghost use Rattle.dam_gate.specs.Pass.{is_own, knowing_nothing};
+ghost use Rattle.dam_gate.specs.Gate.{IsBeginFault, IsCalled, IsGateFault};
 ghost use Rattle.dam_gate.specs.inside.Desk.{entry_of};
 
 use crate::desk::Desk;
@@ -154,11 +154,7 @@ impl<J: Naming, R: Wait + Drop> Gate<J, R> {
         command: Command,
     ) -> Result<Entry, GateFault>
         ensures command { IfOk result (λ entry. entry.command ≡ command) }
-        ensures later { IfOk result (λ entry. pass.old.account.seen < entry.number) }
-        ensures receipt { IfOk result (λ entry.
-            pass.new ≡ after_call pass.old pass.new.history entry) }
-        ensures history { IfOk result
-            (IsAnswered J.opening.periods pass.old pass.new.history) }
+        ensures answered { IfOk result (IsCalled J.opening.periods pass.old pass.new) }
         ensures own { OnOk result (is_own pass.old.account.holder command ≡ true) }
         ensures err { OnErr result (pass.new ≡ pass.old) }
         ensures fault { IfErr result (IsGateFault pass.old.account command) }
@@ -178,11 +174,8 @@ impl<J: Naming, R: Wait + Drop> Gate<J, R> {
         pass: &mut Pass<J>,
         command: &Command,
     ) -> Result<(u32, Reply), GateFault>
-        ensures later { IfOk result (λ answer. pass.old.account.seen < answer.0) }
-        ensures receipt { IfOk result (λ answer.
-            pass.new ≡ after_call pass.old pass.new.history (entry_of command.now answer)) }
-        ensures history { IfOk result (λ answer.
-            IsAnswered J.opening.periods pass.old pass.new.history (entry_of command.now answer)) }
+        ensures answered { IfOk result (λ answer.
+            IsCalled J.opening.periods pass.old pass.new (entry_of command.now answer)) }
         ensures own { OnOk result (is_own pass.old.account.holder command.now ≡ true) }
         ensures err { OnErr result (pass.new ≡ pass.old) }
         ensures fault { IfErr result (IsGateFault pass.old.account command.now) }

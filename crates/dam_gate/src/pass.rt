@@ -3,8 +3,8 @@ ghost use Rattle.std.specs.Option.{option_copied};
 ghost use mathlib.Core.List.{IsPrefix};
 ghost use Rattle.dam_book.specs.Limits.{most_entries};
 ghost use Rattle.dam_gate.specs.Journal.{journal_after, next_entry};
-ghost use Rattle.dam_gate.specs.Pass.{IsKnowledge, after_call, after_learning, after_look, is_own, knowing_nothing};
-ghost use Rattle.dam_gate.specs.Gate.{BeginsWithAll, IsAnswered, IsLook};
+ghost use Rattle.dam_gate.specs.Pass.{IsKnowledge, after_learning, after_look, is_own, knowing_nothing};
+ghost use Rattle.dam_gate.specs.Gate.{BeginsWithAll, IsCalled, IsLook};
 ghost use Rattle.dam_gate.specs.inside.Desk.{IsFaultAt, entry_of};
 
 use crate::account::{Account, copy_of, owns};
@@ -222,10 +222,7 @@ impl<J: Naming> Pass<J> {
             (desk.new.journal ≡ journal_after desk.old.journal command.now) }
         ensures passes { desk.new.passes ≡ desk.old.passes }
         ensures answered { IfOk result (λ answer.
-            IsAnswered J.opening.periods self.old self.new.history (entry_of command.now answer)) }
-        ensures later { IfOk result (λ answer. self.old.account.seen < answer.0) }
-        ensures pass { IfOk result (λ answer.
-            self.new ≡ after_call self.old self.new.history (entry_of command.now answer)) }
+            IsCalled J.opening.periods self.old self.new (entry_of command.now answer)) }
         ensures err { OnErr result ((desk.new ≡ desk.old) × (self.new ≡ self.old)) }
         ensures fault { IfErr result
             (IsFaultAt (length desk.old.journal.entries) self.old.account command.now) }
