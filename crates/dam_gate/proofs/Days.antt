@@ -486,7 +486,7 @@ pub accounts-enter : (given : List Command) (olds news : List Knowledge) → len
     → (i : ℕ) (d : PassState) → i < length (accounts olds) → Enters given (get_or (accounts olds) i d) (get_or (accounts news) i d)
 accounts-enter given olds news same enters i d within =
     let f = λ (k : Knowledge). k.account in
-    let k : Knowledge = record { account = d; history = []; told = []; note = None } in
+    let k : Knowledge = record { account = d; history = []; learnt = []; note = None } in
     let below : i < length olds = omega (arith, within, length-map olds f) in
     subst (λ (p : PassState). Enters given p (get_or (accounts news) i d)) (sym (get_or-map f olds i k d below))
     (subst (λ (p : PassState). Enters given (get_or olds i k).account p) (sym (get_or-map f news i k d (omega (arith, below, same)))) (enters i k below))

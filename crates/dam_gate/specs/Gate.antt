@@ -15,12 +15,12 @@ use Rattle.dam_gate.specs.declared.pass.Look.{Look}
 use Rattle.dam_gate.specs.Journal.{IsHistory, is_full}
 use Rattle.dam_gate.specs.Pass.{PassState, Knowledge, after_call, is_own}
 
--- what may be answered in place of a keeper or a gate of a day of so many periods
+-- what may be answered in place of a keeper or a gate of a day with this number of periods
 abbrev pub IsBeginFault : ℕ → BeginFault → Type 0
 IsBeginFault periods BadDay = is_day periods ≡ false
 IsBeginFault periods BeginMemory = is_day periods ≡ true
 
--- what a journal of so many entries may answer to the command in place of its entry
+-- what a journal of `held` entries may answer to the command in place of its entry
 abbrev pub IsKeeperFault : ℕ → Command → KeeperFault → Type 0
 IsKeeperFault held c (KeeperFull n) = (n ≡ held) × (is_full held c ≡ true)
 IsKeeperFault held c KeeperMemory = is_full held c ≡ false
@@ -38,15 +38,15 @@ IsGateFault p c (JournalFull held) = (is_own p.holder c ≡ true) × (held ≤ m
 IsGateFault p c Memory = is_own p.holder c ≡ true
 IsGateFault p c NoVersion = is_own p.holder c ≡ true
 
--- the history is one that a journal of a day of so many periods may hold, it ends with the entry, and before that it begins
--- with all that the pass had seen and had been told of
+-- the history is one that a journal of a day with this number of periods may hold; it ends with the entry, and before that begins
+-- with all that the pass had seen and learnt of
 pub record IsAnswered (periods : ℕ) (k : Knowledge) (history : List Entry) (e : Entry) : Type 0 where
   pub before : List Entry
   pub legal : IsHistory periods history
   pub last : history ≡ before ++ e ∷ []
   pub number : e.number ≡ length history
   pub seen : IsPrefix k.history before
-  pub told : IsPrefix k.told before
+  pub learnt : IsPrefix k.learnt before
 
 -- a call of a pass, which knew this before and knows that after, was answered with the entry
 pub record IsCalled (periods : ℕ) (before after : Knowledge) (e : Entry) : Type 0 where
@@ -54,14 +54,14 @@ pub record IsCalled (periods : ℕ) (before after : Knowledge) (e : Entry) : Typ
   pub receipt : after ≡ after_call before after.history e
   pub history : IsAnswered periods before after.history e
 
--- the history is one that a journal of a day of so many periods may hold, and its run shows what was looked for
+-- the history is one that a journal of a day with this number of periods may hold, and its run shows what was looked for
 pub record IsLook (periods : ℕ) (history : List Entry) (key : Key) (look : Look) : Type 0 where
   pub legal : IsHistory periods history
   pub seen : look.seen ≡ length history
   pub closed : look.closed ≡ (run periods (commands_of history)).closed
   pub order : look.order ≡ order_at (run periods (commands_of history)) key
 
--- the history begins with all that the pass has seen and has been told of
+-- the history begins with all that the pass has seen and learnt of
 pub record BeginsWithAll (k : Knowledge) (history : List Entry) : Type 0 where
   pub seen : IsPrefix k.history history
-  pub told : IsPrefix k.told history
+  pub learnt : IsPrefix k.learnt history

@@ -3,13 +3,13 @@ ghost use Rattle.dam_book.specs.Book.{is_day};
 ghost use Rattle.dam_gate.specs.Journal.{IsJournal};
 ghost use Rattle.dam_gate.specs.Pass.{is_own, knowing_nothing};
 ghost use Rattle.dam_gate.specs.Gate.{IsBeginFault, IsCalled, IsGateFault};
-ghost use Rattle.dam_gate.specs.inside.Desk.{entry_of};
+ghost use Rattle.dam_gate.specs.inside.Locked.{entry_of};
 
-use crate::desk::Desk;
-use crate::history::{Naming, Opening};
+use crate::history::{GateName, Opening};
 use crate::keeper::{BeginFault, Journal, KeeperFault};
+use crate::locked::Locked;
 use crate::pass::Pass;
-use crate::version::{Change, Shown};
+use crate::version::{NextShown, Shown};
 use dam_book::{Command, Entry, Participant, Reply, Seed};
 use left_right::Absorb;
 use std::alloc::{AllocError, Global};
@@ -94,14 +94,14 @@ impl From<AllocError> for PassFault {
 /// `J` is its name: passes and notes of another gate have another. `R` is the handle by which its end waits for those
 /// who look.
 #[derive(Drop)]
-pub struct Gate<J: Naming, R: Wait + Drop>
+pub struct Gate<J: GateName, R: Wait + Drop>
 where
-    Shown<J>: Absorb<Change<J>, State = u32>,
+    Shown<J>: Absorb<NextShown<J>, State = u32>,
 {
-    desk: Mutex<Desk<J, R>>,
+    locked: Mutex<Locked<J, R>>,
 }
 
-impl<J: Naming, R: Wait + Drop> Gate<J, R> {
+impl<J: GateName, R: Wait + Drop> Gate<J, R> {
     /// The gate of the opening's day, of 23, 24, 25, 92, 96 or 100 periods, with an empty journal, on the fixed seed that
     /// everybody knows.
     pub fn begin(rt: R, alloc: Global, opening: Opening) -> Result<Gate<J, R>, BeginFault>
@@ -125,7 +125,7 @@ impl<J: Naming, R: Wait + Drop> Gate<J, R> {
         ensures fault { IfErr result (IsBeginFault opening.periods) }
     {
         Ok(Gate {
-            desk: Mutex::new(Desk::begin(rt, alloc, opening, seed)?),
+            locked: Mutex::new(Locked::begin(rt, alloc, opening, seed)?),
         })
     }
 
@@ -133,14 +133,14 @@ impl<J: Naming, R: Wait + Drop> Gate<J, R> {
     pub fn pass(&self, rt: &impl Wait, who: Participant) -> Result<Pass<J>, PassFault>
         ensures { IfOk result (λ pass. pass ≡ knowing_nothing (Some who)) }
     {
-        self.desk.lock(rt).pass(Some(who))
+        self.locked.lock(rt).pass(Some(who))
     }
 
     /// A pass for the operator, who alone closes.
     pub fn operator(&self, rt: &impl Wait) -> Result<Pass<J>, PassFault>
         ensures { IfOk result (λ pass. pass ≡ knowing_nothing None) }
     {
-        self.desk.lock(rt).pass(None)
+        self.locked.lock(rt).pass(None)
     }
 
     /// Has the book take the command, and journals it with the reply, also where the book refuses it. The pass gets the
@@ -183,12 +183,12 @@ impl<J: Naming, R: Wait + Drop> Gate<J, R> {
         if !pass.owns(command) {
             return Err(GateFault::NotYours);
         }
-        pass.step(&mut self.desk.lock(rt), command)
+        pass.step(&mut self.locked.lock(rt), command)
     }
 
     /// Makes room in the journal for so many entries more.
     pub(crate) fn make_room(&self, rt: &impl Wait, entries: usize) -> Result<(), AllocError> {
-        self.desk.lock(rt).make_room(entries)
+        self.locked.lock(rt).make_room(entries)
     }
 
     /// The journal, once nobody uses the gate any more. From then on looks find no version.
@@ -196,6 +196,6 @@ impl<J: Naming, R: Wait + Drop> Gate<J, R> {
         ensures journal { IsJournal result }
         ensures day { result.book.periods ≡ J.opening.periods }
     {
-        self.desk.into_inner().into_journal()
+        self.locked.into_inner().into_journal()
     }
 }

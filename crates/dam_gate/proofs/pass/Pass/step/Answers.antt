@@ -3,7 +3,7 @@ use mathlib.Core.List.{IsPrefix}
 use Rattle.dam_book.specs.declared.command.Entry.{Entry}
 use Rattle.dam_gate.specs.Journal.{IsHistory, is_full, next_entry}
 use Rattle.dam_gate.specs.Pass.{Knowledge, AreInOrder, is_own}
-use Rattle.dam_gate.specs.inside.Desk.{entry_of}
+use Rattle.dam_gate.specs.inside.Locked.{entry_of}
 use Rattle.dam_gate.proofs.Beginnings.{prefix_length}
 use Rattle.dam_gate.proofs.Receipts.{AreInOrder-snoc, AreOwn-snoc}
 use Rattle.dam_gate.proofs.Histories.{history-after}
@@ -12,11 +12,11 @@ use Rattle.dam_gate.proofs.pass.Pass.step.Goals as goal
 pub invariant_of-self-2 : goal.invariant_of-self-2
 invariant_of-self-2 g c =
     let e = entry_of c.args.command.now c.in_ok-answer.answer in
-    let held = c.args.desk.now.journal.entries in
+    let held = c.args.locked.now.journal.entries in
     let holder = c.self.inside.holder in
     let receipts = c.self.inside.receipts.items in
     let number = ap (λ (x : Entry). x.number) c.in_ok-answer.ensures.entry in
-    let whole : e.number ≡ length c.in_ok-answer.front = omega (arith, number, ap length c.in_ok-answer.ensures.history, length-append held (e ∷ [])) in
+    let whole : e.number ≡ length c.in_ok-answer.after = omega (arith, number, ap length c.in_ok-answer.ensures.history, length-append held (e ∷ [])) in
     let before : e.number - 1 ≡ length held = omega (arith, number) in
     let mine : is_own holder e.command ≡ true =
     ap (λ (k : Knowledge). is_own k.account.holder c.args.command.now) c.self.view_is ∙ c.requires in
@@ -38,8 +38,8 @@ invariant_of-self-2 g c =
 pub returns-clause-answered : goal.returns-clause-answered
 returns-clause-answered g c =
     let e = entry_of c.args.command.now c.in_ok-answer.answer in
-    let j = c.args.desk.now.journal in
-    let after = c.in_ok-answer.front in
+    let j = c.args.locked.now.journal in
+    let after = c.in_ok-answer.after in
     let number = ap (λ (x : Entry). x.number) c.in_ok-answer.ensures.entry in
     let whole : length after ≡ e.number =
     omega (arith, number, ap length c.in_ok-answer.ensures.history, length-append j.entries (e ∷ [])) in
@@ -51,8 +51,13 @@ returns-clause-answered g c =
     record {
       later = omega (arith, number, earlier, ap (λ (k : Knowledge). k.account.seen) c.self.view_is);
       receipt = rw (
-        ← c.self.view_is, c.push_reserved.ensures.items, c.reserve.ensures.items, c.new.ensures, c.in_ok-packed.ensures,
-        c.again.ensures, whole,
+        ← c.self.view_is,
+        c.push_reserved.ensures.items,
+        c.reserve.ensures.items,
+        c.new.ensures,
+        c.in_ok-packed.ensures,
+        c.again.ensures,
+        whole,
       );
       history = record {
         before = j.entries;
@@ -61,6 +66,6 @@ returns-clause-answered g c =
         last = c.in_ok-answer.ensures.history;
         number = sym whole;
         seen = subst (λ (k : Knowledge). IsPrefix k.history j.entries) c.self.view_is c.in_ok-answer.ensures.seen;
-        told = subst (λ (k : Knowledge). IsPrefix k.told j.entries) c.self.view_is c.in_ok-answer.ensures.told;
+        learnt = subst (λ (k : Knowledge). IsPrefix k.learnt j.entries) c.self.view_is c.in_ok-answer.ensures.learnt;
       };
     }
