@@ -14,7 +14,8 @@ run_from-last : (b : BookState) (cs : List Command) (c : Command) → run_from b
 run_from-last b [] c = refl
 run_from-last b (d ∷ cs) c = run_from-last (book_after b d) cs c
 
-close-closes : (periods : ℕ) (rows : List Row) (t : Bool) → (book_after (record { periods = periods; rows = rows; closed = t }) Close).closed ≡ true
+close-closes : (periods : ℕ) (rows : List Row) (t : Bool)
+    → (book_after (record { periods = periods; rows = rows; closed = t }) Close).closed ≡ true
 close-closes periods rows true = refl
 close-closes periods rows false = refl
 
@@ -27,7 +28,8 @@ closed-last j is ends =
     ap (λ (x : BookState). x.closed) (is.book_is ∙ whole) ∙ close-closes b.periods b.rows b.closed
 
 -- what a settlement answers, unless memory ran out
-pub unsettled-day : (j : JournalState) (ps : List PassState) (why : Mismatch) → IsJournal j → IsMismatch j ps why → why ≢ Memory → IsUnsettledDay j ps why
+pub unsettled-day : (j : JournalState) (ps : List PassState) (why : Mismatch) → IsJournal j → IsMismatch j ps why → why ≢ Memory
+    → IsUnsettledDay j ps why
 unsettled-day j ps StillOpen valid is some = λ ends. let both : false ≡ true = sym is ∙ closed-last j valid ends in absurd (cc)
 unsettled-day j ps (Missing n) valid is some = is.1
 unsettled-day j ps (Doubled n) valid is some = is.1

@@ -37,7 +37,8 @@ AreMarks n (e ∷ es) [] rs = ⊥
 -- the least number above those of the entries of which there is a receipt
 abbrev pub IsLeastExtra : ℕ → List Entry → Option ℕ → Type 0
 IsLeastExtra held rs None = (n : ℕ) → held < n → numbered n rs ≡ []
-IsLeastExtra held rs (Some least) = (held < least) × (0 < length (numbered least rs)) × ((n : ℕ) → held < n → n < least → numbered n rs ≡ [])
+IsLeastExtra held rs (Some least) = (held < least) × (0 < length (numbered least rs))
+    × ((n : ℕ) → held < n → n < least → numbered n rs ≡ [])
 
 -- the lesser of two numbers, one of which there may not be
 abbrev pub lesser : Option ℕ → ℕ → Option ℕ

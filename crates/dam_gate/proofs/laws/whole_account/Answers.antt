@@ -1,3 +1,4 @@
+-- The settled entries are a legal history, and the receipts are its entries.
 use Rattle.std.proofs.Common.{sym, subst}
 use Rattle.dam_book.specs.Book.{empty_book}
 use Rattle.dam_gate.specs.Settled.{receipts_of}

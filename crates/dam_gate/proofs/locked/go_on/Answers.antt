@@ -1,3 +1,4 @@
+-- The version that is shown next is the journal after the step.
 use Rattle.dam_gate.proofs.locked.go_on.Goals as goal
 
 pub new-requires-clause-journal : goal.new-requires-clause-journal

@@ -1,3 +1,4 @@
+-- The exchange keeps the rule of the word.
 use Rattle.std.proofs.Common.{sym, ◌∙◌, ap}
 use Rattle.dam_gate.proofs.Adding.{adds_moves}
 use Rattle.dam_gate.proofs.history.EntryCount.add.Goals as goal

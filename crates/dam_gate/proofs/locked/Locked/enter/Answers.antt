@@ -1,3 +1,4 @@
+-- The step that was made ready is the next of the journal, and a refused one leaves the journal.
 use Rattle.std.proofs.Common.{◌≡◌, ℕ, false, length, Result, Ok, Err, OnErr, sym, ap, ap₂, ◌∙◌}
 use Rattle.dam_book.specs.Book.{BookState, book_after}
 use Rattle.dam_book.specs.declared.command.Entry.{Entry}
@@ -13,8 +14,10 @@ go_on-requires-clause-journal g c =
     let ready = c.in_ok-ready.ensures.ready in
     let same : c.ready.new.self.journal ≡ j = c.ready.ensures.journal in
     let entry : c.in_ok-ready.ready.entry ≡ next_entry j command = ready.entry ∙ ap (λ (x : JournalState). next_entry x command) same in
-    let book : c.in_ok-ready.ready.book ≡ book_after j.book command = ready.book ∙ ap (λ (x : JournalState). book_after x.book command) same in
-    let left : is_full (length j.entries) command ≡ false = ap (λ (x : JournalState). is_full (length x.entries) command) (sym same) ∙ ready.left in
+    let book : c.in_ok-ready.ready.book ≡ book_after j.book command = ready.book
+    ∙ ap (λ (x : JournalState). book_after x.book command) same in
+    let left : is_full (length j.entries) command ≡ false = ap (λ (x : JournalState). is_full (length x.entries) command) (sym same)
+    ∙ ready.left in
     rw (c.self.invariant.0, entry, book) (journal_after_is j command c.len-held.ensures.valid left)
 
 pub go_on-requires-clause-day : goal.go_on-requires-clause-day
@@ -29,7 +32,8 @@ pub returns-clause-entry : goal.returns-clause-entry
 returns-clause-entry g c =
     let command = c.args.command.now in
     ap (λ (e : Entry). entry_of command (e.number, e.reply))
-    (c.entry-entry.ensures ∙ (c.in_ok-ready.ensures.ready.entry ∙ ap (λ (x : JournalState). next_entry x command) (c.ready.ensures.journal ∙ ap (λ (d : LockedState). d.journal) c.self.view_is)))
+    (c.entry-entry.ensures ∙ (c.in_ok-ready.ensures.ready.entry
+    ∙ ap (λ (x : JournalState). next_entry x command) (c.ready.ensures.journal ∙ ap (λ (d : LockedState). d.journal) c.self.view_is)))
 
 pub returns-clause-history : goal.returns-clause-history
 returns-clause-history g c =
@@ -38,7 +42,8 @@ returns-clause-history g c =
 pub returns-clause-journal : goal.returns-clause-journal
 returns-clause-journal g c =
     c.take.ensures.step
-    ∙ ap₂ journal_after (c.ready.ensures.journal ∙ ap (λ (d : LockedState). d.journal) c.self.view_is) (ap (λ (e : Entry). e.command) c.in_ok-ready.ensures.ready.entry)
+    ∙ ap₂ journal_after (c.ready.ensures.journal ∙ ap (λ (d : LockedState). d.journal) c.self.view_is)
+    (ap (λ (e : Entry). e.command) c.in_ok-ready.ensures.ready.entry)
 
 pub returns-clause-passes : goal.returns-clause-passes
 returns-clause-passes g c = ap (λ (d : LockedState). d.passes) c.self.view_is

@@ -1,3 +1,4 @@
+-- A look at a longer history keeps the receipts in order.
 use Rattle.std.proofs.Common.{length, ap, refl, arith}
 use Rattle.dam_gate.proofs.Beginnings.{prefix_length}
 use Rattle.dam_gate.proofs.Receipts.{AreInOrder-seen}
@@ -9,7 +10,8 @@ invariant_of-self-2 g c =
     let longer = prefix_length c.self.inside.history shown (c.begins_with.ensures c.if-not-begins_with.false) in
     record {
       account = record {
-        in_order = AreInOrder-seen 0 (length c.self.inside.history) (length c.again.result) c.self.inside.receipts.items c.self.invariant.account.in_order
+        in_order = AreInOrder-seen 0 (length c.self.inside.history)
+            (length c.again.result) c.self.inside.receipts.items c.self.invariant.account.in_order
             (omega (arith, longer, ap length c.again.ensures));
         own = c.self.invariant.account.own;
       };

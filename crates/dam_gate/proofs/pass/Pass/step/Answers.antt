@@ -1,3 +1,4 @@
+-- The receipt of a call, and what the pass then knows.
 use Rattle.std.proofs.Common.{◌≡◌, ◌-◌, ◌++◌, ◌∷◌, [], ℕ, true, false, length, refl, sym, ap, subst, ◌∙◌, arith, length-append}
 use mathlib.Core.List.{IsPrefix}
 use Rattle.dam_book.specs.declared.command.Entry.{Entry}
@@ -16,7 +17,8 @@ invariant_of-self-2 g c =
     let holder = c.self.inside.holder in
     let receipts = c.self.inside.receipts.items in
     let number = ap (λ (x : Entry). x.number) c.in_ok-answer.ensures.entry in
-    let whole : e.number ≡ length c.in_ok-answer.after = omega (arith, number, ap length c.in_ok-answer.ensures.history, length-append held (e ∷ [])) in
+    let whole : e.number ≡ length c.in_ok-answer.after =
+    omega (arith, number, ap length c.in_ok-answer.ensures.history, length-append held (e ∷ [])) in
     let before : e.number - 1 ≡ length held = omega (arith, number) in
     let mine : is_own holder e.command ≡ true =
     ap (λ (k : Knowledge). is_own k.account.holder c.args.command.now) c.self.view_is ∙ c.requires in
@@ -28,7 +30,8 @@ invariant_of-self-2 g c =
     (record {
       account = record {
         in_order = subst (λ (n : ℕ). AreInOrder 0 n (receipts ++ e ∷ [])) whole
-            (AreInOrder-snoc 0 (length c.self.inside.history) receipts e c.self.invariant.account.in_order (omega (arith, number, earlier)));
+            (AreInOrder-snoc 0 (length c.self.inside.history) receipts e c.self.invariant.account.in_order
+            (omega (arith, number, earlier)));
         own = AreOwn-snoc holder receipts e c.self.invariant.account.own mine room;
       };
       seen = refl;

@@ -1,3 +1,4 @@
+-- The first fault of the marks, then the least extra number, decide.
 use Rattle.std.proofs.Common.{sym, ap, ◌∙◌}
 use Rattle.dam_gate.specs.inside.Tally.{first_fault}
 use Rattle.dam_gate.proofs.Tallies.{fault-told, all-told, extra-told}
@@ -5,7 +6,8 @@ use Rattle.dam_gate.proofs.tally.Tally.fault.Goals as goal
 
 pub returns-in-Some : goal.returns-in-Some
 returns-in-Some g c = λ receipts tally.
-    fault-told c.requires.legal.0 c.args.entries.now c.args.self.now.found.items c.args.self.now.extra receipts c.in-Some.fault c.requires.legal.1
+    fault-told c.requires.legal.0 c.args.entries.now c.args.self.now.found.items c.args.self.now.extra receipts c.in-Some.fault
+    c.requires.legal.1
     (sym (c.first_fault.ensures ∙ ap (first_fault 1) c.deref.ensures.value) ∙ c.in-Some.is) tally
 
 pub returns-in-None : goal.returns-in-None
@@ -15,5 +17,6 @@ returns-in-None g c = λ receipts tally.
 
 pub returns-in-Some-extra : goal.returns-in-Some-extra
 returns-in-Some-extra g c = λ receipts tally.
-    extra-told c.requires.legal.0 c.in-Some-extra.number c.args.entries.now c.args.self.now.found.items c.args.self.now.extra receipts c.requires.legal.1
+    extra-told c.requires.legal.0 c.in-Some-extra.number c.args.entries.now c.args.self.now.found.items c.args.self.now.extra receipts
+    c.requires.legal.1
     (sym (c.first_fault.ensures ∙ ap (first_fault 1) c.deref.ensures.value) ∙ c.in_default.is) c.in-Some-extra.is tally
