@@ -5,7 +5,7 @@ ghost use Rattle.dam_gate.specs.Headline.{IsWholeAccount};
 
 use anyhow::Result;
 use dam_book::{Command, Seed};
-use dam_gate::{OpenDoor, SettledDay, run_commands};
+use dam_gate::{NoHooks, SettledDay, run_commands};
 use std::alloc::Global;
 use std::sync::Wait;
 use std::thread::Threads;
@@ -19,6 +19,6 @@ pub fn hold_day<R: Threads + Wait + Sync>(
     ensures run { IfOk result (λ day. IsDayRun 24 commands.now day.settled.entries) }
     ensures account { IfOk result (λ day. IsWholeAccount day.settled day.passes.items) }
 {
-    let day = run_commands(rt, alloc, 24, Seed::fixed(), commands, &OpenDoor)?;
+    let day = run_commands(rt, alloc, 24, Seed::fixed(), commands, &NoHooks)?;
     Ok(day)
 }

@@ -18,7 +18,7 @@ LeadsTo-more : (es : List Entry) (e : Entry) (s : EarlierState) (after : BookSta
 LeadsTo-more es e s after leads =
     record { entry = leads.entry; stands = slice_get-more es s.place e leads.entry leads.stands; made = leads.made }
 
--- the books stay where an entry is added
+-- the books stay if an entry is added
 pub AreSteps-more : (es : List Entry) (e : Entry) (b : BooksState) → AreSteps es b → AreSteps (es ++ e ∷ []) b
 AreSteps-more es e b are = IfSome_then b.before are (λ s leads. LeadsTo-more es e s b.book leads)
 

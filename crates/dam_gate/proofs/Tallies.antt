@@ -1,4 +1,4 @@
--- What a tally keeps, receipt by receipt, and what it tells in the end.
+-- What a tally keeps, receipt by receipt, and what it says in the end.
 use Rattle.std.proofs.Common.{◌≡◌, ◌≢◌, ℕ, zero, suc, ◌+◌, ◌-◌, ◌<◌, ◌≤◌, ◌==◌, ◌⊎◌, inl, inr, Bool, true, false, List, [], ◌∷◌, ◌++◌}
 use Rattle.std.proofs.Common.{length, map, Option, Some, None, MatchOption, MatchBool, min, refl, sym, ap, subst, ◌∙◌, length-append, arith}
 use Rattle.std.specs.List.{slice_get}
@@ -157,7 +157,7 @@ found-length n (e ∷ es) (f ∷ fs) rs are = ap suc (found-length (suc n) es fs
 found-length n [] (f ∷ fs) rs are = absurd are
 found-length n (e ∷ es) [] rs are = absurd are
 
--- ---- what it tells
+-- ---- what it says
 
 right-more : (n : ℕ) (all rs : List Entry) → numbered n rs ≡ numbered n all → ((m : ℕ) → m < n → numbered m rs ≡ numbered m all) → (m : ℕ)
     → m < suc n → numbered m rs ≡ numbered m all
@@ -167,20 +167,20 @@ right-more n all rs here right m below = go (cases_lt m n)
     go (inl less) = right m less
     go (inr no_less) = let same : n ≡ m = omega (arith, below, no_less) in subst (λ (k : ℕ). numbered k rs ≡ numbered k all) same here
 
-first-told : (last n : ℕ) (all rs es : List Entry) (fs : List Mark) → last ≡ n + length es → AreOnly n es all → AreMarks n es fs rs
+first-decided : (last n : ℕ) (all rs es : List Entry) (fs : List Mark) → last ≡ n + length es → AreOnly n es all → AreMarks n es fs rs
     → ((m : ℕ) → m < n → numbered m rs ≡ numbered m all)
     → MatchOption (first_fault n fs) ((m : ℕ) → m < last → numbered m rs ≡ numbered m all) (IsFaultOfReceipts all rs)
-first-told last n all rs [] [] end only are right = λ m below. right m (omega (arith, end, below))
-first-told last n all rs (e ∷ es) (Nothing ∷ fs) end only are right =
+first-decided last n all rs [] [] end only are right = λ m below. right m (omega (arith, end, below))
+first-decided last n all rs (e ∷ es) (Nothing ∷ fs) end only are right =
     record { wrong = (ap (λ (xs : List Entry). length xs) only.0, are.0); least = right }
-first-told last n all rs (e ∷ es) (Same ∷ fs) end only are right =
-    first-told last (suc n) all rs es fs (omega (arith, end)) only.1 are.1 (right-more n all rs (are.0 ∙ sym only.0) right)
-first-told last n all rs (e ∷ es) (Other ∷ fs) end only are right =
+first-decided last n all rs (e ∷ es) (Same ∷ fs) end only are right =
+    first-decided last (suc n) all rs es fs (omega (arith, end)) only.1 are.1 (right-more n all rs (are.0 ∙ sym only.0) right)
+first-decided last n all rs (e ∷ es) (Other ∷ fs) end only are right =
     record { wrong = (ap (λ (xs : List Entry). length xs) only.0, are.0.0, λ same. are.0.1 (same ∙ only.0)); least = right }
-first-told last n all rs (e ∷ es) (Several ∷ fs) end only are right =
+first-decided last n all rs (e ∷ es) (Several ∷ fs) end only are right =
     record { wrong = (ap (λ (xs : List Entry). length xs) only.0, are.0); least = right }
-first-told last n all rs [] (f ∷ fs) end only are right = absurd are
-first-told last n all rs (e ∷ es) [] end only are right = absurd are
+first-decided last n all rs [] (f ∷ fs) end only are right = absurd are
+first-decided last n all rs (e ∷ es) [] end only are right = absurd are
 
 none-wrong : (periods : ℕ) (es rs : List Entry) → IsLegalHistory periods es → numbered 0 rs ≡ [] → (m : ℕ) → m < 1
     → numbered m rs ≡ numbered m es
@@ -192,20 +192,20 @@ tally-first : (periods : ℕ) (es : List Entry) (fs : List Mark) (extra : Option
     → IsTally es fs extra rs
     → MatchOption (first_fault 1 fs) ((m : ℕ) → m < 1 + length es → numbered m rs ≡ numbered m es) (IsFaultOfReceipts es rs)
 tally-first periods es fs extra rs legal tally =
-    first-told (1 + length es) 1 es rs es fs refl (are_only 1 (empty_book periods) es legal) tally.are_found
+    first-decided (1 + length es) 1 es rs es fs refl (are_only 1 (empty_book periods) es legal) tally.are_found
     (none-wrong periods es rs legal tally.positive)
 
-pub fault-told : (periods : ℕ) (es : List Entry) (fs : List Mark) (extra : Option ℕ) (rs : List Entry) (fault : Mismatch)
+pub fault-decided : (periods : ℕ) (es : List Entry) (fs : List Mark) (extra : Option ℕ) (rs : List Entry) (fault : Mismatch)
     → IsLegalHistory periods es → first_fault 1 fs ≡ Some fault
     → IsTally es fs extra rs → IsFaultOfReceipts es rs fault
-fault-told periods es fs extra rs fault legal is tally =
+fault-decided periods es fs extra rs fault legal is tally =
     subst (λ (o : Option Mismatch). MatchOption o ((m : ℕ) → m < 1 + length es → numbered m rs ≡ numbered m es) (IsFaultOfReceipts es rs))
     is (tally-first periods es fs extra rs legal tally)
 
-none-told : (periods : ℕ) (es : List Entry) (fs : List Mark) (extra : Option ℕ) (rs : List Entry) → IsLegalHistory periods es
+none-decided : (periods : ℕ) (es : List Entry) (fs : List Mark) (extra : Option ℕ) (rs : List Entry) → IsLegalHistory periods es
     → first_fault 1 fs ≡ None
     → IsTally es fs extra rs → (m : ℕ) → m < 1 + length es → numbered m rs ≡ numbered m es
-none-told periods es fs extra rs legal is tally =
+none-decided periods es fs extra rs legal is tally =
     subst (λ (o : Option Mismatch). MatchOption o ((m : ℕ) → m < 1 + length es → numbered m rs ≡ numbered m es) (IsFaultOfReceipts es rs))
     is (tally-first periods es fs extra rs legal tally)
 
@@ -218,22 +218,22 @@ all_numbers periods n es rs legal right after = go (cases_lt n (1 + length es))
     go (inl below) = right n below
     go (inr above) = after (omega (arith, above)) ∙ sym (none_above 1 n (empty_book periods) es legal above)
 
--- where each entry is received as it should be, the least extra number decides
-pub all-told : (periods : ℕ) (es : List Entry) (fs : List Mark) (extra : Option ℕ) (rs : List Entry) → IsLegalHistory periods es
+-- if each entry is received as it should be, the least extra number decides
+pub all-decided : (periods : ℕ) (es : List Entry) (fs : List Mark) (extra : Option ℕ) (rs : List Entry) → IsLegalHistory periods es
     → first_fault 1 fs ≡ None → extra ≡ None
     → IsTally es fs extra rs → AreReceipts es rs
-all-told periods es fs extra rs legal is none tally n =
-    all_numbers periods n es rs legal (none-told periods es fs extra rs legal is tally)
+all-decided periods es fs extra rs legal is none tally n =
+    all_numbers periods n es rs legal (none-decided periods es fs extra rs legal is tally)
     (subst (IsLeastExtra (length es) rs) none tally.extra_is n)
 
-pub extra-told : (periods least : ℕ) (es : List Entry) (fs : List Mark) (extra : Option ℕ) (rs : List Entry) → IsLegalHistory periods es
+pub extra-decided : (periods least : ℕ) (es : List Entry) (fs : List Mark) (extra : Option ℕ) (rs : List Entry) → IsLegalHistory periods es
     → first_fault 1 fs ≡ None → extra ≡ Some least
     → IsTally es fs extra rs → IsLeastFault IsExtra es rs least
-extra-told periods least es fs extra rs legal is some tally =
+extra-decided periods least es fs extra rs legal is some tally =
     let own = subst (IsLeastExtra (length es) rs) some tally.extra_is in
     record {
       wrong = (none_above 1 least (empty_book periods) es legal (omega (arith, own.0)), own.1);
-      least = λ m below. all_numbers periods m es rs legal (none-told periods es fs extra rs legal is tally) (λ above. own.2 m above below);
+      least = λ m below. all_numbers periods m es rs legal (none-decided periods es fs extra rs legal is tally) (λ above. own.2 m above below);
     }
 
 -- what is received as it should be has no fault

@@ -1,4 +1,4 @@
--- A day of given commands: participants enter theirs side by side, and then the operator closes.
+-- A day of given commands: participants enter theirs at the same time, and then the operator closes.
 use Rattle.std.specs.Prelude.{◌≡◌, ℕ, ◌+◌, ◌<◌, ◌≤◌, Bool, if◌then◌else◌, List, [], ◌∷◌, ◌++◌, length, map, take, slice_get, Option, None}
 use Rattle.std.specs.Prelude.{Some}
 use Rattle.std.specs.List.{filter, list_any}

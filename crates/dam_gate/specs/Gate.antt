@@ -30,8 +30,8 @@ gate_fault_of (KeeperFull n) = JournalFull n
 gate_fault_of KeeperMemory = Memory
 
 -- what a gate may answer to the command of a pass in place of its entry: that the pass may not give it; or, if it may, that a
--- journal of as many entries is full for it, that memory ran out, or that no version could be shown. It mentions no journal,
--- since other threads may change it, and so it doesn't say that there was room where one of the last two is the answer
+-- journal of as many entries is full for it, that memory ran out, or that no version could be shown. Other threads may change
+-- the journal, so this mentions none, and doesn't say that there was room if one of the last two is the answer
 abbrev pub IsGateFault : PassState → Command → GateFault → Type 0
 IsGateFault p c NotYours = is_own p.holder c ≡ false
 IsGateFault p c (JournalFull held) = (is_own p.holder c ≡ true) × (held ≤ most_entries) × (is_full held c ≡ true)

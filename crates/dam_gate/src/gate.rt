@@ -32,8 +32,8 @@ pub enum GateFault {
     /// Memory ran out.
     #[error("out of memory")]
     Memory,
-    /// The history had gone on without the journal, or the place of the version was taken, so that no version of the command
-    /// could be shown. In the tests no call leaves it so.
+    /// The history had gone on without the journal, or the slot of the version was taken, so that no version of the command
+    /// could be shown. In the tests no call leaves a gate like that.
     #[error("no version could be shown")]
     NoVersion,
 }
@@ -66,7 +66,7 @@ impl From<KeeperFault> for GateFault {
 /// Why no pass is given, in the order in which it is looked for.
 #[derive(Clone, Copy, PartialEq, Eq, Debug, Error)]
 pub enum PassFault {
-    /// As many passes were given as one gate gives.
+    /// The gate has given all its passes.
     #[error("all passes were given")]
     PassesUsed,
     /// There was no place for another reader of the versions.
@@ -88,11 +88,11 @@ impl From<AllocError> for PassFault {
     }
 }
 
-/// The gate of one delivery day, which threads share by reference. One lock stands before the book and its journal, and
+/// The gate of one delivery day, which threads share by reference. One lock protects the book and its journal, and
 /// each call's step under it is one step of the sequential book. Looks take no lock.
 ///
-/// `J` is its name: passes and notes of another gate have another. `R` is the handle by which its end waits for those
-/// who look.
+/// `J` is its name: passes and notes of another gate have another. `R` is the handle with which a call, and the gate's end,
+/// wait for looks to end.
 #[derive(Drop)]
 pub struct Gate<J: GateName, R: Wait + Drop>
 where
@@ -143,10 +143,10 @@ impl<J: GateName, R: Wait + Drop> Gate<J, R> {
         self.locked.lock(rt).pass(None)
     }
 
-    /// Has the book take the command, and journals it with the reply, also where the book refuses it. The pass gets the
+    /// Has the book take the command, and journals it with the reply, even if the book refuses it. The pass gets the
     /// entry as a receipt, and has then seen the journal up to it.
     ///
-    /// The command is lost with a refusal.
+    /// A refused call doesn't give the command back.
     pub fn call(
         &self,
         rt: &impl Wait,
@@ -186,12 +186,12 @@ impl<J: GateName, R: Wait + Drop> Gate<J, R> {
         pass.step(&mut self.locked.lock(rt), command)
     }
 
-    /// Makes room in the journal for so many entries more.
+    /// Makes room in the journal for this number of entries more.
     pub(crate) fn make_room(&self, rt: &impl Wait, entries: usize) -> Result<(), AllocError> {
         self.locked.lock(rt).make_room(entries)
     }
 
-    /// The journal, once nobody uses the gate any more. From then on looks find no version.
+    /// The journal, when nobody uses the gate any more. From then on, looks find no version.
     pub fn finish(self) -> Journal
         ensures journal { IsJournal result }
         ensures day { result.book.periods ≡ J.opening.periods }

@@ -201,7 +201,7 @@ impl<J: GateName, R: Wait + Drop> Locked<J, R> {
         self.keeper.len()
     }
 
-    /// Makes room in the journal for so many entries more.
+    /// Makes room in the journal for this number of entries more.
     pub(crate) fn make_room(&mut self, entries: usize) -> Result<(), AllocError>
         ensures { self.new ≡ self.old }
     {

@@ -37,7 +37,7 @@ impl Mark {
     }
 }
 
-/// A count of receipts beside the entries that they should be.
+/// A count of receipts next to the entries that they should be.
 #[derive(Drop)]
 pub(crate) struct Tally<A: Allocator> {
     // by the place of the entry

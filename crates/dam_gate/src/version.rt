@@ -53,7 +53,7 @@ impl<J: GateName> Version<J> {
     }
 }
 
-/// Where a version is put, once it is made.
+/// A call makes a slot empty, and puts its version there later.
 pub(crate) type Slot<J> = Arc<OnceLock<Version<J>>, Global>;
 
 /// What the pair of `left_right` has two of: the slot of the last version, and its number of entries. Of two histories of one

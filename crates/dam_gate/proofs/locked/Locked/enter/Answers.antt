@@ -48,7 +48,7 @@ returns-clause-journal g c =
 pub returns-clause-passes : goal.returns-clause-passes
 returns-clause-passes g c = ap (λ (d : LockedState). d.passes) c.self.view_is
 
--- where it is refused, the journal stays
+-- if it is refused, the journal stays
 when_refused : {T E P : Type 0} (r : Result T E) → P → OnErr r P
 when_refused (Ok x) p = tt
 when_refused (Err e) p = p
