@@ -37,17 +37,6 @@ impl From<AllocError> for KeeperFault {
     }
 }
 
-impl<T: Drop> From<AllocFailed<T>> for KeeperFault {
-    ghost use Rattle.std.specs.Prelude.{◌≡◌};
-    ghost use Rattle.dam_gate.specs.declared.keeper.KeeperFault.TheVariants.{Memory};
-
-    ghost from_gives = { λ _ fault. fault ≡ Memory };
-
-    fn from(_error: AllocFailed<T>) -> KeeperFault {
-        KeeperFault::Memory
-    }
-}
-
 /// Why no keeper and no gate is begun, in the order in which it is looked for.
 #[derive(Clone, Copy, PartialEq, Eq, Debug, Error)]
 pub enum BeginFault {
