@@ -9,4 +9,4 @@ pub mod Tallies
 pub mod Permutations
 pub mod Accounts
 pub mod Days
-pub mod Unsettled
+pub mod Mismatches
