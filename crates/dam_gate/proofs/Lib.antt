@@ -9,4 +9,3 @@ pub mod Tallies
 pub mod Permutations
 pub mod Accounts
 pub mod Days
-pub mod Mismatches

@@ -1,6 +1,5 @@
 -- A day of given commands: participants enter theirs at the same time, and then the operator closes.
-use Rattle.std.specs.Prelude.{◌≡◌, ℕ, ◌+◌, ◌<◌, ◌≤◌, Bool, if◌then◌else◌, List, [], ◌∷◌, ◌++◌, length, map, take, slice_get, Option, None}
-use Rattle.std.specs.Prelude.{Some}
+use Rattle.std.specs.Prelude.{◌≡◌, ◌≢◌, ℕ, ◌+◌, ◌<◌, ◌≤◌, Bool, if◌then◌else◌, List, [], ◌∷◌, ◌++◌, length, map, take, slice_get, Option, None, Some}
 use Rattle.std.specs.List.{filter, list_any}
 use Rattle.dam_book.specs.Limits.{most_entries}
 use Rattle.dam_book.specs.Name.{same_text}
@@ -8,14 +7,11 @@ use Rattle.dam_book.specs.Book.{commands_of, IsLegalHistory}
 use Rattle.dam_book.specs.declared.command.Command.{Command}
 use Rattle.dam_book.specs.declared.command.Command.TheVariants.{Submit, Amend, Cancel, Close}
 use Rattle.dam_book.specs.declared.command.Entry.{Entry}
-use Rattle.dam_gate.specs.Journal.{JournalState, IsJournal}
 use Rattle.dam_gate.specs.Limits.{most_participants}
-use Rattle.dam_gate.specs.Pass.{PassState, holders, is_from, is_close}
-use Rattle.dam_gate.specs.Settled.{IsFaultOfReceipts, receipts_of}
+use Rattle.dam_gate.specs.Pass.{is_from, is_close}
 use Rattle.dam_gate.specs.declared.day.DayFault.{DayFault}
 use Rattle.dam_gate.specs.declared.day.DayFault.TheVariants.{TooManyCommands, CloseGiven, TooManyParticipants, NotSettled, Memory}
-use Rattle.dam_gate.specs.declared.settlement.Mismatch.{Mismatch}
-use Rattle.dam_gate.specs.declared.settlement.Mismatch.TheVariants.{StillOpen}
+use Rattle.dam_gate.specs.declared.settlement.Mismatch.TheVariants.{Memory as MismatchMemory}
 
 -- this participant's commands, in their order
 abbrev pub commands_by : List ℕ → List Command → List Command
@@ -71,26 +67,8 @@ pub record AreTaken (cs : List Command) : Type 0 where
   pub no_close : filter is_close cs ≡ []
   pub participants : length (givers_of cs) ≤ most_participants
 
--- the last command is a close
-pub record EndsWithClose (cs : List Command) : Type 0 where
-  pub before : List Command
-  pub last : cs ≡ before ++ Close ∷ []
-
--- why a day came out unsettled: the journal's last command isn't a close, or this is the least faulty number of the receipts
-abbrev pub IsUnsettledDay : JournalState → List PassState → Mismatch → Type 0
-IsUnsettledDay j passes StillOpen = EndsWithClose (commands_of j.entries) → ⊥
-IsUnsettledDay j passes why = IsFaultOfReceipts j.entries (receipts_of passes) why
-
--- some journal and some passes of these holders came out unsettled so
-pub record CameOutUnsettled (held_by : List (Option (List ℕ))) (why : Mismatch) : Type 0 where
-  pub journal : JournalState
-  pub passes : List PassState
-  pub valid : IsJournal journal
-  pub held : holders passes ≡ held_by
-  pub unsettled : IsUnsettledDay journal passes why
-
 -- what a day of these commands may answer: that there are too many; if there aren't, the place, from 0, of a command that it
--- doesn't take while it takes those before, a close or one that brings a participant too many; if it takes them all, why it
+-- doesn't take while it takes those before, a close or one that brings a participant too many; if it takes them all, that it
 -- came out unsettled; or, unless there are too many, that memory ran out
 abbrev pub IsDayFault : List Command → DayFault → Type 0
 IsDayFault cs TooManyCommands = most_entries ≤ length cs
@@ -99,5 +77,5 @@ IsDayFault cs (CloseGiven place) =
 IsDayFault cs (TooManyParticipants place) =
     (length cs < most_entries) × AreTaken (take place cs) × (place < length cs)
     × (most_participants < length (givers_of (take (place + 1) cs)))
-IsDayFault cs (NotSettled why) = AreTaken cs × CameOutUnsettled (day_holders cs) why
+IsDayFault cs (NotSettled why) = AreTaken cs × (why ≢ MismatchMemory)
 IsDayFault cs Memory = length cs < most_entries

@@ -1,14 +1,16 @@
 -- How the participants enter a day's commands.
-use Rattle.std.specs.Prelude.{◌≡◌, ℕ, ◌<◌, false, List, [], ◌∷◌, ◌++◌, length, Option, None, Some}
+use Rattle.std.specs.Prelude.{◌≡◌, ◌≢◌, ℕ, ◌<◌, false, List, [], ◌∷◌, ◌++◌, length, Option, None, Some}
 use Rattle.std.specs.List.{filter}
 use Rattle.dam_book.specs.Book.{commands_of}
 use Rattle.dam_book.specs.declared.command.Command.{Command}
+use Rattle.dam_book.specs.declared.command.Command.TheVariants.{Close}
 use Rattle.dam_gate.specs.Pass.{PassState, IsPass, is_own}
 use Rattle.dam_gate.specs.Journal.{JournalState, IsJournal}
 use Rattle.dam_gate.specs.Limits.{most_participants}
-use Rattle.dam_gate.specs.Day.{CameOutUnsettled, EndsWithClose, IsUnsettledDay, commands_by, giver, is_one_of, with_any, with_giver}
+use Rattle.dam_gate.specs.Day.{commands_by, giver, is_one_of, with_any, with_giver}
 use Rattle.dam_gate.specs.declared.day.DayFault.{DayFault}
 use Rattle.dam_gate.specs.declared.day.DayFault.TheVariants.{TooManyCommands, CloseGiven, TooManyParticipants, NotSettled, Memory}
+use Rattle.dam_gate.specs.declared.settlement.Mismatch.TheVariants.{Memory as MismatchMemory}
 
 -- no two are one participant
 abbrev pub AreApart : List (List ℕ) → Type 0
@@ -67,20 +69,13 @@ pub record HasAll (given : List Command) (p : PassState) : Type 0 where
 -- a journal whose last command is a close
 pub record IsClosedDay (j : JournalState) : Type 0 where
   pub journal : IsJournal j
-  pub ends : EndsWithClose (commands_of j.entries)
+  pub before : List Command
+  pub last : commands_of j.entries ≡ before ++ Close ∷ []
 
--- what a settlement may answer for the day of this journal and these passes
-abbrev pub IsUnsettledFault : JournalState → List PassState → DayFault → Type 0
-IsUnsettledFault j passes TooManyCommands = ⊥
-IsUnsettledFault j passes (CloseGiven place) = ⊥
-IsUnsettledFault j passes (TooManyParticipants place) = ⊥
-IsUnsettledFault j passes (NotSettled why) = IsUnsettledDay j passes why
-IsUnsettledFault j passes Memory = Unit {0}
-
--- what a day may answer whose commands are all taken, the passes of which have these holders
-abbrev pub IsLateFault : List (Option (List ℕ)) → DayFault → Type 0
-IsLateFault held_by TooManyCommands = ⊥
-IsLateFault held_by (CloseGiven place) = ⊥
-IsLateFault held_by (TooManyParticipants place) = ⊥
-IsLateFault held_by (NotSettled why) = CameOutUnsettled held_by why
-IsLateFault held_by Memory = Unit {0}
+-- what a day may answer that isn't refused
+abbrev pub IsLateFault : DayFault → Type 0
+IsLateFault TooManyCommands = ⊥
+IsLateFault (CloseGiven place) = ⊥
+IsLateFault (TooManyParticipants place) = ⊥
+IsLateFault (NotSettled why) = why ≢ MismatchMemory
+IsLateFault Memory = Unit {0}

@@ -16,20 +16,20 @@ use Rattle.dam_gate.proofs.day.run_day.Goals as goal
 pub returns-clause-day : goal.returns-clause-day
 returns-clause-day g c =
     let es = c.in_ok-settled.settled.entries in
-    let closed = subst IsClosedDay c.journal.ensures.value (c.ends_with_a_close.ensures.ends c.if-not-ends_with_a_close.false) in
+    let closed = subst IsClosedDay c.journal.ensures.value (c.ends_with_a_close.ensures c.if-not-ends_with_a_close.false) in
     let periods : c.in_ok-settled.settled.book.periods ≡ c.args.opening.periods =
     ap (λ (j : JournalState). j.book.periods) c.in_ok-settled.ensures.journal
     ∙ (c.finish-journal.ensures.day ∙ sym (ap (λ (o : OpeningState). o.periods) c.requires.name)) in
     let legal = subst (λ (n : ℕ). IsLegalHistory n es) periods closed.journal.history.legal in
     day_run c.args.opening.periods c.args.commands.now c.args.participants.now es c.in_ok-passes.passes.items c.in_ok-operator.operator
-    closed.ends.before legal
+    closed.before legal
     (subst (λ (ps : List PassState). AreReceipts es (receipts_of ps)) (c.deref.ensures.value ∙ c.in_ok-push.ensures.items)
     (each_number c.args.opening.periods es (receipts_of c.deref.result.now) legal c.in_ok-settled.ensures.account.each_once))
-    c.requires.givers c.in_ok-passes.ensures.ok c.in_ok-operator.ensures.ok c.in_ok-operator.ensures.pass closed.ends.last
+    c.requires.givers c.in_ok-passes.ensures.ok c.in_ok-operator.ensures.ok c.in_ok-operator.ensures.pass closed.last
 
 pub returns-clause-journal : goal.returns-clause-journal
 returns-clause-journal g c = subst IsJournal c.journal.ensures.value
-    (c.ends_with_a_close.ensures.ends c.if-not-ends_with_a_close.false).journal
+    (c.ends_with_a_close.ensures c.if-not-ends_with_a_close.false).journal
 
 pub returns-clause-account : goal.returns-clause-account
 returns-clause-account g c = subst (λ (ps : List PassState). IsWholeAccount c.in_ok-settled.settled ps) c.deref.ensures.value
