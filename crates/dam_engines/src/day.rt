@@ -14,7 +14,7 @@ use crate::output::write_text;
 use crate::packed::PackedJournal;
 use crate::watch::Watch;
 use dam_book::{DayLength, Seed};
-use dam_gate::{DayFault, Doorkeeper, Journal, PackedCommand, Settled, run_packed};
+use dam_gate::{DayFault, Hooks, Journal, PackedCommand, Settled, run_packed};
 use dam_results::{journal_text, read_into};
 use dam_search::{Plan, Turnstile};
 use std::alloc::Global;
@@ -116,7 +116,7 @@ struct Door<'a, U> {
     turnstile: &'a U,
 }
 
-impl<U: Turnstile> Doorkeeper for Door<'_, U> {
+impl<U: Turnstile> Hooks for Door<'_, U> {
     fn before(&self, participant: u32) {
         self.turnstile.before(participant);
     }

@@ -1,6 +1,7 @@
 -- Receipts that are the entries number by number are the entries, each once, and the other way round; those of a pass stand
 -- in their order.
-use Rattle.std.proofs.Common.{◌≡◌, ◌≢◌, ℕ, suc, ◌<◌, ◌≤◌, ◌==◌, ◌⊎◌, inl, inr, Bool, true, false, Option, List, [], ◌∷◌, ◌++◌, length, refl, sym, ap, subst, ◌∙◌, append_assoc, length-append, arith, All}
+use Rattle.std.proofs.Common.{◌≡◌, ◌≢◌, ℕ, suc, ◌<◌, ◌≤◌, ◌==◌, ◌⊎◌, inl, inr, Bool, true, false, Option, List, [], ◌∷◌, ◌++◌, length, refl}
+use Rattle.std.proofs.Common.{sym, ap, subst, ◌∙◌, append_assoc, length-append, arith, All}
 use Rattle.std.proofs.lemmas.Bool.{eqb-true, eqb-false, cases_lt}
 use Rattle.std.proofs.lemmas.List.Elements.{filter-append, All-nil, All-cons, All-weaker}
 use Rattle.std.specs.List.Sorted.{IsPermutation}
@@ -42,18 +43,21 @@ no_more (x ∷ xs) ys e one =
     absurd (let n : length (xs ++ e ∷ ys) ≡ 0 = ap (λ (zs : List Entry). length zs) tails in omega (arith, n, length-append xs (e ∷ ys)))
 
 -- without the one receipt of the first entry, the receipts are the other entries
-others : (n : ℕ) (e : Entry) (es front back : List Entry) → e.number ≡ n → numbered n es ≡ [] → AreReceipts (e ∷ es) (front ++ e ∷ back) → AreReceipts es (front ++ back)
-others n e es front back own none are m = elim (e.number == m) as (λ (b : Bool). e.number == m ≡ b → numbered m (front ++ back) ≡ numbered m es) [
-  | true ↦ λ same. let here : e.number ≡ m = eqb-true e.number m same in
-      let gone : numbered m es ≡ [] = subst (λ (k : ℕ). numbered k es ≡ []) (sym own ∙ here) none in
-      let one : numbered m front ++ e ∷ numbered m back ≡ e ∷ [] =
-      ap (λ (xs : List Entry). numbered m front ++ xs) (sym (numbered-head m e back here)) ∙ sym (numbered-middle m front back e) ∙ are m
-      ∙ numbered-head m e es here ∙ ap (λ (xs : List Entry). e ∷ xs) gone in
-      numbered-both m front back ∙ no_more (numbered m front) (numbered m back) e one ∙ sym gone
-  | false ↦ λ other. let apart : e.number ≢ m = eqb-false e.number m other in
-      numbered-both m front back ∙ ap (λ (xs : List Entry). numbered m front ++ xs) (sym (numbered-tail m e back apart)) ∙ sym (numbered-middle m front back e) ∙ are m
-      ∙ numbered-tail m e es apart
-] refl
+others : (n : ℕ) (e : Entry) (es front back : List Entry) → e.number ≡ n → numbered n es ≡ [] → AreReceipts (e ∷ es) (front ++ e ∷ back)
+    → AreReceipts es (front ++ back)
+others n e es front back own none are m = elim (e.number == m) as
+    (λ (b : Bool). e.number == m ≡ b → numbered m (front ++ back) ≡ numbered m es) [
+      | true ↦ λ same. let here : e.number ≡ m = eqb-true e.number m same in
+          let gone : numbered m es ≡ [] = subst (λ (k : ℕ). numbered k es ≡ []) (sym own ∙ here) none in
+          let one : numbered m front ++ e ∷ numbered m back ≡ e ∷ [] =
+          ap (λ (xs : List Entry). numbered m front ++ xs) (sym (numbered-head m e back here)) ∙ sym (numbered-middle m front back e)
+          ∙ are m ∙ numbered-head m e es here ∙ ap (λ (xs : List Entry). e ∷ xs) gone in
+          numbered-both m front back ∙ no_more (numbered m front) (numbered m back) e one ∙ sym gone
+      | false ↦ λ other. let apart : e.number ≢ m = eqb-false e.number m other in
+          numbered-both m front back ∙ ap (λ (xs : List Entry). numbered m front ++ xs) (sym (numbered-tail m e back apart))
+          ∙ sym (numbered-middle m front back e)
+          ∙ are m ∙ numbered-tail m e es apart
+    ] refl
 
 pub each_once : (n : ℕ) (b : BookState) (es rs : List Entry) → IsLegalFrom n b es → AreReceipts es rs → IsPermutation rs es
 each_once n b [] [] legal are = IsPermutation-refl []
@@ -66,7 +70,8 @@ each_once n b (e ∷ es) rs legal are =
     let rest = each_once (suc n) (book_after b e.command) es (at.front ++ at.back) legal.2
     (others n e es at.front at.back legal.0 gone (subst (AreReceipts (e ∷ es)) at.is are)) in
     subst (λ (xs : List Entry). IsPermutation xs (e ∷ es)) (sym at.is)
-    (IsPermutation-trans (at.front ++ e ∷ at.back) (e ∷ (at.front ++ at.back)) (e ∷ es) (IsPermutation-middle at.front e at.back) (IsPermutation-cons e (at.front ++ at.back) es rest))
+    (IsPermutation-trans (at.front ++ e ∷ at.back) (e ∷ (at.front ++ at.back)) (e ∷ es) (IsPermutation-middle at.front e at.back)
+    (IsPermutation-cons e (at.front ++ at.back) es rest))
 
 -- ---- the order of the receipts of a pass
 
@@ -82,7 +87,11 @@ at_most_one n m b (e ∷ es) legal = elim (e.number == m) as (λ (t : Bool). e.n
       let gone : numbered m es ≡ [] = none_below (suc n) m (book_after b e.command) es legal.2 (omega (arith, here, legal.0)) in
       let one : numbered m (e ∷ es) ≡ e ∷ [] = numbered-head m e es here ∙ ap (λ (xs : List Entry). e ∷ xs) gone in
       omega (arith, ap (λ (xs : List Entry). length xs) one)
-  | false ↦ λ other. omega (arith, ap (λ (xs : List Entry). length xs) (numbered-tail m e es (eqb-false e.number m other)), at_most_one (suc n) m (book_after b e.command) es legal.2)
+  | false ↦ λ other. omega (
+    arith,
+    ap (λ (xs : List Entry). length xs) (numbered-tail m e es (eqb-false e.number m other)),
+    at_most_one (suc n) m (book_after b e.command) es legal.2,
+  )
 ] refl
 
 -- entries, each once, are the entries number by number
@@ -97,29 +106,34 @@ only_one [] (y ∷ ys) zs r is few = absurd (omega (arith, few, ap (λ (xs : Lis
 only_one (x ∷ xs) ys zs r is few = absurd (omega (arith, few, ap (λ (xs : List Entry). length xs) is, length-append (x ∷ xs) (r ∷ ys)))
 
 -- among all receipts
-are_entries : (b : BookState) (es front rs back : List Entry) → IsLegalFrom 1 b es → AreReceipts es (front ++ (rs ++ back)) → AreEntries es rs
+are_entries : (b : BookState) (es front rs back : List Entry) → IsLegalFrom 1 b es → AreReceipts es (front ++ (rs ++ back))
+    → AreEntries es rs
 are_entries b es front [] back legal are = tt
 are_entries b es front (r ∷ rs) back legal are =
     let n = r.number in
     let all : numbered n front ++ r ∷ numbered n (rs ++ back) ≡ numbered n es =
-    ap (λ (xs : List Entry). numbered n front ++ xs) (sym (numbered-head n r (rs ++ back) refl)) ∙ sym (numbered-middle n front (rs ++ back) r) ∙ are n in (
+    ap (λ (xs : List Entry). numbered n front ++ xs) (sym (numbered-head n r (rs ++ back) refl))
+    ∙ sym (numbered-middle n front (rs ++ back) r) ∙ are n in (
       only_one (numbered n front) (numbered n (rs ++ back)) (numbered n es) r all (at_most_one 1 n b es legal),
       are_entries b es (front ++ r ∷ []) rs back legal (subst (AreReceipts es) (sym (append_assoc front (r ∷ []) (rs ++ back))) are),
     )
 
 -- after the first entry, whose number is at most `low`
-entries-tail : (n low seen : ℕ) (e : Entry) (es rs : List Entry) → e.number ≡ n → n ≤ low → AreInOrder low seen rs → AreEntries (e ∷ es) rs → AreEntries es rs
+entries-tail : (n low seen : ℕ) (e : Entry) (es rs : List Entry) → e.number ≡ n → n ≤ low → AreInOrder low seen rs → AreEntries (e ∷ es) rs
+    → AreEntries es rs
 entries-tail n low seen e es [] own above ordered are = tt
 entries-tail n low seen e es (r ∷ rs) own above ordered are = (
   sym (numbered-tail r.number e es (λ same. omega (arith, same, own, above, ordered.0))) ∙ are.0,
   entries-tail n r.number seen e es rs own (omega (arith, above, ordered.0)) ordered.1 are.1,
 )
 
-not_below : (n m : ℕ) (b : BookState) (es : List Entry) (r : Entry) → IsLegalFrom n b es → numbered m es ≡ r ∷ [] → (m < n) ⊎ (n ≤ m) → n ≤ m
+not_below : (n m : ℕ) (b : BookState) (es : List Entry) (r : Entry) → IsLegalFrom n b es → numbered m es ≡ r ∷ [] → (m < n) ⊎ (n ≤ m)
+    → n ≤ m
 not_below n m b es r legal one (inl below) = let none : [] ≡ r ∷ [] = sym (none_below n m b es legal below) ∙ one in absurd (cc)
 not_below n m b es r legal one (inr above) = above
 
-some_of : (n low seen : ℕ) (b : BookState) (es rs : List Entry) → IsLegalFrom n b es → n ≤ suc low → AreInOrder low seen rs → AreEntries es rs → AreSomeOf rs es
+some_of : (n low seen : ℕ) (b : BookState) (es rs : List Entry) → IsLegalFrom n b es → n ≤ suc low → AreInOrder low seen rs
+    → AreEntries es rs → AreSomeOf rs es
 some_of n low seen b [] [] legal above ordered are = tt
 some_of n low seen b (e ∷ es) [] legal above ordered are = tt
 some_of n low seen b [] (r ∷ rs) legal above ordered are = let none : [] ≡ r ∷ [] = are.0 in absurd (cc)
@@ -136,20 +150,25 @@ some_of n low seen b (e ∷ es) (r ∷ rs) legal above ordered are =
       | false ↦ λ other. let apart = eqb-false e.number r.number other in
           let no_less = not_below n r.number b (e ∷ es) r legal are.0 (cases_lt r.number n) in
           let later : n < r.number = omega (arith, apart, no_less, legal.0) in
-          inr (some_of (suc n) n seen (book_after b e.command) es (r ∷ rs) legal.2 (omega arith) (later, ordered.1)
-          (sym (numbered-tail r.number e es apart) ∙ are.0, entries-tail n r.number seen e es rs legal.0 (omega (arith, later)) ordered.1 are.1))
+          inr (some_of (suc n) n seen (book_after b e.command) es (r ∷ rs) legal.2 (omega arith) (later, ordered.1) (
+            sym (numbered-tail r.number e es apart) ∙ are.0,
+            entries-tail n r.number seen e es rs legal.0 (omega (arith, later)) ordered.1 are.1,
+          ))
     ] refl
 
-in_order-from : (b : BookState) (es front : List Entry) (ps : List PassState) → IsLegalFrom 1 b es → AreReceipts es (front ++ receipts_of ps) → All IsPass ps
+in_order-from : (b : BookState) (es front : List Entry) (ps : List PassState) → IsLegalFrom 1 b es
+    → AreReceipts es (front ++ receipts_of ps) → All IsPass ps
     → All (λ (p : PassState). AreSomeOf p.receipts es) ps
 in_order-from b es front [] legal are passes = All-nil (λ (p : PassState). AreSomeOf p.receipts es)
 in_order-from b es front (p ∷ ps) legal are passes =
     All-cons (λ (q : PassState). AreSomeOf q.receipts es) p ps
-    (some_of 1 0 p.seen b es p.receipts legal (omega arith) (passes 0 p (omega arith)).in_order (are_entries b es front p.receipts (receipts_of ps) legal are))
+    (some_of 1 0 p.seen b es p.receipts legal (omega arith) (passes 0 p (omega arith)).in_order
+    (are_entries b es front p.receipts (receipts_of ps) legal are))
     (in_order-from b es (front ++ p.receipts) ps legal (subst (AreReceipts es) (sym (append_assoc front p.receipts (receipts_of ps))) are)
     (λ k d within. passes (suc k) d (omega (arith, within))))
 
-pub in_order : (b : BookState) (es : List Entry) (ps : List PassState) → IsLegalFrom 1 b es → AreReceipts es (receipts_of ps) → All IsPass ps
+pub in_order : (b : BookState) (es : List Entry) (ps : List PassState) → IsLegalFrom 1 b es → AreReceipts es (receipts_of ps)
+    → All IsPass ps
     → All (λ (p : PassState). AreSomeOf p.receipts es) ps
 in_order b es ps legal are passes = in_order-from b es [] ps legal are passes
 

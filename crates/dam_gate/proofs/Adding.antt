@@ -1,5 +1,6 @@
 -- The exchange that adds an entry keeps the rule.
-use Rattle.std.proofs.Common.{◌≡◌, ℕ, ◌+◌, ◌<◌, ◌==◌, Bool, true, false, List, [], ◌∷◌, ◌++◌, length, refl, ap, sym, subst, arith, inl, length-append, None}
+use Rattle.std.proofs.Common.{◌≡◌, ℕ, ◌+◌, ◌<◌, ◌==◌, Bool, true, false, List, [], ◌∷◌, ◌++◌, length, refl, ap, sym, subst, arith, inl}
+use Rattle.std.proofs.Common.{length-append, None}
 use Rattle.std.proofs.lemmas.List.{append-nil}
 use Rattle.std.proofs.lemmas.Bool.Decides.{nat_tests}
 use mathlib.Core.List.{IsPrefix}
@@ -16,10 +17,12 @@ moved xs ys n = Unit {0}
 
 pub adds_goes : (log v : List Entry) (e : Entry) (old : ℕ) → IsPrefix v log
     → (b : Bool) → (length log == old) ≡ b
-    → Goes IsKept shown moved 0 (v, (no_nib, None)) (λ n. either (n == old) (old + 1) n) (Adds (step 0 old (old + 1) e) (v, (no_nib, None))) ((length log, true) ∷ (0, true) ∷ []) log
+    → Goes IsKept shown moved 0 (v, (no_nib, None)) (λ n. either (n == old) (old + 1) n) (Adds (step 0 old (old + 1) e) (v, (no_nib, None)))
+    ((length log, true) ∷ (0, true) ∷ []) log
 adds_goes log v e old pre true is =
     let here : length log ≡ old = grind (arith, nat_tests) in
-    let n : either (length log == old) (old + 1) (length log) ≡ length (log ++ e ∷ []) = rw is (omega (arith, length-append log (e ∷ []))) in (
+    let n : either (length log == old) (old + 1) (length log) ≡ length (log ++ e ∷ []) =
+    rw is (omega (arith, length-append log (e ∷ []))) in (
       keeps,
       e ∷ [],
       None,
@@ -40,9 +43,12 @@ adds_goes log v e old pre false is =
       rw is tt,
     )
 
--- whatever the history is, the exchange adds the entry to it where it has the length expected
+-- whatever the history is, the exchange adds the entry to it if it has the expected length
 pub adds_moves : (v : List Entry) (e : Entry) (old : ℕ)
-    → Moves IsKept shown moved 0 (v, (no_nib, None)) (λ n. either (n == old) (old + 1) n) (Adds (step 0 old (old + 1) e) (v, (no_nib, None)))
+    → Moves IsKept shown moved 0 (v, (no_nib, None)) (λ n. either (n == old) (old + 1) n)
+    (Adds (step 0 old (old + 1) e) (v, (no_nib, None)))
 adds_moves v e old cs log kept pre away =
-    let P : List Cell → Type 0 = λ c. (0 < length c) × ((cell c 0).1 ≡ true) × Goes IsKept shown moved 0 (v, (no_nib, None)) (λ n. either (n == old) (old + 1) n) (Adds (step 0 old (old + 1) e) (v, (no_nib, None))) c log in
+    let P : List Cell → Type 0 = λ c. (0 < length c) × ((cell c 0).1 ≡ true)
+    × Goes IsKept shown moved 0 (v, (no_nib, None)) (λ n. either (n == old) (old + 1) n)
+    (Adds (step 0 old (old + 1) e) (v, (no_nib, None))) c log in
     subst P (sym kept.words) (omega arith, refl, adds_goes log v e old pre (length log == old) refl)

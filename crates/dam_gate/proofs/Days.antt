@@ -1,5 +1,7 @@
 -- A settled gate through which each participant entered its own commands in their order holds a day run.
-use Rattle.std.proofs.Common.{All, slice_get, ◌≡◌, ◌≢◌, ℕ, zero, suc, ◌+◌, ◌<◌, ◌≤◌, ◌==◌, ◌⊎◌, inl, inr, Bool, true, false, cond, if◌then◌else◌, ◌||◌, List, [], ◌∷◌, ◌++◌, length, get_or, map, take, drop, Option, Some, None, refl, sym, ap, ap₂, subst, ◌∙◌, append-nil, length-append, arith}
+use Rattle.std.proofs.Common.{All, slice_get, ◌≡◌, ◌≢◌, ℕ, zero, suc, ◌+◌, ◌<◌, ◌≤◌, ◌==◌, ◌⊎◌, inl, inr, Bool, true, false, cond}
+use Rattle.std.proofs.Common.{if◌then◌else◌, ◌||◌, List, [], ◌∷◌, ◌++◌, length, get_or, map, take, drop, Option, Some, None, refl, sym, ap}
+use Rattle.std.proofs.Common.{ap₂, subst, ◌∙◌, append-nil, length-append, arith}
 use Rattle.std.specs.List.{filter}
 use Rattle.std.specs.Bool.{Decides}
 use Rattle.std.proofs.lemmas.Bool.{eqb-true, eqb-false, cases_lt, or_parts}
@@ -51,13 +53,16 @@ filter-yes p x xs is = ap (λ (b : Bool). cond b (x ∷ filter p xs) (filter p x
 filter-no : {X : Type 0} (p : X → Bool) (x : X) (xs : List X) → p x ≡ false → filter p (x ∷ xs) ≡ filter p xs
 filter-no p x xs is = ap (λ (b : Bool). cond b (x ∷ filter p xs) (filter p xs)) is
 
-both-step : {X : Type 0} (p q : X → Bool) (x : X) (xs : List X) (s t : Bool) → filter p (filter q xs) ≡ filter q (filter p xs) → p x ≡ s → q x ≡ t
+both-step : {X : Type 0} (p q : X → Bool) (x : X) (xs : List X) (s t : Bool) → filter p (filter q xs) ≡ filter q (filter p xs) → p x ≡ s
+    → q x ≡ t
     → filter p (filter q (x ∷ xs)) ≡ filter q (filter p (x ∷ xs))
 both-step p q x xs true true ih a b =
-    ap (filter p) (filter-yes q x xs b) ∙ filter-yes p x (filter q xs) a ∙ ap (λ (ys : List _). x ∷ ys) ih ∙ sym (filter-yes q x (filter p xs) b) ∙ sym (ap (filter q) (filter-yes p x xs a))
+    ap (filter p) (filter-yes q x xs b) ∙ filter-yes p x (filter q xs) a ∙ ap (λ (ys : List _). x ∷ ys) ih
+    ∙ sym (filter-yes q x (filter p xs) b) ∙ sym (ap (filter q) (filter-yes p x xs a))
 both-step p q x xs true false ih a b =
     ap (filter p) (filter-no q x xs b) ∙ ih ∙ sym (filter-no q x (filter p xs) b) ∙ sym (ap (filter q) (filter-yes p x xs a))
-both-step p q x xs false true ih a b = ap (filter p) (filter-yes q x xs b) ∙ filter-no p x (filter q xs) a ∙ ih ∙ sym (ap (filter q) (filter-no p x xs a))
+both-step p q x xs false true ih a b = ap (filter p) (filter-yes q x xs b) ∙ filter-no p x (filter q xs) a ∙ ih
+    ∙ sym (ap (filter q) (filter-no p x xs a))
 both-step p q x xs false false ih a b = ap (filter p) (filter-no q x xs b) ∙ ih ∙ sym (ap (filter q) (filter-no p x xs a))
 
 both-filters : {X : Type 0} (p q : X → Bool) (xs : List X) → filter p (filter q xs) ≡ filter q (filter p xs)
@@ -68,10 +73,12 @@ both-filters p q (x ∷ xs) = both-step p q x xs (p x) (q x) (both-filters p q x
 abbrev pub of_command : (Command → Bool) → Entry → Bool
 of_command p e = p e.command
 
-commands-step : (p : Command → Bool) (e : Entry) (es : List Entry) (t : Bool) → commands_of (filter (of_command p) es) ≡ filter p (commands_of es) → p e.command ≡ t
+commands-step : (p : Command → Bool) (e : Entry) (es : List Entry) (t : Bool)
+    → commands_of (filter (of_command p) es) ≡ filter p (commands_of es) → p e.command ≡ t
     → commands_of (filter (of_command p) (e ∷ es)) ≡ filter p (commands_of (e ∷ es))
 commands-step p e es true ih is =
-    ap commands_of (filter-yes (of_command p) e es is) ∙ ap (λ (cs : List Command). e.command ∷ cs) ih ∙ sym (filter-yes p e.command (commands_of es) is)
+    ap commands_of (filter-yes (of_command p) e es is) ∙ ap (λ (cs : List Command). e.command ∷ cs) ih
+    ∙ sym (filter-yes p e.command (commands_of es) is)
 commands-step p e es false ih is = ap commands_of (filter-no (of_command p) e es is) ∙ ih ∙ sym (filter-no p e.command (commands_of es) is)
 
 commands-filter : (p : Command → Bool) (es : List Entry) → commands_of (filter (of_command p) es) ≡ filter p (commands_of es)
@@ -88,7 +95,8 @@ order-lower : (low less seen : ℕ) (es : List Entry) → less ≤ low → AreIn
 order-lower low less seen [] below ordered = omega (arith, below, ordered)
 order-lower low less seen (e ∷ es) below ordered = (omega (arith, below, ordered.0), ordered.1)
 
-order-step : (p : Entry → Bool) (low seen : ℕ) (e : Entry) (es : List Entry) (t : Bool) → low < e.number → AreInOrder e.number seen (filter p es) → p e ≡ t
+order-step : (p : Entry → Bool) (low seen : ℕ) (e : Entry) (es : List Entry) (t : Bool) → low < e.number
+    → AreInOrder e.number seen (filter p es) → p e ≡ t
     → AreInOrder low seen (filter p (e ∷ es))
 order-step p low seen e es true above rest is = subst (AreInOrder low seen) (sym (filter-yes p e es is)) (above, rest)
 order-step p low seen e es false above rest is =
@@ -111,7 +119,8 @@ legal-order low b (e ∷ es) legal =
 none_in_order : (m low seen : ℕ) (es : List Entry) → m ≤ low → AreInOrder low seen es → numbered m es ≡ []
 none_in_order m low seen [] below ordered = refl
 none_in_order m low seen (e ∷ es) below ordered =
-    numbered-tail m e es (λ same. omega (arith, same, below, ordered.0)) ∙ none_in_order m e.number seen es (omega (arith, below, ordered.0)) ordered.1
+    numbered-tail m e es (λ same. omega (arith, same, below, ordered.0))
+    ∙ none_in_order m e.number seen es (omega (arith, below, ordered.0)) ordered.1
 
 same-tails : (m last first : ℕ) (x y : Entry) (xs ys : List Entry) → x ≡ y → AreInOrder x.number last xs → AreInOrder y.number first ys
     → numbered m (x ∷ xs) ≡ numbered m (y ∷ ys) → (x.number ≡ m) ⊎ (x.number ≢ m) → numbered m xs ≡ numbered m ys
@@ -122,10 +131,12 @@ same-tails m last first x y xs ys head a b same (inr other) =
     sym (numbered-tail m x xs other) ∙ same ∙ numbered-tail m y ys (λ own. other (ap (λ (e : Entry). e.number) head ∙ own))
 
 is_number : (n m : ℕ) → (n ≡ m) ⊎ (n ≢ m)
-is_number n m = elim (n == m) as (λ (t : Bool). n == m ≡ t → (n ≡ m) ⊎ (n ≢ m)) [ true ↦ λ e. inl (eqb-true n m e) | false ↦ λ e. inr (eqb-false n m e) ] refl
+is_number n m = elim (n == m) as (λ (t : Bool). n == m ≡ t → (n ≡ m) ⊎ (n ≢ m))
+    [ true ↦ λ e. inl (eqb-true n m e) | false ↦ λ e. inr (eqb-false n m e) ] refl
 
 -- the one of the lesser number would be missing in the other list
-heads-apart : (last : ℕ) (x y : Entry) (xs ys : List Entry) → numbered x.number (x ∷ xs) ≡ numbered x.number (y ∷ ys) → AreInOrder y.number last ys → x.number < y.number → ⊥
+heads-apart : (last : ℕ) (x y : Entry) (xs ys : List Entry) → numbered x.number (x ∷ xs) ≡ numbered x.number (y ∷ ys)
+    → AreInOrder y.number last ys → x.number < y.number → ⊥
 heads-apart last x y xs ys same ordered less =
     let none : numbered x.number (y ∷ ys) ≡ [] =
     numbered-tail x.number y ys (λ e. omega (arith, e, less)) ∙ none_in_order x.number y.number last ys (omega (arith, less)) ordered in
@@ -134,16 +145,19 @@ heads-apart last x y xs ys same ordered less =
 
 heads-equal : (x y : Entry) (xs ys : List Entry) → x.number ≡ y.number → numbered x.number (x ∷ xs) ≡ numbered x.number (y ∷ ys) → x ≡ y
 heads-equal x y xs ys number same =
-    let both : x ∷ numbered x.number xs ≡ y ∷ numbered x.number ys = sym (numbered-head x.number x xs refl) ∙ same ∙ numbered-head x.number y ys (sym number) in
+    let both : x ∷ numbered x.number xs ≡ y ∷ numbered x.number ys = sym (numbered-head x.number x xs refl) ∙ same
+    ∙ numbered-head x.number y ys (sym number) in
     cc
 
 heads : (last first : ℕ) (x y : Entry) (xs ys : List Entry) → AreInOrder x.number last xs → AreInOrder y.number first ys
-    → ((m : ℕ) → numbered m (x ∷ xs) ≡ numbered m (y ∷ ys)) → (x.number < y.number) ⊎ (y.number ≤ x.number) → (y.number < x.number) ⊎ (x.number ≤ y.number) → x ≡ y
+    → ((m : ℕ) → numbered m (x ∷ xs) ≡ numbered m (y ∷ ys)) → (x.number < y.number) ⊎ (y.number ≤ x.number) → (y.number < x.number)
+    ⊎ (x.number ≤ y.number) → x ≡ y
 heads last first x y xs ys a b same (inl less) other = absurd (heads-apart first x y xs ys (same x.number) b less)
 heads last first x y xs ys a b same (inr more) (inl less) = absurd (heads-apart last y x ys xs (sym (same y.number)) a less)
 heads last first x y xs ys a b same (inr more) (inr no_more) = heads-equal x y xs ys (omega (arith, more, no_more)) (same x.number)
 
-same_ordered : (low last less first : ℕ) (xs ys : List Entry) → AreInOrder low last xs → AreInOrder less first ys → ((m : ℕ) → numbered m xs ≡ numbered m ys) → xs ≡ ys
+same_ordered : (low last less first : ℕ) (xs ys : List Entry) → AreInOrder low last xs → AreInOrder less first ys
+    → ((m : ℕ) → numbered m xs ≡ numbered m ys) → xs ≡ ys
 same_ordered low last less first [] [] a b same = refl
 same_ordered low last less first [] (y ∷ ys) a b same =
     let none : [] ≡ y ∷ numbered y.number ys = same y.number ∙ numbered-head y.number y ys refl in absurd (cc)
@@ -152,40 +166,49 @@ same_ordered low last less first (x ∷ xs) [] a b same =
 same_ordered low last less first (x ∷ xs) (y ∷ ys) a b same =
     let head = heads last first x y xs ys a.1 b.1 same (cases_lt x.number y.number) (cases_lt y.number x.number) in
     ap₂ (λ (e : Entry) (es : List Entry). e ∷ es) head
-    (same_ordered x.number last y.number first xs ys a.1 b.1 (λ m. same-tails m last first x y xs ys head a.1 b.1 (same m) (is_number x.number m)))
+    (same_ordered x.number last y.number first xs ys a.1 b.1
+    (λ m. same-tails m last first x y xs ys head a.1 b.1 (same m) (is_number x.number m)))
 
 -- what passes of the receipts, in order, is what passes of the entries
-same_passing : (p : Entry → Bool) (periods seen : ℕ) (es rs : List Entry) → IsLegalHistory periods es → AreReceipts es rs → AreInOrder 0 seen (filter p rs) → filter p rs ≡ filter p es
+same_passing : (p : Entry → Bool) (periods seen : ℕ) (es rs : List Entry) → IsLegalHistory periods es → AreReceipts es rs
+    → AreInOrder 0 seen (filter p rs) → filter p rs ≡ filter p es
 same_passing p periods seen es rs legal are ordered =
     same_ordered 0 seen 0 (length es) (filter p rs) (filter p es) ordered
-    (subst (λ (n : ℕ). AreInOrder 0 n (filter p es)) (let e : 0 + length es ≡ length es = omega arith in e) (order-filter p 0 (0 + length es) es (legal-order 0 (empty_book periods) es legal)))
+    (subst (λ (n : ℕ). AreInOrder 0 n (filter p es)) (let e : 0 + length es ≡ length es = omega arith in e)
+    (order-filter p 0 (0 + length es) es (legal-order 0 (empty_book periods) es legal)))
     (λ m. both-filters (λ (e : Entry). e.number == m) p rs ∙ ap (filter p) (are m) ∙ both-filters p (λ (e : Entry). e.number == m) es)
 
 -- ---- the shares of the participants
 
 -- of one's own commands all are one's own, and none another's
-own-step : (who other : List ℕ) (c : Command) (cs : List Command) (t : Bool) → filter (is_from other) (filter (is_from who) cs) ≡ cond (same_text other who) (filter (is_from who) cs) []
-    → is_from who c ≡ t → filter (is_from other) (filter (is_from who) (c ∷ cs)) ≡ cond (same_text other who) (filter (is_from who) (c ∷ cs)) []
+own-step : (who other : List ℕ) (c : Command) (cs : List Command) (t : Bool)
+    → filter (is_from other) (filter (is_from who) cs) ≡ cond (same_text other who) (filter (is_from who) cs) []
+    → is_from who c ≡ t → filter (is_from other) (filter (is_from who) (c ∷ cs)) ≡ cond (same_text other who)
+    (filter (is_from who) (c ∷ cs)) []
 own-step who other c cs true ih is =
     ap (filter (is_from other)) (filter-yes (is_from who) c cs is)
     ∙ go (same_text other who) (filter (is_from who) cs) ih (from-one who other c is)
     ∙ ap (λ (ds : List Command). cond (same_text other who) ds []) (sym (filter-yes (is_from who) c cs is))
   where
-    go : (b : Bool) (ds : List Command) → filter (is_from other) ds ≡ cond b ds [] → is_from other c ≡ b → filter (is_from other) (c ∷ ds) ≡ cond b (c ∷ ds) []
+    go : (b : Bool) (ds : List Command) → filter (is_from other) ds ≡ cond b ds [] → is_from other c ≡ b
+        → filter (is_from other) (c ∷ ds) ≡ cond b (c ∷ ds) []
     go true ds rest from = filter-yes (is_from other) c ds from ∙ ap (λ (xs : List Command). c ∷ xs) rest
     go false ds rest from = filter-no (is_from other) c ds from ∙ rest
 own-step who other c cs false ih is =
-    ap (filter (is_from other)) (filter-no (is_from who) c cs is) ∙ ih ∙ ap (λ (ds : List Command). cond (same_text other who) ds []) (sym (filter-no (is_from who) c cs is))
+    ap (filter (is_from other)) (filter-no (is_from who) c cs is) ∙ ih
+    ∙ ap (λ (ds : List Command). cond (same_text other who) ds []) (sym (filter-no (is_from who) c cs is))
 
 nothing_left : (b : Bool) (cs : List Command) → cs ≡ [] → cs ≡ cond b cs []
 nothing_left true cs none = refl
 nothing_left false cs none = none
 
-own_again : (who other : List ℕ) (cs : List Command) → commands_by other (commands_by who cs) ≡ cond (same_text other who) (commands_by who cs) []
+own_again : (who other : List ℕ) (cs : List Command) → commands_by other (commands_by who cs) ≡ cond (same_text other who)
+    (commands_by who cs) []
 own_again who other [] = nothing_left (same_text other who) [] refl
 own_again who other (c ∷ cs) = own-step who other c cs (is_from who c) (own_again who other cs) refl
 
-no_close-step : (who : List ℕ) (c : Command) (cs : List Command) (t : Bool) → filter is_close (filter (is_from who) cs) ≡ [] → is_from who c ≡ t
+no_close-step : (who : List ℕ) (c : Command) (cs : List Command) (t : Bool) → filter is_close (filter (is_from who) cs) ≡ []
+    → is_from who c ≡ t
     → filter is_close (filter (is_from who) (c ∷ cs)) ≡ []
 no_close-step who c cs true ih is =
     ap (filter is_close) (filter-yes (is_from who) c cs is) ∙ filter-no is_close c (filter (is_from who) cs) (from-not_close who c is) ∙ ih
@@ -210,47 +233,60 @@ from-giver other who (Amend w name price volumes) is = let same : w ≡ who = cc
 from-giver other who (Cancel w name) is = let same : w ≡ who = cc in ap (same_text other) same
 from-giver other who Close is = absurd (cc)
 
-apart-more : (participants : List (List ℕ)) (who : List ℕ) → AreApart participants → is_one_of participants who ≡ false → AreApart (participants ++ who ∷ [])
+apart-more : (participants : List (List ℕ)) (who : List ℕ) → AreApart participants → is_one_of participants who ≡ false
+    → AreApart (participants ++ who ∷ [])
 apart-more [] who apart other = (refl, tt)
 apart-more (w ∷ participants) who apart other =
-    let parts = or_parts (same_text who w) (is_one_of participants who) other in
-    (list_any-append (same_text w) participants (who ∷ []) ∙ ap₂ (λ (a b : Bool). a || (b || false)) apart.0 (text-apart who w parts.0), apart-more participants who apart.1 parts.1)
+    let parts = or_parts (same_text who w) (is_one_of participants who) other in (
+      list_any-append (same_text w) participants (who ∷ [])
+          ∙ ap₂ (λ (a b : Bool). a || (b || false)) apart.0 (text-apart who w parts.0),
+      apart-more participants who apart.1 parts.1,
+    )
 
-by-none : (other : List ℕ) (front : List Command) (c : Command) → commands_by other front ≡ [] → is_from other c ≡ false → commands_by other (front ++ c ∷ []) ≡ []
+by-none : (other : List ℕ) (front : List Command) (c : Command) → commands_by other front ≡ [] → is_from other c ≡ false
+    → commands_by other (front ++ c ∷ []) ≡ []
 by-none other front c none not_from =
     filter-append (is_from other) front (c ∷ []) ∙ ap₂ (λ (cs : List Command) (b : Bool). cs ++ cond b (c ∷ []) []) none not_from
 
-known-giver : (participants : List (List ℕ)) (who other : List ℕ) → is_one_of participants who ≡ true → is_one_of participants other ≡ false → same_text other who ≡ false
+known-giver : (participants : List (List ℕ)) (who other : List ℕ) → is_one_of participants who ≡ true → is_one_of participants other ≡ false
+    → same_text other who ≡ false
 known-giver participants who other known unknown = go (same_text other who) refl
   where
     go : (t : Bool) → same_text other who ≡ t → t ≡ false
-    go true is = let one : true ≡ false = sym known ∙ ap (is_one_of participants) (sym ((text-Decides other who).0 is)) ∙ unknown in absurd (cc)
+    go true is = let one : true ≡ false = sym known ∙ ap (is_one_of participants) (sym ((text-Decides other who).0 is)) ∙ unknown in
+        absurd (cc)
     go false is = refl
 
-givers-step : (participants : List (List ℕ)) (who : List ℕ) (c : Command) (front : List Command) (t : Bool) → is_one_of participants who ≡ t → giver c ≡ Some who → AreGivers participants front
+givers-step : (participants : List (List ℕ)) (who : List ℕ) (c : Command) (front : List Command) (t : Bool) → is_one_of participants who ≡ t
+    → giver c ≡ Some who → AreGivers participants front
     → AreGivers (if t then participants else participants ++ who ∷ []) (front ++ c ∷ [])
 givers-step participants who c front true known gives are =
     record {
       apart = are.apart;
-      all = λ other unknown. by-none other front c (are.all other unknown) (from-giver other who c gives ∙ known-giver participants who other known unknown);
+      all = λ other unknown. by-none other front c (are.all other unknown)
+          (from-giver other who c gives ∙ known-giver participants who other known unknown);
     }
 givers-step participants who c front false new gives are =
     record {
       apart = apart-more participants who are.apart new;
       all = λ other unknown.
-          let parts = or_parts (is_one_of participants other) (same_text other who || false) (sym (list_any-append (same_text other) participants (who ∷ [])) ∙ unknown) in
+          let parts = or_parts (is_one_of participants other) (same_text other who || false)
+          (sym (list_any-append (same_text other) participants (who ∷ [])) ∙ unknown) in
           let apart = or_parts (same_text other who) false parts.1 in
           by-none other front c (are.all other parts.0) (from-giver other who c gives ∙ apart.0);
     }
 
-pub givers-more : (participants : List (List ℕ)) (who : List ℕ) (c : Command) (front : List Command) → giver c ≡ Some who → AreGivers participants front → AreGivers (with_giver participants who) (front ++ c ∷ [])
+pub givers-more : (participants : List (List ℕ)) (who : List ℕ) (c : Command) (front : List Command) → giver c ≡ Some who
+    → AreGivers participants front → AreGivers (with_giver participants who) (front ++ c ∷ [])
 givers-more participants who c front gives are = givers-step participants who c front (is_one_of participants who) refl gives are
 
-givers_from-snoc : (participants : List (List ℕ)) (front : List Command) (c : Command) → givers_from participants (front ++ c ∷ []) ≡ with_any (givers_from participants front) (giver c)
+givers_from-snoc : (participants : List (List ℕ)) (front : List Command) (c : Command)
+    → givers_from participants (front ++ c ∷ []) ≡ with_any (givers_from participants front) (giver c)
 givers_from-snoc participants [] c = refl
 givers_from-snoc participants (x ∷ front) c = givers_from-snoc (with_any participants (giver x)) front c
 
-pub order-more : (participants : List (List ℕ)) (who : List ℕ) (c : Command) (front : List Command) → giver c ≡ Some who → participants ≡ givers_of front
+pub order-more : (participants : List (List ℕ)) (who : List ℕ) (c : Command) (front : List Command) → giver c ≡ Some who
+    → participants ≡ givers_of front
     → with_giver participants who ≡ givers_of (front ++ c ∷ [])
 order-more participants who c front gives is =
     ap (λ (ps : List (List ℕ)). with_giver ps who) is ∙ ap (with_any (givers_of front)) (sym gives) ∙ sym (givers_from-snoc [] front c)
@@ -261,7 +297,8 @@ given-open (Amend w name price volumes) who gives = refl
 given-open (Cancel w name) who gives = refl
 given-open Close who gives = absurd (cc)
 
-pub no_close-more : (c : Command) (who : List ℕ) (front : List Command) → giver c ≡ Some who → filter is_close front ≡ [] → filter is_close (front ++ c ∷ []) ≡ []
+pub no_close-more : (c : Command) (who : List ℕ) (front : List Command) → giver c ≡ Some who → filter is_close front ≡ []
+    → filter is_close (front ++ c ∷ []) ≡ []
 no_close-more c who front gives none =
     filter-append is_close front (c ∷ []) ∙ ap₂ (λ (cs : List Command) (b : Bool). cs ++ cond b (c ∷ []) []) none (given-open c who gives)
 
@@ -274,8 +311,10 @@ nobody-closes (Cancel who name) none = absurd (cc)
 nobody-closes Close none = refl
 
 -- the commands before the place are taken, and the one at the place isn't
-pub refused-at : (cs : List Command) (place : ℕ) (participants : List (List ℕ)) (c : Command) (fault : DayFault) → length cs < most_entries → place < length cs → slice_get cs place ≡ Some c
-    → take (place + 1) cs ≡ take place cs ++ c ∷ [] → AreTaken (take place cs) → participants ≡ givers_of (take place cs) → IsRefusalAt place participants c fault → IsDayFault cs fault
+pub refused-at : (cs : List Command) (place : ℕ) (participants : List (List ℕ)) (c : Command) (fault : DayFault) → length cs < most_entries
+    → place < length cs → slice_get cs place ≡ Some c
+    → take (place + 1) cs ≡ take place cs ++ c ∷ [] → AreTaken (take place cs) → participants ≡ givers_of (take place cs)
+    → IsRefusalAt place participants c fault → IsDayFault cs fault
 refused-at cs place participants c TooManyCommands room inside at next taken order is = absurd is
 refused-at cs place participants c (CloseGiven other) room inside at next taken order is =
     subst (λ (n : ℕ). IsDayFault cs (CloseGiven n)) (sym is.0) (room, taken, at ∙ ap (λ (d : Command). Some d) (nobody-closes c is.1))
@@ -295,14 +334,17 @@ pub record Share (given : List Command) (other : List ℕ) (one : Bool) (rs : Li
   pub in_order : AreInOrder 0 last (filter (of_command (is_from other)) rs)
   pub commands : commands_of (filter (of_command (is_from other)) rs) ≡ cond one (commands_by other given) []
 
-share-step : (given : List Command) (other who : List ℕ) (participants : List (List ℕ)) (p : PassState) (rest : List Entry) (t : Bool) → is_one_of participants who ≡ false → IsPass p
-    → commands_of (filter (of_command (is_from other)) p.receipts) ≡ cond t (commands_by who given) [] → same_text other who ≡ t → Share given other (is_one_of participants other) rest
+share-step : (given : List Command) (other who : List ℕ) (participants : List (List ℕ)) (p : PassState) (rest : List Entry) (t : Bool)
+    → is_one_of participants who ≡ false → IsPass p
+    → commands_of (filter (of_command (is_from other)) p.receipts) ≡ cond t (commands_by who given) [] → same_text other who ≡ t
+    → Share given other (is_one_of participants other) rest
     → Share given other (t || is_one_of participants other) (p.receipts ++ rest)
 share-step given other who participants p rest true apart pass mine is share =
     let same : other ≡ who = (text-Decides other who).0 is in
     let P = of_command (is_from other) in
     let gone : filter P rest ≡ [] =
-    no_commands (filter P rest) (share.commands ∙ ap (λ (b : Bool). cond b (commands_by other given) []) (ap (is_one_of participants) same ∙ apart)) in
+    no_commands (filter P rest) (share.commands ∙ ap (λ (b : Bool). cond b (commands_by other given) [])
+    (ap (is_one_of participants) same ∙ apart)) in
     let whole : filter P (p.receipts ++ rest) ≡ filter P p.receipts =
     filter-append P p.receipts rest ∙ ap (λ (es : List Entry). filter P p.receipts ++ es) gone ∙ append-nil (filter P p.receipts) in
     record {
@@ -313,14 +355,16 @@ share-step given other who participants p rest true apart pass mine is share =
 share-step given other who participants p rest false apart pass mine is share =
     let P = of_command (is_from other) in
     let gone : filter P p.receipts ≡ [] = no_commands (filter P p.receipts) mine in
-    let whole : filter P (p.receipts ++ rest) ≡ filter P rest = filter-append P p.receipts rest ∙ ap (λ (es : List Entry). es ++ filter P rest) gone in
+    let whole : filter P (p.receipts ++ rest) ≡ filter P rest = filter-append P p.receipts rest
+    ∙ ap (λ (es : List Entry). es ++ filter P rest) gone in
     record {
       last = share.last;
       in_order = subst (AreInOrder 0 share.last) (sym whole) share.in_order;
       commands = ap commands_of whole ∙ share.commands;
     }
 
-shares : (given : List Command) (other : List ℕ) (participants : List (List ℕ)) (ps : List PassState) → AreApart participants → AreServed given participants ps → Share given other (is_one_of participants other) (receipts_of ps)
+shares : (given : List Command) (other : List ℕ) (participants : List (List ℕ)) (ps : List PassState) → AreApart participants
+    → AreServed given participants ps → Share given other (is_one_of participants other) (receipts_of ps)
 shares given other [] [] apart served = record { last = 0; in_order = omega arith; commands = refl }
 shares given other (who ∷ participants) (p ∷ ps) apart served =
     share-step given other who participants p (receipts_of ps) (same_text other who) apart.0 served.1
@@ -329,7 +373,8 @@ shares given other (who ∷ participants) (p ∷ ps) apart served =
 shares given other [] (p ∷ ps) apart served = absurd served
 shares given other (who ∷ participants) [] apart served = absurd served
 
-no_closes : (given : List Command) (participants : List (List ℕ)) (ps : List PassState) → AreServed given participants ps → filter (of_command is_close) (receipts_of ps) ≡ []
+no_closes : (given : List Command) (participants : List (List ℕ)) (ps : List PassState) → AreServed given participants ps
+    → filter (of_command is_close) (receipts_of ps) ≡ []
 no_closes given [] [] served = refl
 no_closes given (who ∷ participants) (p ∷ ps) served =
     let Q = of_command is_close in
@@ -341,7 +386,8 @@ no_closes given (who ∷ participants) [] served = absurd served
 
 -- ---- the day
 
-known-or-none : (given : List Command) (who : List ℕ) (t : Bool) → (t ≡ false → commands_by who given ≡ []) → cond t (commands_by who given) [] ≡ commands_by who given
+known-or-none : (given : List Command) (who : List ℕ) (t : Bool) → (t ≡ false → commands_by who given ≡ [])
+    → cond t (commands_by who given) [] ≡ commands_by who given
 known-or-none given who true none = refl
 known-or-none given who false none = sym (none refl)
 
@@ -350,45 +396,58 @@ nothing_before [] c one = refl
 nothing_before (x ∷ xs) c one = absurd (omega (arith, ap (λ (ys : List Command). length ys) one, length-append xs (c ∷ [])))
 
 -- what the operator's pass adds
-with_operator : (p : Command → Bool) (ps : List PassState) (op : PassState) → filter (of_command p) (receipts_of (ps ++ op ∷ [])) ≡ filter (of_command p) (receipts_of ps) ++ filter (of_command p) op.receipts
+with_operator : (p : Command → Bool) (ps : List PassState) (op : PassState)
+    → filter (of_command p) (receipts_of (ps ++ op ∷ [])) ≡ filter (of_command p) (receipts_of ps) ++ filter (of_command p) op.receipts
 with_operator p ps op =
-    ap (filter (of_command p)) (flat_map-append (λ (q : PassState). q.receipts) ps (op ∷ []) ∙ ap (λ (es : List Entry). receipts_of ps ++ es) (append-nil op.receipts))
+    ap (filter (of_command p)) (flat_map-append (λ (q : PassState). q.receipts) ps (op ∷ [])
+    ∙ ap (λ (es : List Entry). receipts_of ps ++ es) (append-nil op.receipts))
     ∙ filter-append (of_command p) (receipts_of ps) op.receipts
 
 closed-by : (given : List Command) (participants : List (List ℕ)) (ps : List PassState) (op : PassState) → AreServed given participants ps
     → filter (of_command is_close) (receipts_of (ps ++ op ∷ [])) ≡ filter (of_command is_close) op.receipts
 closed-by given participants ps op served =
-    with_operator is_close ps op ∙ ap (λ (xs : List Entry). xs ++ filter (of_command is_close) op.receipts) (no_closes given participants ps served)
+    with_operator is_close ps op ∙ ap (λ (xs : List Entry). xs ++ filter (of_command is_close) op.receipts)
+    (no_closes given participants ps served)
 
-one-close : (periods : ℕ) (given : List Command) (participants : List (List ℕ)) (es : List Entry) (ps : List PassState) (op : PassState) (before : List Command)
+one-close : (periods : ℕ) (given : List Command) (participants : List (List ℕ)) (es : List Entry) (ps : List PassState) (op : PassState)
+    (before : List Command)
     → IsLegalHistory periods es → AreReceipts es (receipts_of (ps ++ op ∷ [])) → AreServed given participants ps
     → commands_of op.receipts ≡ Close ∷ [] → IsPass op → commands_of es ≡ before ++ Close ∷ [] → filter is_close before ≡ []
 one-close periods given participants es ps op before legal are served closes pass last =
     let Q = of_command is_close in
     let rs = receipts_of (ps ++ op ∷ []) in
     let closed = closed-by given participants ps op served in
-    let ordered : AreInOrder 0 op.seen (filter Q rs) = subst (AreInOrder 0 op.seen) (sym closed) (order-filter Q 0 op.seen op.receipts pass.in_order) in
+    let ordered : AreInOrder 0 op.seen (filter Q rs) = subst (AreInOrder 0 op.seen) (sym closed)
+    (order-filter Q 0 op.seen op.receipts pass.in_order) in
     let of_journal : commands_of (filter Q es) ≡ filter is_close before ++ Close ∷ [] =
     commands-filter is_close es ∙ ap (filter is_close) last ∙ filter-append is_close before (Close ∷ []) in
-    let of_receipts : commands_of (filter Q rs) ≡ Close ∷ [] = ap commands_of closed ∙ commands-filter is_close op.receipts ∙ ap (filter is_close) closes in
-    nothing_before (filter is_close before) Close (sym of_journal ∙ ap commands_of (sym (same_passing Q periods op.seen es rs legal are ordered)) ∙ of_receipts)
+    let of_receipts : commands_of (filter Q rs) ≡ Close ∷ [] = ap commands_of closed ∙ commands-filter is_close op.receipts
+    ∙ ap (filter is_close) closes in
+    nothing_before (filter is_close before) Close (sym of_journal
+    ∙ ap commands_of (sym (same_passing Q periods op.seen es rs legal are ordered)) ∙ of_receipts)
 
-own-order : (periods : ℕ) (given : List Command) (participants : List (List ℕ)) (es : List Entry) (ps : List PassState) (op : PassState) (who : List ℕ)
-    → IsLegalHistory periods es → AreReceipts es (receipts_of (ps ++ op ∷ [])) → AreGivers participants given → AreServed given participants ps
+own-order : (periods : ℕ) (given : List Command) (participants : List (List ℕ)) (es : List Entry) (ps : List PassState) (op : PassState)
+    (who : List ℕ)
+    → IsLegalHistory periods es → AreReceipts es (receipts_of (ps ++ op ∷ [])) → AreGivers participants given
+    → AreServed given participants ps
     → commands_of op.receipts ≡ Close ∷ [] → commands_by who (commands_of es) ≡ commands_by who given
 own-order periods given participants es ps op who legal are givers served closes =
     let P = of_command (is_from who) in
     let rs = receipts_of (ps ++ op ∷ []) in
     let share = shares given who participants ps givers.apart served in
-    let none : filter P op.receipts ≡ [] = no_commands (filter P op.receipts) (commands-filter (is_from who) op.receipts ∙ ap (filter (is_from who)) closes) in
+    let none : filter P op.receipts ≡ [] = no_commands (filter P op.receipts)
+    (commands-filter (is_from who) op.receipts ∙ ap (filter (is_from who)) closes) in
     let whole : filter P rs ≡ filter P (receipts_of ps) =
-    with_operator (is_from who) ps op ∙ ap (λ (xs : List Entry). filter P (receipts_of ps) ++ xs) none ∙ append-nil (filter P (receipts_of ps)) in
+    with_operator (is_from who) ps op ∙ ap (λ (xs : List Entry). filter P (receipts_of ps) ++ xs) none
+    ∙ append-nil (filter P (receipts_of ps)) in
     let ordered : AreInOrder 0 share.last (filter P rs) = subst (AreInOrder 0 share.last) (sym whole) share.in_order in
     sym (commands-filter (is_from who) es) ∙ ap commands_of (sym (same_passing P periods share.last es rs legal are ordered))
     ∙ ap commands_of whole ∙ share.commands ∙ known-or-none given who (is_one_of participants who) (givers.all who)
 
-pub day_run : (periods : ℕ) (given : List Command) (participants : List (List ℕ)) (es : List Entry) (ps : List PassState) (op : PassState) (before : List Command)
-    → IsLegalHistory periods es → AreReceipts es (receipts_of (ps ++ op ∷ [])) → AreGivers participants given → AreServed given participants ps
+pub day_run : (periods : ℕ) (given : List Command) (participants : List (List ℕ)) (es : List Entry) (ps : List PassState) (op : PassState)
+    (before : List Command)
+    → IsLegalHistory periods es → AreReceipts es (receipts_of (ps ++ op ∷ [])) → AreGivers participants given
+    → AreServed given participants ps
     → commands_of op.receipts ≡ Close ∷ [] → IsPass op → commands_of es ≡ before ++ Close ∷ [] → IsDayRun periods given es
 day_run periods given participants es ps op before legal are givers served closes pass last =
     record {
@@ -401,7 +460,8 @@ day_run periods given participants es ps op before legal are givers served close
 
 -- ---- what the code keeps
 
-pub own-split : (holder : Option (List ℕ)) (cs : List Command) (i : ℕ) → own_commands holder cs ≡ own_commands holder (take i cs) ++ own_commands holder (drop i cs)
+pub own-split : (holder : Option (List ℕ)) (cs : List Command) (i : ℕ)
+    → own_commands holder cs ≡ own_commands holder (take i cs) ++ own_commands holder (drop i cs)
 own-split holder cs i = ap (own_commands holder) (sym (take-append-drop i cs)) ∙ filter-append (is_own holder) (take i cs) (drop i cs)
 
 -- as many receipts as own commands are all of them
@@ -412,22 +472,29 @@ none-left xs (y ∷ ys) same = absurd (omega (arith, same, length-append xs (y �
 all-entered : (own : List Command) (p : PassState) → HasEntered [] own p → length p.receipts ≡ length own → commands_of p.receipts ≡ own
 all-entered own p has as_long =
     let count : length has.entered ≡ length (has.entered ++ has.left) =
-    ap (λ (cs : List Command). length cs) (sym has.receipts) ∙ length-map p.receipts (λ (e : Entry). e.command) ∙ as_long ∙ ap (λ (cs : List Command). length cs) has.own_is in
-    has.receipts ∙ sym (append-nil has.entered) ∙ ap (λ (cs : List Command). has.entered ++ cs) (sym (none-left has.entered has.left count)) ∙ sym has.own_is
+    ap (λ (cs : List Command). length cs) (sym has.receipts) ∙ length-map p.receipts (λ (e : Entry). e.command) ∙ as_long
+    ∙ ap (λ (cs : List Command). length cs) has.own_is in
+    has.receipts ∙ sym (append-nil has.entered) ∙ ap (λ (cs : List Command). has.entered ++ cs) (sym (none-left has.entered has.left count))
+    ∙ sym has.own_is
 
 -- a participant's pass that has receipts of all its own commands
 abbrev pub IsServed : List Command → List ℕ → PassState → Type 0
 IsServed given who p = (commands_of p.receipts ≡ commands_by who given) × IsPass p
 
-served : (given : List Command) (who : List ℕ) (before p : PassState) → before ≡ new_pass (Some who) → Enters given before p → HasAll given p → IsServed given who p
+served : (given : List Command) (who : List ℕ) (before p : PassState) → before ≡ new_pass (Some who) → Enters given before p
+    → HasAll given p → IsServed given who p
 served given who before p new enters all =
     let holder : p.holder ≡ Some who = enters.holder ∙ ap (λ (q : PassState). q.holder) new in
     let entered : HasEntered [] (own_commands (Some who) given) p =
-    subst (λ (q : PassState). HasEntered (commands_of q.receipts) (own_commands q.holder given) p) new enters.entered in
-    (all-entered (own_commands (Some who) given) p entered (all.as_many ∙ ap (λ (h : Option (List ℕ)). length (own_commands h given)) holder), all.pass)
+    subst (λ (q : PassState). HasEntered (commands_of q.receipts) (own_commands q.holder given) p) new enters.entered in (
+      all-entered (own_commands (Some who) given) p entered
+          (all.as_many ∙ ap (λ (h : Option (List ℕ)). length (own_commands h given)) holder),
+      all.pass,
+    )
 
 served-from : (given : List Command) (participants : List (List ℕ)) (ps : List PassState) → length ps ≡ length participants
-    → ((i : ℕ) (d : PassState) (w : List ℕ) → i < length ps → IsServed given (get_or participants i w) (get_or ps i d)) → AreServed given participants ps
+    → ((i : ℕ) (d : PassState) (w : List ℕ) → i < length ps → IsServed given (get_or participants i w) (get_or ps i d))
+    → AreServed given participants ps
 served-from given [] [] same are = tt
 served-from given (who ∷ participants) (p ∷ ps) same are =
     let is = are 0 p who (omega arith) in
@@ -441,15 +508,19 @@ new_at [] i d w within = absurd (omega (arith, within))
 new_at (who ∷ participants) zero d w within = refl
 new_at (who ∷ participants) (suc i) d w within = new_at participants i d w (omega (arith, within))
 
-pub served-all : (given : List Command) (participants : List (List ℕ)) (olds news : List PassState) → olds ≡ map (λ (who : List ℕ). new_pass (Some who)) participants → length news ≡ length olds
-    → ((i : ℕ) (d : PassState) → i < length olds → Enters given (get_or olds i d) (get_or news i d)) → All (HasAll given) news → AreServed given participants news
+pub served-all : (given : List Command) (participants : List (List ℕ)) (olds news : List PassState)
+    → olds ≡ map (λ (who : List ℕ). new_pass (Some who)) participants → length news ≡ length olds
+    → ((i : ℕ) (d : PassState) → i < length olds → Enters given (get_or olds i d) (get_or news i d)) → All (HasAll given) news
+    → AreServed given participants news
 served-all given participants olds news new_ones as_long enters all =
-    let many : length olds ≡ length participants = ap (λ (ps : List PassState). length ps) new_ones ∙ length-map participants (λ (who : List ℕ). new_pass (Some who)) in
+    let many : length olds ≡ length participants = ap (λ (ps : List PassState). length ps) new_ones
+    ∙ length-map participants (λ (who : List ℕ). new_pass (Some who)) in
     served-from given participants news (as_long ∙ many)
     (λ i d w within.
     let at : get_or olds i d ≡ new_pass (Some (get_or participants i w)) =
     ap (λ (ps : List PassState). get_or ps i d) new_ones ∙ new_at participants i d w (omega (arith, within, as_long, many)) in
-    served given (get_or participants i w) (get_or olds i d) (get_or news i d) at (enters i d (omega (arith, within, as_long))) (all i d within))
+    served given (get_or participants i w) (get_or olds i d) (get_or news i d) at (enters i d (omega (arith, within, as_long)))
+    (all i d within))
 
 held-from : (participants : List (List ℕ)) (ps : List PassState) → length ps ≡ length participants
     → ((i : ℕ) (d : PassState) (w : List ℕ) → i < length ps → (get_or ps i d).holder ≡ Some (get_or participants i w))
@@ -462,10 +533,13 @@ held-from [] (p ∷ ps) same are = absurd (omega (arith, same))
 held-from (who ∷ participants) [] same are = absurd (omega (arith, same))
 
 -- the passes stay in the order in which they were made
-pub held-all : (given : List Command) (participants : List (List ℕ)) (olds news : List PassState) → olds ≡ map (λ (who : List ℕ). new_pass (Some who)) participants → length news ≡ length olds
-    → ((i : ℕ) (d : PassState) → i < length olds → Enters given (get_or olds i d) (get_or news i d)) → holders news ≡ map (λ (who : List ℕ). Some who) participants
+pub held-all : (given : List Command) (participants : List (List ℕ)) (olds news : List PassState)
+    → olds ≡ map (λ (who : List ℕ). new_pass (Some who)) participants → length news ≡ length olds
+    → ((i : ℕ) (d : PassState) → i < length olds → Enters given (get_or olds i d) (get_or news i d))
+    → holders news ≡ map (λ (who : List ℕ). Some who) participants
 held-all given participants olds news new_ones as_long enters =
-    let many : length olds ≡ length participants = ap (λ (ps : List PassState). length ps) new_ones ∙ length-map participants (λ (who : List ℕ). new_pass (Some who)) in
+    let many : length olds ≡ length participants = ap (λ (ps : List PassState). length ps) new_ones
+    ∙ length-map participants (λ (who : List ℕ). new_pass (Some who)) in
     held-from participants news (as_long ∙ many)
     (λ i d w within.
     let at : get_or olds i d ≡ new_pass (Some (get_or participants i w)) =
@@ -477,7 +551,8 @@ held-all given participants olds news new_ones as_long enters =
 abbrev pub accounts : List Knowledge → List PassState
 accounts ks = map (λ (k : Knowledge). k.account) ks
 
-pub new-accounts : (participants : List (List ℕ)) → accounts (map (λ (who : List ℕ). knowing_nothing (Some who)) participants) ≡ map (λ (who : List ℕ). new_pass (Some who)) participants
+pub new-accounts : (participants : List (List ℕ)) → accounts (map (λ (who : List ℕ). knowing_nothing (Some who)) participants) ≡ map
+    (λ (who : List ℕ). new_pass (Some who)) participants
 new-accounts [] = refl
 new-accounts (who ∷ participants) = ap (λ (ps : List PassState). new_pass (Some who) ∷ ps) (new-accounts participants)
 
@@ -486,7 +561,8 @@ pub accounts-enter : (given : List Command) (olds news : List Knowledge) → len
     → (i : ℕ) (d : PassState) → i < length (accounts olds) → Enters given (get_or (accounts olds) i d) (get_or (accounts news) i d)
 accounts-enter given olds news same enters i d within =
     let f = λ (k : Knowledge). k.account in
-    let k : Knowledge = record { account = d; history = []; told = []; note = None } in
+    let k : Knowledge = record { account = d; history = []; learnt = []; note = None } in
     let below : i < length olds = omega (arith, within, length-map olds f) in
     subst (λ (p : PassState). Enters given p (get_or (accounts news) i d)) (sym (get_or-map f olds i k d below))
-    (subst (λ (p : PassState). Enters given (get_or olds i k).account p) (sym (get_or-map f news i k d (omega (arith, below, same)))) (enters i k below))
+    (subst (λ (p : PassState). Enters given (get_or olds i k).account p) (sym (get_or-map f news i k d (omega (arith, below, same))))
+    (enters i k below))

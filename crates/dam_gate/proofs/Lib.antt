@@ -1,3 +1,4 @@
+-- The lemmas of this crate.
 pub mod Histories
 pub mod Steps
 pub mod Receipts

@@ -1,14 +1,17 @@
 -- What passes a test is permuted by a permutation, and a list of at most one element by none.
-use Rattle.std.proofs.Common.{◌≡◌, ℕ, zero, suc, ◌<◌, ◌≤◌, Bool, true, false, cond, List, [], ◌∷◌, length, get_or, set, swap, filter, refl, sym, ap, arith}
+use Rattle.std.proofs.Common.{◌≡◌, ℕ, zero, suc, ◌<◌, ◌≤◌, Bool, true, false, cond, List, [], ◌∷◌, length, get_or, set, swap, filter, refl}
+use Rattle.std.proofs.Common.{sym, ap, arith}
 use Rattle.std.specs.List.Sorted.{IsPermutation}
-use Rattle.std.proofs.lemmas.List.Sorted.{IsPermutation-refl, IsPermutation-keeps, IsPermutation-trans, IsPermutation-cons, IsPermutation-middle, All-permutation, length_permutation}
+use Rattle.std.proofs.lemmas.List.Sorted.{IsPermutation-refl, IsPermutation-keeps, IsPermutation-trans, IsPermutation-cons}
+use Rattle.std.proofs.lemmas.List.Sorted.{IsPermutation-middle, All-permutation, length_permutation}
 
 module _ {X : Type 0} (p : X → Bool) where
   skip : (b : Bool) (x : X) (xs ys : List X) → IsPermutation xs ys → IsPermutation (cond b (x ∷ xs) xs) (cond b (x ∷ ys) ys)
   skip true x xs ys same = IsPermutation-cons x xs ys same
   skip false x xs ys same = same
 
-  turn : (a b : Bool) (x y : X) (xs : List X) → IsPermutation (cond a (x ∷ cond b (y ∷ xs) xs) (cond b (y ∷ xs) xs)) (cond b (y ∷ cond a (x ∷ xs) xs) (cond a (x ∷ xs) xs))
+  turn : (a b : Bool) (x y : X) (xs : List X) → IsPermutation (cond a (x ∷ cond b (y ∷ xs) xs) (cond b (y ∷ xs) xs))
+      (cond b (y ∷ cond a (x ∷ xs) xs) (cond a (x ∷ xs) xs))
   turn true true x y xs = IsPermutation-middle (x ∷ []) y xs
   turn true false x y xs = IsPermutation-refl (x ∷ xs)
   turn false true x y xs = IsPermutation-refl (y ∷ xs)
@@ -35,7 +38,8 @@ module _ {X : Type 0} (p : X → Bool) where
   exchanged (x ∷ xs) zero (suc j) d first second = to_head xs j x d (omega (arith, second))
   exchanged (x ∷ xs) (suc i) zero d first second = to_head xs i x d (omega (arith, first))
   exchanged (x ∷ xs) (suc i) (suc j) d first second =
-      skip (p x) x (filter p xs) (filter p (set (set xs i (get_or xs j d)) j (get_or xs i d))) (exchanged xs i j d (omega (arith, first)) (omega (arith, second)))
+      skip (p x) x (filter p xs) (filter p (set (set xs i (get_or xs j d)) j (get_or xs i d)))
+      (exchanged xs i j d (omega (arith, first)) (omega (arith, second)))
 
   swapped : (xs : List X) (i j : ℕ) → i < length xs → j < length xs → Alike xs (swap xs i j)
   swapped [] i j first second = absurd (omega (arith, first))
@@ -44,7 +48,8 @@ module _ {X : Type 0} (p : X → Bool) where
   pub filter-permutation : (xs ys : List X) → IsPermutation xs ys → IsPermutation (filter p xs) (filter p ys)
   filter-permutation xs ys same =
       IsPermutation-keeps xs (Alike xs) (IsPermutation-refl (filter p xs))
-      (λ zs i j first second before. IsPermutation-trans (filter p xs) (filter p zs) (filter p (swap zs i j)) before (swapped zs i j first second)) ys same
+      (λ zs i j first second before. IsPermutation-trans (filter p xs) (filter p zs) (filter p (swap zs i j)) before
+      (swapped zs i j first second)) ys same
 
 pub short-permutation : {X : Type 0} (xs ys : List X) → IsPermutation xs ys → length ys ≤ 1 → xs ≡ ys
 short-permutation [] [] same short = refl

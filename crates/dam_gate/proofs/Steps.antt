@@ -3,7 +3,7 @@ use Rattle.std.proofs.Common.{◌≡◌, ◌++◌, ◌∷◌, [], ℕ, zero, suc
 use Rattle.std.proofs.lemmas.Option.{IfSome_then}
 use Rattle.dam_book.specs.Book.{BookState, book_after}
 use Rattle.dam_book.specs.declared.command.Entry.{Entry}
-use Rattle.dam_gate.specs.inside.Books.{AreSteps, BooksState, LeadsTo, StepState}
+use Rattle.dam_gate.specs.inside.Books.{AreSteps, BooksState, LeadsTo, EarlierState}
 
 slice_get-more : (es : List Entry) (i : ℕ) (e x : Entry) → slice_get es i ≡ Some x → slice_get (es ++ e ∷ []) i ≡ Some x
 slice_get-more [] i e x is = absurd (cc)
@@ -14,11 +14,11 @@ slice_get-last : (es : List Entry) (e : Entry) → slice_get (es ++ e ∷ []) (l
 slice_get-last [] e = refl
 slice_get-last (x ∷ es) e = slice_get-last es e
 
-LeadsTo-more : (es : List Entry) (e : Entry) (s : StepState) (after : BookState) → LeadsTo es s after → LeadsTo (es ++ e ∷ []) s after
+LeadsTo-more : (es : List Entry) (e : Entry) (s : EarlierState) (after : BookState) → LeadsTo es s after → LeadsTo (es ++ e ∷ []) s after
 LeadsTo-more es e s after leads =
     record { entry = leads.entry; stands = slice_get-more es s.place e leads.entry leads.stands; made = leads.made }
 
--- the books stay where an entry is added
+-- the books stay if an entry is added
 pub AreSteps-more : (es : List Entry) (e : Entry) (b : BooksState) → AreSteps es b → AreSteps (es ++ e ∷ []) b
 AreSteps-more es e b are = IfSome_then b.before are (λ s leads. LeadsTo-more es e s b.book leads)
 
@@ -29,4 +29,4 @@ AreSteps-next es e b now place at made before =
     let all = es ++ e ∷ [] in
     let last : slice_get all place ≡ Some e = subst (λ (n : ℕ). slice_get all n ≡ Some e) at (slice_get-last es e) in
     let to_now : LeadsTo all (record { book = b.book; place = place }) now.book = record { entry = e; stands = last; made = sym made } in
-    subst (λ (o : Option StepState). IfSome o (λ s. LeadsTo all s now.book)) (sym before) to_now
+    subst (λ (o : Option EarlierState). IfSome o (λ s. LeadsTo all s now.book)) (sym before) to_now

@@ -1,4 +1,4 @@
--- A day of given commands: participants enter theirs side by side, and then the operator closes.
+-- A day of given commands: participants enter theirs at the same time, and then the operator closes.
 use Rattle.std.specs.Prelude.{◌≡◌, ◌≢◌, ℕ, ◌+◌, ◌<◌, ◌≤◌, Bool, if◌then◌else◌, List, [], ◌∷◌, ◌++◌, length, map, take, slice_get, Option, None, Some}
 use Rattle.std.specs.List.{filter, list_any}
 use Rattle.dam_book.specs.Limits.{most_entries}
@@ -69,7 +69,7 @@ pub record AreTaken (cs : List Command) : Type 0 where
 
 -- what a day of these commands may answer: that there are too many; if there aren't, the place, from 0, of a command that it
 -- doesn't take while it takes those before, a close or one that brings a participant too many; if it takes them all, that it
--- came out unsettled; or, unless there are too many, want of memory
+-- came out unsettled; or, unless there are too many, that memory ran out
 abbrev pub IsDayFault : List Command → DayFault → Type 0
 IsDayFault cs TooManyCommands = most_entries ≤ length cs
 IsDayFault cs (CloseGiven place) =

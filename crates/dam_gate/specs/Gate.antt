@@ -1,5 +1,5 @@
 -- What the gate answers.
-use Rattle.std.specs.Prelude.{◌≡◌, ℕ, ◌≤◌, true, false, List, [], ◌∷◌, ◌++◌, length}
+use Rattle.std.specs.Prelude.{◌≡◌, ℕ, ◌<◌, ◌≤◌, true, false, List, [], ◌∷◌, ◌++◌, length}
 use mathlib.Core.List.{IsPrefix}
 use Rattle.dam_book.specs.Book.{Key, run, commands_of, is_day, order_at}
 use Rattle.dam_book.specs.Limits.{most_entries}
@@ -13,14 +13,14 @@ use Rattle.dam_gate.specs.declared.gate.GateFault.{GateFault}
 use Rattle.dam_gate.specs.declared.gate.GateFault.TheVariants.{NotYours, JournalFull, Memory, NoVersion}
 use Rattle.dam_gate.specs.declared.pass.Look.{Look}
 use Rattle.dam_gate.specs.Journal.{IsHistory, is_full}
-use Rattle.dam_gate.specs.Pass.{PassState, Knowledge, is_own}
+use Rattle.dam_gate.specs.Pass.{PassState, Knowledge, after_call, is_own}
 
--- what may be answered in place of a keeper or a gate of a day of so many periods
+-- what may be answered in place of a keeper or a gate of a day with this number of periods
 abbrev pub IsBeginFault : ℕ → BeginFault → Type 0
 IsBeginFault periods BadDay = is_day periods ≡ false
 IsBeginFault periods BeginMemory = is_day periods ≡ true
 
--- what a journal of so many entries may answer to the command in place of its entry
+-- what a journal of `held` entries may answer to the command in place of its entry
 abbrev pub IsKeeperFault : ℕ → Command → KeeperFault → Type 0
 IsKeeperFault held c (KeeperFull n) = (n ≡ held) × (is_full held c ≡ true)
 IsKeeperFault held c KeeperMemory = is_full held c ≡ false
@@ -30,31 +30,38 @@ gate_fault_of (KeeperFull n) = JournalFull n
 gate_fault_of KeeperMemory = Memory
 
 -- what a gate may answer to the command of a pass in place of its entry: that the pass may not give it; or, if it may, that a
--- journal of as many entries is full for it, that memory ran out, or that no version could be shown
+-- journal of as many entries is full for it, that memory ran out, or that no version could be shown. Other threads may change
+-- the journal, so this mentions none, and doesn't say that there was room if one of the last two is the answer
 abbrev pub IsGateFault : PassState → Command → GateFault → Type 0
 IsGateFault p c NotYours = is_own p.holder c ≡ false
 IsGateFault p c (JournalFull held) = (is_own p.holder c ≡ true) × (held ≤ most_entries) × (is_full held c ≡ true)
 IsGateFault p c Memory = is_own p.holder c ≡ true
 IsGateFault p c NoVersion = is_own p.holder c ≡ true
 
--- the history is one that a journal of a day of so many periods may hold, it ends with the entry, and before that it begins
--- with all that the pass had seen and had been told of
+-- the history is one that a journal of a day with this number of periods may hold; it ends with the entry, and before that begins
+-- with all that the pass had seen and learnt of
 pub record IsAnswered (periods : ℕ) (k : Knowledge) (history : List Entry) (e : Entry) : Type 0 where
   pub before : List Entry
   pub legal : IsHistory periods history
   pub last : history ≡ before ++ e ∷ []
   pub number : e.number ≡ length history
   pub seen : IsPrefix k.history before
-  pub told : IsPrefix k.told before
+  pub learnt : IsPrefix k.learnt before
 
--- the history is one that a journal of a day of so many periods may hold, and its run shows what was looked for
+-- a call of a pass, which knew this before and knows that after, was answered with the entry
+pub record IsCalled (periods : ℕ) (before after : Knowledge) (e : Entry) : Type 0 where
+  pub later : before.account.seen < e.number
+  pub receipt : after ≡ after_call before after.history e
+  pub history : IsAnswered periods before after.history e
+
+-- the history is one that a journal of a day with this number of periods may hold, and its run shows what was looked for
 pub record IsLook (periods : ℕ) (history : List Entry) (key : Key) (look : Look) : Type 0 where
   pub legal : IsHistory periods history
   pub seen : look.seen ≡ length history
   pub closed : look.closed ≡ (run periods (commands_of history)).closed
   pub order : look.order ≡ order_at (run periods (commands_of history)) key
 
--- the history begins with all that the pass has seen and has been told of
+-- the history begins with all that the pass has seen and learnt of
 pub record BeginsWithAll (k : Knowledge) (history : List Entry) : Type 0 where
   pub seen : IsPrefix k.history history
-  pub told : IsPrefix k.told history
+  pub learnt : IsPrefix k.learnt history

@@ -6,14 +6,14 @@ use Rattle.dam_book.specs.declared.command.Command.TheVariants.{Submit, Amend, C
 use Rattle.dam_book.specs.declared.command.Entry.{Entry}
 use Rattle.dam_book.specs.Limits.{most_entries}
 
--- whether a journal of so many entries has no room for the command: the last entry is kept for a close
+-- whether a journal of `held` entries has no room for the command: the last entry is kept for a close
 abbrev pub is_full : ℕ → Command → Bool
 is_full held (Submit who name order) = nat_le (most_entries - 1) held
 is_full held (Amend who name price volumes) = nat_le (most_entries - 1) held
 is_full held (Cancel who name) = nat_le (most_entries - 1) held
 is_full held Close = nat_le most_entries held
 
--- each of the entries found room in a journal of those before it, so many of which stand before these
+-- each of the entries found room in a journal of those before it, of which `held` come before these
 abbrev pub FoundRoom : ℕ → List Entry → Type 0
 FoundRoom held [] = Unit {0}
 FoundRoom held (e ∷ es) = (is_full held e.command ≡ false) × FoundRoom (suc held) es

@@ -5,6 +5,6 @@ use Rattle.std.specs.Prelude.{ℕ}
 abbrev pub most_passes : ℕ
 most_passes = 9
 
--- the participants of one day of given commands, each with a pass, beside the operator's
+-- the participants of one day of given commands, each with a pass, next to the operator's
 abbrev pub most_participants : ℕ
 most_participants = 8

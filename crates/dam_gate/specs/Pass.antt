@@ -56,31 +56,31 @@ new_pass holder = record { holder = holder; seen = 0; receipts = [] }
 abbrev pub with_receipt : PassState → Entry → PassState
 with_receipt p e = record { holder = p.holder; seen = e.number; receipts = p.receipts ++ e ∷ [] }
 
--- the pass after a look at so many entries
+-- the pass after a look at `seen` entries
 abbrev pub having_seen : PassState → ℕ → PassState
 having_seen p seen = record { holder = p.holder; seen = seen; receipts = p.receipts }
 
--- What a pass knows: its account; the history of the gate that it has seen; the longest that it was told of, which begins
--- with each of the others; and the one that its last call made
+-- what a pass knows: its account; the history of the gate that it has seen; the longest that it has learnt of, of which each
+-- other one is a prefix; and the one that its last call made
 pub record Knowledge : Type 0 where
   pub account : PassState
   pub history : List Entry
-  pub told : List Entry
+  pub learnt : List Entry
   pub note : Option (List Entry)
 
 abbrev pub knowing_nothing : Option (List ℕ) → Knowledge
-knowing_nothing holder = record { account = new_pass holder; history = []; told = []; note = None }
+knowing_nothing holder = record { account = new_pass holder; history = []; learnt = []; note = None }
 
 -- after a call that was answered with the entry, which ended this history
 abbrev pub after_call : Knowledge → List Entry → Entry → Knowledge
-after_call k history e = record { account = with_receipt k.account e; history = history; told = k.told; note = Some history }
+after_call k history e = record { account = with_receipt k.account e; history = history; learnt = k.learnt; note = Some history }
 
 -- after a look at this history
 abbrev pub after_look : Knowledge → List Entry → Knowledge
-after_look k history = record { account = having_seen k.account (length history); history = history; told = k.told; note = k.note }
+after_look k history = record { account = having_seen k.account (length history); history = history; learnt = k.learnt; note = k.note }
 
 abbrev pub after_learning : Knowledge → List Entry → Knowledge
-after_learning k told = record { account = k.account; history = k.history; told = told; note = k.note }
+after_learning k learnt = record { account = k.account; history = k.history; learnt = learnt; note = k.note }
 
 -- the account is of a pass that has seen as many entries as its history has
 pub record IsKnowledge (k : Knowledge) : Type 0 where

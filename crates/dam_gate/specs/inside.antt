@@ -1,5 +1,5 @@
 -- What only contracts inside this crate cite.
-pub mod Desk
+pub mod Locked
 pub mod History
 pub mod Books
 pub mod Shown

@@ -10,29 +10,29 @@ use std::marker::Model;
 use std::mem::replace;
 use std::sync::Arc;
 
-/// A book, and the place in the journal of the entry whose command changed it.
+/// An earlier book, and the place in the journal of the entry whose command changed it.
 #[derive(Debug, Drop)]
-struct Step<A: Allocator> {
+struct Earlier<A: Allocator> {
     book: Arc<Book<A>, A>,
     place: usize,
 }
 
-impl<A: Allocator> Model for Step<A> {
+impl<A: Allocator> Model for Earlier<A> {
     ghost use Rattle.std.specs.Arc.{arc_value};
-    ghost use Rattle.dam_gate.specs.inside.Books.{StepState};
+    ghost use Rattle.dam_gate.specs.inside.Books.{EarlierState};
 
-    ghost Value = { StepState };
+    ghost Value = { EarlierState };
 
     ghost view = { λ s. record { book = arc_value s.book; place = s.place } };
 }
 
 /// A book that others may share, and the one before it with the place of the command that changed it. If nobody shares that one
-/// any more, it is brought up by the command that it lacks, which is far quicker than a copy.
+/// any more, the command that it lacks makes it equal to the other, which is far quicker than a copy.
 ///
 /// A contract sees the two.
 #[derive(Debug, Drop)]
 pub(crate) struct Books<A: Allocator = Global> {
-    before: Option<Step<A>>,
+    before: Option<Earlier<A>>,
     book: Arc<Book<A>, A>,
 }
 
@@ -73,7 +73,7 @@ impl<A: Allocator + Copy> Books<A> {
         ensures same { self.new.book ≡ self.old.book }
         ensures steps { AreSteps entries.now self.new }
     {
-        if let Some(Step { book, place }) = self.before.take() {
+        if let Some(Earlier { book, place }) = self.before.take() {
             if let Some(entry) = entries.get(place) {
                 if let Ok(mut book) = Arc::try_unwrap(book) {
                     let _done = book.apply(&entry.command)?;
@@ -84,8 +84,8 @@ impl<A: Allocator + Copy> Books<A> {
         self.book.try_copy()
     }
 
-    /// Goes on to the book after the entry's command, where the command changed it. The entry is the next of the journal,
-    /// at this place.
+    /// Goes on to the book after the entry's command, if the command changed it. The entry is the next of the journal, at this
+    /// place.
     pub(crate) fn follow(&mut self, book: Arc<Book<A>, A>, entry: &Entry, place: usize)
         requires reply { entry.now.reply ≡ reply_to self.old.book entry.now.command }
         requires book { arc_value book ≡ book_after self.old.book entry.now.command }
@@ -98,7 +98,7 @@ impl<A: Allocator + Copy> Books<A> {
         if let Reply::Refused(_) = entry.reply {
             return;
         }
-        let before = Step {
+        let before = Earlier {
             book: replace(&mut self.book, book),
             place,
         };

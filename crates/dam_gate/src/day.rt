@@ -10,15 +10,15 @@ ghost use Rattle.dam_gate.specs.Day.{AreTaken, IsDayFault, IsDayRun, day_holders
 ghost use Rattle.dam_gate.specs.inside.Entering.{AreGivers, AreServed, Enters, HasAll, IsClosedDay, IsLateFault, IsRefusalAt, Takes, own_commands};
 
 use crate::account::Account;
-use crate::doorkeeper::Doorkeeper;
 use crate::gate::{Gate, GateFault, PassFault};
-use crate::history::{Naming, Opening};
+use crate::history::{GateName, Opening};
+use crate::hooks::Hooks;
 use crate::keeper::Journal;
 use crate::limits::MOST_PARTICIPANTS;
 use crate::packed::{PackedCommand, pack};
 use crate::pass::Pass;
 use crate::settlement::{Mismatch, Settled, settle};
-use crate::version::{Change, Shown};
+use crate::version::{NextShown, Shown};
 use dam_book::{Command, DayLength, MOST_ENTRIES, Participant, Seed};
 use left_right::Absorb;
 use std::alloc::{AllocError, AllocFailed, Global};
@@ -40,7 +40,8 @@ pub enum DayFault {
     /// The command at this place brings one participant too many.
     #[error("command {0} brings one participant too many")]
     TooManyParticipants(usize),
-    /// The journal and the passes came out unsettled, which no day of one gate should show; never for want of memory.
+    /// The journal and the passes came out unsettled, or the journal doesn't end with the close (`StillOpen`). No day of one gate
+    /// should show either; the reason is never `Memory`.
     #[error("not settled: {0}")]
     NotSettled(Mismatch),
     /// Memory ran out, or a call or a pass was refused.
@@ -102,7 +103,7 @@ impl From<GateFault> for DayFault {
 }
 
 /// Enters the holder's own commands in their order, up to the first that is refused.
-fn enter<J: Naming, H: Wait + Drop>(
+fn enter<J: GateName, H: Wait + Drop>(
     rt: &impl Wait,
     gate: &Gate<J, H>,
     pass: &mut Pass<J>,
@@ -120,27 +121,27 @@ fn enter<J: Naming, H: Wait + Drop>(
     }
 }
 
-/// Enters the commands of one participant, between the calls of the doorkeeper.
-fn attend<J: Naming, H: Wait + Drop, D: Doorkeeper>(
+/// Enters the commands of one participant, between the calls of its hooks.
+fn attend<J: GateName, H: Wait + Drop, K: Hooks>(
     rt: &impl Wait,
     gate: &Gate<J, H>,
-    doorkeeper: &D,
+    hooks: &K,
     participant: u32,
     pass: &mut Pass<J>,
     commands: &[PackedCommand],
 )
     ensures { Enters commands.now pass.old.account pass.new.account }
 {
-    doorkeeper.before(participant);
+    hooks.before(participant);
     enter(rt, gate, pass, commands);
-    doorkeeper.after(participant);
+    hooks.after(participant);
 }
 
-/// Has each participant enter its commands, on a thread of its own where one can be started.
-fn enter_all<J: Naming + Send + Sync, R: Threads + Wait + Sync, D: Doorkeeper + Sync>(
+/// Has each participant enter its commands, on a thread of its own if one can be started.
+fn enter_all<J: GateName + Send + Sync, R: Threads + Wait + Sync, K: Hooks + Sync>(
     rt: &R,
     gate: &Gate<J, &R>,
-    doorkeeper: &D,
+    hooks: &K,
     passes: &mut [Pass<J>],
     commands: &[PackedCommand],
 )
@@ -153,7 +154,7 @@ fn enter_all<J: Naming + Send + Sync, R: Threads + Wait + Sync, D: Doorkeeper + 
         rt,
         passes,
         MOST_PARTICIPANTS,
-        &|place, pass| attend(rt, gate, doorkeeper, place as u32, pass, commands),
+        &|place, pass| attend(rt, gate, hooks, place as u32, pass, commands),
     );
 }
 
@@ -228,7 +229,7 @@ fn givers(alloc: Global, commands: &[PackedCommand]) -> Result<Vec<Participant>,
 }
 
 /// A pass for the participant, with room for the receipts of its commands.
-fn pass_for<J: Naming, H: Wait + Drop>(
+fn pass_for<J: GateName, H: Wait + Drop>(
     rt: &impl Wait,
     gate: &Gate<J, H>,
     who: &Participant,
@@ -243,7 +244,7 @@ fn pass_for<J: Naming, H: Wait + Drop>(
 }
 
 /// A pass for each participant.
-fn passes_for<J: Naming, H: Wait + Drop>(
+fn passes_for<J: GateName, H: Wait + Drop>(
     rt: &impl Wait,
     alloc: Global,
     gate: &Gate<J, H>,
@@ -262,7 +263,10 @@ fn passes_for<J: Naming, H: Wait + Drop>(
 }
 
 /// The operator's pass, through which it has closed.
-fn close<J: Naming, H: Wait + Drop>(rt: &impl Wait, gate: &Gate<J, H>) -> Result<Account, DayFault>
+fn close<J: GateName, H: Wait + Drop>(
+    rt: &impl Wait,
+    gate: &Gate<J, H>,
+) -> Result<Account, DayFault>
     ensures ok { IfOk result (λ operator. commands_of operator.receipts ≡ Command.Close ∷ []) }
     ensures pass { IfOk result IsPass }
     ensures holder { IfOk result (λ operator. operator.holder ≡ None) }
@@ -270,13 +274,12 @@ fn close<J: Naming, H: Wait + Drop>(rt: &impl Wait, gate: &Gate<J, H>) -> Result
 {
     let mut operator = gate.operator(rt)?;
     let _entry = gate.call(rt, &mut operator, Command::Close)?;
-    // Its contract tells what every pass keeps.
-    let _receipts = operator.receipts();
+    let _receipts = operator.receipts(); // for the proof: what every pass keeps
     Ok(operator.into_account())
 }
 
 /// What is left of the passes.
-fn accounts_of<J: Naming>(alloc: Global, passes: Vec<Pass<J>>) -> Result<Vec<Account>, DayFault>
+fn accounts_of<J: GateName>(alloc: Global, passes: Vec<Pass<J>>) -> Result<Vec<Account>, DayFault>
     ensures ok { IfOk result (λ accounts.
         accounts.items ≡ map (λ pass. pass.account) passes.items) }
     ensures err { IfErr result (λ fault. fault ≡ DayFault.Memory) }
@@ -289,11 +292,11 @@ fn accounts_of<J: Naming>(alloc: Global, passes: Vec<Pass<J>>) -> Result<Vec<Acc
 }
 
 /// The accounts of the passes through which all commands were entered, one for each participant.
-fn enter_day<J: Naming + Send + Sync, R: Threads + Wait + Sync, D: Doorkeeper + Sync>(
+fn enter_day<J: GateName + Send + Sync, R: Threads + Wait + Sync, K: Hooks + Sync>(
     rt: &R,
     alloc: Global,
     gate: &Gate<J, &R>,
-    doorkeeper: &D,
+    hooks: &K,
     participants: &[Participant],
     commands: &[PackedCommand],
 ) -> Result<Vec<Account>, DayFault>
@@ -306,7 +309,7 @@ fn enter_day<J: Naming + Send + Sync, R: Threads + Wait + Sync, D: Doorkeeper + 
     let mut passes = passes_for(rt, alloc, gate, participants, commands)?;
     // So that a journal which grows isn't copied.
     gate.make_room(rt, commands.len() + 1)?;
-    enter_all(rt, gate, doorkeeper, &mut passes, commands);
+    enter_all(rt, gate, hooks, &mut passes, commands);
     let accounts = accounts_of(alloc, passes)?;
     if !have_all_entered(&accounts, commands) {
         return Err(DayFault::Memory);
@@ -325,13 +328,13 @@ fn ends_with_a_close(journal: &Journal) -> bool
 }
 
 /// The day of participants who give all the commands, at a gate of its own.
-fn run_day<J: Naming + Send + Sync, R: Threads + Wait + Sync, D: Doorkeeper + Sync>(
+fn run_day<J: GateName + Send + Sync, R: Threads + Wait + Sync, K: Hooks + Sync>(
     rt: &R,
     alloc: Global,
     opening: Opening,
     periods: DayLength,
     seed: Seed,
-    doorkeeper: &D,
+    hooks: &K,
     participants: &[Participant],
     commands: &[PackedCommand],
 ) -> Result<SettledDay, DayFault>
@@ -348,7 +351,7 @@ fn run_day<J: Naming + Send + Sync, R: Threads + Wait + Sync, D: Doorkeeper + Sy
     ensures err { IfErr result IsLateFault }
 {
     let gate = Gate::<J, &R>::for_day(rt, alloc, opening, periods, seed)?;
-    let mut passes = enter_day(rt, alloc, &gate, doorkeeper, participants, commands)?;
+    let mut passes = enter_day(rt, alloc, &gate, hooks, participants, commands)?;
     let operator = close(rt, &gate)?;
     passes.push(operator)?;
     let journal = gate.finish();
@@ -375,17 +378,17 @@ fn settle_day(alloc: Global, journal: Journal, passes: &[Account]) -> Result<Set
 }
 
 /// Runs a day of given commands: each participant enters its own, in their order, through a pass of its own and on a
-/// thread of its own where one can be started; then the operator closes, and the journal is settled.
+/// thread of its own if one can be started; then the operator closes, and the journal is settled.
 ///
-/// The gate's book hashes names by the seed. The doorkeeper is called round each participant's commands, on the thread that
-/// enters them. `Memory` may come in place of any answer but `TooManyCommands`. A place is counted from 0.
-pub fn run_commands<R: Threads + Wait + Sync, D: Doorkeeper + Sync>(
+/// The gate's book hashes names by the seed. The hooks are called before and after each participant's commands, on the thread
+/// that enters them. `Memory` may come in place of any answer but `TooManyCommands`. A place is counted from 0.
+pub fn run_commands<R: Threads + Wait + Sync, K: Hooks + Sync>(
     rt: &R,
     alloc: Global,
     periods: DayLength,
     seed: Seed,
     commands: &[Command],
-    doorkeeper: &D,
+    hooks: &K,
 ) -> Result<SettledDay, DayFault>
     ensures periods { IfOk result (λ day. day.settled.book.periods ≡ periods) }
     ensures journal { IfOk result (λ day. IsJournal day.settled) }
@@ -399,17 +402,17 @@ pub fn run_commands<R: Threads + Wait + Sync, D: Doorkeeper + Sync>(
         return Err(DayFault::TooManyCommands);
     }
     let packed = pack(alloc, commands)?;
-    run_packed(rt, alloc, periods, seed, &packed, doorkeeper)
+    run_packed(rt, alloc, periods, seed, &packed, hooks)
 }
 
 /// Runs a day as `run_commands` does, of packed commands.
-pub fn run_packed<R: Threads + Wait + Sync, D: Doorkeeper + Sync>(
+pub fn run_packed<R: Threads + Wait + Sync, K: Hooks + Sync>(
     rt: &R,
     alloc: Global,
     periods: DayLength,
     seed: Seed,
     commands: &[PackedCommand],
-    doorkeeper: &D,
+    hooks: &K,
 ) -> Result<SettledDay, DayFault>
     ensures periods { IfOk result (λ day. day.settled.book.periods ≡ periods) }
     ensures journal { IfOk result (λ day. IsJournal day.settled) }
@@ -424,13 +427,13 @@ pub fn run_packed<R: Threads + Wait + Sync, D: Doorkeeper + Sync>(
     }
     let participants = givers(alloc, commands)?;
     let opening = Opening::new(periods.get());
-    run_day::<Brand, R, D>(
+    run_day::<Brand, R, K>(
         rt,
         alloc,
         opening,
         periods,
         seed,
-        doorkeeper,
+        hooks,
         &participants,
         commands,
     )

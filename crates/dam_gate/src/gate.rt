@@ -1,15 +1,15 @@
-ghost use Rattle.std.specs.Prelude.{◌≡◌, ◌<◌, true, Some, None, IfOk, IfErr, OnOk, OnErr};
+ghost use Rattle.std.specs.Prelude.{◌≡◌, true, Some, None, IfOk, IfErr, OnOk, OnErr};
 ghost use Rattle.dam_book.specs.Book.{is_day};
 ghost use Rattle.dam_gate.specs.Journal.{IsJournal};
-ghost use Rattle.dam_gate.specs.Pass.{after_call, is_own, knowing_nothing};
-ghost use Rattle.dam_gate.specs.Gate.{IsAnswered, IsBeginFault, IsGateFault};
-ghost use Rattle.dam_gate.specs.inside.Desk.{entry_of};
+ghost use Rattle.dam_gate.specs.Pass.{is_own, knowing_nothing};
+ghost use Rattle.dam_gate.specs.Gate.{IsBeginFault, IsCalled, IsGateFault};
+ghost use Rattle.dam_gate.specs.inside.Locked.{entry_of};
 
-use crate::desk::Desk;
-use crate::history::{Naming, Opening};
+use crate::history::{GateName, Opening};
 use crate::keeper::{BeginFault, Journal, KeeperFault};
+use crate::locked::Locked;
 use crate::pass::Pass;
-use crate::version::{Change, Shown};
+use crate::version::{NextShown, Shown};
 use dam_book::{Command, DayLength, Entry, Participant, Reply, Seed};
 use left_right::Absorb;
 use std::alloc::{AllocError, Global};
@@ -32,8 +32,8 @@ pub enum GateFault {
     /// Memory ran out.
     #[error("out of memory")]
     Memory,
-    /// The history had gone on without the journal, or the place of the version was taken, so that no version of the command
-    /// could be shown. In the tests no call leaves it so.
+    /// The history had gone on without the journal, or the slot of the version was taken, so that no version of the command
+    /// could be shown. In the tests no call leaves a gate like that.
     #[error("no version could be shown")]
     NoVersion,
 }
@@ -66,7 +66,7 @@ impl From<KeeperFault> for GateFault {
 /// Why no pass is given, in the order in which it is looked for.
 #[derive(Clone, Copy, PartialEq, Eq, Debug, Error)]
 pub enum PassFault {
-    /// As many passes were given as one gate gives.
+    /// The gate has given all its passes.
     #[error("all passes were given")]
     PassesUsed,
     /// There was no place for another reader of the versions.
@@ -88,20 +88,20 @@ impl From<AllocError> for PassFault {
     }
 }
 
-/// The gate of one delivery day, which threads share by reference. One lock stands before the book and its journal, and
+/// The gate of one delivery day, which threads share by reference. One lock protects the book and its journal, and
 /// each call's step under it is one step of the sequential book. Looks take no lock.
 ///
-/// `J` is its name: passes and notes of another gate have another. `R` is the handle by which its end waits for those
-/// who look.
+/// `J` is its name: passes and notes of another gate have another. `R` is the handle with which a call, and the gate's end,
+/// wait for looks to end.
 #[derive(Drop)]
-pub struct Gate<J: Naming, R: Wait + Drop>
+pub struct Gate<J: GateName, R: Wait + Drop>
 where
-    Shown<J>: Absorb<Change<J>, State = u32>,
+    Shown<J>: Absorb<NextShown<J>, State = u32>,
 {
-    desk: Mutex<Desk<J, R>>,
+    locked: Mutex<Locked<J, R>>,
 }
 
-impl<J: Naming, R: Wait + Drop> Gate<J, R> {
+impl<J: GateName, R: Wait + Drop> Gate<J, R> {
     /// The gate of the opening's day, of 23, 24, 25, 92, 96 or 100 periods, with an empty journal, on the fixed seed that
     /// everybody knows.
     pub fn begin(rt: R, alloc: Global, opening: Opening) -> Result<Gate<J, R>, BeginFault>
@@ -142,7 +142,7 @@ impl<J: Naming, R: Wait + Drop> Gate<J, R> {
         requires day { opening.periods ≡ periods }
     {
         Ok(Gate {
-            desk: Mutex::new(Desk::begin(rt, alloc, opening, periods, seed)?),
+            locked: Mutex::new(Locked::begin(rt, alloc, opening, periods, seed)?),
         })
     }
 
@@ -150,20 +150,20 @@ impl<J: Naming, R: Wait + Drop> Gate<J, R> {
     pub fn pass(&self, rt: &impl Wait, who: Participant) -> Result<Pass<J>, PassFault>
         ensures { IfOk result (λ pass. pass ≡ knowing_nothing (Some who)) }
     {
-        self.desk.lock(rt).pass(Some(who))
+        self.locked.lock(rt).pass(Some(who))
     }
 
     /// A pass for the operator, who alone closes.
     pub fn operator(&self, rt: &impl Wait) -> Result<Pass<J>, PassFault>
         ensures { IfOk result (λ pass. pass ≡ knowing_nothing None) }
     {
-        self.desk.lock(rt).pass(None)
+        self.locked.lock(rt).pass(None)
     }
 
-    /// Has the book take the command, and journals it with the reply, also where the book refuses it. The pass gets the
+    /// Has the book take the command, and journals it with the reply, even if the book refuses it. The pass gets the
     /// entry as a receipt, and has then seen the journal up to it.
     ///
-    /// The command is lost with a refusal.
+    /// A refused call doesn't give the command back.
     pub fn call(
         &self,
         rt: &impl Wait,
@@ -171,11 +171,7 @@ impl<J: Naming, R: Wait + Drop> Gate<J, R> {
         command: Command,
     ) -> Result<Entry, GateFault>
         ensures command { IfOk result (λ entry. entry.command ≡ command) }
-        ensures later { IfOk result (λ entry. pass.old.account.seen < entry.number) }
-        ensures receipt { IfOk result (λ entry.
-            pass.new ≡ after_call pass.old pass.new.history entry) }
-        ensures history { IfOk result
-            (IsAnswered J.opening.periods pass.old pass.new.history) }
+        ensures answered { IfOk result (IsCalled J.opening.periods pass.old pass.new) }
         ensures own { OnOk result (is_own pass.old.account.holder command ≡ true) }
         ensures err { OnErr result (pass.new ≡ pass.old) }
         ensures fault { IfErr result (IsGateFault pass.old.account command) }
@@ -195,11 +191,8 @@ impl<J: Naming, R: Wait + Drop> Gate<J, R> {
         pass: &mut Pass<J>,
         command: &Command,
     ) -> Result<(u32, Reply), GateFault>
-        ensures later { IfOk result (λ answer. pass.old.account.seen < answer.0) }
-        ensures receipt { IfOk result (λ answer.
-            pass.new ≡ after_call pass.old pass.new.history (entry_of command.now answer)) }
-        ensures history { IfOk result (λ answer.
-            IsAnswered J.opening.periods pass.old pass.new.history (entry_of command.now answer)) }
+        ensures answered { IfOk result (λ answer.
+            IsCalled J.opening.periods pass.old pass.new (entry_of command.now answer)) }
         ensures own { OnOk result (is_own pass.old.account.holder command.now ≡ true) }
         ensures err { OnErr result (pass.new ≡ pass.old) }
         ensures fault { IfErr result (IsGateFault pass.old.account command.now) }
@@ -207,19 +200,19 @@ impl<J: Naming, R: Wait + Drop> Gate<J, R> {
         if !pass.owns(command) {
             return Err(GateFault::NotYours);
         }
-        pass.step(&mut self.desk.lock(rt), command)
+        pass.step(&mut self.locked.lock(rt), command)
     }
 
-    /// Makes room in the journal for so many entries more.
+    /// Makes room in the journal for this number of entries more.
     pub(crate) fn make_room(&self, rt: &impl Wait, entries: usize) -> Result<(), AllocError> {
-        self.desk.lock(rt).make_room(entries)
+        self.locked.lock(rt).make_room(entries)
     }
 
-    /// The journal, once nobody uses the gate any more. From then on looks find no version.
+    /// The journal, when nobody uses the gate any more. From then on, looks find no version.
     pub fn finish(self) -> Journal
         ensures journal { IsJournal result }
         ensures day { result.book.periods ≡ J.opening.periods }
     {
-        self.desk.into_inner().into_journal()
+        self.locked.into_inner().into_journal()
     }
 }

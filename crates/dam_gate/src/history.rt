@@ -1,15 +1,15 @@
 ghost use Rattle.std.specs.Prelude.{◌≡◌, ◌<◌, ◌^◌, ◌++◌, ◌∷◌, ◌⊎◌, [], true, length, IfSome, OnSome};
 ghost use mathlib.Core.List.{IsPrefix};
-ghost use Rattle.dam_gate.specs.inside.History.{head_of};
+ghost use Rattle.dam_gate.specs.inside.History.{count_of};
 
 use dam_book::Entry;
 use logbook::{Gain, Offer, Plain, Play, Rule, Seen, Start, Word};
 use std::marker::{Brand, Model, PhantomData};
 
 /// The rule of the word that counts a gate's entries.
-pub(crate) struct Law;
+pub(crate) struct CountRule;
 
-impl Rule<Entry, u64> for Law {
+impl Rule<Entry, u64> for CountRule {
     ghost use Rattle.std.specs.Prelude.{[]};
     ghost use base.Fml.{ftrue};
     ghost use Rattle.dam_gate.specs.inside.History.{IsKept};
@@ -53,28 +53,28 @@ impl Plain<Entry, Entry, u64> for Add {
     ghost state = { λ entry. None };
 }
 
-/// Which gate it is: its history and its day. Each call of a program picks it.
-pub trait Naming {
+/// Which gate it is, by its history and its day. A program that begins a gate picks the name: `Brand`.
+pub trait GateName {
     ghost use Rattle.dam_gate.specs.Opening.{OpeningState};
 
     ghost opening: { OpeningState };
 }
 
-impl Naming for Brand {
+impl GateName for Brand {
     ghost opening = { record {
       history = record { number = 0; log_name = 0; cells_name = 0 };
       periods = 0;
     } };
 }
 
-/// What a gate begins with: an empty history, which has no name yet, and the length of the day.
+/// What a gate begins with: the length of its day, and its history, which is empty and has no name yet.
 #[derive(Drop)]
 pub struct Opening {
     periods: u8,
-    word: Word<Entry, u64, Law>,
-    seen: Seen<Entry, u64, Law>,
+    word: Word<Entry, u64, CountRule>,
+    seen: Seen<Entry, u64, CountRule>,
     ghost empty: { seen.log ≡ [] },
-    ghost head_is: { word ≡ head_of seen.book },
+    ghost count_is: { word ≡ count_of seen.book },
 }
 
 impl Model for Opening {
@@ -86,7 +86,7 @@ impl Model for Opening {
 }
 
 impl Opening {
-    /// The opening of a day of as many periods. If no day has as many, no gate begins with it.
+    /// The opening of a day with this number of periods. If no day has that number, no gate begins with it.
     pub fn new(periods: u8) -> Opening
         ensures { result.periods ≡ periods }
     {
@@ -105,18 +105,18 @@ impl Opening {
         self.periods
     }
 
-    /// The word under a name, and the front that has seen nothing.
-    pub(crate) fn named<J: Naming>(self) -> (Head<J>, Front<J>)
+    /// The count of the entries under a name, and the empty history.
+    pub(crate) fn named<J: GateName>(self) -> (EntryCount<J>, History<J>)
         requires { self ≡ J.opening }
         ensures { result.1 ≡ [] }
     {
         let Opening { word, seen, .. } = self;
         (
-            Head {
+            EntryCount {
                 word,
                 of: PhantomData,
             },
-            Front {
+            History {
                 held: 0,
                 seen,
                 of: PhantomData,
@@ -127,32 +127,32 @@ impl Opening {
 
 /// The word that counts the entries.
 #[derive(Drop)]
-pub(crate) struct Head<J: Naming> {
-    word: Word<Entry, u64, Law>,
+pub(crate) struct EntryCount<J: GateName> {
+    word: Word<Entry, u64, CountRule>,
     of: PhantomData<J>,
-    ghost head_is: { word ≡ head_of J.opening.history },
+    ghost count_is: { word ≡ count_of J.opening.history },
 }
 
-/// A beginning of the history that was seen. Contracts see it as its entries.
+/// A history that was seen: a prefix of the gate's one history. Contracts see it as its entries.
 #[derive(Drop)]
-pub(crate) struct Front<J: Naming> {
+pub(crate) struct History<J: GateName> {
     held: u32,
-    seen: Seen<Entry, u64, Law>,
+    seen: Seen<Entry, u64, CountRule>,
     of: PhantomData<J>,
 }
 
-impl<J: Naming> Model for Front<J> {
+impl<J: GateName> Model for History<J> {
     ghost use Rattle.std.specs.Prelude.{◌≡◌, List, length};
     ghost use Rattle.dam_book.specs.declared.command.Entry.{Entry};
 
     ghost Value = { List Entry };
 
-    ghost view = { λ f. f.seen.log };
+    ghost view = { λ h. h.seen.log };
 
-    ghost invariant = { λ f. (f.held ≡ length f.seen.log) × (f.seen.book ≡ J.opening.history) };
+    ghost invariant = { λ h. (h.held ≡ length h.seen.log) × (h.seen.book ≡ J.opening.history) };
 }
 
-impl<J: Naming> Front<J> {
+impl<J: GateName> History<J> {
     /// How many entries it has.
     pub(crate) fn len(&self) -> u32
         ensures { result ≡ length self.now }
@@ -161,18 +161,18 @@ impl<J: Naming> Front<J> {
     }
 
     /// A copy.
-    pub(crate) fn again(&self) -> Front<J>
+    pub(crate) fn again(&self) -> History<J>
         ensures { result ≡ self.now }
     {
-        Front {
+        History {
             held: self.held,
             seen: self.seen.again(),
             of: PhantomData,
         }
     }
 
-    /// Whether the other begins it: it does where it is no longer.
-    pub(crate) fn begins_with(&self, other: &Front<J>) -> bool
+    /// Whether the other is a prefix of it: it is unless it is longer.
+    pub(crate) fn begins_with(&self, other: &History<J>) -> bool
         ensures { result ≡ true → IsPrefix other.now self.now }
     {
         let mut both = self.seen.again();
@@ -183,8 +183,8 @@ impl<J: Naming> Front<J> {
         true
     }
 
-    /// The longer of two fronts, which the other begins.
-    pub(crate) fn longer(&self, other: &Front<J>) -> Front<J>
+    /// The longer of the two, of which the other is a prefix.
+    pub(crate) fn longer(&self, other: &History<J>) -> History<J>
         ensures one { (result ≡ self.now) ⊎ (result ≡ other.now) }
         ensures this { IsPrefix self.now result }
         ensures that { IsPrefix other.now result }
@@ -199,35 +199,37 @@ impl<J: Naming> Front<J> {
     }
 }
 
-impl<J: Naming> Head<J> {
-    /// The history after the entry, which came to just the history of `front`, and that to all that was seen and told. `None`
-    /// where the history is another.
+impl<J: GateName> EntryCount<J> {
+    /// The history with the entry added, if the gate's history is just this one. Everything seen and learnt is a prefix of it.
+    /// `None` if the gate's history is another.
     pub(crate) fn add(
         &self,
-        front: &Front<J>,
-        seen: &Front<J>,
-        told: &Front<J>,
+        history: &History<J>,
+        seen: &History<J>,
+        learnt: &History<J>,
         entry: &Entry,
-    ) -> Option<Front<J>>
-        requires few { length front.now < 2 ^ 31 }
-        ensures added { IfSome result (λ after. after ≡ front.now ++ entry.now ∷ []) }
-        ensures seen { OnSome result (IsPrefix seen.now front.now) }
-        ensures told { OnSome result (IsPrefix told.now front.now) }
+    ) -> Option<History<J>>
+        requires few { length history.now < 2 ^ 31 }
+        ensures added { IfSome result (λ after. after ≡ history.now ++ entry.now ∷ []) }
+        ensures seen { OnSome result (IsPrefix seen.now history.now) }
+        ensures learnt { OnSome result (IsPrefix learnt.now history.now) }
     {
-        let mut all = front.seen.again();
+        let mut all = history.seen.again();
         all.learn(&seen.seen);
-        all.learn(&told.seen);
-        let mut offer: Offer<Entry, u64, Law, Nothing> = all.plain::<Nothing, Entry, Add>(entry);
+        all.learn(&learnt.seen);
+        let mut offer: Offer<Entry, u64, CountRule, Nothing> = all.plain::<Nothing, Entry, Add>(
+            entry,
+        );
         let mut pen = all.no_pen();
-        let held = front.held as u64;
+        let held = history.held as u64;
         let found = self
             .word
             .compare_exchange::<Add, Nothing>(held, held + 1, &mut all, &mut offer, &mut pen);
         if found != held {
             return None;
         }
-        Some(Front {
-            held: front.held + 1,
+        Some(History {
+            held: history.held + 1,
             seen: all,
             of: PhantomData,
         })

@@ -37,17 +37,6 @@ impl From<AllocError> for KeeperFault {
     }
 }
 
-impl<T: Drop> From<AllocFailed<T>> for KeeperFault {
-    ghost use Rattle.std.specs.Prelude.{◌≡◌};
-    ghost use Rattle.dam_gate.specs.declared.keeper.KeeperFault.TheVariants.{Memory};
-
-    ghost from_gives = { λ _ fault. fault ≡ Memory };
-
-    fn from(_error: AllocFailed<T>) -> KeeperFault {
-        KeeperFault::Memory
-    }
-}
-
 /// Why no keeper and no gate is begun, in the order in which it is looked for.
 #[derive(Clone, Copy, PartialEq, Eq, Debug, Error)]
 pub enum BeginFault {
@@ -159,10 +148,10 @@ impl<A: Allocator + Copy> Keeper<A> {
         })
     }
 
-    /// Takes all memory of a command's step: the room in the journal, and a book for the step's result, where it changes
-    /// the book.
+    /// Takes all memory of a command's step: the room in the journal, and a book for the step's result, if it changes the
+    /// book.
     ///
-    /// The journal and the book stay.
+    /// The journal and the book stay as they are.
     pub fn ready(&mut self, command: &Command) -> Result<Ready<A>, KeeperFault>
         ensures ready { IfOk result (IsReadyFor self.new command.now) }
         ensures journal { self.new.journal ≡ self.old.journal }
@@ -186,7 +175,7 @@ impl<A: Allocator + Copy> Keeper<A> {
         })
     }
 
-    /// The book after the command: another one, or where the command is refused the one that there is.
+    /// The book after the command: another one, or, if the command is refused, the present one.
     fn book_after(&mut self, command: &Command, reply: Reply) -> Result<Arc<Book<A>, A>, AllocError>
         requires { reply ≡ reply_to self.old.journal.book command.now }
         ensures book { IfOk result
@@ -206,7 +195,7 @@ impl<A: Allocator + Copy> Keeper<A> {
         }
     }
 
-    /// Takes the step that was made ready, which takes no memory and can't be refused.
+    /// Takes the step that was made ready. It takes no memory and can't be refused.
     pub fn put(&mut self, ready: Ready<A>) -> Entry
         requires { IsReadyFor self.old ready.entry.command ready }
         ensures entry { result ≡ ready.entry }
@@ -230,7 +219,7 @@ impl<A: Allocator + Copy> Keeper<A> {
         self.entries.push_reserved(entry);
     }
 
-    /// Journals the command with the book's reply to it, also where the book refuses it.
+    /// Journals the command with the book's reply to it, even if the book refuses it.
     ///
     /// All memory is taken before anything changes.
     pub fn apply(&mut self, command: Command) -> Result<Entry, KeeperFault>
@@ -277,7 +266,7 @@ impl<A: Allocator + Copy> Keeper<A> {
         self.books.share()
     }
 
-    /// Makes room for so many entries more.
+    /// Makes room for this number of entries more.
     pub(crate) fn make_room(&mut self, entries: usize) -> Result<(), AllocError>
         ensures { self.new.journal ≡ self.old.journal }
     {
@@ -295,7 +284,7 @@ impl<A: Allocator + Copy> Keeper<A> {
     }
 }
 
-/// Whether a journal of so many entries has no room for the command.
+/// Whether a journal of `held` entries has no room for the command.
 pub(crate) fn is_full(held: u32, command: &Command) -> bool
     ensures { result ≡ is_full held command.now }
 {

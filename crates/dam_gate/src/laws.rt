@@ -8,7 +8,7 @@ ghost use Rattle.dam_gate.specs.Settled.{IsSettled};
 ghost use Rattle.dam_gate.specs.Headline.{IsWholeAccount};
 
 use crate::account::Account;
-use crate::history::Naming;
+use crate::history::GateName;
 use crate::limits::{MOST_PARTICIPANTS, MOST_PASSES};
 use crate::pass::{Note, Pass};
 use crate::settlement::Settled;
@@ -21,15 +21,14 @@ pub fn whole_account<A: Allocator + Copy>(settled: &Settled<A>, passes: &[Accoun
     requires { IsSettled settled.now passes.now }
     ensures { IsWholeAccount settled.now passes.now }
 {
-    // Its contract tells that these are the entries of a journal.
-    let _journal = settled.journal().entries();
+    let _entries = settled.journal().entries(); // for the proof: these are the entries of a journal
     are_passes(passes);
     histories_are_runs();
 }
 
-/// Of what two passes of one gate have seen, one history begins the other: what one participant saw never contradicts what
-/// another saw.
-pub fn one_history<J: Naming>(one: &Pass<J>, other: &Pass<J>)
+/// Of the histories that two passes of one gate have seen, one is a prefix of the other: what one participant saw never
+/// contradicts what another saw.
+pub fn one_history<J: GateName>(one: &Pass<J>, other: &Pass<J>)
     ensures { (IsPrefix one.now.history other.now.history)
         ⊎ (IsPrefix other.now.history one.now.history) }
 {
@@ -37,7 +36,7 @@ pub fn one_history<J: Naming>(one: &Pass<J>, other: &Pass<J>)
 }
 
 /// The same of what two calls of one gate had made: no participant is answered from another history than the others.
-pub fn one_history_of_calls<J: Naming>(one: &Note<J>, other: &Note<J>)
+pub fn one_history_of_calls<J: GateName>(one: &Note<J>, other: &Note<J>)
     ensures { (IsPrefix one.now other.now) ⊎ (IsPrefix other.now one.now) }
 {
     one.one_history(other);
@@ -54,7 +53,6 @@ fn are_passes(passes: &[Account])
     ensures { All IsPass passes.now }
 {
     for pass in passes {
-        // Its contract tells what every pass keeps.
-        let _receipts = pass.receipts();
+        let _receipts = pass.receipts(); // for the proof: what every pass keeps
     }
 }

@@ -20,15 +20,16 @@
 //!
 //! A contract sees a journal and a [`Settled`] as their entries with the book that these make, a [`Keeper`] as its journal
 //! and the room in it, and a [`Pass`] as what it knows: its account, that is its holder, the number of entries that it
-//! has seen, and its receipts; the history that it has seen, the longest that it was told of, and the one that its last
-//! call made. It sees a [`PackedCommand`] as the command and a [`Receipt`] as the entry. What these words mean stands in `specs/`. What two passes have seen is one history ([`laws::one_history`]).
+//! has seen, and its receipts; the history that it has seen, the longest that it has learnt of, and the one that its last
+//! call made. It sees a [`PackedCommand`] as the command and a [`Receipt`] as the entry. `specs/` says what these words
+//! mean. What two passes have seen is one history ([`laws::one_history`]).
 //!
-//! Of what lies under the lock a contract sees only what is true of any gate whenever the lock is free: the journal is a legal
+//! Of what lies under the lock, a contract sees only what is true of any gate whenever the lock is free: the journal is a legal
 //! one of the day of the gate's name, and as many entries are shown as it has.
-//! So only tested is that a gate begins with no entry, that a call journals at this gate and just once, or, refused, not at
-//! all, that the place that is shown isn't empty, that calls are refused and looks are `None` only if they should be, that
-//! `finish` hands over the journal of these calls, and that a gate gives nine passes; besides, that memory isn't said to have
-//! run out if it hasn't.
+//! So only tests show that a gate begins with no entry, that a call journals at this gate and just once, or, if it is refused,
+//! not at all, that the slot that is shown isn't empty, that calls are refused and looks are `None` only if they should be,
+//! that `finish` returns the journal of these calls, and that a gate gives nine passes; and that `Memory` is answered only if
+//! memory ran out.
 //!
 //! The crate knows nothing of texts, of prices that clear, and of how the best selection is found.
 #![tactic(auto)]
@@ -36,13 +37,13 @@
 mod account;
 mod books;
 mod day;
-mod desk;
-mod doorkeeper;
 mod gate;
 mod history;
+mod hooks;
 mod keeper;
 pub mod laws;
 mod limits;
+mod locked;
 mod packed;
 mod pass;
 mod settlement;
@@ -51,12 +52,12 @@ mod version;
 
 pub use account::Account;
 pub use day::{DayFault, SettledDay, run_commands, run_packed};
-pub use doorkeeper::{Doorkeeper, OpenDoor};
 pub use gate::{Gate, GateFault, PassFault};
-pub use history::{Naming, Opening};
+pub use history::{GateName, Opening};
+pub use hooks::{Hooks, NoHooks};
 pub use keeper::{BeginFault, Journal, Keeper, KeeperFault, Ready};
 pub use limits::{MOST_PARTICIPANTS, MOST_PASSES};
 pub use packed::{PackedCommand, Receipt};
 pub use pass::{Look, Note, Pass};
 pub use settlement::{Mismatch, Settled, Unsettled, settle};
-pub use version::{Change, Shown};
+pub use version::{NextShown, Shown};

@@ -3,17 +3,17 @@ ghost use Rattle.std.specs.Option.{option_copied};
 ghost use mathlib.Core.List.{IsPrefix};
 ghost use Rattle.dam_book.specs.Limits.{most_entries};
 ghost use Rattle.dam_gate.specs.Journal.{journal_after, next_entry};
-ghost use Rattle.dam_gate.specs.Pass.{IsKnowledge, after_call, after_learning, after_look, is_own, knowing_nothing};
-ghost use Rattle.dam_gate.specs.Gate.{BeginsWithAll, IsAnswered, IsLook};
-ghost use Rattle.dam_gate.specs.inside.Desk.{IsFaultAt, entry_of};
+ghost use Rattle.dam_gate.specs.Pass.{IsKnowledge, after_learning, after_look, is_own, knowing_nothing};
+ghost use Rattle.dam_gate.specs.Gate.{BeginsWithAll, IsCalled, IsLook};
+ghost use Rattle.dam_gate.specs.inside.Locked.{IsFaultAt, entry_of};
 
 use crate::account::{Account, copy_of, owns};
-use crate::desk::Desk;
 use crate::gate::GateFault;
-use crate::history::{Front, Naming};
+use crate::history::{GateName, History};
 use crate::keeper::is_full;
+use crate::locked::Locked;
 use crate::packed::{PackedCommand, Receipt};
-use crate::version::{Change, Shown};
+use crate::version::{NextShown, Shown};
 use dam_book::{Command, Name, Order, Participant, Reply};
 use left_right::{Absorb, ReadHandle};
 use std::alloc::{AllocError, Global};
@@ -22,44 +22,45 @@ use std::sync::Wait;
 
 /// What a call had made: the gate's history up to its entry. Another pass of the gate can learn it.
 #[derive(Drop)]
-pub struct Note<J: Naming> {
-    front: Front<J>,
+pub struct Note<J: GateName> {
+    history: History<J>,
 }
 
-impl<J: Naming> Model for Note<J> {
+impl<J: GateName> Model for Note<J> {
     ghost use Rattle.std.specs.Prelude.{List};
     ghost use Rattle.dam_book.specs.declared.command.Entry.{Entry};
 
     ghost Value = { List Entry };
 
-    ghost view = { λ n. n.front };
+    ghost view = { λ n. n.history };
 }
 
-impl<J: Naming> Note<J> {
-    /// One of the two histories begins the other.
+impl<J: GateName> Note<J> {
+    /// One of the two histories is a prefix of the other.
     pub(crate) fn one_history(&self, other: &Note<J>)
         ensures { (IsPrefix self.now other.now) ⊎ (IsPrefix other.now self.now) }
     {
-        let _longer = self.front.longer(&other.front);
+        // for the proof: both are prefixes of the gate's one history
+        let _longer = self.history.longer(&other.history);
     }
 }
 
-/// What a holder carries through the gate's calls: what it has seen of the gate's history and been told of it, and a
+/// What a holder carries through the gate's calls: what it has seen of the gate's history and learnt of it, and a
 /// receipt of each of its own commands that reached the book, in the order of its calls.
 ///
-/// A contract sees what the pass knows. Each history in it is a beginning of the one of the gate of the name `J`:
-/// nothing else makes such a value.
+/// A contract sees what the pass knows. Each history in it is a prefix of the one history of the gate of the name `J`: nothing
+/// else makes such a value.
 #[derive(Drop)]
-pub struct Pass<J: Naming> {
+pub struct Pass<J: GateName> {
     holder: Option<Participant>,
     receipts: Vec<Receipt>,
-    history: Front<J>,
-    told: Front<J>,
+    history: History<J>,
+    learnt: History<J>,
     note: Option<Note<J>>,
     reader: ReadHandle<Shown<J>>,
 }
 
-impl<J: Naming> Model for Pass<J> {
+impl<J: GateName> Model for Pass<J> {
     ghost use Rattle.std.specs.Prelude.{length};
     ghost use Rattle.dam_gate.specs.Pass.{Knowledge, IsKnowledge};
 
@@ -68,14 +69,14 @@ impl<J: Naming> Model for Pass<J> {
     ghost view = { λ p. record {
       account = record { holder = p.holder; seen = length p.history; receipts = p.receipts.items };
       history = p.history;
-      told = p.told;
+      learnt = p.learnt;
       note = p.note;
     } };
 
     ghost invariant = { λ p. IsKnowledge (record {
       account = record { holder = p.holder; seen = length p.history; receipts = p.receipts.items };
       history = p.history;
-      told = p.told;
+      learnt = p.learnt;
       note = p.note;
     }) };
 }
@@ -91,28 +92,28 @@ pub struct Look {
     pub order: Option<Order>,
 }
 
-impl<J: Naming> Pass<J> {
+impl<J: GateName> Pass<J> {
     /// A pass that has seen nothing.
     pub(crate) fn new(
         alloc: Global,
         holder: Option<Participant>,
-        front: Front<J>,
+        start: History<J>,
         reader: ReadHandle<Shown<J>>,
     ) -> Result<Pass<J>, AllocError>
-        requires { front ≡ [] }
+        requires { start ≡ [] }
         ensures { IfOk result (λ pass. pass ≡ knowing_nothing holder) }
     {
         Ok(Pass {
             holder,
             receipts: Vec::with_capacity(alloc, FIRST_RECEIPTS)?,
-            told: front.again(),
-            history: front,
+            learnt: start.again(),
+            history: start,
             note: None,
             reader,
         })
     }
 
-    /// The participant that holds it; `None` of the operator's.
+    /// The participant that holds it; `None` if it is the operator's.
     pub fn holder(&self) -> Option<Participant>
         ensures { result ≡ self.now.account.holder }
     {
@@ -152,7 +153,7 @@ impl<J: Naming> Pass<J> {
     /// The participant's order of that name, and whether the book is closed, in the version that is shown. It takes no
     /// lock and waits for nobody.
     ///
-    /// `None` once the gate was finished.
+    /// `None` after the gate has finished.
     pub fn look(&mut self, who: &Participant, name: &Name) -> Option<Look>
         ensures look { IfSome result
             (IsLook J.opening.periods self.new.history (who.now, name.now)) }
@@ -161,46 +162,47 @@ impl<J: Naming> Pass<J> {
         ensures none { IfNone result (self.new ≡ self.old) }
     {
         let guard = self.reader.enter()?;
-        let version = guard.place.get()?;
-        let front = version.front();
-        if !front.begins_with(&self.history) || !front.begins_with(&self.told) {
+        let version = guard.slot.get()?;
+        let shown = version.history();
+        if !shown.begins_with(&self.history) || !shown.begins_with(&self.learnt) {
             return None;
         }
         let look = Look {
-            seen: front.len(),
+            seen: shown.len(),
             closed: version.book().is_closed(),
             order: version.book().find(who, name).map(|order| order.copy()),
         };
-        self.history = front.again();
+        self.history = shown.again();
         Some(look)
     }
 
-    /// What the last call that was answered had made; `None` before the first.
+    /// What the last answered call had made; `None` before the first.
     pub fn note(&self) -> Option<&Note<J>>
         ensures { option_copied result ≡ self.now.note }
     {
         self.note.as_ref()
     }
 
-    /// From now on this pass sees no less than what the note's call had made.
+    /// From now on, looks of this pass show at least what the note's call had made.
     pub fn learn(&mut self, note: &Note<J>)
-        ensures pass { self.new ≡ after_learning self.old self.new.told }
-        ensures told { IsPrefix self.old.told self.new.told }
-        ensures learnt { IsPrefix note.now self.new.told }
-        ensures one { (self.new.told ≡ self.old.told) ⊎ (self.new.told ≡ note.now) }
+        ensures pass { self.new ≡ after_learning self.old self.new.learnt }
+        ensures kept { IsPrefix self.old.learnt self.new.learnt }
+        ensures learnt { IsPrefix note.now self.new.learnt }
+        ensures one { (self.new.learnt ≡ self.old.learnt) ⊎ (self.new.learnt ≡ note.now) }
     {
-        self.told = self.told.longer(&note.front);
+        self.learnt = self.learnt.longer(&note.history);
     }
 
-    /// Of what the two have seen one begins the other.
+    /// Of what the two have seen, one is a prefix of the other.
     pub(crate) fn one_history(&self, other: &Pass<J>)
         ensures { (IsPrefix self.now.history other.now.history)
             ⊎ (IsPrefix other.now.history self.now.history) }
     {
+        // for the proof: both are prefixes of the gate's one history
         let _longer = self.history.longer(&other.history);
     }
 
-    /// Makes room for so many receipts more.
+    /// Makes room for this number of receipts more.
     pub(crate) fn make_room(&mut self, receipts: usize) -> Result<(), AllocError>
         ensures { self.new ≡ self.old }
     {
@@ -212,42 +214,39 @@ impl<J: Naming> Pass<J> {
     /// The room for the receipt is made before the journal's step, so that a refused call changes nothing.
     pub(crate) fn step<R: Wait + Drop>(
         &mut self,
-        desk: &mut Desk<J, R>,
+        locked: &mut Locked<J, R>,
         command: &Command,
     ) -> Result<(u32, Reply), GateFault>
         requires { is_own self.old.account.holder command.now ≡ true }
         ensures entry { IfOk result (λ answer.
-            entry_of command.now answer ≡ next_entry desk.old.journal command.now) }
+            entry_of command.now answer ≡ next_entry locked.old.journal command.now) }
         ensures journal { OnOk result
-            (desk.new.journal ≡ journal_after desk.old.journal command.now) }
-        ensures passes { desk.new.passes ≡ desk.old.passes }
+            (locked.new.journal ≡ journal_after locked.old.journal command.now) }
+        ensures passes { locked.new.passes ≡ locked.old.passes }
         ensures answered { IfOk result (λ answer.
-            IsAnswered J.opening.periods self.old self.new.history (entry_of command.now answer)) }
-        ensures later { IfOk result (λ answer. self.old.account.seen < answer.0) }
-        ensures pass { IfOk result (λ answer.
-            self.new ≡ after_call self.old self.new.history (entry_of command.now answer)) }
-        ensures err { OnErr result ((desk.new ≡ desk.old) × (self.new ≡ self.old)) }
+            IsCalled J.opening.periods self.old self.new (entry_of command.now answer)) }
+        ensures err { OnErr result ((locked.new ≡ locked.old) × (self.new ≡ self.old)) }
         ensures fault { IfErr result
-            (IsFaultAt (length desk.old.journal.entries) self.old.account command.now) }
-        ensures few { length desk.old.journal.entries ≤ most_entries }
+            (IsFaultAt (length locked.old.journal.entries) self.old.account command.now) }
+        ensures few { length locked.old.journal.entries ≤ most_entries }
     {
-        let held = desk.len();
+        let held = locked.len();
         if is_full(held, command) {
             return Err(GateFault::JournalFull { held });
         }
         self.receipts.reserve(1)?;
         let packed = PackedCommand::of(*self.receipts.allocator(), command)?;
-        let (answer, front) = desk.enter(&self.history, &self.told, command)?;
+        let (answer, after) = locked.enter(&self.history, &self.learnt, command)?;
         self.receipts
             .push_reserved(Receipt::new(answer.0, packed, answer.1));
         self.note = Some(Note {
-            front: front.again(),
+            history: after.again(),
         });
-        self.history = front;
+        self.history = after;
         Ok(answer)
     }
 
-    /// What is left of it once its gate was finished.
+    /// What is left of it after its gate has finished.
     pub fn into_account(self) -> Account
         ensures { result ≡ self.account }
     {
@@ -255,7 +254,7 @@ impl<J: Naming> Pass<J> {
             holder,
             receipts,
             history,
-            told: _told,
+            learnt: _learnt,
             note: _note,
             reader: _reader,
         } = self;

@@ -4,7 +4,7 @@ ghost use Rattle.dam_book.specs.declared.command.Entry.{Entry};
 ghost use Rattle.dam_book.specs.Limits.{most_entries};
 ghost use Rattle.dam_gate.specs.Pass.{AreInOrder};
 ghost use Rattle.dam_gate.specs.Settled.{receipts_of};
-ghost use Rattle.dam_gate.specs.inside.Tally.{IsFirstFault, IsTally, first_fault, found_with, lesser};
+ghost use Rattle.dam_gate.specs.inside.Tally.{IsFirstFault, IsTally, first_fault, mark_with, lesser};
 
 use crate::account::Account;
 use crate::packed::Receipt;
@@ -15,7 +15,7 @@ use std::alloc::{AllocError, Allocator};
 
 /// What the receipts of an entry's number are so far.
 #[derive(Clone, Copy)]
-pub(crate) enum Found {
+pub(crate) enum Mark {
     Nothing,
     /// One receipt, equal to the entry.
     Same,
@@ -24,24 +24,24 @@ pub(crate) enum Found {
     Several,
 }
 
-impl Found {
+impl Mark {
     /// What is found with one receipt more, which is the entry or isn't.
-    fn with(self, same: bool) -> Found
-        ensures { result ≡ found_with self same }
+    fn with(self, same: bool) -> Mark
+        ensures { result ≡ mark_with self same }
     {
         match (self, same) {
-            (Found::Nothing, true) => Found::Same,
-            (Found::Nothing, false) => Found::Other,
-            (Found::Same | Found::Other | Found::Several, _) => Found::Several,
+            (Mark::Nothing, true) => Mark::Same,
+            (Mark::Nothing, false) => Mark::Other,
+            (Mark::Same | Mark::Other | Mark::Several, _) => Mark::Several,
         }
     }
 }
 
-/// A count of receipts beside the entries that they should be.
+/// A count of receipts next to the entries that they should be.
 #[derive(Drop)]
 pub(crate) struct Tally<A: Allocator> {
     // by the place of the entry
-    found: Vec<Found, A>,
+    found: Vec<Mark, A>,
     // the least number of a receipt that no entry has
     extra: Option<u32>,
 }
@@ -71,7 +71,7 @@ impl<A: Allocator> Tally<A> {
     {
         let mut found = Vec::with_capacity(alloc, entries.len())?;
         for _ in entries {
-            found.push(Found::Nothing)?;
+            found.push(Mark::Nothing)?;
         }
         Ok(Tally { found, extra: None })
     }
@@ -83,7 +83,8 @@ impl<A: Allocator> Tally<A> {
         ensures as_long { length self.new.found.items ≡ length entries.now }
         ensures tally { (before : List Entry)
             → IsTally entries.now self.old.found.items self.old.extra before
-            → IsTally entries.now self.new.found.items self.new.extra (before ++ receipt.now ∷ []) }
+            → IsTally entries.now self.new.found.items self.new.extra
+            (before ++ receipt.now ∷ []) }
     {
         let number = receipt.number();
         let place = number as usize - 1;
@@ -142,7 +143,7 @@ impl<A: Allocator> Tally<A> {
     }
 }
 
-fn first_fault(found: &[Found]) -> Option<Mismatch>
+fn first_fault(found: &[Mark]) -> Option<Mismatch>
     requires { length found.now < 2 ^ 32 }
     ensures { result ≡ first_fault 1 found.now }
 {
@@ -150,10 +151,10 @@ fn first_fault(found: &[Found]) -> Option<Mismatch>
     for mark in found {
         number += 1;
         match mark {
-            Found::Nothing => return Some(Mismatch::Missing(number)),
-            Found::Same => {}
-            Found::Other => return Some(Mismatch::Differs(number)),
-            Found::Several => return Some(Mismatch::Doubled(number)),
+            Mark::Nothing => return Some(Mismatch::Missing(number)),
+            Mark::Same => {}
+            Mark::Other => return Some(Mismatch::Differs(number)),
+            Mark::Several => return Some(Mismatch::Doubled(number)),
         }
     }
     None

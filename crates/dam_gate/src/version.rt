@@ -2,7 +2,7 @@ ghost use Rattle.std.specs.Prelude.{◌≡◌};
 ghost use Rattle.std.specs.Arc.{arc_value};
 ghost use Rattle.dam_gate.specs.Journal.{IsJournal};
 
-use crate::history::{Front, Naming};
+use crate::history::{GateName, History};
 use dam_book::Book;
 use left_right::Absorb;
 use std::alloc::{AllocError, Global};
@@ -11,39 +11,39 @@ use std::sync::{Arc, OnceLock};
 
 /// The book after some number of entries. A contract sees the entries and the book.
 #[derive(Drop)]
-pub(crate) struct Version<J: Naming> {
+pub(crate) struct Version<J: GateName> {
     book: Arc<Book, Global>,
-    front: Front<J>,
+    history: History<J>,
 }
 
-impl<J: Naming> Model for Version<J> {
+impl<J: GateName> Model for Version<J> {
     ghost use Rattle.std.specs.Prelude.{◌≡◌};
     ghost use Rattle.std.specs.Arc.{arc_value};
     ghost use Rattle.dam_gate.specs.Journal.{JournalState, IsJournal};
 
     ghost Value = { JournalState };
 
-    ghost view = { λ v. record { entries = v.front; book = arc_value v.book } };
+    ghost view = { λ v. record { entries = v.history; book = arc_value v.book } };
 
-    ghost invariant = { λ v. IsJournal (record { entries = v.front; book = arc_value v.book })
+    ghost invariant = { λ v. IsJournal (record { entries = v.history; book = arc_value v.book })
         × ((arc_value v.book).periods ≡ J.opening.periods) };
 }
 
-impl<J: Naming> Version<J> {
-    pub(crate) fn new(book: Arc<Book, Global>, front: Front<J>) -> Version<J>
-        requires journal { IsJournal (record { entries = front; book = arc_value book }) }
+impl<J: GateName> Version<J> {
+    pub(crate) fn new(book: Arc<Book, Global>, history: History<J>) -> Version<J>
+        requires journal { IsJournal (record { entries = history; book = arc_value book }) }
         requires day { (arc_value book).periods ≡ J.opening.periods }
-        ensures { result ≡ record { entries = front; book = arc_value book } }
+        ensures { result ≡ record { entries = history; book = arc_value book } }
     {
-        Version { book, front }
+        Version { book, history }
     }
 
-    pub(crate) fn front(&self) -> &Front<J>
+    pub(crate) fn history(&self) -> &History<J>
         ensures value { result.now ≡ self.now.entries }
         ensures valid { IsJournal self.now }
         ensures day { self.now.book.periods ≡ J.opening.periods }
     {
-        &self.front
+        &self.history
     }
 
     pub(crate) fn book(&self) -> &Book
@@ -53,25 +53,25 @@ impl<J: Naming> Version<J> {
     }
 }
 
-/// Where a version comes to stand.
-pub(crate) type Place<J> = Arc<OnceLock<Version<J>>, Global>;
+/// A call makes a slot empty, and puts its version there later.
+pub(crate) type Slot<J> = Arc<OnceLock<Version<J>>, Global>;
 
-/// What the pair of `left_right` has two of: the place of the last version, and how many entries that has. Of two histories of
-/// one gate one begins the other, so the number says which it is.
+/// What the pair of `left_right` has two of: the slot of the last version, and its number of entries. Of two histories of one
+/// gate, one is a prefix of the other, so the number says which it is.
 #[derive(Drop)]
-pub struct Shown<J: Naming> {
-    pub(crate) place: Place<J>,
+pub struct Shown<J: GateName> {
+    pub(crate) slot: Slot<J>,
     pub(crate) held: u32,
 }
 
-/// One version more, with its number of entries.
+/// The version that is to be shown next, with its number of entries.
 #[derive(Drop)]
-pub struct Change<J: Naming> {
-    pub(crate) place: Place<J>,
+pub struct NextShown<J: GateName> {
+    pub(crate) slot: Slot<J>,
     pub(crate) held: u32,
 }
 
-impl<J: Naming> Absorb<Change<J>> for Shown<J> {
+impl<J: GateName> Absorb<NextShown<J>> for Shown<J> {
     ghost use Rattle.std.specs.Prelude.{◌≡◌};
 
     type State = u32;
@@ -80,15 +80,23 @@ impl<J: Naming> Absorb<Change<J>> for Shown<J> {
 
     ghost applied = { λ _ change. change.held };
 
-    fn absorb_first(&mut self, operation: &Change<J>, _other: &Shown<J>) -> Result<(), AllocError> {
-        self.place = Arc::try_clone(&operation.place)?;
+    fn absorb_first(
+        &mut self,
+        operation: &NextShown<J>,
+        _other: &Shown<J>,
+    ) -> Result<(), AllocError> {
+        self.slot = Arc::try_clone(&operation.slot)?;
         self.held = operation.held;
         Ok(())
     }
 
-    fn absorb_second(&mut self, operation: Change<J>, _other: &Shown<J>) -> Result<(), Change<J>> {
-        let Change { place, held } = operation;
-        self.place = place;
+    fn absorb_second(
+        &mut self,
+        operation: NextShown<J>,
+        _other: &Shown<J>,
+    ) -> Result<(), NextShown<J>> {
+        let NextShown { slot, held } = operation;
+        self.slot = slot;
         self.held = held;
         Ok(())
     }

@@ -3,7 +3,7 @@ ghost use Rattle.std.specs.Prelude.{◌≡◌};
 
 use dam_book::{Command, DayLength, Name, Participant, Seed};
 use dam_gate::{
-    Account, Gate, GateFault, Journal, Keeper, MOST_PASSES, Mismatch, Naming, Opening, Pass,
+    Account, Gate, GateFault, Journal, Keeper, MOST_PASSES, Mismatch, GateName, Opening, Pass,
     PassFault, Settled, settle,
 };
 use std::alloc::{AllocError, Global};
@@ -38,12 +38,12 @@ pub struct Day {
 
 /// The day as it goes on: all room that it needs is made before the first call.
 #[derive(Drop)]
-struct Round<J: Naming> {
+struct Round<J: GateName> {
     passes: Vec<Pass<J>>,
     refused: u32,
 }
 
-impl<J: Naming> Round<J> {
+impl<J: GateName> Round<J> {
     /// The place of the pass of this holder, which is a new one if there is none.
     fn place_of<H: Wait + Drop>(
         &mut self,
@@ -116,7 +116,7 @@ impl<J: Naming> Round<J> {
 }
 
 /// How many entries the version has that a look finds. It makes that what the pass has seen.
-fn entries_shown<J: Naming>(pass: &mut Pass<J>) -> Option<u32> {
+fn entries_shown<J: GateName>(pass: &mut Pass<J>) -> Option<u32> {
     let look = pass.look(&Participant::new(b"A")?, &Name::new(b"A")?)?;
     Some(look.seen)
 }
@@ -153,7 +153,7 @@ fn settle_again(
 }
 
 /// The day at a gate of this opening, whose journal has to be the keeper's.
-fn hold_named<J: Naming, R: Wait>(
+fn hold_named<J: GateName, R: Wait>(
     rt: &R,
     alloc: Global,
     opening: Opening,

@@ -4,17 +4,17 @@ use Rattle.dam_book.specs.Book.{BookState, book_after}
 use Rattle.dam_book.specs.declared.command.Entry.{Entry}
 
 -- an earlier book, and the place of the entry whose command changed it
-pub record StepState : Type 0 where
+pub record EarlierState : Type 0 where
   pub book : BookState
   pub place : ℕ
 
--- a book, and the one before it, where that is kept
+-- a book, and the one before it, if that is kept
 pub record BooksState : Type 0 where
   pub book : BookState
-  pub before : Option StepState
+  pub before : Option EarlierState
 
 -- the command of the step's entry made this book of the step's
-pub record LeadsTo (es : List Entry) (s : StepState) (after : BookState) : Type 0 where
+pub record LeadsTo (es : List Entry) (s : EarlierState) (after : BookState) : Type 0 where
   pub entry : Entry
   pub stands : slice_get es s.place ≡ Some entry
   pub made : book_after s.book entry.command ≡ after

@@ -1,4 +1,4 @@
--- The one history of a gate: the rule of the word that counts it, and what a step tells.
+-- The one history of a gate: the rule of the word that counts it, and what a step does.
 use Rattle.std.specs.Prelude.{ℕ, ◌≡◌, ◌==◌, true, List, [], ◌∷◌, ◌++◌, length, MatchBool}
 use mathlib.Core.List.{IsPrefix}
 use Rattle.logbook.specs.Pages.{Cell, Step, View, Book, Named}
@@ -8,8 +8,8 @@ use Rattle.dam_book.specs.declared.command.Entry.{Entry}
 pub record IsKept (cells : List Cell) (log : List Entry) : Type 0 where
   pub words : cells ≡ (length log, true) ∷ (0, true) ∷ []
 
-abbrev pub head_of : Book → Named
-head_of b = record { tracked = true; key = 0; book = b }
+abbrev pub count_of : Book → Named
+count_of b = record { tracked = true; key = 0; book = b }
 
 -- the entry came to a history of that length, which begins with all that had been seen
 pub record IsAdded (s : Step Entry) (seen after : List Entry) : Type 0 where
@@ -18,6 +18,6 @@ pub record IsAdded (s : Step Entry) (seen after : List Entry) : Type 0 where
   pub begins : IsPrefix seen before
   pub is : after ≡ before ++ s.ask ∷ []
 
--- where the length was the one expected, the entry was added
+-- if the length was the one expected, the entry was added
 abbrev pub Adds : Step Entry → View Entry ℕ → ℕ → View Entry ℕ → Type 0
 Adds s v found w = MatchBool (found == s.old) (IsAdded s v.0 w.0) (Unit {0})

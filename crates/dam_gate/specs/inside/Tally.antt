@@ -1,10 +1,10 @@
--- What a tally of receipts tells of each entry.
+-- What a tally of receipts says of each entry.
 use Rattle.std.specs.Prelude.{◌≡◌, ◌≢◌, ℕ, suc, ◌<◌, ◌≤◌, Bool, true, false, List, [], ◌∷◌, length, Option, None, Some, MatchOption, min}
 use Rattle.dam_book.specs.declared.command.Entry.{Entry}
 use Rattle.dam_gate.specs.declared.settlement.Mismatch.{Mismatch}
 use Rattle.dam_gate.specs.declared.settlement.Mismatch.TheVariants.{Missing, Doubled, Differs}
-use Rattle.dam_gate.specs.declared.tally.Found.{Found}
-use Rattle.dam_gate.specs.declared.tally.Found.TheVariants.{Nothing, Same, Other, Several}
+use Rattle.dam_gate.specs.declared.tally.Mark.{Mark}
+use Rattle.dam_gate.specs.declared.tally.Mark.TheVariants.{Nothing, Same, Other, Several}
 use Rattle.dam_gate.specs.Settled.{IsFaultOfReceipts, numbered}
 
 -- of each number these are the very receipts that there are entries; of a legal history's entries, that they are the
@@ -13,31 +13,32 @@ abbrev pub AreReceipts : List Entry → List Entry → Type 0
 AreReceipts es rs = (n : ℕ) → numbered n rs ≡ numbered n es
 
 -- what was found of an entry, of whose number these are the receipts
-abbrev pub IsFound : Found → Entry → List Entry → Type 0
-IsFound Nothing e rs = rs ≡ []
-IsFound Same e rs = rs ≡ e ∷ []
-IsFound Other e rs = (length rs ≡ 1) × (rs ≢ e ∷ [])
-IsFound Several e rs = 2 ≤ length rs
+abbrev pub IsMark : Mark → Entry → List Entry → Type 0
+IsMark Nothing e rs = rs ≡ []
+IsMark Same e rs = rs ≡ e ∷ []
+IsMark Other e rs = (length rs ≡ 1) × (rs ≢ e ∷ [])
+IsMark Several e rs = 2 ≤ length rs
 
 -- what is found with one receipt more, which is the entry or isn't
-abbrev pub found_with : Found → Bool → Found
-found_with Nothing true = Same
-found_with Nothing false = Other
-found_with Same same = Several
-found_with Other same = Several
-found_with Several same = Several
+abbrev pub mark_with : Mark → Bool → Mark
+mark_with Nothing true = Same
+mark_with Nothing false = Other
+mark_with Same same = Several
+mark_with Other same = Several
+mark_with Several same = Several
 
 -- what was found of the entries, the first of them having the number `n`
-abbrev pub AreFound : ℕ → List Entry → List Found → List Entry → Type 0
-AreFound n [] [] rs = Unit {0}
-AreFound n (e ∷ es) (f ∷ fs) rs = IsFound f e (numbered n rs) × AreFound (suc n) es fs rs
-AreFound n [] (f ∷ fs) rs = ⊥
-AreFound n (e ∷ es) [] rs = ⊥
+abbrev pub AreMarks : ℕ → List Entry → List Mark → List Entry → Type 0
+AreMarks n [] [] rs = Unit {0}
+AreMarks n (e ∷ es) (f ∷ fs) rs = IsMark f e (numbered n rs) × AreMarks (suc n) es fs rs
+AreMarks n [] (f ∷ fs) rs = ⊥
+AreMarks n (e ∷ es) [] rs = ⊥
 
 -- the least number above those of the entries of which there is a receipt
 abbrev pub IsLeastExtra : ℕ → List Entry → Option ℕ → Type 0
 IsLeastExtra held rs None = (n : ℕ) → held < n → numbered n rs ≡ []
-IsLeastExtra held rs (Some least) = (held < least) × (0 < length (numbered least rs)) × ((n : ℕ) → held < n → n < least → numbered n rs ≡ [])
+IsLeastExtra held rs (Some least) = (held < least) × (0 < length (numbered least rs))
+    × ((n : ℕ) → held < n → n < least → numbered n rs ≡ [])
 
 -- the lesser of two numbers, one of which there may not be
 abbrev pub lesser : Option ℕ → ℕ → Option ℕ
@@ -45,8 +46,8 @@ lesser None n = Some n
 lesser (Some least) n = Some (min least n)
 
 -- the tally of these receipts
-pub record IsTally (es : List Entry) (found : List Found) (extra : Option ℕ) (rs : List Entry) : Type 0 where
-  pub are_found : AreFound 1 es found rs
+pub record IsTally (es : List Entry) (found : List Mark) (extra : Option ℕ) (rs : List Entry) : Type 0 where
+  pub are_found : AreMarks 1 es found rs
   pub extra_is : IsLeastExtra (length es) rs extra
   pub positive : numbered 0 rs ≡ []
 
@@ -55,7 +56,7 @@ abbrev pub IsFirstFault : List Entry → List Entry → Option Mismatch → Type
 IsFirstFault es rs why = MatchOption why (AreReceipts es rs) (IsFaultOfReceipts es rs)
 
 -- the fault of the first of these that isn't as it should be
-abbrev pub fault_of : ℕ → Found → Option Mismatch
+abbrev pub fault_of : ℕ → Mark → Option Mismatch
 fault_of n Nothing = Some (Missing n)
 fault_of n Same = None
 fault_of n Other = Some (Differs n)
@@ -65,6 +66,6 @@ abbrev pub first_of : Option Mismatch → Option Mismatch → Option Mismatch
 first_of None other = other
 first_of (Some fault) other = Some fault
 
-abbrev pub first_fault : ℕ → List Found → Option Mismatch
+abbrev pub first_fault : ℕ → List Mark → Option Mismatch
 first_fault n [] = None
 first_fault n (f ∷ fs) = first_of (fault_of n f) (first_fault (suc n) fs)

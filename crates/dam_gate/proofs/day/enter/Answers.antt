@@ -1,3 +1,4 @@
+-- A refused call leaves the receipts of the commands before it.
 use Rattle.std.proofs.Common.{take, drop, ap, ◌∙◌}
 use Rattle.dam_book.specs.Book.{commands_of}
 use Rattle.dam_gate.specs.Pass.{Knowledge}

@@ -7,5 +7,6 @@ use Rattle.dam_gate.proofs.day.enter.Given as goal
 abbrev pub invariant-loop-given : goal.invariant-loop-given
 invariant-loop-given g l = record {
   holder : l.pass.account.holder ≡ l.initial.pass.account.holder;
-  entered : commands_of l.pass.account.receipts ≡ commands_of l.initial.pass.account.receipts ++ own_commands l.initial.pass.account.holder (take l.given-index l.commands);
+  entered : commands_of l.pass.account.receipts ≡ commands_of l.initial.pass.account.receipts ++ own_commands l.initial.pass.account.holder
+      (take l.given-index l.commands);
 }

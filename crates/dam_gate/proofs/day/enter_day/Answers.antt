@@ -1,3 +1,4 @@
+-- The passes that were entered through are served, in the order of the participants.
 use Rattle.std.proofs.Common.{◌≡◌, ◌++◌, ℕ, All, List, Some, length, map, take, drop, sym, ap, subst, ◌∙◌, arith}
 use Rattle.std.proofs.Math.Seq.{take-append_seam}
 use Rattle.std.proofs.lemmas.List.{length-map}
@@ -15,12 +16,15 @@ returns-clause-ok g c =
     let rest = drop (length news) c.in_ok-passes.passes.items in
     let same : length news ≡ length olds = omega (arith, c.enter_all.auto.passes) in
     let many : c.in_ok-passes.passes.len ≡ length news = omega (arith, same, c.deref_mut.ensures.len) in
-    let seam : take c.in_ok-passes.passes.len (news ++ rest) ≡ news = ap (λ (n : _). take n (news ++ rest)) many ∙ take-append_seam news rest in
+    let seam : take c.in_ok-passes.passes.len (news ++ rest) ≡ news = ap (λ (n : _). take n (news ++ rest)) many
+    ∙ take-append_seam news rest in
     let is : c.in_ok-accounts.accounts.items ≡ accounts news = c.in_ok-accounts.ensures.ok ∙ ap accounts seam in
     let all : All (HasAll given) (accounts news) =
-    subst (λ (ps : List PassState). All (HasAll given) ps) (c.deref.ensures.value ∙ is) (c.have_all_entered.ensures c.if-not-have_all_entered.false) in
+    subst (λ (ps : List PassState). All (HasAll given) ps) (c.deref.ensures.value ∙ is)
+    (c.have_all_entered.ensures c.if-not-have_all_entered.false) in
     subst (λ (ps : List PassState). AreServed given participants ps) (sym is)
-    (served-all given participants (accounts olds) (accounts news) (ap accounts (c.deref_mut.ensures.value ∙ c.in_ok-passes.ensures.ok) ∙ new-accounts participants)
+    (served-all given participants (accounts olds) (accounts news)
+    (ap accounts (c.deref_mut.ensures.value ∙ c.in_ok-passes.ensures.ok) ∙ new-accounts participants)
     (length-map news (λ (k : Knowledge). k.account) ∙ same ∙ sym (length-map olds (λ (k : Knowledge). k.account)))
     (accounts-enter given olds news same c.enter_all.ensures) all)
 
@@ -33,9 +37,11 @@ returns-clause-holders g c =
     let rest = drop (length news) c.in_ok-passes.passes.items in
     let same : length news ≡ length olds = omega (arith, c.enter_all.auto.passes) in
     let many : c.in_ok-passes.passes.len ≡ length news = omega (arith, same, c.deref_mut.ensures.len) in
-    let seam : take c.in_ok-passes.passes.len (news ++ rest) ≡ news = ap (λ (n : _). take n (news ++ rest)) many ∙ take-append_seam news rest in
+    let seam : take c.in_ok-passes.passes.len (news ++ rest) ≡ news = ap (λ (n : _). take n (news ++ rest)) many
+    ∙ take-append_seam news rest in
     let is : c.in_ok-accounts.accounts.items ≡ accounts news = c.in_ok-accounts.ensures.ok ∙ ap accounts seam in
     subst (λ (ps : List PassState). holders ps ≡ map (λ (who : List ℕ). Some who) participants) (sym is)
-    (held-all given participants (accounts olds) (accounts news) (ap accounts (c.deref_mut.ensures.value ∙ c.in_ok-passes.ensures.ok) ∙ new-accounts participants)
+    (held-all given participants (accounts olds) (accounts news)
+    (ap accounts (c.deref_mut.ensures.value ∙ c.in_ok-passes.ensures.ok) ∙ new-accounts participants)
     (length-map news (λ (k : Knowledge). k.account) ∙ same ∙ sym (length-map olds (λ (k : Knowledge). k.account)))
     (accounts-enter given olds news same c.enter_all.ensures))

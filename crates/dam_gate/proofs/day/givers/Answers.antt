@@ -1,4 +1,6 @@
-use Rattle.std.proofs.Common.{◌≡◌, ℕ, ◌+◌, ◌<◌, ◌++◌, ◌∷◌, [], List, length, take, slice_get, Some, Result, Ok, Err, IfErr, refl, sym, ap, subst, ◌∙◌, arith}
+-- One command more is taken, or is the first that isn't.
+use Rattle.std.proofs.Common.{◌≡◌, ℕ, ◌+◌, ◌<◌, ◌++◌, ◌∷◌, [], List, length, take, slice_get, Some, Result, Ok, Err, IfErr, refl, sym, ap}
+use Rattle.std.proofs.Common.{subst, ◌∙◌, arith}
 use Rattle.std.specs.Result.{IsErrAnd}
 use Rattle.std.specs.List.{filter}
 use Rattle.std.proofs.lemmas.List.{length-take, take_all, take_more}
@@ -12,7 +14,8 @@ use Rattle.dam_gate.proofs.Days.{givers-more, no_close-more, order-more, refused
 use Rattle.dam_gate.proofs.day.givers.Goals as goal
 
 -- a fault that is passed on
-passed_on : {X : Type 0} (P : DayFault → Type 0) (r : Result X DayFault) (fault : DayFault) → IsErrAnd r (λ e. e ≡ fault) → P fault → IfErr r P
+passed_on : {X : Type 0} (P : DayFault → Type 0) (r : Result X DayFault) (fault : DayFault) → IsErrAnd r (λ e. e ≡ fault) → P fault
+    → IfErr r P
 passed_on P (Ok x) fault same is = tt
 passed_on P (Err e) fault same is = subst P (sym same) is
 
@@ -26,7 +29,8 @@ loop-place-preserved c =
     let gives = c.in_ok-take_giver.ensures.giver.gives in
     let items = c.in_ok-take_giver.ensures.giver.after_is in
     let inside : i < length cs = c.loop-place-test.true in
-    let taken : take (i + 1) cs ≡ take i cs ++ item ∷ [] = take_more cs i item inside ∙ ap (λ (d : Command). take i cs ++ d ∷ []) (sym c.index-commands-place.is) in
+    let taken : take (i + 1) cs ≡ take i cs ++ item ∷ [] = take_more cs i item inside
+    ∙ ap (λ (d : Command). take i cs ++ d ∷ []) (sym c.index-commands-place.is) in
     record {
       few = c.in_ok-take_giver.ensures.few;
       givers = rw (items, taken) (givers-more participants who item (take i cs) gives c.loop-place.invariant.givers);
@@ -42,7 +46,8 @@ loop-place-init c =
 
 pub returns-clause-ok : goal.returns-clause-ok
 returns-clause-ok c =
-    subst (AreGivers c.loop-place.participants.items) (take_all c.loop-place.place c.args.commands.now (omega arith)) c.loop-place.invariant.givers
+    subst (AreGivers c.loop-place.participants.items) (take_all c.loop-place.place c.args.commands.now (omega arith))
+    c.loop-place.invariant.givers
 
 pub returns-clause-order : goal.returns-clause-order
 returns-clause-order c = c.loop-place.invariant.order ∙ ap givers_of (take_all c.loop-place.place c.args.commands.now (omega arith))
@@ -53,7 +58,11 @@ returns-clause-taken c =
     record {
       room = c.requires;
       no_close = subst (λ (cs : List Command). filter is_close cs ≡ []) whole c.loop-place.invariant.no_close;
-      participants = omega (arith, c.loop-place.invariant.few, ap (λ (ps : List (List ℕ)). length ps) (c.loop-place.invariant.order ∙ ap givers_of whole));
+      participants = omega (
+        arith,
+        c.loop-place.invariant.few,
+        ap (λ (ps : List (List ℕ)). length ps) (c.loop-place.invariant.order ∙ ap givers_of whole),
+      );
     }
 
 -- the first command that isn't taken decides
@@ -65,7 +74,8 @@ returns-in_err-take_giver-clause-fault c =
     let participants = c.loop-place.participants.items in
     let fault = c.in_err-take_giver.field-0.0 in
     let inside : i < length cs = c.loop-place-test.true in
-    let next : take (i + 1) cs ≡ take i cs ++ item ∷ [] = take_more cs i item inside ∙ ap (λ (d : Command). take i cs ++ d ∷ []) (sym c.index-commands-place.is) in
+    let next : take (i + 1) cs ≡ take i cs ++ item ∷ [] = take_more cs i item inside
+    ∙ ap (λ (d : Command). take i cs ++ d ∷ []) (sym c.index-commands-place.is) in
     let at : slice_get cs i ≡ Some item = slice_get_read cs (length cs) i item refl inside c.index-commands-place.is in
     let taken : AreTaken (take i cs) =
     record {
@@ -74,4 +84,5 @@ returns-in_err-take_giver-clause-fault c =
       participants = omega (arith, c.loop-place.invariant.few, ap (λ (ps : List (List ℕ)). length ps) c.loop-place.invariant.order);
     } in
     passed_on (IsDayFault cs) c.from_residual.result fault c.from_residual.ensures.1
-    (refused-at cs i participants item fault c.requires inside at next taken c.loop-place.invariant.order c.in_err-take_giver.ensures.refused)
+    (refused-at cs i participants item fault c.requires inside at next taken c.loop-place.invariant.order
+    c.in_err-take_giver.ensures.refused)

@@ -1,3 +1,4 @@
+-- One holder more has as many receipts as commands of its own.
 use Rattle.std.proofs.Common.{All, ℕ, List, Option, length, subst, sym, ap, ◌∙◌, arith}
 use Rattle.std.proofs.lemmas.List.{take_all}
 use Rattle.std.proofs.lemmas.List.Elements.{All-more}
@@ -20,4 +21,5 @@ loop-pass-preserved c =
 
 pub returns : goal.returns
 returns c = λ yes.
-    subst (λ (ps : List PassState). All (HasAll c.args.commands.now) ps) (take_all c.loop-pass.pass-index c.args.passes.now (omega arith)) c.loop-pass.invariant
+    subst (λ (ps : List PassState). All (HasAll c.args.commands.now) ps)
+    (take_all c.loop-pass.pass-index c.args.passes.now (omega arith)) c.loop-pass.invariant

@@ -1,3 +1,4 @@
+-- The holders of the passes are those of a day of these commands.
 use Rattle.std.proofs.Common.{◌∙◌}
 use Rattle.dam_gate.proofs.day.run_packed.Goals as goal
 

@@ -1,3 +1,4 @@
+-- One pass more is one.
 use Rattle.std.proofs.Common.{All, List, subst, arith}
 use Rattle.std.proofs.lemmas.List.{take_all}
 use Rattle.std.proofs.lemmas.List.Elements.{All-more}

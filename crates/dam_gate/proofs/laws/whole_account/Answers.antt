@@ -1,3 +1,4 @@
+-- The settled entries are a legal history, and the receipts are its entries.
 use Rattle.std.proofs.Common.{sym, subst}
 use Rattle.dam_book.specs.Book.{empty_book}
 use Rattle.dam_gate.specs.Settled.{receipts_of}
@@ -8,7 +9,7 @@ use Rattle.dam_gate.proofs.laws.whole_account.Goals as goal
 pub returns : goal.returns
 returns g c =
     let j : JournalState = c.args.settled.now in
-    let is : IsJournal j = subst IsJournal c.journal.ensures.value c.entries-journal.ensures.valid in
+    let is : IsJournal j = subst IsJournal c.journal.ensures.value c.entries-entries.ensures.valid in
     record {
       replies = sym (c.histories_are_runs.ensures.entries j.book.periods j.entries is.history.legal);
       book = sym is.book_is;

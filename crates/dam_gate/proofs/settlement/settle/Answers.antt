@@ -1,3 +1,4 @@
+-- Receipts that are the entries number by number are the entries, each once, and the other way round.
 use Rattle.dam_book.specs.Book.{empty_book}
 use Rattle.dam_gate.specs.Settled.{receipts_of}
 use Rattle.dam_gate.proofs.Accounts.{each_number, each_once}
@@ -16,5 +17,6 @@ whole_account-requires g c =
 pub returns-in-Ok-Some-clause-exact : goal.returns-in-Ok-Some-clause-exact
 returns-in-Ok-Some-clause-exact g c = λ settled.
     let legal = c.book.ensures.valid.history.legal in
-    absurd (no_fault c.args.journal.entries (receipts_of c.args.passes.now) c.in-Ok-Some.why (rw c.in-Ok-Some.field-0-is at c.in-Ok-Some.ensures)
+    absurd (no_fault c.args.journal.entries (receipts_of c.args.passes.now) c.in-Ok-Some.why
+    (rw c.in-Ok-Some.field-0-is at c.in-Ok-Some.ensures)
     (each_number c.args.journal.book.periods c.args.journal.entries (receipts_of c.args.passes.now) legal settled.each_once))

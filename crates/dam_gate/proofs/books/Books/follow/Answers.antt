@@ -1,3 +1,4 @@
+-- The books go on by an entry.
 use Rattle.std.proofs.Common.{rules}
 use Rattle.std.specs.Arc.{arc_value}
 use Rattle.dam_gate.proofs.Steps.{AreSteps-more, AreSteps-next}

@@ -1,3 +1,4 @@
+-- A refused command leaves the book, and any other is applied to an equal one.
 use Rattle.std.proofs.Common.{◌≡◌, sym, ap, ◌∙◌}
 use Rattle.std.proofs.lemmas.Result.{IfOk-weaker}
 use Rattle.dam_gate.specs.Keeper.{KeeperState}

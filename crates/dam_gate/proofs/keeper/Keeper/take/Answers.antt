@@ -1,3 +1,4 @@
+-- The journal after a step that was ready is one, of the same day.
 use Rattle.std.proofs.Common.{◌≡◌, false, length, sym, ap, ◌∙◌}
 use Rattle.dam_gate.specs.Journal.{JournalState, is_full, next_entry}
 use Rattle.dam_gate.specs.Keeper.{KeeperState, ReadyState}
@@ -9,7 +10,8 @@ invariant_of-self g c =
     let j : JournalState = record { entries = c.self.inside.entries.items; book = c.self.inside.books.book } in
     let command = c.args.ready.entry.command in
     let entry : c.ready.inside.entry ≡ next_entry j command =
-    ap (λ (r : ReadyState). r.entry) c.ready.view_is ∙ (c.requires.entry ∙ ap (λ (k : KeeperState). next_entry k.journal command) (sym c.self.view_is)) in
+    ap (λ (r : ReadyState). r.entry) c.ready.view_is ∙ (c.requires.entry
+    ∙ ap (λ (k : KeeperState). next_entry k.journal command) (sym c.self.view_is)) in
     let left : is_full (length j.entries) command ≡ false =
     ap (λ (k : KeeperState). is_full (length k.journal.entries) command) c.self.view_is ∙ c.requires.left in
     let held : length j.entries ≡ c.len-held.result =
@@ -23,5 +25,6 @@ returns-clause-day g c =
     let j : JournalState = record { entries = c.self.inside.entries.items; book = c.self.inside.books.book } in
     let command = c.args.ready.entry.command in
     let entry : c.ready.inside.entry ≡ next_entry j command =
-    ap (λ (r : ReadyState). r.entry) c.ready.view_is ∙ (c.requires.entry ∙ ap (λ (k : KeeperState). next_entry k.journal command) (sym c.self.view_is)) in
+    ap (λ (r : ReadyState). r.entry) c.ready.view_is ∙ (c.requires.entry
+    ∙ ap (λ (k : KeeperState). next_entry k.journal command) (sym c.self.view_is)) in
     rw (c.follow.ensures.book, entry) (book_after-periods j.book command ∙ ap (λ (k : KeeperState). k.journal.book.periods) c.self.view_is)

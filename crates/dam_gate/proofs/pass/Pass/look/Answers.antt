@@ -1,3 +1,4 @@
+-- A look at a longer history keeps the receipts in order.
 use Rattle.std.proofs.Common.{length, ap, refl, arith}
 use Rattle.dam_gate.proofs.Beginnings.{prefix_length}
 use Rattle.dam_gate.proofs.Receipts.{AreInOrder-seen}
@@ -5,11 +6,12 @@ use Rattle.dam_gate.proofs.pass.Pass.look.Goals as goal
 
 pub invariant_of-self-2 : goal.invariant_of-self-2
 invariant_of-self-2 g c =
-    let shown = c.front-front.result.now in
+    let shown = c.history-shown.result.now in
     let longer = prefix_length c.self.inside.history shown (c.begins_with.ensures c.if-not-begins_with.false) in
     record {
       account = record {
-        in_order = AreInOrder-seen 0 (length c.self.inside.history) (length c.again.result) c.self.inside.receipts.items c.self.invariant.account.in_order
+        in_order = AreInOrder-seen 0 (length c.self.inside.history)
+            (length c.again.result) c.self.inside.receipts.items c.self.invariant.account.in_order
             (omega (arith, longer, ap length c.again.ensures));
         own = c.self.invariant.account.own;
       };
@@ -20,7 +22,7 @@ pub returns-clause-begins : goal.returns-clause-begins
 returns-clause-begins g c =
     rw (← c.self.view_is, c.again.ensures) (record {
       seen = c.begins_with.ensures c.if-not-begins_with.false;
-      told = c.begins_with-else-not-begins_with.ensures c.if-not-begins_with-2.false;
+      learnt = c.begins_with-else-not-begins_with.ensures c.if-not-begins_with-2.false;
     })
 
 pub returns-clause-pass : goal.returns-clause-pass

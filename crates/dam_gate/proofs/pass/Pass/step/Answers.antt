@@ -1,9 +1,10 @@
+-- The receipt of a call, and what the pass then knows.
 use Rattle.std.proofs.Common.{◌≡◌, ◌-◌, ◌++◌, ◌∷◌, [], ℕ, true, false, length, refl, sym, ap, subst, ◌∙◌, arith, length-append}
 use mathlib.Core.List.{IsPrefix}
 use Rattle.dam_book.specs.declared.command.Entry.{Entry}
-use Rattle.dam_gate.specs.Journal.{IsHistory, is_full}
+use Rattle.dam_gate.specs.Journal.{IsHistory, is_full, next_entry}
 use Rattle.dam_gate.specs.Pass.{Knowledge, AreInOrder, is_own}
-use Rattle.dam_gate.specs.inside.Desk.{entry_of}
+use Rattle.dam_gate.specs.inside.Locked.{entry_of}
 use Rattle.dam_gate.proofs.Beginnings.{prefix_length}
 use Rattle.dam_gate.proofs.Receipts.{AreInOrder-snoc, AreOwn-snoc}
 use Rattle.dam_gate.proofs.Histories.{history-after}
@@ -12,11 +13,12 @@ use Rattle.dam_gate.proofs.pass.Pass.step.Goals as goal
 pub invariant_of-self-2 : goal.invariant_of-self-2
 invariant_of-self-2 g c =
     let e = entry_of c.args.command.now c.in_ok-answer.answer in
-    let held = c.args.desk.now.journal.entries in
+    let held = c.args.locked.now.journal.entries in
     let holder = c.self.inside.holder in
     let receipts = c.self.inside.receipts.items in
     let number = ap (λ (x : Entry). x.number) c.in_ok-answer.ensures.entry in
-    let whole : e.number ≡ length c.in_ok-answer.front = omega (arith, number, ap length c.in_ok-answer.ensures.history, length-append held (e ∷ [])) in
+    let whole : e.number ≡ length c.in_ok-answer.after =
+    omega (arith, number, ap length c.in_ok-answer.ensures.history, length-append held (e ∷ [])) in
     let before : e.number - 1 ≡ length held = omega (arith, number) in
     let mine : is_own holder e.command ≡ true =
     ap (λ (k : Knowledge). is_own k.account.holder c.args.command.now) c.self.view_is ∙ c.requires in
@@ -28,40 +30,45 @@ invariant_of-self-2 g c =
     (record {
       account = record {
         in_order = subst (λ (n : ℕ). AreInOrder 0 n (receipts ++ e ∷ [])) whole
-            (AreInOrder-snoc 0 (length c.self.inside.history) receipts e c.self.invariant.account.in_order (omega (arith, number, earlier)));
+            (AreInOrder-snoc 0 (length c.self.inside.history) receipts e c.self.invariant.account.in_order
+            (omega (arith, number, earlier)));
         own = AreOwn-snoc holder receipts e c.self.invariant.account.own mine room;
       };
       seen = refl;
     })
 
+-- the history after the call is the journal's with the entry, and all that the pass knew begins the journal's
 pub returns-clause-answered : goal.returns-clause-answered
 returns-clause-answered g c =
     let e = entry_of c.args.command.now c.in_ok-answer.answer in
-    let j = c.args.desk.now.journal in
+    let j = c.args.locked.now.journal in
+    let after = c.in_ok-answer.after in
     let number = ap (λ (x : Entry). x.number) c.in_ok-answer.ensures.entry in
+    let whole : length after ≡ e.number =
+    omega (arith, number, ap length c.in_ok-answer.ensures.history, length-append j.entries (e ∷ [])) in
+    let earlier = prefix_length c.self.inside.history j.entries c.in_ok-answer.ensures.seen in
     let left : is_full (length j.entries) c.args.command.now ≡ false =
     ap (λ (n : ℕ). is_full n c.args.command.now) (sym c.len-held.ensures.value) ∙ (sym c.is_full.ensures ∙ c.if-is_full.false) in
+    let last : after ≡ j.entries ++ next_entry j c.args.command.now ∷ [] =
+    c.in_ok-answer.ensures.history ∙ ap (λ (x : Entry). j.entries ++ x ∷ []) c.in_ok-answer.ensures.entry in
     record {
-      before = j.entries;
-      legal = subst (λ (n : ℕ). IsHistory n c.in_ok-answer.front) c.len-held.ensures.day
-          (subst (IsHistory j.book.periods) (sym (c.in_ok-answer.ensures.history ∙ ap (λ (x : Entry). j.entries ++ x ∷ []) c.in_ok-answer.ensures.entry))
-          (history-after j c.args.command.now c.len-held.ensures.valid left));
-      last = c.in_ok-answer.ensures.history;
-      number = omega (arith, number, ap length c.in_ok-answer.ensures.history, length-append j.entries (e ∷ []));
-      seen = subst (λ (k : Knowledge). IsPrefix k.history j.entries) c.self.view_is c.in_ok-answer.ensures.seen;
-      told = subst (λ (k : Knowledge). IsPrefix k.told j.entries) c.self.view_is c.in_ok-answer.ensures.told;
+      later = omega (arith, number, earlier, ap (λ (k : Knowledge). k.account.seen) c.self.view_is);
+      receipt = rw (
+        ← c.self.view_is,
+        c.push_reserved.ensures.items,
+        c.reserve.ensures.items,
+        c.new.ensures,
+        c.in_ok-packed.ensures,
+        c.again.ensures,
+        whole,
+      );
+      history = record {
+        before = j.entries;
+        legal = subst (λ (n : ℕ). IsHistory n after) c.len-held.ensures.day
+            (subst (IsHistory j.book.periods) (sym last) (history-after j c.args.command.now c.len-held.ensures.valid left));
+        last = c.in_ok-answer.ensures.history;
+        number = sym whole;
+        seen = subst (λ (k : Knowledge). IsPrefix k.history j.entries) c.self.view_is c.in_ok-answer.ensures.seen;
+        learnt = subst (λ (k : Knowledge). IsPrefix k.learnt j.entries) c.self.view_is c.in_ok-answer.ensures.learnt;
+      };
     }
-
-pub returns-clause-later : goal.returns-clause-later
-returns-clause-later g c =
-    let number = ap (λ (x : Entry). x.number) c.in_ok-answer.ensures.entry in
-    let earlier = prefix_length c.self.inside.history c.args.desk.now.journal.entries c.in_ok-answer.ensures.seen in
-    omega (arith, number, earlier, ap (λ (k : Knowledge). k.account.seen) c.self.view_is)
-
-pub returns-clause-pass : goal.returns-clause-pass
-returns-clause-pass g c =
-    let e = entry_of c.args.command.now c.in_ok-answer.answer in
-    let held = c.args.desk.now.journal.entries in
-    let number = ap (λ (x : Entry). x.number) c.in_ok-answer.ensures.entry in
-    let whole : length c.in_ok-answer.front ≡ e.number = omega (arith, number, ap length c.in_ok-answer.ensures.history, length-append held (e ∷ [])) in
-    rw (← c.self.view_is, c.push_reserved.ensures.items, c.reserve.ensures.items, c.new.ensures, c.in_ok-packed.ensures, c.again.ensures, whole)

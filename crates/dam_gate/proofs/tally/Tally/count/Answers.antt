@@ -1,3 +1,4 @@
+-- A receipt changes the mark of its entry, or the least extra number.
 use Rattle.std.proofs.Common.{◌<◌, ◌-◌, Some, length, sym, ap, ◌∙◌, arith}
 use Rattle.std.proofs.lemmas.Option.{slice_get-get_or}
 use Rattle.dam_gate.proofs.Tallies.{tally-some, tally-none}
@@ -11,7 +12,8 @@ returns-in-Some-clause-tally g c = λ before tally.
     let entry_is = rw c.number-number.ensures at c.in-Some.ensures.lookup.1 in
     let mark_is = rw c.number-number.ensures at c.index.ensures in
     rw (c.number-number.ensures, c.with.ensures)
-    (tally-some c.args.entries.now fs c.args.self.now.extra before c.args.receipt.now c.in-Some.entry.now c.index.result.now c.is_same.result c.requires.positive
+    (tally-some c.args.entries.now fs c.args.self.now.extra before c.args.receipt.now c.in-Some.entry.now c.index.result.now
+    c.is_same.result c.requires.positive
     (slice_get-get_or c.args.entries.now place c.in-Some.entry.now within ∙ ap Some (sym entry_is))
     (slice_get-get_or fs place c.index.result.now (omega (arith, within, c.requires.as_long)) ∙ ap Some (sym mark_is))
     c.is_same.ensures tally)

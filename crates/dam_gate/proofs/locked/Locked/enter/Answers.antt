@@ -1,10 +1,11 @@
+-- The step that was made ready is the next of the journal, and a refused one leaves the journal.
 use Rattle.std.proofs.Common.{◌≡◌, ℕ, false, length, Result, Ok, Err, OnErr, sym, ap, ap₂, ◌∙◌}
 use Rattle.dam_book.specs.Book.{BookState, book_after}
 use Rattle.dam_book.specs.declared.command.Entry.{Entry}
 use Rattle.dam_gate.specs.Journal.{JournalState, is_full, journal_after, next_entry}
-use Rattle.dam_gate.specs.inside.Desk.{DeskState, entry_of}
+use Rattle.dam_gate.specs.inside.Locked.{LockedState, entry_of}
 use Rattle.dam_gate.proofs.Histories.{book_after-periods, journal_after_is}
-use Rattle.dam_gate.proofs.desk.Desk.enter.Goals as goal
+use Rattle.dam_gate.proofs.locked.Locked.enter.Goals as goal
 
 pub go_on-requires-clause-journal : goal.go_on-requires-clause-journal
 go_on-requires-clause-journal g c =
@@ -13,8 +14,10 @@ go_on-requires-clause-journal g c =
     let ready = c.in_ok-ready.ensures.ready in
     let same : c.ready.new.self.journal ≡ j = c.ready.ensures.journal in
     let entry : c.in_ok-ready.ready.entry ≡ next_entry j command = ready.entry ∙ ap (λ (x : JournalState). next_entry x command) same in
-    let book : c.in_ok-ready.ready.book ≡ book_after j.book command = ready.book ∙ ap (λ (x : JournalState). book_after x.book command) same in
-    let left : is_full (length j.entries) command ≡ false = ap (λ (x : JournalState). is_full (length x.entries) command) (sym same) ∙ ready.left in
+    let book : c.in_ok-ready.ready.book ≡ book_after j.book command = ready.book
+    ∙ ap (λ (x : JournalState). book_after x.book command) same in
+    let left : is_full (length j.entries) command ≡ false = ap (λ (x : JournalState). is_full (length x.entries) command) (sym same)
+    ∙ ready.left in
     rw (c.self.invariant.0, entry, book) (journal_after_is j command c.len-held.ensures.valid left)
 
 pub go_on-requires-clause-day : goal.go_on-requires-clause-day
@@ -29,35 +32,37 @@ pub returns-clause-entry : goal.returns-clause-entry
 returns-clause-entry g c =
     let command = c.args.command.now in
     ap (λ (e : Entry). entry_of command (e.number, e.reply))
-    (c.entry-entry.ensures ∙ (c.in_ok-ready.ensures.ready.entry ∙ ap (λ (x : JournalState). next_entry x command) (c.ready.ensures.journal ∙ ap (λ (d : DeskState). d.journal) c.self.view_is)))
+    (c.entry-entry.ensures ∙ (c.in_ok-ready.ensures.ready.entry
+    ∙ ap (λ (x : JournalState). next_entry x command) (c.ready.ensures.journal ∙ ap (λ (d : LockedState). d.journal) c.self.view_is)))
 
 pub returns-clause-history : goal.returns-clause-history
 returns-clause-history g c =
-    rw (← c.self.view_is, c.in_ok-front.ensures.history, c.self.invariant.0, c.entry-entry.ensures, c.in_ok-ready.ensures.ready.entry)
+    rw (← c.self.view_is, c.in_ok-after.ensures.history, c.self.invariant.0, c.entry-entry.ensures, c.in_ok-ready.ensures.ready.entry)
 
 pub returns-clause-journal : goal.returns-clause-journal
 returns-clause-journal g c =
     c.take.ensures.step
-    ∙ ap₂ journal_after (c.ready.ensures.journal ∙ ap (λ (d : DeskState). d.journal) c.self.view_is) (ap (λ (e : Entry). e.command) c.in_ok-ready.ensures.ready.entry)
+    ∙ ap₂ journal_after (c.ready.ensures.journal ∙ ap (λ (d : LockedState). d.journal) c.self.view_is)
+    (ap (λ (e : Entry). e.command) c.in_ok-ready.ensures.ready.entry)
 
 pub returns-clause-passes : goal.returns-clause-passes
-returns-clause-passes g c = ap (λ (d : DeskState). d.passes) c.self.view_is
+returns-clause-passes g c = ap (λ (d : LockedState). d.passes) c.self.view_is
 
--- where it is refused, the journal stays
+-- if it is refused, the journal stays
 when_refused : {T E P : Type 0} (r : Result T E) → P → OnErr r P
 when_refused (Ok x) p = tt
 when_refused (Err e) p = p
 
-abbrev with_journal : ℕ → JournalState → DeskState
+abbrev with_journal : ℕ → JournalState → LockedState
 with_journal passes journal = record { journal = journal; passes = passes }
 
-pub returns-in_err-place-clause-err : goal.returns-in_err-place-clause-err
-returns-in_err-place-clause-err g c =
-    when_refused c.from_residual-in_err-place.result (ap (with_journal c.self.inside.passes) c.ready.ensures.journal ∙ c.self.view_is)
+pub returns-in_err-slot-clause-err : goal.returns-in_err-slot-clause-err
+returns-in_err-slot-clause-err g c =
+    when_refused c.from_residual-in_err-slot.result (ap (with_journal c.self.inside.passes) c.ready.ensures.journal ∙ c.self.view_is)
 
-pub returns-in_err-front-clause-err : goal.returns-in_err-front-clause-err
-returns-in_err-front-clause-err g c =
-    when_refused c.from_residual-in_err-front.result (ap (with_journal c.self.inside.passes) c.ready.ensures.journal ∙ c.self.view_is)
+pub returns-in_err-after-clause-err : goal.returns-in_err-after-clause-err
+returns-in_err-after-clause-err g c =
+    when_refused c.from_residual-in_err-after.result (ap (with_journal c.self.inside.passes) c.ready.ensures.journal ∙ c.self.view_is)
 
 pub invariant_of-self : goal.invariant_of-self
 invariant_of-self g c = rw c.ready.ensures.journal c.self.invariant

@@ -12,18 +12,18 @@ use Rattle.dam_gate.specs.Limits.{most_passes}
 use Rattle.dam_gate.specs.Pass.{PassState, is_own}
 
 -- the journal, and how many passes were given
-pub record DeskState : Type 0 where
+pub record LockedState : Type 0 where
   pub journal : JournalState
   pub passes : ℕ
 
--- what may be answered in place of a pass where so many were given
+-- what may be answered in place of a pass if this number was given
 abbrev pub IsPassFault : ℕ → PassFault → Type 0
 IsPassFault given PassesUsed = most_passes ≤ given
 IsPassFault given NoPlace = given < most_passes
 IsPassFault given Memory = given < most_passes
 
--- what is answered to the command of a pass in place of its entry if the journal has so many, each fault if those before it are
--- none
+-- what is answered to the command of a pass in place of its entry if the journal holds `held`: each fault only if none of those
+-- before it is one
 abbrev pub IsFaultAt : ℕ → PassState → Command → GateFault → Type 0
 IsFaultAt held p c NotYours = is_own p.holder c ≡ false
 IsFaultAt held p c (JournalFull n) = (is_own p.holder c ≡ true) × (n ≡ held) × (is_full held c ≡ true)

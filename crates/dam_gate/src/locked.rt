@@ -3,16 +3,16 @@ ghost use mathlib.Core.List.{IsPrefix};
 ghost use Rattle.dam_gate.specs.Journal.{IsJournal, empty_journal, is_full, journal_after, next_entry};
 ghost use Rattle.dam_gate.specs.Limits.{most_passes};
 ghost use Rattle.dam_gate.specs.Pass.{knowing_nothing};
-ghost use Rattle.dam_gate.specs.inside.Desk.{IsPassFault, entry_of};
+ghost use Rattle.dam_gate.specs.inside.Locked.{IsPassFault, entry_of};
 ghost use Rattle.dam_gate.specs.inside.Shown.{IsAtMostNext, IsNext};
 ghost use Rattle.left_right.specs.Handles.{pending, published};
 
 use crate::gate::{GateFault, PassFault};
-use crate::history::{Front, Head, Naming, Opening};
+use crate::history::{EntryCount, GateName, History, Opening};
 use crate::keeper::{Journal, Keeper, Ready};
 use crate::limits::MOST_PASSES;
 use crate::pass::Pass;
-use crate::version::{Change, Place, Shown, Version};
+use crate::version::{NextShown, Shown, Slot, Version};
 use dam_book::{Command, DayLength, Participant, Reply, Seed};
 use left_right::{Absorb, WriteHandle};
 use std::alloc::{AllocError, Global};
@@ -25,107 +25,107 @@ use std::sync::{Arc, OnceLock, Wait};
 /// has is just the journal's entries, the day is that of the name, and the version that is shown has as many entries as the
 /// journal.
 #[derive(Drop)]
-pub(crate) struct Desk<J: Naming, R: Wait + Drop>
+pub(crate) struct Locked<J: GateName, R: Wait + Drop>
 where
-    Shown<J>: Absorb<Change<J>, State = u32>,
+    Shown<J>: Absorb<NextShown<J>, State = u32>,
 {
     alloc: Global,
     pub(crate) keeper: Keeper,
-    head: Head<J>,
+    count: EntryCount<J>,
     // the history before the first entry, and after the last one
-    start: Front<J>,
-    front: Front<J>,
-    writer: WriteHandle<Shown<J>, Change<J>, R>,
-    // the place in the change that a refused call left at the writer
-    next: Option<Place<J>>,
+    start: History<J>,
+    history: History<J>,
+    writer: WriteHandle<Shown<J>, NextShown<J>, R>,
+    // the empty slot that a refused call left at the writer
+    next: Option<Slot<J>>,
     // how many passes were given
     passes: u8,
     ghost starts: { start ≡ [] },
 }
 
-impl<J: Naming, R: Wait + Drop> Model for Desk<J, R>
+impl<J: GateName, R: Wait + Drop> Model for Locked<J, R>
 where
-    Shown<J>: Absorb<Change<J>, State = u32>,
+    Shown<J>: Absorb<NextShown<J>, State = u32>,
 {
     ghost use Rattle.std.specs.Prelude.{◌≡◌, length};
     ghost use Rattle.left_right.specs.Handles.{pending, published};
-    ghost use Rattle.dam_gate.specs.inside.Desk.{DeskState};
+    ghost use Rattle.dam_gate.specs.inside.Locked.{LockedState};
     ghost use Rattle.dam_gate.specs.inside.Shown.{IsAtMostNext};
 
-    ghost Value = { DeskState };
+    ghost Value = { LockedState };
 
-    ghost view = { λ d. record { journal = d.keeper.journal; passes = d.passes } };
+    ghost view = { λ l. record { journal = l.keeper.journal; passes = l.passes } };
 
-    ghost invariant = { λ d. (d.front ≡ d.keeper.journal.entries)
-        × (d.keeper.journal.book.periods ≡ J.opening.periods)
-        × ((published d.writer).held ≡ length d.keeper.journal.entries)
-        × IsAtMostNext (length d.keeper.journal.entries) d.next (pending d.writer) };
+    ghost invariant = { λ l. (l.history ≡ l.keeper.journal.entries)
+        × (l.keeper.journal.book.periods ≡ J.opening.periods)
+        × ((published l.writer).held ≡ length l.keeper.journal.entries)
+        × IsAtMostNext (length l.keeper.journal.entries) l.next (pending l.writer) };
 }
 
-/// A place where the version stands.
-fn shown<J: Naming>(alloc: Global, version: Version<J>) -> Result<Shown<J>, AllocError>
+/// A slot with the version in it.
+fn shown<J: GateName>(alloc: Global, version: Version<J>) -> Result<Shown<J>, AllocError>
     ensures { IfOk result (λ shown. shown.held ≡ length version.entries) }
 {
-    let held = version.front().len();
+    let held = version.history().len();
     Ok(Shown {
-        place: Arc::new(alloc, OnceLock::from(version))?,
+        slot: Arc::new(alloc, OnceLock::from(version))?,
         held,
     })
 }
 
 /// The writer of the versions, of which the first has the keeper's book.
-fn writer_from<J: Naming, R: Wait + Drop>(
+fn writer_from<J: GateName, R: Wait + Drop>(
     rt: R,
     alloc: Global,
     keeper: &Keeper,
-    front: &Front<J>,
-) -> Result<WriteHandle<Shown<J>, Change<J>, R>, AllocError>
-    requires front { front.now ≡ keeper.now.journal.entries }
+    history: &History<J>,
+) -> Result<WriteHandle<Shown<J>, NextShown<J>, R>, AllocError>
+    requires history { history.now ≡ keeper.now.journal.entries }
     requires day { keeper.now.journal.book.periods ≡ J.opening.periods }
-    ensures shown { IfOk result (λ writer. (published writer).held ≡ length front.now) }
+    ensures shown { IfOk result (λ writer. (published writer).held ≡ length history.now) }
     ensures waiting { IfOk result (λ writer. pending writer ≡ []) }
 {
-    let first = shown(alloc, Version::new(keeper.share()?, front.again()))?;
+    let first = shown(alloc, Version::new(keeper.share()?, history.again()))?;
     let second = Shown {
-        place: Arc::try_clone(&first.place)?,
+        slot: Arc::try_clone(&first.slot)?,
         held: first.held,
     };
     WriteHandle::new(alloc, rt, first, second, MOST_PASSES as usize)
 }
 
-/// A place for the next version, with none in it yet: the one that a refused call left at the writer, or else a new one. It is
-/// what the writer shows next.
-fn next_place<J: Naming, R: Wait + Drop>(
+/// A slot for the next version, still empty: the one that a refused call left at the writer, or else a new one. The writer shows
+/// it next.
+fn next_slot<J: GateName, R: Wait + Drop>(
     alloc: Global,
-    writer: &mut WriteHandle<Shown<J>, Change<J>, R>,
-    next: &mut Option<Place<J>>,
+    writer: &mut WriteHandle<Shown<J>, NextShown<J>, R>,
+    next: &mut Option<Slot<J>>,
     held: u32,
-) -> Result<Place<J>, AllocError>
+) -> Result<Slot<J>, AllocError>
     requires few { held < 2 ^ 31 }
     requires waiting { IsAtMostNext held next.old (pending writer.old) }
     ensures published { published writer.new ≡ published writer.old }
     ensures waiting { IsAtMostNext held next.new (pending writer.new) }
     ensures ok { OnOk result (IsNext held (pending writer.new)) }
 {
-    if let Some(place) = &*next {
-        return Arc::try_clone(place);
+    if let Some(slot) = &*next {
+        return Arc::try_clone(slot);
     }
-    let place = Arc::new(alloc, OnceLock::new())?;
-    let kept = Arc::try_clone(&place)?;
-    let change = Change {
-        place: Arc::try_clone(&place)?,
+    let slot = Arc::new(alloc, OnceLock::new())?;
+    let kept = Arc::try_clone(&slot)?;
+    let change = NextShown {
+        slot: Arc::try_clone(&slot)?,
         held: held + 1,
     };
     if writer.append(change).is_err() {
         return Err(AllocError);
     }
     *next = Some(kept);
-    Ok(place)
+    Ok(slot)
 }
 
-/// Brings the copy that no look reads any more up to the one that is shown, so that nothing keeps the version before it. It
+/// Makes the copy that no look reads any more equal to the one that is shown, so that nothing keeps the version before it. It
 /// waits for the looks at that version.
-fn let_go<J: Naming, R: Wait + Drop>(writer: &mut WriteHandle<Shown<J>, Change<J>, R>)
+fn let_go<J: GateName, R: Wait + Drop>(writer: &mut WriteHandle<Shown<J>, NextShown<J>, R>)
     requires { pending writer.old ≡ [] }
     ensures shown { (published writer.new).held ≡ (published writer.old).held }
     ensures waiting { pending writer.new ≡ [] }
@@ -134,35 +134,35 @@ fn let_go<J: Naming, R: Wait + Drop>(writer: &mut WriteHandle<Shown<J>, Change<J
     let _shown = writer.publish();
 }
 
-/// The history after the step, whose version then stands at the place.
-fn go_on<J: Naming>(
-    head: &Head<J>,
-    front: &Front<J>,
-    seen: &Front<J>,
-    told: &Front<J>,
+/// The history after the step. Its version is then in the slot.
+fn go_on<J: GateName>(
+    count: &EntryCount<J>,
+    history: &History<J>,
+    seen: &History<J>,
+    learnt: &History<J>,
     ready: &Ready,
-    place: &Place<J>,
-) -> Result<Front<J>, GateFault>
+    slot: &Slot<J>,
+) -> Result<History<J>, GateFault>
     requires journal { IsJournal
-        (record { entries = front.now ++ ready.now.entry ∷ []; book = ready.now.book }) }
+        (record { entries = history.now ++ ready.now.entry ∷ []; book = ready.now.book }) }
     requires day { ready.now.book.periods ≡ J.opening.periods }
-    ensures history { IfOk result (λ after. after ≡ front.now ++ ready.now.entry ∷ []) }
-    ensures seen { OnOk result (IsPrefix seen.now front.now) }
-    ensures told { OnOk result (IsPrefix told.now front.now) }
+    ensures history { IfOk result (λ after. after ≡ history.now ++ ready.now.entry ∷ []) }
+    ensures seen { OnOk result (IsPrefix seen.now history.now) }
+    ensures learnt { OnOk result (IsPrefix learnt.now history.now) }
     ensures fault { IfErr result (λ fault.
         (fault ≡ GateFault.Memory) ⊎ (fault ≡ GateFault.NoVersion)) }
 {
     let book = ready.book()?;
-    let Some(after) = head.add(front, seen, told, ready.entry()) else {
+    let Some(after) = count.add(history, seen, learnt, ready.entry()) else {
         return Err(GateFault::NoVersion);
     };
-    if place.try_set(Version::new(book, after.again())).is_err() {
+    if slot.try_set(Version::new(book, after.again())).is_err() {
         return Err(GateFault::NoVersion);
     }
     Ok(after)
 }
 
-impl<J: Naming, R: Wait + Drop> Desk<J, R> {
+impl<J: GateName, R: Wait + Drop> Locked<J, R> {
     /// A day without entries, whose first version is shown.
     pub(crate) fn begin(
         rt: R,
@@ -170,21 +170,21 @@ impl<J: Naming, R: Wait + Drop> Desk<J, R> {
         opening: Opening,
         periods: DayLength,
         seed: Seed,
-    ) -> Result<Desk<J, R>, AllocError>
+    ) -> Result<Locked<J, R>, AllocError>
         requires name { opening ≡ J.opening }
         requires day { opening.periods ≡ periods }
-        ensures { IfOk result (λ desk.
-            desk ≡ record { journal = empty_journal opening.periods; passes = 0 }) }
+        ensures { IfOk result (λ locked.
+            locked ≡ record { journal = empty_journal opening.periods; passes = 0 }) }
     {
         let keeper = Keeper::for_day(alloc, periods, seed)?;
-        let (head, front) = opening.named::<J>();
-        let writer = writer_from(rt, alloc, &keeper, &front)?;
-        Ok(Desk {
+        let (count, start) = opening.named::<J>();
+        let writer = writer_from(rt, alloc, &keeper, &start)?;
+        Ok(Locked {
             alloc,
             keeper,
-            head,
-            start: front.again(),
-            front,
+            count,
+            start: start.again(),
+            history: start,
             writer,
             next: None,
             passes: 0,
@@ -200,7 +200,7 @@ impl<J: Naming, R: Wait + Drop> Desk<J, R> {
         self.keeper.len()
     }
 
-    /// Makes room in the journal for so many entries more.
+    /// Makes room in the journal for this number of entries more.
     pub(crate) fn make_room(&mut self, entries: usize) -> Result<(), AllocError>
         ensures { self.new ≡ self.old }
     {
@@ -213,7 +213,7 @@ impl<J: Naming, R: Wait + Drop> Desk<J, R> {
         ensures valid { IsJournal result }
         ensures day { result.book.periods ≡ J.opening.periods }
     {
-        let Desk { keeper, .. } = self;
+        let Locked { keeper, .. } = self;
         keeper.into_journal()
     }
 
@@ -237,16 +237,16 @@ impl<J: Naming, R: Wait + Drop> Desk<J, R> {
         Ok(pass)
     }
 
-    /// Journals the command, and shows the version after it. It answers the entry's number and reply, and the history that it
-    /// ends.
+    /// Journals the command, and shows the version after it. It answers the entry's number and reply, and the history that ends
+    /// with it.
     ///
-    /// All that may be refused comes first. What a refused call has left at the writer the next one takes.
+    /// All that may be refused comes first. The next call takes the slot that a refused call has left at the writer.
     pub(crate) fn enter(
         &mut self,
-        seen: &Front<J>,
-        told: &Front<J>,
+        seen: &History<J>,
+        learnt: &History<J>,
         command: &Command,
-    ) -> Result<((u32, Reply), Front<J>), GateFault>
+    ) -> Result<((u32, Reply), History<J>), GateFault>
         requires { is_full (length self.old.journal.entries) command.now ≡ false }
         ensures entry { IfOk result (λ r.
             entry_of command.now r.0 ≡ next_entry self.old.journal command.now) }
@@ -256,16 +256,15 @@ impl<J: Naming, R: Wait + Drop> Desk<J, R> {
             (self.new.journal ≡ journal_after self.old.journal command.now) }
         ensures passes { self.new.passes ≡ self.old.passes }
         ensures seen { OnOk result (IsPrefix seen.now self.old.journal.entries) }
-        ensures told { OnOk result (IsPrefix told.now self.old.journal.entries) }
+        ensures learnt { OnOk result (IsPrefix learnt.now self.old.journal.entries) }
         ensures err { OnErr result (self.new ≡ self.old) }
         ensures fault { IfErr result (λ fault.
             (fault ≡ GateFault.Memory) ⊎ (fault ≡ GateFault.NoVersion)) }
     {
-        // Its contract also says, for the proof, that these are the entries of a journal.
-        let held = self.keeper.len();
+        let held = self.keeper.len(); // for the proof too: what a journal is
         let ready = self.keeper.ready(command)?;
-        let place = next_place(self.alloc, &mut self.writer, &mut self.next, held)?;
-        let front = go_on(&self.head, &self.front, seen, told, &ready, &place)?;
+        let slot = next_slot(self.alloc, &mut self.writer, &mut self.next, held)?;
+        let after = go_on(&self.count, &self.history, seen, learnt, &ready, &slot)?;
         if self.writer.publish().is_err() {
             return Err(GateFault::NoVersion);
         }
@@ -274,7 +273,7 @@ impl<J: Naming, R: Wait + Drop> Desk<J, R> {
         let entry = ready.entry();
         let answer = (entry.number, entry.reply);
         self.keeper.take(ready);
-        self.front = front.again();
-        Ok((answer, front))
+        self.history = after.again();
+        Ok((answer, after))
     }
 }
