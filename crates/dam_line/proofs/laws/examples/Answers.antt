@@ -2,7 +2,8 @@
 use Rattle.std.proofs.Common.{◌≢◌, refl, inl}
 use Rattle.std.specs.Fmt.{digits}
 use Rattle.clap.proofs.OnLiterals.{clap_on_literals}
-use Rattle.clap.specs.declared.error.ErrorKind.TheVariants.{DisplayHelp, DisplayHelpOnMissingArgumentOrSubcommand, OutOfMemory, UnknownArgument}
+use Rattle.clap.specs.declared.error.ErrorKind.TheVariants.{DisplayHelp, DisplayHelpOnMissingArgumentOrSubcommand, OutOfMemory}
+use Rattle.clap.specs.declared.error.ErrorKind.TheVariants.{UnknownArgument}
 use Rattle.dam_line.proofs.laws.examples.Goals as goal
 
 help_is_no_memory : DisplayHelp ≢ OutOfMemory
@@ -36,4 +37,5 @@ returns-clause-unknown c = record { kind = UnknownArgument; refuses = inl refl; 
 
 pub returns-clause-nothing : goal.returns-clause-nothing
 unfolding clap_on_literals digits
-returns-clause-nothing c = record { kind = DisplayHelpOnMissingArgumentOrSubcommand; refuses = inl refl; no_memory = nothing_is_no_memory; is_help = refl }
+returns-clause-nothing c = record
+    { kind = DisplayHelpOnMissingArgumentOrSubcommand; refuses = inl refl; no_memory = nothing_is_no_memory; is_help = refl }

@@ -2,7 +2,8 @@
 use Rattle.std.proofs.Common.{◌≡◌, ◌∙◌, List, Option, Some, None, map, sym, ap, subst}
 use Rattle.std.specs.Prelude.{option_and_then, option_map}
 use Rattle.std.specs.Box.{box_value}
-use Rattle.clap.specs.Words.{App, HasMatchesOf, Row, Text, app_of, fault_of, found_of, is_simple, is_simple_and_free, kind_of, rows_of, subcommand_name_of, subcommand_of, subcommand_rows_of}
+use Rattle.clap.specs.Words.{App, HasMatchesOf, Row, Text, app_of, fault_of, found_of, is_simple, is_simple_and_free, kind_of, rows_of}
+use Rattle.clap.specs.Words.{subcommand_name_of, subcommand_of, subcommand_rows_of}
 use Rattle.clap.specs.Kinds.{HasKind}
 use Rattle.clap.specs.declared.parser.matches.ArgMatches.{ArgMatches}
 use Rattle.clap.specs.declared.parser.matches.ArgMatches.TheViews.{out-ArgMatches, out-SubCommand}
@@ -26,7 +27,8 @@ returns-in-Err-clause-refused g c =
     let words = map g.S.AsStr.text c.args.words.now in
     let app : app_of c.in-Ok.command ≡ program = c.in-Ok.ensures in
     let kinds = c.in-Err.ensures.kinds (ap is_simple_and_free app ∙ is_free-program) in
-    fault_by words (kind_of c.in-Err.error) _ c.refusal.result (subst (λ kind. IsRefusal kind c.to_string.result c.refusal.result) c.kind.ensures c.refusal.ensures)
+    fault_by words (kind_of c.in-Err.error) _ c.refusal.result
+    (subst (λ kind. IsRefusal kind c.to_string.result c.refusal.result) c.kind.ensures c.refusal.ensures)
     (subst (λ a. HasKind (fault_of a words) c.in-Err.error) app kinds)
 
 -- the subcommand that was met is the one of the definition
@@ -34,13 +36,15 @@ met : (words : List Text) (app : App) (m : ArgMatches) (name : Text) (rows : Lis
     → Some name ≡ subcommand_name_of m → Some rows ≡ second_of (subcommand_rows_of m) → subcommand_of program words ≡ Some (name, rows)
 met words app m name rows is matches first second =
     sym ((matches (ap is_simple is ∙ is_simple-program)).1 ∙ ap (λ a. subcommand_of a words) is)
-    ∙ paired (out-ArgMatches m).subcommand (λ b. (out-SubCommand (box_value b)).name.now) (λ b. rows_of (found_of (out-SubCommand (box_value b)).matches)) name rows first second
+    ∙ paired (out-ArgMatches m).subcommand (λ b. (out-SubCommand (box_value b)).name.now)
+    (λ b. rows_of (found_of (out-SubCommand (box_value b)).matches)) name rows first second
 
 pub job_of-requires : goal.job_of-requires
 job_of-requires g c =
     let words = map g.S.AsStr.text c.args.words.now in
     is_command words (c.in-Some.name.now, rows_of (found_of c.in-Some.options.now))
-    (met words _ c.in-Ok-try_get_matches_from.matches _ _ c.in-Ok.ensures c.in-Ok-try_get_matches_from.ensures.matches c.in-Some.ensures.name c.in-Some.ensures.rows)
+    (met words _ c.in-Ok-try_get_matches_from.matches _ _ c.in-Ok.ensures c.in-Ok-try_get_matches_from.ensures.matches
+    c.in-Some.ensures.name c.in-Some.ensures.rows)
 
 pub returns-clause-ok : goal.returns-clause-ok
 returns-clause-ok g c =
@@ -49,6 +53,8 @@ returns-clause-ok g c =
     let kinds = c.in-Ok-try_get_matches_from.ensures.kinds (ap is_simple_and_free app ∙ is_free-program) in
     record {
       taken = sym (ap (λ a. fault_of a words) app) ∙ kinds;
-      found = ap (option_and_then job_of) (met words _ c.in-Ok-try_get_matches_from.matches _ _ app c.in-Ok-try_get_matches_from.ensures.matches c.in-Some.ensures.name c.in-Some.ensures.rows)
+      found = ap (option_and_then job_of)
+          (met words _ c.in-Ok-try_get_matches_from.matches _ _ app c.in-Ok-try_get_matches_from.ensures.matches c.in-Some.ensures.name
+          c.in-Some.ensures.rows)
           ∙ c.job_of.ensures;
     }
