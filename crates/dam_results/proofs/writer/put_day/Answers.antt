@@ -1,3 +1,4 @@
+-- The record of a day.
 use Rattle.std.proofs.Common.{◌≡◌}
 use Rattle.std.specs.Prelude.{decimal}
 use Rattle.dam_results.specs.Records.{day_row}
@@ -8,4 +9,5 @@ use Rattle.dam_results.proofs.writer.put_day.Goals as goal
 pub returns : goal.returns
 returns c =
     let number : c.as_bytes-periods.result.now ≡ decimal c.args.periods = cc in
-    wrote_line c.args.out.now c.put_row.new.out c.put_row.result (day_row c.args.periods) (day_fields c.args.periods c.requires) (rw number at c.put_row.ensures)
+    wrote_line c.args.out.now c.put_row.new.out c.put_row.result (day_row c.args.periods) (day_fields c.args.periods c.requires)
+    (rw number at c.put_row.ensures)
