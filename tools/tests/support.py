@@ -1,5 +1,7 @@
 """What the tests share: the repository's worked cases, random days, and runs of the tools."""
 
+import importlib.machinery
+import importlib.util
 import subprocess
 import sys
 import tempfile
@@ -15,6 +17,14 @@ AUCTION = TOP / "tests" / "cases" / "clear" / "auction-day.csv"
 QUARTERS = AUCTION.with_name("quarter-hour-day.csv")
 # A journal with orders in periods 8 and 9 alone.
 FIRST = (TOP / "examples" / "first-day.csv").read_bytes()
+
+
+def loaded(name):
+    """A tool without an ending, as a module."""
+    loader = importlib.machinery.SourceFileLoader(name.replace("-", "_"), str(TOOLS / name))
+    module = importlib.util.module_from_spec(importlib.util.spec_from_loader(loader.name, loader))
+    loader.exec_module(module)
+    return module
 
 
 def status(case):

@@ -1,22 +1,13 @@
 """The page of definitions: each definition that a public contract cites is in the section of its crate."""
 
-import importlib.machinery
-import importlib.util
 import re
 import unittest
 
-from support import TOP
+from support import TOP, loaded
 
 PAGE = TOP / "docs" / "DEFINITIONS.md"
 FUNCTION = re.compile(r'^( *)pub (?:const )?(?:extern "C" )?fn (\w+)\b.*?^\1\{', re.M | re.S)
 CLAUSE = re.compile(r"^ +(?:requires|ensures)\b", re.M)
-
-
-def reading_list():
-    loader = importlib.machinery.SourceFileLoader("reading_list", str(TOP / "tools" / "reading-list"))
-    module = importlib.util.module_from_spec(importlib.util.spec_from_loader(loader.name, loader))
-    loader.exec_module(module)
-    return module
 
 
 def sections():
@@ -31,7 +22,7 @@ def sections():
 
 class Definitions(unittest.TestCase):
     def setUp(self):
-        self.tool = reading_list()
+        self.tool = loaded("reading-list")
         self.repository = self.tool.Repository(TOP)
 
     def whole(self, crate, module, name):

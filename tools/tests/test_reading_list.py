@@ -1,4 +1,4 @@
-"""The reading list: that the page has the list of this repository, and which names are followed."""
+"""The reading lists: that the page has those of this repository, and which names are followed."""
 
 import subprocess
 import sys
@@ -6,7 +6,7 @@ import tempfile
 import unittest
 from pathlib import Path
 
-from support import TOOLS, tool
+from support import TOOLS, loaded, tool
 
 from lib import command
 
@@ -92,7 +92,26 @@ class ReadingList(unittest.TestCase):
         write("crates/dam_gate/src/pass.rt", METHODS.replace("NAME", "look"))
         write("crates/dam_c/src/lib.rt", ENGINE.replace("NAME", "dam_clear").replace("pub fn", 'pub extern "C" fn'))
 
-    def test_the_page_has_the_list_of_this_repository(self):
+    def few(self, names):
+        """What the tool says of the few definitions with these names in the repository of this test."""
+        module = loaded("reading-list")
+        module.FIRST = {"run_clear": {"Sizes": names}}
+        with tempfile.TemporaryDirectory() as folder:
+            self.repository(folder)
+            return module.few_list(module.Repository(Path(folder)))
+
+    def test_a_few_definitions_are_listed_with_the_sentence_above_them(self):
+        self.assertEqual(self.few(["IsSize"]), "- Sizes:\n  - `IsSize` (`lower`, `Sizes`): a size\n")
+
+    def test_a_definition_that_the_contract_does_not_reach_is_refused(self):
+        with self.assertRaisesRegex(Exception, "^the contract of run_clear doesn't reach other$"):
+            self.few(["IsSize", "other"])
+
+    def test_a_definition_without_a_sentence_is_refused(self):
+        with self.assertRaisesRegex(Exception, "^crates/lower/specs/Limits.antt says nothing above most$"):
+            self.few(["most"])
+
+    def test_the_page_has_the_lists_of_this_repository(self):
         self.assertEqual(tool("reading-list", "--check"), (0, b"", ""))
 
     def test_names_are_followed_to_what_they_stand_on(self):

@@ -6,7 +6,7 @@ use Rattle.dam_c.specs.declared.answer.DamAnswer.{DamAnswer}
 
 -- the buffer begins with the text, or with as much of it as it has room for, and is as before after that; and this is the length
 -- of the whole text
-pub record Holds (old new : List ℕ) (whole : ℕ) (text : List ℕ) : Type 0 where
+pub record HoldsText (old new : List ℕ) (whole : ℕ) (text : List ℕ) : Type 0 where
   pub whole_is : whole ≡ length text
   pub room : length new ≡ length old
   pub front : take (length text) new ≡ take (length old) text
@@ -17,14 +17,14 @@ pub record IsDone (IsPrinted : List ℕ → Type 0) (answer : DamAnswer) (old ne
   pub status : answer.status ≡ 0
   pub text : List ℕ
   pub printed : IsPrinted text
-  pub holds : Holds old new answer.length text
+  pub holds : HoldsText old new answer.length text
 
 -- the status is that of a fault that may be answered, and the buffer holds its line
 pub record IsFailed (IsFault : RunFault → Type 0) (answer : DamAnswer) (old new : List ℕ) : Type 0 where
   pub fault : RunFault
   pub is : IsFault fault
   pub status : answer.status ≡ fault_status fault
-  pub holds : Holds old new answer.length (fault_text fault ++ codes "\n")
+  pub holds : HoldsText old new answer.length (fault_text fault ++ codes "\n")
 
 -- a call with this buffer returns one of the two
 abbrev pub IsReturned : (List ℕ → Type 0) → (RunFault → Type 0) → DamAnswer → List ℕ → List ℕ → Type 0

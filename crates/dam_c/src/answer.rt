@@ -1,6 +1,6 @@
 ghost use Rattle.std.specs.Prelude.{◌≡◌, ◌++◌, codes, MatchResult};
 ghost use Rattle.dam_engines.specs.Fault.{fault_status, fault_text};
-ghost use Rattle.dam_c.specs.Answer.{Holds};
+ghost use Rattle.dam_c.specs.Answer.{HoldsText};
 
 use dam_engines::{RunFault, short_line, status};
 
@@ -14,9 +14,10 @@ pub struct DamAnswer {
     pub length: usize,
 }
 
-/// Copies as much of the text as there is room for, and leaves the rest of the buffer. Returns the length of the whole text.
+/// Copies as much of the text as there is room for, and leaves the rest of the buffer. Returns the length of the whole
+/// text.
 fn put(text: &[u8], buffer: &mut [u8]) -> usize
-    ensures { Holds buffer.old buffer.new result text.now }
+    ensures { HoldsText buffer.old buffer.new result text.now }
 {
     let count = text.len().min(buffer.len());
     buffer[..count].copy_from_slice(&text[..count]);
@@ -27,9 +28,9 @@ fn put(text: &[u8], buffer: &mut [u8]) -> usize
 pub(crate) fn answer(made: Result<Vec<u8>, RunFault>, buffer: &mut [u8]) -> DamAnswer
     ensures { MatchResult made
         (λ text. (result.status ≡ 0)
-        × Holds buffer.old buffer.new result.length text.items)
+        × HoldsText buffer.old buffer.new result.length text.items)
         (λ fault. (result.status ≡ fault_status fault)
-        × Holds buffer.old buffer.new result.length (fault_text fault ++ codes "\n")) }
+        × HoldsText buffer.old buffer.new result.length (fault_text fault ++ codes "\n")) }
 {
     match made {
         Ok(text) => DamAnswer {

@@ -1,8 +1,9 @@
-//! The engines of `dam` for callers in C, and in any language that calls C: each reads a journal's text, and leaves the text that
-//! `dam` prints for it in a buffer of the caller's.
+//! The engines of `dam` for callers in C, and in any language that calls C: each reads a journal's text, and leaves the
+//! text that `dam` prints for it in a buffer of the caller's.
 //!
-//! They start no thread, keep nothing between calls, and read and write nothing but memory, so any number of threads may call them
-//! at the same time. If memory runs out, that is a status. `library/dam.h` is the header; it says what a caller owes.
+//! They start no thread, keep nothing between calls, and read and write nothing but memory, so any number of threads
+//! may call them at the same time. If memory runs out, that is a status. `library/dam.h` is the header; it says what a
+//! caller owes.
 //!
 //! The crate knows nothing of rules: it hands a text to an engine of `dam_engines`, and copies what that makes.
 #![tactic(auto)]
@@ -10,9 +11,10 @@
 mod answer;
 mod given;
 
-ghost use Rattle.dam_engines.specs.Clear.{AreResultsTo, IsClearTextFault, terms_alone};
-ghost use Rattle.dam_engines.specs.Engine.{IsTextFault};
-ghost use Rattle.dam_engines.specs.Replay.{AreRepliesTo};
+ghost use Rattle.dam_results.specs.Journal.{IsMadeFrom};
+ghost use Rattle.dam_results.specs.Replies.{AreReplies};
+ghost use Rattle.dam_engines.specs.Engine.{IsRunFault, IsTextFault};
+ghost use Rattle.dam_engines.specs.Clear.{AreResults, IsClearFault, terms_alone};
 ghost use Rattle.dam_c.specs.Answer.{IsReturned};
 
 pub use answer::DamAnswer;
@@ -25,7 +27,8 @@ use std::alloc::Global;
 /// What `dam replay` prints for the text. The book hashes names by the seed that everybody knows.
 #[unsafe(no_mangle)]
 pub extern "C" fn dam_replay(alloc: Global, text: &[u8], buffer: &mut [u8]) -> DamAnswer
-    ensures { IsReturned (AreRepliesTo text.now) (IsTextFault text.now) result buffer.old buffer.new }
+    ensures { IsReturned (IsMadeFrom AreReplies text.now) (IsTextFault text.now)
+        result buffer.old buffer.new }
 {
     answer(replies_of(alloc, Seed::fixed(), text), buffer)
 }
@@ -38,17 +41,18 @@ pub extern "C" fn dam_replay_seeded(
     text: &[u8],
     buffer: &mut [u8],
 ) -> DamAnswer
-    ensures { IsReturned (AreRepliesTo text.now) (IsTextFault text.now) result buffer.old buffer.new }
+    ensures { IsReturned (IsMadeFrom AreReplies text.now) (IsTextFault text.now)
+        result buffer.old buffer.new }
 {
     answer(replies_of(alloc, drawn_from(secret), text), buffer)
 }
 
-/// What `dam clear` prints for the text. The search visits at most `nodes` nodes: 0 leaves every search unfinished, and from
-/// 67,108,864 on none is.
+/// What `dam clear` prints for the text. The search visits at most `nodes` nodes: 0 leaves every search unfinished, and
+/// from 67,108,864 on none is.
 #[unsafe(no_mangle)]
 pub extern "C" fn dam_clear(alloc: Global, text: &[u8], nodes: u32, buffer: &mut [u8]) -> DamAnswer
-    ensures { IsReturned (AreResultsTo text.now)
-        (IsClearTextFault (terms_alone nodes) text.now)
+    ensures { IsReturned (IsMadeFrom AreResults text.now)
+        (IsRunFault (IsClearFault (terms_alone nodes)) text.now)
         result buffer.old buffer.new }
 {
     answer(clear_text_alone(alloc, Seed::fixed(), text, nodes), buffer)
@@ -63,8 +67,8 @@ pub extern "C" fn dam_clear_seeded(
     nodes: u32,
     buffer: &mut [u8],
 ) -> DamAnswer
-    ensures { IsReturned (AreResultsTo text.now)
-        (IsClearTextFault (terms_alone nodes) text.now)
+    ensures { IsReturned (IsMadeFrom AreResults text.now)
+        (IsRunFault (IsClearFault (terms_alone nodes)) text.now)
         result buffer.old buffer.new }
 {
     answer(

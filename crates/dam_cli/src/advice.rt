@@ -1,4 +1,4 @@
-//! What a person at a terminal is told besides a fault of the input, or besides the refusal of words that name a file.
+//! What a person at a terminal reads in addition to a fault of the input, or to the refusal of words that name a file.
 
 use dam_engines::RunFault;
 use dam_results::JournalFault;
@@ -72,8 +72,8 @@ fn rule_of_command(field: usize) -> &'static str {
     }
 }
 
-/// The first word after the command that is neither an option nor an option's number, and the command; if that is one of the
-/// three.
+/// The first word after the command that is neither an option nor an option's number, and the command; if that is one
+/// of the three.
 pub fn file_in(words: &[String]) -> Option<(&str, &str)> {
     let command = words.first()?.as_str();
     if command != "replay" && command != "clear" && command != "day" {

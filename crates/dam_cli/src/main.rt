@@ -108,8 +108,8 @@ fn hint(rt: &HostRuntime) {
     }
 }
 
-/// Prints the fault's line, if there is memory for it, and gives its status. At a terminal a second line says which rule the
-/// input breaks.
+/// Prints the fault's line, if there is memory for it, and gives its status. At a terminal a second line says which
+/// rule the input breaks.
 fn report(rt: &HostRuntime, fault: &RunFault) -> ExitCode {
     if let Ok(line) = fault_line(rt.alloc(), fault) {
         let _ = rt.stderr().write_all(&line);
@@ -122,7 +122,7 @@ fn report(rt: &HostRuntime, fault: &RunFault) -> ExitCode {
     ExitCode::from(status(fault))
 }
 
-/// Answers words that ask for no job: with the help where they ask for that.
+/// Answers words that ask for no job: with the help, if they ask for that.
 fn answer(rt: &HostRuntime, fault: &LineFault, words: &[String]) -> ExitCode {
     match fault {
         LineFault::Refused { help: true, text } => {
@@ -136,7 +136,8 @@ fn answer(rt: &HostRuntime, fault: &LineFault, words: &[String]) -> ExitCode {
     }
 }
 
-/// Prints why the words are refused. At a terminal, if one of them may be a journal's file, a last line says how it is read.
+/// Prints why the words are refused. At a terminal, if one of them may be a journal's file, a last line says how it is
+/// read.
 fn refuse(rt: &HostRuntime, text: &str, words: &[String]) -> ExitCode {
     let _ = eprint!(rt; "command line\n{text}");
     if let Some((command, file)) = file_in(words) {

@@ -15,8 +15,8 @@ struct Count {
     refused: u32,
 }
 
-/// Shows at a terminal how many pieces of a search have ended, in one line that is written anew as each ends and taken away
-/// before anything else is printed; and then, if it is asked to, how many commands the book refused.
+/// Shows at a terminal how many pieces of a search have ended, in one line that is written again as each ends and taken
+/// away before anything else is printed; and then, if it is asked to, how many commands the book refused.
 #[derive(Drop)]
 pub struct Progress<'a, R: Wait + Eprint> {
     rt: &'a R,
@@ -54,7 +54,7 @@ impl<'a, R: Wait + Eprint> Progress<'a, R> {
         );
     }
 
-    /// Writes the line anew.
+    /// Writes the line again.
     fn show(&self, count: &Count) {
         if self.is_shown {
             let _ = eprint!(self.rt;

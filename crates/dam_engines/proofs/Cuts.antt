@@ -1,13 +1,14 @@
 -- By cases on the fault: what a failed write says, and how a run with another fault ends.
-use Rattle.std.proofs.Common.{◌≤◌, ℕ, List, length, Option}
+use Rattle.std.proofs.Common.{◌≤◌, ℕ, List, length, Option, Result, Ok, Err}
 use Rattle.dam_engines.specs.declared.fault.RunFault.{RunFault}
-use Rattle.dam_engines.specs.declared.fault.RunFault.TheVariants.{Read, Input, TooManyCommands, CloseGiven, TooManyParticipants, StillOpen, Mismatch, Unfinished, Collected, Memory, Write}
-use Rattle.dam_engines.specs.Engine.{EndsIn, IsCutOff}
+use Rattle.dam_engines.specs.declared.fault.RunFault.TheVariants.{Read, Input, TooManyCommands, CloseGiven, TooManyParticipants, StillOpen}
+use Rattle.dam_engines.specs.declared.fault.RunFault.TheVariants.{Mismatch, Unfinished, Collected, Memory, Write}
+use Rattle.dam_engines.specs.Engine.{Ends, IsWritingFault}
 use Rattle.dam_engines.specs.inside.Reading.{IsReadingFault}
 
 -- what holds of each failed write holds of a text's that was cut off
 pub cut-told : (Q : RunFault → Type 0) (old new : Option (List ℕ)) (sent : List ℕ) → ((written : ℕ) → Q (Write written))
-    → (fault : RunFault) → IsCutOff old new sent fault → Q fault
+    → (fault : RunFault) → IsWritingFault old new sent fault → Q fault
 cut-told Q old new sent told Read cut = absurd cut
 cut-told Q old new sent told (Input why) cut = absurd cut
 cut-told Q old new sent told TooManyCommands cut = absurd cut
@@ -21,8 +22,9 @@ cut-told Q old new sent told Memory cut = absurd cut
 cut-told Q old new sent told (Write written) cut = told written
 
 -- a text that may be printed was cut off
-pub cut-ends : (IsPrinted : List ℕ → Type 0) (IsFault : RunFault → Type 0) (old new : Option (List ℕ)) (asked : ℕ) (printed : List ℕ) → IsPrinted printed
-    → asked ≤ length printed → (fault : RunFault) → IsCutOff old new printed fault → EndsIn IsPrinted IsFault old new asked fault
+pub cut-ends : (IsPrinted : List ℕ → Type 0) (IsFault : RunFault → Type 0) (old new : Option (List ℕ)) (asked : ℕ) (printed : List ℕ)
+    → IsPrinted printed
+    → asked ≤ length printed → (fault : RunFault) → IsWritingFault old new printed fault → Ends IsPrinted IsFault old new asked (Err fault)
 cut-ends IsPrinted IsFault old new asked printed is few Read cut = absurd cut
 cut-ends IsPrinted IsFault old new asked printed is few (Input why) cut = absurd cut
 cut-ends IsPrinted IsFault old new asked printed is few TooManyCommands cut = absurd cut
@@ -36,8 +38,9 @@ cut-ends IsPrinted IsFault old new asked printed is few Memory cut = absurd cut
 cut-ends IsPrinted IsFault old new asked printed is few (Write written) cut = (printed, is, cut, few)
 
 -- a fault that may be answered, and is no failed write
-pub fault-ends : (IsPrinted : List ℕ → Type 0) (IsFault : RunFault → Type 0) (old new : Option (List ℕ)) (asked : ℕ) → ((written : ℕ) → ¬ (IsFault (Write written)))
-    → (fault : RunFault) → IsFault fault → EndsIn IsPrinted IsFault old new asked fault
+pub fault-ends : (IsPrinted : List ℕ → Type 0) (IsFault : RunFault → Type 0) (old new : Option (List ℕ)) (asked : ℕ) →
+    ((written : ℕ) → ¬ (IsFault (Write written)))
+    → (fault : RunFault) → IsFault fault → Ends IsPrinted IsFault old new asked (Err fault)
 fault-ends IsPrinted IsFault old new asked none Read is = tt
 fault-ends IsPrinted IsFault old new asked none (Input why) is = is
 fault-ends IsPrinted IsFault old new asked none TooManyCommands is = is
@@ -53,7 +56,7 @@ fault-ends IsPrinted IsFault old new asked none (Write written) is = absurd (non
 -- what is weaker ends a run too
 pub ends-weaker : (IsPrinted IsText : List ℕ → Type 0) (IsFault IsOther : RunFault → Type 0) (old new : Option (List ℕ)) (asked : ℕ)
     → ((printed : List ℕ) → IsPrinted printed → IsText printed) → ((fault : RunFault) → IsFault fault → IsOther fault)
-    → (fault : RunFault) → EndsIn IsPrinted IsFault old new asked fault → EndsIn IsText IsOther old new asked fault
+    → (fault : RunFault) → Ends IsPrinted IsFault old new asked (Err fault) → Ends IsText IsOther old new asked (Err fault)
 ends-weaker IsPrinted IsText IsFault IsOther old new asked text other Read is = tt
 ends-weaker IsPrinted IsText IsFault IsOther old new asked text other (Input why) is = other (Input why) is
 ends-weaker IsPrinted IsText IsFault IsOther old new asked text other TooManyCommands is = other TooManyCommands is

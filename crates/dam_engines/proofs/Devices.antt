@@ -2,9 +2,10 @@
 use Rattle.std.proofs.Common.{◌≡◌, ℕ, true, false, List, [], take, Option, Some, None, Result, Ok, Err, OnOk, IfErr, MatchResult, arith}
 use Rattle.std.proofs.lemmas.List.{length-take}
 use Rattle.dam_engines.specs.declared.fault.RunFault.{RunFault}
-use Rattle.dam_engines.specs.declared.fault.RunFault.TheVariants.{Read, Input, TooManyCommands, CloseGiven, TooManyParticipants, StillOpen, Mismatch, Unfinished, Collected, Memory, Write}
-use Rattle.dam_engines.specs.Device.{SourceState, SinkState, GivesAll, GivesFront, HasServed, HaveFailed, HaveServed}
-use Rattle.dam_engines.specs.Engine.{most_read, IsCutOff}
+use Rattle.dam_engines.specs.declared.fault.RunFault.TheVariants.{Read, Input, TooManyCommands, CloseGiven, TooManyParticipants, StillOpen}
+use Rattle.dam_engines.specs.declared.fault.RunFault.TheVariants.{Mismatch, Unfinished, Collected, Memory, Write}
+use Rattle.dam_engines.specs.Device.{SourceState, SinkState, GivesAll, GivesFront, HasServed, AreDevicesAfter}
+use Rattle.dam_engines.specs.Engine.{most_read, IsWritingFault}
 use Rattle.dam_engines.proofs.Cuts.{cut-told}
 
 -- all bytes are some of the first
@@ -16,7 +17,7 @@ front-of-all (Some given) new all = record { front = take most_read given; few =
 pub neither-failed : {R W : Type 0} (Fails : RunFault → Type 0) (reader_old reader_new : SourceState R) (writer_new : SinkState W)
     → ¬ (Fails Read) → ((written : ℕ) → ¬ (Fails (Write written)))
     → HasServed reader_old reader_new → writer_new.failed ≡ false
-    → (fault : RunFault) → Fails fault → HaveFailed reader_old reader_new writer_new fault
+    → (fault : RunFault) → Fails fault → AreDevicesAfter reader_old reader_new writer_new (Err fault)
 neither-failed Fails ro rn wn no_read no_write read written Read is = absurd (no_read is)
 neither-failed Fails ro rn wn no_read no_write read written (Input why) is = (read, written)
 neither-failed Fails ro rn wn no_read no_write read written TooManyCommands is = (read, written)
@@ -26,15 +27,15 @@ neither-failed Fails ro rn wn no_read no_write read written StillOpen is = (read
 neither-failed Fails ro rn wn no_read no_write read written (Mismatch why) is = (read, written)
 neither-failed Fails ro rn wn no_read no_write read written (Unfinished piece visited) is = (read, written)
 neither-failed Fails ro rn wn no_read no_write read written (Collected piece) is = (read, written)
-neither-failed Fails ro rn wn no_read no_write read written Memory is = ((read.0, front-of-all ro.given rn.given read.1), written)
+neither-failed Fails ro rn wn no_read no_write read written Memory is = ((read.0, front-of-all ro.unread rn.unread read.1), written)
 neither-failed Fails ro rn wn no_read no_write read written (Write count) is = absurd (no_write count is)
 
 -- a run of which the reader gave all, and whose text was then written
 pub written-devices : {R W : Type 0} (reader_old reader_new : SourceState R) (writer_new : SinkState W)
     (old new : Option (List ℕ)) (sent : List ℕ) (result : Result (Unit {0}) RunFault)
-    → HasServed reader_old reader_new → IfErr result (IsCutOff old new sent) → OnOk result (writer_new.flushed ≡ true)
+    → HasServed reader_old reader_new → IfErr result (IsWritingFault old new sent) → OnOk result (writer_new.flushed ≡ true)
     → MatchResult result (λ _. writer_new.failed ≡ false) (λ _. writer_new.failed ≡ true)
-    → MatchResult result (λ _. HaveServed reader_old reader_new writer_new) (HaveFailed reader_old reader_new writer_new)
+    → AreDevicesAfter reader_old reader_new writer_new result
 written-devices ro rn wn old new sent (Ok done) read cut flushed cause = (read, cause, flushed)
 written-devices ro rn wn old new sent (Err fault) read cut flushed cause =
-    cut-told (HaveFailed ro rn wn) old new sent (λ written. (read, cause)) fault cut
+    cut-told (λ why. AreDevicesAfter ro rn wn (Err why)) old new sent (λ written. (read, cause)) fault cut

@@ -8,14 +8,16 @@ use Rattle.dam_engines.specs.Engine.{most_read}
 use Rattle.dam_engines.specs.Device.{GivesAll}
 
 -- as many bytes as may be read
-pub read-most : (before after : Option (List ℕ)) (text : List ℕ) (most : ℕ) → Consumes before after text → length text ≡ most → IfSome before (λ given. text ≡ take most given)
+pub read-most : (before after : Option (List ℕ)) (text : List ℕ) (most : ℕ) → Consumes before after text → length text ≡ most
+    → IfSome before (λ given. text ≡ take most given)
 read-most None after text most taken full = tt
 read-most (Some given) None text most taken full = absurd taken
 read-most (Some given) (Some left) text most taken full =
     sym (ap (take most) taken ∙ ap (λ n. take n (text ++ left)) (sym full) ∙ take-append_seam text left)
 
 -- all bytes
-pub read-all : (before after : Option (List ℕ)) (text : List ℕ) (most : ℕ) → Consumes before after text → IsAtEnd after → length text ≤ most → IfSome before (λ given. text ≡ take most given)
+pub read-all : (before after : Option (List ℕ)) (text : List ℕ) (most : ℕ) → Consumes before after text → IsAtEnd after → length text ≤ most
+    → IfSome before (λ given. text ≡ take most given)
 read-all None after text most taken ended short = tt
 read-all (Some given) None text most taken ended short = absurd taken
 read-all (Some given) (Some left) text most taken ended short =
@@ -31,6 +33,7 @@ read-nothing before mid after text chunk count taken last none =
     subst (Consumes before after) same (Consumes-trans before mid after text (take count chunk) taken last)
 
 -- the text is what is read of the bytes
-pub gives-all : (before after : Option (List ℕ)) (text : List ℕ) → Consumes before after text → IfSome before (λ given. text ≡ take most_read given) → GivesAll before after
+pub gives-all : (before after : Option (List ℕ)) (text : List ℕ) → Consumes before after text → IfSome before
+    (λ given. text ≡ take most_read given) → GivesAll before after
 gives-all None after text taken front = tt
 gives-all (Some given) after text taken front = subst (Consumes (Some given) after) front taken

@@ -1,12 +1,13 @@
 -- What is known of the given text, which may be unknown, from what is known of the text that was read.
-use Rattle.std.proofs.Common.{◌≡◌, ◌≤◌, ◌+◌, ◌-◌, ℕ, List, length, take, Option, Some, None, IfSome, Result, Ok, Err, IfErr, OnOk, refl, subst, arith}
+use Rattle.std.proofs.Common.{◌≡◌, ◌≤◌, ◌+◌, ◌-◌, ℕ, List, length, take, Option, Some, None, IfSome, Result, Ok, Err, IfErr, OnOk, refl}
+use Rattle.std.proofs.Common.{subst, arith}
 use Rattle.std.proofs.lemmas.Result.{IfErr-weaker}
 use Rattle.std.specs.Io.KnownBytes.{Appends}
 use Rattle.dam_book.specs.declared.command.Command.{Command}
 use Rattle.dam_results.specs.Journal.{IsMadeFrom}
 use Rattle.dam_engines.specs.declared.fault.RunFault.{RunFault}
 use Rattle.dam_engines.specs.declared.fault.RunFault.TheVariants.{Memory, Write}
-use Rattle.dam_engines.specs.Engine.{most_read, Ends, EndsIn, IsCutOff}
+use Rattle.dam_engines.specs.Engine.{most_read, Ends, IsWritingFault}
 use Rattle.dam_engines.specs.inside.Reading.{IsReadingFault}
 use Rattle.dam_engines.proofs.Cuts.{cut-told, cut-ends, ends-weaker, fault-ends, reading-told}
 use Rattle.dam_engines.proofs.Fronts.{reads-given}
@@ -22,46 +23,60 @@ known-front P Q None text carries front holds = tt
 known-front P Q (Some given) text carries front holds = carries given (subst P front holds)
 
 -- a run that ends at its reading
-pub known-unread : (IsPrinted : List ℕ → List ℕ → Type 0) (IsFault : List ℕ → RunFault → Type 0) (old new known : Option (List ℕ)) (asked : ℕ) (fault : RunFault)
-    → ((given : List ℕ) → IsFault given Memory) → IsReadingFault fault → IfSome known (λ given. EndsIn (IsPrinted given) (IsFault given) old new asked fault)
+pub known-unread : (IsPrinted : List ℕ → List ℕ → Type 0) (IsFault : List ℕ → RunFault → Type 0) (old new known : Option (List ℕ))
+    (asked : ℕ) (fault : RunFault)
+    → ((given : List ℕ) → IsFault given Memory) → IsReadingFault fault → IfSome known
+    (λ given. Ends (IsPrinted given) (IsFault given) old new asked (Err fault))
 known-unread IsPrinted IsFault old new None asked fault memory is = tt
 known-unread IsPrinted IsFault old new (Some given) asked fault memory is =
-    reading-told (EndsIn (IsPrinted given) (IsFault given) old new asked) tt (memory given) fault is
+    reading-told (λ why. Ends (IsPrinted given) (IsFault given) old new asked (Err why)) tt (memory given) fault is
 
 -- a run that ends with a fault of the text that was read
-pub known-fault : (IsPrinted : List ℕ → List ℕ → Type 0) (IsFault : List ℕ → RunFault → Type 0) (old new known : Option (List ℕ)) (asked : ℕ) (text : List ℕ) (fault : RunFault)
+pub known-fault : (IsPrinted : List ℕ → List ℕ → Type 0) (IsFault : List ℕ → RunFault → Type 0) (old new known : Option (List ℕ))
+    (asked : ℕ) (text : List ℕ) (fault : RunFault)
     → ((given : List ℕ) (written : ℕ) → ¬ (IsFault given (Write written)))
     → ((given : List ℕ) (fault : RunFault) → IsFault (take most_read given) fault → IsFault given fault)
-    → IsFrontOf known text → IsFault text fault → IfSome known (λ given. EndsIn (IsPrinted given) (IsFault given) old new asked fault)
+    → IsFrontOf known text → IsFault text fault → IfSome known (λ given. Ends (IsPrinted given) (IsFault given) old new asked (Err fault))
 known-fault IsPrinted IsFault old new known asked text fault none carries =
-    known-front (λ bs. IsFault bs fault) (λ bs. EndsIn (IsPrinted bs) (IsFault bs) old new asked fault) known text
+    known-front (λ bs. IsFault bs fault) (λ bs. Ends (IsPrinted bs) (IsFault bs) old new asked (Err fault)) known text
     (λ given is. fault-ends (IsPrinted given) (IsFault given) old new asked (none given) fault (carries given fault is))
 
 -- a run whose text was written, as a whole or up to where the writer failed
-pub known-written : (Prints : ℕ → List Command → List ℕ → Type 0) (IsFault : List ℕ → RunFault → Type 0) (old new known : Option (List ℕ)) (asked : ℕ)
+pub known-written : (Prints : ℕ → List Command → List ℕ → Type 0) (IsFault : List ℕ → RunFault → Type 0) (old new known : Option (List ℕ))
+    (asked : ℕ)
     (text sent printed : List ℕ) (result : Result (Unit {0}) RunFault)
-    → IsFrontOf known text → sent ≡ printed → OnOk result (Appends old new sent) → IfErr result (IsCutOff old new sent) → asked ≤ length sent
+    → IsFrontOf known text → sent ≡ printed → OnOk result (Appends old new sent) → IfErr result (IsWritingFault old new sent)
+    → asked ≤ length sent
     → IsMadeFrom Prints text printed → IfSome known (λ given. Ends (IsMadeFrom Prints given) (IsFault given) old new asked result)
 known-written Prints IsFault old new known asked text sent printed (Ok done) front same wrote cut few =
     known-front (λ bs. IsMadeFrom Prints bs printed) (λ bs. Ends (IsMadeFrom Prints bs) (IsFault bs) old new asked (Ok done)) known text
-    (λ given is. (printed, (is.0, is.1, reads-given given is.0 is.1 is.2, is.3), subst (Appends old new) same wrote, subst (λ bs. asked ≤ length bs) same few)) front
+    (λ given is. (
+      printed,
+      (is.0, is.1, reads-given given is.0 is.1 is.2, is.3),
+      subst (Appends old new) same wrote,
+      subst
+          (λ bs. asked ≤ length bs) same few,
+    )) front
 known-written Prints IsFault old new known asked text sent printed (Err fault) front same wrote cut few =
     known-front (λ bs. IsMadeFrom Prints bs printed) (λ bs. Ends (IsMadeFrom Prints bs) (IsFault bs) old new asked (Err fault)) known text
-    (λ given is. cut-ends (IsMadeFrom Prints given) (IsFault given) old new asked printed (is.0, is.1, reads-given given is.0 is.1 is.2, is.3)
-    (subst (λ bs. asked ≤ length bs) same few) fault (subst (λ bs. IsCutOff old new bs fault) same cut)) front
+    (λ given is. cut-ends (IsMadeFrom Prints given) (IsFault given) old new asked printed
+    (is.0, is.1, reads-given given is.0 is.1 is.2, is.3)
+    (subst (λ bs. asked ≤ length bs) same few) fault (subst (λ bs. IsWritingFault old new bs fault) same cut)) front
 
 -- only if the writer failed did it take bytes
 pub unwritten : (Kept : Type 0) (old new : Option (List ℕ)) (sent : List ℕ) (result : Result (Unit {0}) RunFault)
-    → IfErr result (IsCutOff old new sent) → IfErr result (λ fault. ((written : ℕ) → ¬ (fault ≡ Write written)) → Kept)
+    → IfErr result (IsWritingFault old new sent) → IfErr result (λ fault. ((written : ℕ) → ¬ (fault ≡ Write written)) → Kept)
 unwritten Kept old new sent result cut =
-    IfErr-weaker result _ _ (cut-told (λ fault. ((written : ℕ) → ¬ (fault ≡ Write written)) → Kept) old new sent (λ written none. absurd (none written refl))) cut
+    IfErr-weaker result _ _ (cut-told (λ fault. ((written : ℕ) → ¬ (fault ≡ Write written)) → Kept) old new sent
+    (λ written none. absurd (none written refl))) cut
 
 -- a run whose text and fault are such a weaker one
 pub result-weaker : (IsPrinted IsText : List ℕ → Type 0) (IsFault IsOther : RunFault → Type 0) (old new : Option (List ℕ)) (asked : ℕ)
     → ((printed : List ℕ) → IsPrinted printed → IsText printed) → ((fault : RunFault) → IsFault fault → IsOther fault)
     → (result : Result (Unit {0}) RunFault) → Ends IsPrinted IsFault old new asked result → Ends IsText IsOther old new asked result
 result-weaker IsPrinted IsText IsFault IsOther old new asked text other (Ok done) is = (is.0, text is.0 is.1, is.2, is.3)
-result-weaker IsPrinted IsText IsFault IsOther old new asked text other (Err fault) is = ends-weaker IsPrinted IsText IsFault IsOther old new asked text other fault is
+result-weaker IsPrinted IsText IsFault IsOther old new asked text other (Err fault) is =
+    ends-weaker IsPrinted IsText IsFault IsOther old new asked text other fault is
 
 -- as often asked as a bound on the count says
 pub asked-within : (old new most : ℕ) → new ≤ old + most → new - old ≤ most

@@ -1,4 +1,4 @@
--- What the engine of a day answers to a text.
+-- What the engine of a day prints for a journal's commands, and how it can fail.
 use Rattle.std.specs.Prelude.{◌≡◌, ◌+◌, ◌++◌, ℕ, List, codes}
 use Rattle.dam_book.specs.Book.{run, commands_of}
 use Rattle.dam_book.specs.declared.command.Command.{Command}
@@ -6,12 +6,11 @@ use Rattle.dam_book.specs.declared.command.Entry.{Entry}
 use Rattle.dam_gate.specs.Day.{AreTaken, IsDayFault, IsDayRun}
 use Rattle.dam_gate.specs.declared.day.DayFault.TheVariants.{TooManyCommands as ManyCommands, CloseGiven as CloseAt, TooManyParticipants as ManyAt, NotSettled}
 use Rattle.dam_plan.specs.Plan.{PlanTerms}
-use Rattle.dam_results.specs.Journal.{IsMadeFrom}
 use Rattle.dam_results.specs.Written.{journal_text}
+use Rattle.dam_results.specs.Clearing.{IsResultsText}
 use Rattle.dam_engines.specs.declared.fault.RunFault.{RunFault}
-use Rattle.dam_engines.specs.declared.fault.RunFault.TheVariants.{Input, TooManyCommands, CloseGiven, TooManyParticipants, Mismatch, Unfinished, Memory}
-use Rattle.dam_engines.specs.Engine.{IsTextFault}
-use Rattle.dam_engines.specs.Clear.{IsClearedAs, IsCutShort}
+use Rattle.dam_engines.specs.declared.fault.RunFault.TheVariants.{TooManyCommands, CloseGiven, TooManyParticipants, Mismatch, Unfinished, Memory}
+use Rattle.dam_engines.specs.Clear.{IsCutShort}
 
 -- the written journal, the line `results`, and this text of results
 abbrev pub with_results : ℕ → List Entry → List ℕ → List ℕ
@@ -25,12 +24,8 @@ pub record IsDayText (periods : ℕ) (commands : List Command) (text : List ℕ)
   pub entries : List Entry
   pub day_run : IsDayRun periods commands entries
   pub results : List ℕ
-  pub cleared : IsClearedAs (run periods (commands_of entries)) results
+  pub cleared : IsResultsText (run periods (commands_of entries)) results
   pub text_is : text ≡ with_results periods entries results
-
--- the text is a journal, and this is printed for it
-abbrev pub IsDayTextTo : List ℕ → List ℕ → Type 0
-IsDayTextTo text printed = IsMadeFrom IsDayText text printed
 
 -- a day takes the commands, and of the book that some day run of them makes the search by this plan could not
 -- finish this piece within its limit on nodes
@@ -45,28 +40,16 @@ pub record IsDayCutShort (plan : PlanTerms) (periods : ℕ) (commands : List Com
 abbrev pub record_number : ℕ → ℕ
 record_number place = place + 2
 
--- what commands can be answered before a book is cleared: why a day doesn't take them, if it doesn't; if it does, that the
--- day came out unsettled; or that memory ran out
-abbrev pub IsEarlyFault : List Command → RunFault → Type 0
-IsEarlyFault commands TooManyCommands = IsDayFault commands ManyCommands
-IsEarlyFault commands (CloseGiven at) =
-    (place : ℕ) × (at ≡ record_number place) × IsDayFault commands (CloseAt place)
-IsEarlyFault commands (TooManyParticipants at) =
-    (place : ℕ) × (at ≡ record_number place) × IsDayFault commands (ManyAt place)
-IsEarlyFault commands (Mismatch why) = IsDayFault commands (NotSettled why)
-IsEarlyFault commands Memory = Unit {0}
-IsEarlyFault commands fault = ⊥
-
--- what commands can be answered: the above, or, where a day takes them, that the search of a day's book didn't finish,
--- if that can be
+-- how a day of commands can fail: a day doesn't take them, for this reason; it takes them, and it came out unsettled, or the
+-- search of its book didn't finish, if that can be; or memory ran out
 abbrev pub IsCommandsFault : PlanTerms → ℕ → List Command → RunFault → Type 0
+IsCommandsFault plan periods commands TooManyCommands = IsDayFault commands ManyCommands
+IsCommandsFault plan periods commands (CloseGiven at) =
+    (place : ℕ) × (at ≡ record_number place) × IsDayFault commands (CloseAt place)
+IsCommandsFault plan periods commands (TooManyParticipants at) =
+    (place : ℕ) × (at ≡ record_number place) × IsDayFault commands (ManyAt place)
+IsCommandsFault plan periods commands (Mismatch why) = IsDayFault commands (NotSettled why)
 IsCommandsFault plan periods commands (Unfinished piece visited) =
     IsDayCutShort plan periods commands piece visited
-IsCommandsFault plan periods commands fault = IsEarlyFault commands fault
-
--- what a text can be answered that was read: its first fault, what the commands of its journal can be answered, or that
--- memory ran out
-abbrev pub IsDayTextFault : PlanTerms → List ℕ → RunFault → Type 0
-IsDayTextFault plan text (Input fault) = IsTextFault text (Input fault)
-IsDayTextFault plan text Memory = Unit {0}
-IsDayTextFault plan text fault = IsMadeFrom (IsCommandsFault plan) text fault
+IsCommandsFault plan periods commands Memory = Unit {0}
+IsCommandsFault plan periods commands fault = ⊥

@@ -1,19 +1,19 @@
--- The reader and the writer of a run, and how they end it.
-use Rattle.std.specs.Prelude.{◌≡◌, ◌≤◌, ℕ, Bool, true, false, List, length, take, Option, IfSome}
+-- The reader and the writer of a run, before and after it.
+use Rattle.std.specs.Prelude.{◌≡◌, ◌≤◌, ℕ, Bool, true, false, List, length, take, Option, IfSome, Result, Ok, Err}
 use Rattle.std.specs.Io.KnownBytes.{Consumes}
 use Rattle.dam_engines.specs.declared.fault.RunFault.{RunFault}
 use Rattle.dam_engines.specs.declared.fault.RunFault.TheVariants.{Read, Memory, Write}
 use Rattle.dam_engines.specs.Engine.{most_read}
 
--- a reader: the bytes that it has left, if it tells them; how often it was asked for some; whether it failed, after which it
--- isn't asked again
+-- a reader: the bytes that it hasn't given yet, if it shows them; how often it was asked for some; whether it failed, after which
+-- it isn't asked again
 pub record SourceState (R : Type 0) : Type 0 where
   pub inner : R
-  pub given : Option (List ℕ)
+  pub unread : Option (List ℕ)
   pub asked : ℕ
   pub failed : Bool
 
--- a writer: the bytes that it took, if it tells them; how often it was asked to take some; whether it failed, after which it
+-- a writer: the bytes that it took, if it shows them; how often it was asked to take some; whether it failed, after which it
 -- isn't asked again; and whether it was flushed after all that it took
 pub record SinkState (W : Type 0) : Type 0 where
   pub inner : W
@@ -24,7 +24,7 @@ pub record SinkState (W : Type 0) : Type 0 where
 
 -- the reader gave all its bytes, or the first of them, as many as are read at most
 abbrev pub GivesAll : Option (List ℕ) → Option (List ℕ) → Type 0
-GivesAll old new = IfSome old (λ given. Consumes old new (take most_read given))
+GivesAll old new = IfSome old (λ bytes. Consumes old new (take most_read bytes))
 
 -- the reader gave some of its first bytes, and no more than are read at most
 pub record GivesFront (old new : Option (List ℕ)) : Type 0 where
@@ -34,26 +34,25 @@ pub record GivesFront (old new : Option (List ℕ)) : Type 0 where
 
 -- a reader from which all was read: it didn't fail
 abbrev pub HasServed : {R : Type 0} → SourceState R → SourceState R → Type 0
-HasServed old new = (new.failed ≡ false) × GivesAll old.given new.given
+HasServed old new = (new.failed ≡ false) × GivesAll old.unread new.unread
 
--- a reader that hadn't failed before a run: it failed if the fault is that, and only then; and it gave all, unless it failed or
--- memory ran out
-abbrev pub HasRead : {R : Type 0} → SourceState R → SourceState R → RunFault → Type 0
-HasRead old new Read = (new.failed ≡ true) × GivesFront old.given new.given
-HasRead old new Memory = (new.failed ≡ false) × GivesFront old.given new.given
-HasRead old new fault = HasServed old new
+-- a reader after a run with this fault, before which it hadn't failed: it failed if that is the fault, and only then; and it gave
+-- all, unless it failed or memory ran out
+abbrev pub IsReaderAfter : {R : Type 0} → SourceState R → SourceState R → RunFault → Type 0
+IsReaderAfter old new Read = (new.failed ≡ true) × GivesFront old.unread new.unread
+IsReaderAfter old new Memory = (new.failed ≡ false) × GivesFront old.unread new.unread
+IsReaderAfter old new fault = HasServed old new
 
--- a writer after a run, before which it hadn't failed: it failed if the fault is that, and only then
-abbrev pub HasWritten : {W : Type 0} → SinkState W → RunFault → Type 0
-HasWritten new (Write written) = new.failed ≡ true
-HasWritten new fault = new.failed ≡ false
+-- a writer after a run with this fault, before which it hadn't failed: it failed if that is the fault, and only then
+abbrev pub IsWriterAfter : {W : Type 0} → SinkState W → RunFault → Type 0
+IsWriterAfter new (Write written) = new.failed ≡ true
+IsWriterAfter new fault = new.failed ≡ false
 
--- the devices of a run without a fault: neither failed, the reader gave all, and the writer was flushed after all that it took
-abbrev pub HaveServed : {R W : Type 0} → SourceState R → SourceState R → SinkState W → Type 0
-HaveServed reader_old reader_new writer_new =
+-- the devices after a run: without a fault, neither failed, the reader gave all, and the writer was flushed after all that it
+-- took; with one, each failed if the fault is its own, and only then
+abbrev pub AreDevicesAfter : {R W : Type 0} → SourceState R → SourceState R → SinkState W
+    → Result (Unit {0}) RunFault → Type 0
+AreDevicesAfter reader_old reader_new writer_new (Ok done) =
     HasServed reader_old reader_new × (writer_new.failed ≡ false) × (writer_new.flushed ≡ true)
-
--- the devices of a run with this fault: each failed if the fault is its own, and only then
-abbrev pub HaveFailed : {R W : Type 0} → SourceState R → SourceState R → SinkState W → RunFault → Type 0
-HaveFailed reader_old reader_new writer_new fault =
-    HasRead reader_old reader_new fault × HasWritten writer_new fault
+AreDevicesAfter reader_old reader_new writer_new (Err fault) =
+    IsReaderAfter reader_old reader_new fault × IsWriterAfter writer_new fault

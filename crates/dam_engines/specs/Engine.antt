@@ -1,9 +1,11 @@
--- What the engines have in common: how a run ends, and the faults of texts.
-use Rattle.std.specs.Prelude.{◌≢◌, ◌≤◌, ◌+◌, ℕ, List, Option, Result, MatchResult, length, take}
+-- What the engines have in common: how a run ends, and with which faults.
+use Rattle.std.specs.Prelude.{◌≢◌, ◌≤◌, ◌+◌, ℕ, List, Option, Result, Ok, Err, length, take}
 use Rattle.std.specs.Io.KnownBytes.{Appends}
-use Rattle.dam_results.specs.declared.journal.JournalFault.TheVariants.{Memory as NoMemory}
+use Rattle.dam_book.specs.declared.command.Command.{Command}
+use Rattle.dam_results.specs.declared.journal.JournalFault.TheVariants.{Memory as MemoryOfJournal}
 use Rattle.dam_results.specs.Limits.{most_bytes}
-use Rattle.dam_results.specs.Faults.{IsFaultOf}
+use Rattle.dam_results.specs.Journal.{IsMadeFrom}
+use Rattle.dam_results.specs.Faults.{IsJournalFault}
 use Rattle.dam_engines.specs.declared.fault.RunFault.{RunFault}
 use Rattle.dam_engines.specs.declared.fault.RunFault.TheVariants.{Read, Input, Memory, Write}
 
@@ -11,34 +13,36 @@ use Rattle.dam_engines.specs.declared.fault.RunFault.TheVariants.{Read, Input, M
 abbrev pub most_read : ℕ
 most_read = most_bytes + 1
 
--- the writer took just the first so many bytes of the text
-abbrev pub TakesFront : Option (List ℕ) → Option (List ℕ) → ℕ → List ℕ → Type 0
-TakesFront old new written text = (written ≤ length text) × Appends old new (take written text)
-
--- the writer failed, and took just the first bytes of the text, as many as the fault tells
-abbrev pub IsCutOff : Option (List ℕ) → Option (List ℕ) → List ℕ → RunFault → Type 0
-IsCutOff old new text (Write written) = TakesFront old new written text
-IsCutOff old new text fault = ⊥
-
--- what a text can be answered that was read: its first fault, or that memory ran out
+-- how reading a text can end a run: with the text's first fault, or because memory ran out
 abbrev pub IsTextFault : List ℕ → RunFault → Type 0
-IsTextFault text (Input fault) = IsFaultOf text fault × (fault ≢ NoMemory)
+IsTextFault text (Input fault) = IsJournalFault text fault × (fault ≢ MemoryOfJournal)
 IsTextFault text Memory = Unit {0}
 IsTextFault text fault = ⊥
 
--- how a run with this fault ends, in which the writer was asked so many times: if the writer failed, it took just the first bytes
--- of a text that may be printed, as many as the fault says, and was asked at most once for each byte of the text; otherwise the
--- reader failed, or the fault is one that may be answered
-abbrev pub EndsIn : (List ℕ → Type 0) → (RunFault → Type 0) → Option (List ℕ) → Option (List ℕ) → ℕ → RunFault → Type 0
-EndsIn IsPrinted IsFault old new asked Read = Unit {0}
-EndsIn IsPrinted IsFault old new asked (Write written) =
-    (printed : List ℕ) × IsPrinted printed × TakesFront old new written printed × (asked ≤ length printed)
-EndsIn IsPrinted IsFault old new asked fault = IsFault fault
+-- how a run over a text can fail, once the text is read: with the text's first fault; if it is a journal, with a fault that its
+-- commands may have; or because memory ran out
+abbrev pub IsRunFault : (ℕ → List Command → RunFault → Type 0) → List ℕ → RunFault → Type 0
+IsRunFault IsFault text (Input fault) = IsTextFault text (Input fault)
+IsRunFault IsFault text Memory = Unit {0}
+IsRunFault IsFault text fault = IsMadeFrom IsFault text fault
 
--- how a run ends, in which the writer was asked so many times: it took just one text that may be printed, and was asked at most
--- once for each byte of it; or the run has a fault, as above
-abbrev pub Ends : (List ℕ → Type 0) → (RunFault → Type 0) → Option (List ℕ) → Option (List ℕ) → ℕ → Result (Unit {0}) RunFault → Type 0
-Ends IsPrinted IsFault old new asked result =
-    MatchResult result
-    (λ _. (printed : List ℕ) × IsPrinted printed × Appends old new printed × (asked ≤ length printed))
-    (EndsIn IsPrinted IsFault old new asked)
+-- the writer took exactly this many first bytes of the text
+abbrev pub TakesFront : Option (List ℕ) → Option (List ℕ) → ℕ → List ℕ → Type 0
+TakesFront old new written text = (written ≤ length text) × Appends old new (take written text)
+
+-- how writing a text can fail: the writer took exactly as many first bytes of it as the fault says
+abbrev pub IsWritingFault : Option (List ℕ) → Option (List ℕ) → List ℕ → RunFault → Type 0
+IsWritingFault old new text (Write written) = TakesFront old new written text
+IsWritingFault old new text fault = ⊥
+
+-- how a run ends in which the writer was asked this many times: without a fault, the writer took exactly one text that may be
+-- printed; if the writer failed, it took exactly as many first bytes of such a text as the fault says; in both cases it was asked
+-- at most once for each byte of the text; otherwise the reader failed, or the fault is one that the run may have
+abbrev pub Ends : (List ℕ → Type 0) → (RunFault → Type 0) → Option (List ℕ) → Option (List ℕ) → ℕ
+    → Result (Unit {0}) RunFault → Type 0
+Ends IsPrinted IsFault old new asked (Ok done) =
+    (printed : List ℕ) × IsPrinted printed × Appends old new printed × (asked ≤ length printed)
+Ends IsPrinted IsFault old new asked (Err Read) = Unit {0}
+Ends IsPrinted IsFault old new asked (Err (Write written)) =
+    (printed : List ℕ) × IsPrinted printed × TakesFront old new written printed × (asked ≤ length printed)
+Ends IsPrinted IsFault old new asked (Err fault) = IsFault fault

@@ -2,13 +2,13 @@
 use Rattle.std.specs.Prelude.{ℕ, List, ◌++◌, decimal, codes}
 use Rattle.dam_results.specs.declared.journal.JournalFault.{JournalFault}
 use Rattle.dam_results.specs.declared.journal.JournalFault.TheVariants.{TooLong, NotAscii, TooManyRecords, NotDay, FieldCount, BadField}
-use Rattle.dam_results.specs.declared.journal.JournalFault.TheVariants.{Memory as NoMemory}
+use Rattle.dam_results.specs.declared.journal.JournalFault.TheVariants.{Memory as MemoryOfJournal}
 use Rattle.dam_blocks.specs.declared.problem.ProblemFault.{ProblemFault}
-use Rattle.dam_blocks.specs.declared.problem.ProblemFault.TheVariants.{StillOpen as OpenBook, Memory as NoRoom}
+use Rattle.dam_blocks.specs.declared.problem.ProblemFault.TheVariants.{StillOpen as OpenBook, Memory as MemoryOfProblem}
 use Rattle.dam_gate.specs.declared.settlement.Mismatch.{Mismatch as Unmatched}
-use Rattle.dam_gate.specs.declared.settlement.Mismatch.TheVariants.{StillOpen as OpenGate, Missing, Doubled, Differs, Extra, Memory as NoTally}
+use Rattle.dam_gate.specs.declared.settlement.Mismatch.TheVariants.{StillOpen as OpenGate, Missing, Doubled, Differs, Extra, Memory as MemoryOfSettlement}
 use Rattle.dam_search.specs.declared.fault.SearchFault.{SearchFault}
-use Rattle.dam_search.specs.declared.fault.SearchFault.TheVariants.{Memory as NoSpace, Collected as IsFaulty, Unfinished as IsCut}
+use Rattle.dam_search.specs.declared.fault.SearchFault.TheVariants.{Memory as MemoryOfSearch, Collected as IsFaulty, Unfinished as IsCut}
 use Rattle.dam_engines.specs.declared.fault.RunFault.{RunFault}
 use Rattle.dam_engines.specs.declared.fault.RunFault.TheVariants.{Read, Input, TooManyCommands, CloseGiven, TooManyParticipants, StillOpen, Mismatch, Unfinished, Collected, Memory, Write}
 
@@ -20,7 +20,7 @@ input_text TooManyRecords = codes "input: TooManyRecords"
 input_text NotDay = codes "input: NotDay"
 input_text (FieldCount at) = codes "input: FieldCount in record " ++ decimal at
 input_text (BadField at field) = codes "input: BadField in record " ++ (decimal at ++ (codes " field " ++ decimal field))
-input_text NoMemory = codes "memory"
+input_text MemoryOfJournal = codes "memory"
 
 -- what is printed of a journal and receipts that don't fit together
 abbrev pub mismatch_text : Unmatched → List ℕ
@@ -29,7 +29,7 @@ mismatch_text (Missing number) = codes "mismatch: Missing " ++ decimal number
 mismatch_text (Doubled number) = codes "mismatch: Doubled " ++ decimal number
 mismatch_text (Differs number) = codes "mismatch: Differs " ++ decimal number
 mismatch_text (Extra number) = codes "mismatch: Extra " ++ decimal number
-mismatch_text NoTally = codes "memory"
+mismatch_text MemoryOfSettlement = codes "memory"
 
 -- what is printed of a fault
 abbrev pub fault_text : RunFault → List ℕ
@@ -45,7 +45,7 @@ fault_text (Collected piece) = codes "mismatch: Collected " ++ decimal piece
 fault_text Memory = codes "memory"
 fault_text (Write written) = codes "device: write after " ++ (decimal written ++ codes " bytes")
 
--- 1 where the text that was read is at fault, 4 where the machine is
+-- 1 if the text that was read is at fault, 4 if the machine is
 abbrev pub input_status : JournalFault → ℕ
 input_status TooLong = 1
 input_status (NotAscii offset) = 1
@@ -53,18 +53,19 @@ input_status TooManyRecords = 1
 input_status NotDay = 1
 input_status (FieldCount at) = 1
 input_status (BadField at field) = 1
-input_status NoMemory = 4
+input_status MemoryOfJournal = 4
 
--- 5 where a journal and receipts don't fit together, 4 where the machine is at fault
+-- 5 if a journal and receipts don't fit together, 4 if the machine is at fault
 abbrev pub mismatch_status : Unmatched → ℕ
 mismatch_status OpenGate = 5
 mismatch_status (Missing number) = 5
 mismatch_status (Doubled number) = 5
 mismatch_status (Differs number) = 5
 mismatch_status (Extra number) = 5
-mismatch_status NoTally = 4
+mismatch_status MemoryOfSettlement = 4
 
--- the status that the program ends with at a fault: 1 and 4 as above, 3 where the search didn't finish, 5 where parts of a run don't fit together
+-- the status that the program ends with at a fault: 1 and 4 as above, 3 if the search didn't finish, 5 if parts of a run don't
+-- fit together
 abbrev pub fault_status : RunFault → ℕ
 fault_status Read = 4
 fault_status (Input fault) = input_status fault
@@ -86,15 +87,15 @@ run_fault_of TooManyRecords = Input TooManyRecords
 run_fault_of NotDay = Input NotDay
 run_fault_of (FieldCount at) = Input (FieldCount at)
 run_fault_of (BadField at field) = Input (BadField at field)
-run_fault_of NoMemory = Memory
+run_fault_of MemoryOfJournal = Memory
 
 -- the fault of a run whose book makes no problem
 abbrev pub problem_fault_of : ProblemFault → RunFault
 problem_fault_of OpenBook = StillOpen
-problem_fault_of NoRoom = Memory
+problem_fault_of MemoryOfProblem = Memory
 
 -- the fault of a run whose search has that fault
 abbrev pub search_fault_of : SearchFault → RunFault
-search_fault_of NoSpace = Memory
+search_fault_of MemoryOfSearch = Memory
 search_fault_of (IsFaulty piece) = Collected piece
 search_fault_of (IsCut piece visited) = Unfinished piece visited

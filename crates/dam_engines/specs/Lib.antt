@@ -1,7 +1,6 @@
 pub mod Fault
 pub mod Engine
 pub mod Device
-pub mod Replay
 pub mod Clear
 pub mod Day
 pub mod inside

@@ -1,5 +1,8 @@
 ghost use Rattle.std.specs.Prelude.{IfOk, IfErr};
-ghost use Rattle.dam_engines.specs.Clear.{AreResultsTo, IsBookFault, IsClearedAs, IsClearTextFault, terms_alone};
+ghost use Rattle.dam_results.specs.Journal.{IsMadeFrom};
+ghost use Rattle.dam_results.specs.Clearing.{IsResultsText};
+ghost use Rattle.dam_engines.specs.Engine.{IsRunFault};
+ghost use Rattle.dam_engines.specs.Clear.{AreResults, IsBookFault, IsClearFault, terms_alone};
 
 use crate::fault::RunFault;
 use dam_blocks::Problem;
@@ -11,9 +14,8 @@ use std::alloc::Global;
 
 /// The results text of a closed book, found on the calling thread alone.
 fn clear_book_alone(alloc: Global, book: &Book, nodes: u32) -> Result<Vec<u8>, RunFault>
-    ensures done { IfOk result (λ results. IsClearedAs book.now results.items) }
-    ensures fault { IfErr result
-        (IsBookFault (terms_alone nodes) book.now) }
+    ensures done { IfOk result (λ results. IsResultsText book.now results.items) }
+    ensures fault { IfErr result (IsBookFault (terms_alone nodes) book.now) }
 {
     published_results_are_clearings();
     let problem = Problem::of_book(alloc, book)?;
@@ -24,17 +26,17 @@ fn clear_book_alone(alloc: Global, book: &Book, nodes: u32) -> Result<Vec<u8>, R
 
 /// The results text of a journal's text, as `run_clear` prints it, found on the calling thread alone.
 ///
-/// No thread is started, and nothing is read or written but memory. The search visits at most `nodes` nodes, which may be any
-/// number: 0 leaves every search unfinished, and from 67,108,864 on none is. The book hashes names by the seed. `StillOpen` comes if the book is open after the last command.
+/// No thread is started, and nothing is read or written but memory. The search visits at most `nodes` nodes, which may
+/// be any number: 0 leaves every search unfinished, and from 67,108,864 on none is. The book hashes names by the seed.
+/// `StillOpen` comes if the book is open after the last command.
 pub fn clear_text_alone(
     alloc: Global,
     seed: Seed,
     text: &[u8],
     nodes: u32,
 ) -> Result<Vec<u8>, RunFault>
-    ensures done { IfOk result (λ results. AreResultsTo text.now results.items) }
-    ensures fault { IfErr result
-        (IsClearTextFault (terms_alone nodes) text.now) }
+    ensures done { IfOk result (λ results. IsMadeFrom AreResults text.now results.items) }
+    ensures fault { IfErr result (IsRunFault (IsClearFault (terms_alone nodes)) text.now) }
 {
     let book = book_of_text(alloc, seed, text)?;
     clear_book_alone(alloc, &book, nodes)

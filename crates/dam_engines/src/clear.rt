@@ -1,10 +1,11 @@
-ghost use Rattle.std.specs.Prelude.{◌≡◌, ◌≢◌, ◌≤◌, ◌+◌, ◌-◌, ◌↔◌, ℕ, List, false, IfOk, IfErr, IfSome, IsErrOf, MatchResult};
+ghost use Rattle.std.specs.Prelude.{◌≡◌, ◌≢◌, ◌≤◌, ◌+◌, ◌-◌, ◌↔◌, ℕ, List, false, IfOk, IfErr, IfSome, IsErrOf};
 ghost use Rattle.dam_book.specs.Book.{run};
 ghost use Rattle.dam_book.specs.declared.command.Command.{Command};
-ghost use Rattle.dam_results.specs.Journal.{ReadsAs};
-ghost use Rattle.dam_engines.specs.Device.{HaveFailed, HaveServed};
-ghost use Rattle.dam_engines.specs.Engine.{Ends, IsTextFault, most_read};
-ghost use Rattle.dam_engines.specs.Clear.{AreResultsTo, IsBookFault, IsClearedAs, IsClearTextFault};
+ghost use Rattle.dam_results.specs.Journal.{IsMadeFrom, ReadsAs};
+ghost use Rattle.dam_results.specs.Clearing.{IsResultsText};
+ghost use Rattle.dam_engines.specs.Device.{AreDevicesAfter};
+ghost use Rattle.dam_engines.specs.Engine.{Ends, IsRunFault, IsTextFault, most_read};
+ghost use Rattle.dam_engines.specs.Clear.{AreResults, IsBookFault, IsClearFault};
 
 use crate::device::{Sink, Source};
 use crate::fault::RunFault;
@@ -23,13 +24,13 @@ use std::thread::Threads;
 /// Reads a journal, runs its commands on the empty book of its day, clears the book that they close,
 /// and writes the results: the price and volume of each period, and what becomes of each order.
 ///
-/// The whole text is made before its first byte is written. If the input is longer than a journal may be, not all of it is
-/// read. `StillOpen` comes if the book is open after the last command. The plan changes no results, but by its limit on nodes
-/// the search may end `Unfinished`. The book hashes names by the seed.
+/// The whole text is made before its first byte is written. If the input is longer than a journal may be, not all of it
+/// is read. `StillOpen` comes if the book is open after the last command. The plan changes no results, but by its limit
+/// on nodes the search may end `Unfinished`. The book hashes names by the seed.
 ///
-/// Neither device may have failed before. Nothing is said of the bytes of a reader or a writer that doesn't show them, nor of
-/// what is printed if the reader doesn't: standard input and output show none. Whether a device failed, how often the reader
-/// was asked, and that the writer was flushed is said of every reader and writer.
+/// Neither device may have failed before. Nothing is said of the bytes of a reader or a writer that doesn't show them,
+/// nor of what is printed if the reader doesn't: standard input and output show none. Whether a device failed, how
+/// often the reader was asked, and that the writer was flushed is said of every reader and writer.
 pub fn run_clear<H: Threads + Sync, R: Read, W: Write, T: Watch + Sync>(
     rt: &H,
     alloc: Global,
@@ -41,34 +42,33 @@ pub fn run_clear<H: Threads + Sync, R: Read, W: Write, T: Watch + Sync>(
 ) -> Result<(), RunFault>
     requires reads { reader.old.failed ≡ false }
     requires writes { writer.old.failed ≡ false }
-    ensures ends { IfSome reader.old.given (λ given.
-        Ends (AreResultsTo given) (IsClearTextFault plan given)
+    ensures ends { IfSome reader.old.unread (λ given.
+        Ends (IsMadeFrom AreResults given) (IsRunFault (IsClearFault plan) given)
         writer.old.taken writer.new.taken (writer.new.asked - writer.old.asked) result) }
     ensures unwritten { IfErr result (λ fault.
         ((written : ℕ) → fault ≢ RunFault.Write written) → writer.new ≡ writer.old) }
-    ensures devices { MatchResult result
-        (λ _. HaveServed reader.old reader.new writer.new)
-        (HaveFailed reader.old reader.new writer.new) }
+    ensures devices { AreDevicesAfter reader.old reader.new writer.new result }
     ensures asked { reader.new.asked ≤ reader.old.asked + most_read }
 {
     let text = read_input(alloc, reader)?;
-    let results = clear_text(rt, alloc, seed, text.as_slice(), plan, turnstile)?;
+    let results = clear_text(rt, alloc, seed, text, plan, turnstile)?;
     write_text(writer, results.as_slice())
 }
 
-/// The results text of the book of a journal's text.
+/// The results text of the book of a journal's text. The text is freed before the search.
 fn clear_text<H: Threads + Sync, T: Watch + Sync>(
     rt: &H,
     alloc: Global,
     seed: Seed,
-    text: &[u8],
+    text: Vec<u8>,
     plan: Plan,
     turnstile: &T,
 ) -> Result<Vec<u8>, RunFault>
-    ensures done { IfOk result (λ results. AreResultsTo text.now results.items) }
-    ensures fault { IfErr result (IsClearTextFault plan text.now) }
+    ensures done { IfOk result (λ results. IsMadeFrom AreResults text.items results.items) }
+    ensures fault { IfErr result (IsRunFault (IsClearFault plan) text.items) }
 {
-    let run = run_journal(alloc, seed, text)?;
+    let run = run_journal(alloc, seed, text.as_slice())?;
+    drop(text);
     turnstile.refused(run.refused);
     clear_book(rt, alloc, &run.book, plan, turnstile)
 }
@@ -90,7 +90,7 @@ pub fn clear_book<H: Threads + Sync, T: Watch + Sync>(
     plan: Plan,
     turnstile: &T,
 ) -> Result<Vec<u8>, RunFault>
-    ensures done { IfOk result (λ results. IsClearedAs book.now results.items) }
+    ensures done { IfOk result (λ results. IsResultsText book.now results.items) }
     ensures fault { IfErr result (IsBookFault plan book.now) }
     ensures still_open { IsErrOf result RunFault.StillOpen ↔ (book.now.closed ≡ false) }
 {

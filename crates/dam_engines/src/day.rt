@@ -1,10 +1,13 @@
-ghost use Rattle.std.specs.Prelude.{◌≡◌, ◌≢◌, ◌≤◌, ◌+◌, ◌-◌, ℕ, List, None, true, false, IfOk, IfErr, IfSome, OnOk, MatchResult};
+ghost use Rattle.std.specs.Prelude.{◌≡◌, ◌≢◌, ◌≤◌, ◌+◌, ◌-◌, ℕ, List, None, true, false, IfOk, IfErr, IfSome, OnOk};
 ghost use Rattle.dam_gate.specs.Day.{AreTaken, IsDayRun};
 ghost use Rattle.dam_gate.specs.Journal.{IsJournal};
-ghost use Rattle.dam_engines.specs.Device.{HaveFailed, HaveServed};
-ghost use Rattle.dam_engines.specs.Engine.{Ends, most_read};
-ghost use Rattle.dam_engines.specs.Clear.{IsBookFault, IsClearedAs};
-ghost use Rattle.dam_engines.specs.Day.{IsCommandsFault, IsDayText, IsDayTextFault, IsDayTextTo, IsEarlyFault, with_results};
+ghost use Rattle.dam_plan.specs.Plan.{PlanTerms};
+ghost use Rattle.dam_results.specs.Journal.{IsMadeFrom};
+ghost use Rattle.dam_results.specs.Clearing.{IsResultsText};
+ghost use Rattle.dam_engines.specs.Device.{AreDevicesAfter};
+ghost use Rattle.dam_engines.specs.Engine.{Ends, IsRunFault, most_read};
+ghost use Rattle.dam_engines.specs.Clear.{IsBookFault};
+ghost use Rattle.dam_engines.specs.Day.{IsCommandsFault, IsDayText, with_results};
 
 use crate::clear::clear_book;
 use crate::device::{Sink, Source};
@@ -47,14 +50,12 @@ pub fn run_day<H: Threads + Wait + Sync, R: Read, W: Write, T: Watch + Sync, U: 
 ) -> Result<(), RunFault>
     requires reads { reader.old.failed ≡ false }
     requires writes { writer.old.failed ≡ false }
-    ensures ends { IfSome reader.old.given (λ given.
-        Ends (IsDayTextTo given) (IsDayTextFault plan given)
+    ensures ends { IfSome reader.old.unread (λ given.
+        Ends (IsMadeFrom IsDayText given) (IsRunFault (IsCommandsFault plan) given)
         writer.old.taken writer.new.taken (writer.new.asked - writer.old.asked) result) }
     ensures unwritten { IfErr result (λ fault.
         ((written : ℕ) → fault ≢ RunFault.Write written) → writer.new ≡ writer.old) }
-    ensures devices { MatchResult result
-        (λ _. HaveServed reader.old reader.new writer.new)
-        (HaveFailed reader.old reader.new writer.new) }
+    ensures devices { AreDevicesAfter reader.old reader.new writer.new result }
     ensures asked { reader.new.asked ≤ reader.old.asked + most_read }
 {
     let text = read_input(alloc, reader)?;
@@ -73,8 +74,8 @@ fn day_text<H: Threads + Wait + Sync, T: Watch + Sync, U: Turnstile + Sync>(
     turnstile: &T,
     entrance: &U,
 ) -> Result<Vec<u8>, RunFault>
-    ensures done { IfOk result (λ day. IsDayTextTo text.items day.items) }
-    ensures fault { IfErr result (IsDayTextFault plan text.items) }
+    ensures done { IfOk result (λ day. IsMadeFrom IsDayText text.items day.items) }
+    ensures fault { IfErr result (IsRunFault (IsCommandsFault plan) text.items) }
 {
     // No book is made of it here, and this seed is for nothing.
     let journal: PackedJournal = read_into(alloc, Seed::fixed(), text.as_slice())?;
@@ -140,7 +141,7 @@ fn settled_day<H: Threads + Wait + Sync, U: Turnstile + Sync>(
     ensures journal { IfOk result IsJournal }
     ensures day { IfOk result (λ settled. IsDayRun periods commands.now settled.entries) }
     ensures taken { OnOk result (AreTaken commands.now) }
-    ensures fault { IfErr result (IsEarlyFault commands.now) }
+    ensures fault { (plan : PlanTerms) → IfErr result (IsCommandsFault plan periods commands.now) }
 {
     let door = Door {
         turnstile: entrance,
@@ -164,7 +165,7 @@ fn print_day<H: Threads + Sync, T: Watch + Sync>(
     turnstile: &T,
 ) -> Result<Vec<u8>, RunFault>
     ensures done { IfOk result (λ text. (results : List ℕ)
-        × IsClearedAs journal.now.book results
+        × IsResultsText journal.now.book results
         × (text.items ≡ with_results journal.now.book.periods journal.now.entries results)) }
     ensures fault { IfErr result (IsBookFault plan journal.now.book) }
 {

@@ -1,5 +1,6 @@
-//! A reader and a writer that keep how often they were asked and whether they failed, so that contracts can say it. What is
-//! wrapped is reached through the three calls below and by nothing else, and none of them may come after a failure.
+//! A reader and a writer that keep how often they were asked and whether they failed, so that contracts can say it.
+//! What is wrapped is reached through the three calls below and by nothing else, and none of them may come after a
+//! failure.
 ghost use Rattle.std.specs.Prelude.{◌≡◌, ◌<◌, ◌≤◌, ◌+◌, ◌-◌, ◌^◌, true, false, min, length, MatchResult, IfOk, OnOk};
 ghost use Rattle.std.specs.Io.KnownBytes.{ReadConsumes, WriteAppends, Keeps};
 
@@ -27,7 +28,7 @@ impl<R: Read> Model for Source<R> {
 
     ghost view = { λ s. record {
       inner = s.inner;
-      given = R.remaining s.inner;
+      unread = R.remaining s.inner;
       asked = s.asked;
       failed = s.failed;
     } };
@@ -38,7 +39,7 @@ impl<R: Read> Source<R> {
     pub fn new(inner: R) -> Source<R>
         ensures { result ≡ record {
           inner = inner;
-          given = R.remaining inner;
+          unread = R.remaining inner;
           asked = 0;
           failed = false;
         } }
@@ -55,7 +56,7 @@ impl<R: Read> Source<R> {
         requires { self.old.failed ≡ false }
         ensures bound { IfOk result (λ count. count ≤ length buf.new) }
         ensures room { length buf.new ≡ length buf.old }
-        ensures bytes { ReadConsumes self.old.given self.new.given result buf.new }
+        ensures bytes { ReadConsumes self.old.unread self.new.unread result buf.new }
         ensures asked { self.new.asked ≡ min (self.old.asked + 1) (2 ^ 64 - 1) }
         ensures cause { MatchResult result
             (λ _. self.new.failed ≡ false)
@@ -72,8 +73,8 @@ impl<R: Read> Source<R> {
     }
 }
 
-/// A writer, of which an engine's contract also says how often it was asked, whether it failed, and whether it was flushed after
-/// all that it took.
+/// A writer, of which an engine's contract also says how often it was asked, whether it failed, and whether it was
+/// flushed after all that it took.
 ///
 /// It serves any number of runs until it fails. After that it isn't asked again: a further run needs a new `Sink`.
 #[derive(Drop)]

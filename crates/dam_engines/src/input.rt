@@ -1,5 +1,5 @@
 ghost use Rattle.std.specs.Prelude.{◌≡◌, ◌≤◌, ◌+◌, false, take, IfOk, IfErr, IfSome, MatchResult};
-ghost use Rattle.dam_engines.specs.Device.{HasRead, HasServed};
+ghost use Rattle.dam_engines.specs.Device.{HasServed, IsReaderAfter};
 ghost use Rattle.dam_engines.specs.Engine.{most_read};
 ghost use Rattle.dam_engines.specs.inside.Reading.{IsReadingFault};
 
@@ -17,16 +17,16 @@ const CHUNK: usize = 65_536;
 
 /// The reader's bytes, to their end or to the first `MOST_READ` of them.
 ///
-/// The first failure of the reader ends it. Each answer but the last gives a byte or more, and no byte after the first `MOST_READ`
-/// is asked for.
+/// The first failure of the reader ends it. Each answer but the last gives a byte or more, and no byte after the first
+/// `MOST_READ` is asked for.
 pub fn read_input<R: Read>(alloc: Global, reader: &mut Source<R>) -> Result<Vec<u8>, RunFault>
     requires { reader.old.failed ≡ false }
     ensures text { IfOk result (λ text.
-        IfSome reader.old.given (λ given. text.items ≡ take most_read given)) }
+        IfSome reader.old.unread (λ given. text.items ≡ take most_read given)) }
     ensures fault { IfErr result IsReadingFault }
     ensures cause { MatchResult result
         (λ _. HasServed reader.old reader.new)
-        (HasRead reader.old reader.new) }
+        (IsReaderAfter reader.old reader.new) }
     ensures asked { reader.new.asked ≤ reader.old.asked + most_read }
 {
     let mut text = Vec::new(alloc);

@@ -1,19 +1,19 @@
 //! The laws of the engines, each the contract of a function that does nothing but cite the laws that it rests on.
 ghost use Rattle.std.specs.Prelude.{◌≡◌, ◌≤◌, ℕ, List, length, Option, Result};
-ghost use Rattle.dam_book.specs.Book.{BookState, run};
+ghost use Rattle.dam_book.specs.Book.{BookState};
 ghost use Rattle.dam_book.specs.declared.command.Command.{Command};
 ghost use Rattle.dam_blocks.specs.Problem.{ProblemState, IsProblem, problem_of};
 ghost use Rattle.dam_plan.specs.Limits.{most_nodes};
 ghost use Rattle.dam_search.specs.Piece.{all_nodes};
 ghost use Rattle.dam_plan.specs.Plan.{PlanTerms};
-ghost use Rattle.dam_results.specs.Journal.{ReadsAs};
+ghost use Rattle.dam_results.specs.Journal.{IsMadeFrom, ReadsAs};
 ghost use Rattle.dam_results.specs.Replies.{AreReplies};
+ghost use Rattle.dam_results.specs.Clearing.{IsResultsText};
 ghost use Rattle.dam_engines.specs.declared.fault.RunFault.{RunFault};
 ghost use Rattle.dam_engines.specs.declared.fault.RunFault.TheVariants.{Memory};
-ghost use Rattle.dam_engines.specs.Engine.{Ends, IsTextFault};
-ghost use Rattle.dam_engines.specs.Replay.{AreRepliesTo};
-ghost use Rattle.dam_engines.specs.Clear.{AreResultsTo, IsBookFault, IsClearTextFault, IsClearedAs, IsCutShort};
-ghost use Rattle.dam_engines.specs.Day.{IsCommandsFault, IsDayText, IsDayTextFault, IsDayTextTo};
+ghost use Rattle.dam_engines.specs.Engine.{Ends, IsRunFault, IsTextFault};
+ghost use Rattle.dam_engines.specs.Clear.{AreResults, IsClearFault, IsCutShort};
+ghost use Rattle.dam_engines.specs.Day.{IsCommandsFault, IsDayText};
 
 use dam_results::laws::{fault_is_no_journal, text_is_one_journal};
 use dam_results::publishing_laws::books_are_cleared_alike;
@@ -21,7 +21,7 @@ use dam_results::publishing_laws::books_are_cleared_alike;
 /// A closed book has one results text at most.
 pub fn cleared_text_is_one()
     ensures { (book : BookState) (text other : List ℕ)
-        → IsClearedAs book text → IsClearedAs book other → text ≡ other }
+        → IsResultsText book text → IsResultsText book other → text ≡ other }
 {
     books_are_cleared_alike();
 }
@@ -31,20 +31,22 @@ pub fn replay_is_exact()
     ensures { (text : List ℕ) (periods : ℕ) (commands : List Command)
         (old new : Option (List ℕ)) (asked : ℕ) (result : Result (Unit {0}) RunFault)
         → ReadsAs text periods commands
-        → Ends (AreRepliesTo text) (IsTextFault text) old new asked result
+        → Ends (IsMadeFrom AreReplies text) (IsTextFault text) old new asked result
         → Ends (AreReplies periods commands) (λ fault. fault ≡ Memory) old new asked result }
 {
     text_is_one_journal();
     fault_is_no_journal();
 }
 
-/// If the text is a journal, a clearing ends with the results of the book that its commands make, or with a fault of that book.
+/// If the text is a journal, a clearing ends with the results of the book that its commands make, or with a fault of
+/// that book.
 pub fn clearing_is_exact()
     ensures { (plan : PlanTerms) (text : List ℕ) (periods : ℕ) (commands : List Command)
         (old new : Option (List ℕ)) (asked : ℕ) (result : Result (Unit {0}) RunFault)
         → ReadsAs text periods commands
-        → Ends (AreResultsTo text) (IsClearTextFault plan text) old new asked result
-        → Ends (IsClearedAs (run periods commands)) (IsBookFault plan (run periods commands))
+        → Ends (IsMadeFrom AreResults text) (IsRunFault (IsClearFault plan) text)
+        old new asked result
+        → Ends (AreResults periods commands) (IsClearFault plan periods commands)
         old new asked result }
 {
     text_is_one_journal();
@@ -56,7 +58,8 @@ pub fn day_is_exact()
     ensures { (plan : PlanTerms) (text : List ℕ) (periods : ℕ) (commands : List Command)
         (old new : Option (List ℕ)) (asked : ℕ) (result : Result (Unit {0}) RunFault)
         → ReadsAs text periods commands
-        → Ends (IsDayTextTo text) (IsDayTextFault plan text) old new asked result
+        → Ends (IsMadeFrom IsDayText text) (IsRunFault (IsCommandsFault plan) text)
+        old new asked result
         → Ends (IsDayText periods commands) (IsCommandsFault plan periods commands)
         old new asked result }
 {
@@ -64,8 +67,9 @@ pub fn day_is_exact()
     fault_is_no_journal();
 }
 
-/// The greatest limit on nodes of a plan, which stands if the words give none, covers any book: a search over all its blocks has at
-/// most 2 to the power of one more than their number, less 1. So neither that limit nor a greater one cuts a search short.
+/// The greatest limit on nodes of a plan, which stands if the words give none, covers any book: a search over all its
+/// blocks has at most 2 to the power of one more than their number, less 1. So neither that limit nor a greater one
+/// cuts a search short.
 pub fn greatest_limit_cuts_no_search()
     ensures covers { (problem : ProblemState) → IsProblem problem
         → all_nodes (length problem.blocks) ≤ most_nodes }

@@ -1,10 +1,10 @@
-//! The engines of the auction, bytes to bytes: each reads a journal from a reader, makes a whole text of it, and writes that
-//! text to a writer.
+//! The engines of the auction, bytes to bytes: each reads a journal from a reader, makes a whole text of it, and writes
+//! that text to a writer.
 //!
 //! [`run_replay`] prints the reply of the order book to each command, [`run_clear`] the results of the closed book, and
-//! [`run_day`] the journal of a day whose participants enter their commands side by side, and its results. If a run prints
-//! nothing or only the front of its text, its [`RunFault`] says why; [`fault_line`] is the line that a person is told,
-//! [`short_line`] the same without an allocation, and [`status`] the number that a program ends with.
+//! [`run_day`] the journal of a day whose participants enter their commands at the same time, and its results. If a run
+//! prints nothing or only the first bytes of its text, its [`RunFault`] says why; [`fault_line`] is the line that a
+//! person reads, [`short_line`] the same without an allocation, and [`status`] the number that a program ends with.
 //!
 //! ```
 //! let plan = Plan::new(2, 3, MOST_NODES)?; // workers, depth of the cutting, nodes of a piece
@@ -15,17 +15,18 @@
 //! }
 //! ```
 //!
-//! A contract sees a reader as the bytes that it has left, and a writer as those that it took, if they tell them: standard
-//! input and output don't. How a run ends ([`run_clear`], clause `ends`), what is printed for which bytes, and the text of each
-//! fault, stand in `specs/`. If the bytes are a journal, what is printed is for that journal and no other
-//! ([`laws::clearing_is_exact`] and the like), and a closed book has one results text at most ([`laws::cleared_text_is_one`]).
+//! A contract sees a reader as the bytes that it has left, and a writer as those that it took, if they show them:
+//! standard input and output don't. How a run ends ([`run_clear`], clause `ends`), what is printed for which bytes, and
+//! the text of each fault, stand in `specs/`. If the bytes are a journal, what is printed is for that journal and no
+//! other ([`laws::clearing_is_exact`] and the like), and a closed book has one results text at most
+//! ([`laws::cleared_text_is_one`]).
 //!
-//! A reader comes as a [`Source`] and a writer as a [`Sink`], which keep whether they failed, how often they were asked, and
-//! whether the writer was flushed after all that it took. So the contracts say, of any reader and writer, that an engine
-//! reports each failure of a device and no other, asks no device again that failed, flushes its text, asks the reader at most once
-//! for each byte up to the first beyond the limit, and the writer at most once for each byte of its text. Only tested is that the
-//! few lines of the two types keep this rightly, that a [`Watch`] is called, and that memory isn't said to have run out if it
-//! hasn't.
+//! A reader comes as a [`Source`] and a writer as a [`Sink`], which keep whether they failed, how often they were
+//! asked, and whether the writer was flushed after all that it took. So the contracts say, of any reader and writer,
+//! that an engine reports each failure of a device and no other, asks no device again that failed, flushes its text,
+//! asks the reader at most once for each byte up to the first beyond the limit, and the writer at most once for each
+//! byte of its text. Only tested is that the few lines of the two types keep this rightly, that a [`Watch`] is called,
+//! and that memory isn't said to have run out if it hasn't.
 //!
 //! The crate knows nothing of the command line, nor of terminals.
 #![tactic(auto)]

@@ -67,7 +67,8 @@ fn unfinished(piece: u32, visited: u32) -> ArrayString<ROOM>
 
 /// What is printed of a failed write.
 fn cut_off(written: usize) -> ArrayString<ROOM>
-    ensures text { result.bytes ≡ codes "device: write after " ++ (decimal written ++ codes " bytes") }
+    ensures text { result.bytes
+        ≡ codes "device: write after " ++ (decimal written ++ codes " bytes") }
     ensures short { length result.bytes ≤ 80 }
 {
     let mut line = numbered("device: write after ", written as u64);

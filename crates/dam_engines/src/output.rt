@@ -1,6 +1,6 @@
 ghost use Rattle.std.specs.Prelude.{◌≡◌, ◌≤◌, ◌+◌, true, false, length, IfErr, OnOk, MatchResult};
 ghost use Rattle.std.specs.Io.KnownBytes.{Appends};
-ghost use Rattle.dam_engines.specs.Engine.{IsCutOff};
+ghost use Rattle.dam_engines.specs.Engine.{IsWritingFault};
 
 use crate::device::Sink;
 use crate::fault::RunFault;
@@ -8,13 +8,12 @@ use std::io::Write;
 
 /// Writes the text, and flushes the writer once after its last byte.
 ///
-/// The first failure of the writer ends it. If the flush fails, all bytes were written. The writer is asked at most once for each
-/// byte of the text.
+/// The first failure of the writer ends it. If the flush fails, all bytes were written. The writer is asked at most
+/// once for each byte of the text.
 pub fn write_text<W: Write>(writer: &mut Sink<W>, text: &[u8]) -> Result<(), RunFault>
     requires { writer.old.failed ≡ false }
     ensures done { OnOk result (Appends writer.old.taken writer.new.taken text.now) }
-    ensures fault { IfErr result
-        (IsCutOff writer.old.taken writer.new.taken text.now) }
+    ensures fault { IfErr result (IsWritingFault writer.old.taken writer.new.taken text.now) }
     ensures cause { MatchResult result
         (λ _. writer.new.failed ≡ false)
         (λ _. writer.new.failed ≡ true) }

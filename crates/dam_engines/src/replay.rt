@@ -1,7 +1,8 @@
-ghost use Rattle.std.specs.Prelude.{◌≡◌, ◌≢◌, ◌≤◌, ◌+◌, ◌-◌, ℕ, false, IfOk, IfErr, IfSome, MatchResult};
-ghost use Rattle.dam_engines.specs.Device.{HaveFailed, HaveServed};
+ghost use Rattle.std.specs.Prelude.{◌≡◌, ◌≢◌, ◌≤◌, ◌+◌, ◌-◌, ℕ, false, IfOk, IfErr, IfSome};
+ghost use Rattle.dam_results.specs.Journal.{IsMadeFrom};
+ghost use Rattle.dam_results.specs.Replies.{AreReplies};
+ghost use Rattle.dam_engines.specs.Device.{AreDevicesAfter};
 ghost use Rattle.dam_engines.specs.Engine.{Ends, IsTextFault, most_read};
-ghost use Rattle.dam_engines.specs.Replay.{AreRepliesTo};
 
 use crate::device::{Sink, Source};
 use crate::fault::RunFault;
@@ -15,8 +16,8 @@ use std::io::{Read, Write};
 /// Reads a journal, runs its commands on the empty book of its day, and writes the day and the reply
 /// to each.
 ///
-/// The whole text is made before its first byte is written. If the input is longer than a journal may be, not all of it is
-/// read. The book hashes names by the seed.
+/// The whole text is made before its first byte is written. If the input is longer than a journal may be, not all of it
+/// is read. The book hashes names by the seed.
 ///
 /// What `run_clear` says of readers and writers holds here too.
 pub fn run_replay<R: Read, W: Write>(
@@ -27,14 +28,12 @@ pub fn run_replay<R: Read, W: Write>(
 ) -> Result<(), RunFault>
     requires reads { reader.old.failed ≡ false }
     requires writes { writer.old.failed ≡ false }
-    ensures ends { IfSome reader.old.given (λ given.
-        Ends (AreRepliesTo given) (IsTextFault given)
+    ensures ends { IfSome reader.old.unread (λ given.
+        Ends (IsMadeFrom AreReplies given) (IsTextFault given)
         writer.old.taken writer.new.taken (writer.new.asked - writer.old.asked) result) }
     ensures unwritten { IfErr result (λ fault.
         ((written : ℕ) → fault ≢ RunFault.Write written) → writer.new ≡ writer.old) }
-    ensures devices { MatchResult result
-        (λ _. HaveServed reader.old reader.new writer.new)
-        (HaveFailed reader.old reader.new writer.new) }
+    ensures devices { AreDevicesAfter reader.old reader.new writer.new result }
     ensures asked { reader.new.asked ≤ reader.old.asked + most_read }
 {
     let text = read_input(alloc, reader)?;
@@ -42,10 +41,10 @@ pub fn run_replay<R: Read, W: Write>(
     write_text(writer, replies.as_slice())
 }
 
-/// The replies to a text, as `run_replay` prints them. A text that is longer than a journal may be may have been cut after the first
-/// byte too many. The book hashes names by the seed.
+/// The replies to a text, as `run_replay` prints them. A text that is longer than a journal may be may have been cut
+/// after the first byte too many. The book hashes names by the seed.
 pub fn replies_of(alloc: Global, seed: Seed, text: &[u8]) -> Result<Vec<u8>, RunFault>
-    ensures done { IfOk result (λ replies. AreRepliesTo text.now replies.items) }
+    ensures done { IfOk result (λ replies. IsMadeFrom AreReplies text.now replies.items) }
     ensures fault { IfErr result (IsTextFault text.now) }
 {
     Ok(replay_text(alloc, seed, text)?)

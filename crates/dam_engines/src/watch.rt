@@ -1,6 +1,6 @@
 use dam_search::{FreeTurn, Turnstile};
 
-/// A turnstile that is also told of refused commands, and when a search begins and when it ends.
+/// A turnstile that is also called with the number of refused commands, and when a search begins and when it ends.
 pub trait Watch: Turnstile {
     /// Called by `run_clear` before its book is cleared, with how many of the journal's commands the book refused.
     fn refused(&self, commands: u32);

@@ -41,12 +41,12 @@ Gives text r = ParsesUnsigned 32 10 text r × ExplainsUnsignedError 10 text r ×
 
 module _ (option : OptionTerms) (small : option.most < 2 ^ 32) where
   -- a text that is read is the number, and one that isn't read is none in the range
-  read : (text : Text) (r : Result ℕ ParseIntError) → ParsesUnsigned 32 10 text r
-      → unwrap_or (read_number option text) option.default ≡ kept option (result_ok r)
+  read : (text : Text) (r : Result ℕ ParseIntError) → ParsesUnsigned 32 10 text r → unwrap_or
+      (read_number option text) option.default ≡ kept option (result_ok r)
   read text (Ok n) parses =
       let is : is_number text ≡ true = and_from _ _ (lt-ltb _ _ parses.0.0.0) (digits_pass _ parses.0.0.1) in
-      rw (parses.1, is) (same_choice (nat_le option.least (number_in text) && nat_le (number_in text) option.most) (number_in text)
-      option.default)
+      rw (parses.1, is) (same_choice (nat_le option.least (number_in text) && nat_le (number_in text) option.most)
+      (number_in text) option.default)
   read text (Err e) parses = go _ refl
     where
       go : (b : Bool) → (is_number text && (nat_le option.least (number_in text) && nat_le (number_in text) option.most)) ≡ b
@@ -59,18 +59,18 @@ module _ (option : OptionTerms) (small : option.most < 2 ^ 32) where
           let most : number_in text ≤ option.most = leb-true _ _ range.1 in
           absurd (parses ((ltb-true _ _ numeral.0, digits_are _ numeral.1), omega arith))
 
-  read_one : (text : Text) (number : Option ℕ) → ReadsOne Gives text number
-      → unwrap_or (read_number option text) option.default ≡ kept option number
+  read_one : (text : Text) (number : Option ℕ) → ReadsOne Gives text number → unwrap_or
+      (read_number option text) option.default ≡ kept option number
   read_one text (Some n) reads = read text (Ok n) reads.0
   read_one text None reads = read text (Err reads.0) reads.1.0
 
   -- the option's number, by what the matches' text is read as
   pub given : (found : Found) (number : Option ℕ) → (one_text found option.name ≡ None → number ≡ None)
-      → ((text : Text) → one_text found option.name ≡ Some text → ReadsOne Gives text number)
-      → number_given option (rows_of found) ≡ kept option number
+      → ((text : Text) → one_text found option.name ≡ Some text → ReadsOne Gives text number) → number_given option
+      (rows_of found) ≡ kept option number
   given found number none some =
-      ap (λ o. unwrap_or (option_and_then (read_number option) o) option.default) (sym (one_text-rows found option.name))
-      ∙ go (one_text found option.name) none some
+      ap (λ o. unwrap_or (option_and_then (read_number option) o) option.default) (sym (one_text-rows found option.name)) ∙ go
+      (one_text found option.name) none some
     where
       go : (o : Option Text) → (o ≡ None → number ≡ None) → ((text : Text) → o ≡ Some text → ReadsOne Gives text number)
           → unwrap_or (option_and_then (read_number option) o) option.default ≡ kept option number

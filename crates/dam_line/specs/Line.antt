@@ -21,7 +21,7 @@ use Rattle.dam_line.specs.declared.line.Job.TheVariants.{Replay, Clear, Day}
 use Rattle.dam_line.specs.declared.line.LineFault.{LineFault}
 use Rattle.dam_line.specs.declared.line.LineFault.TheVariants.{Refused, Memory}
 
--- an option `--NAME NUMBER`: its range, and the number that stands where the words give none
+-- an option `--NAME NUMBER`: its range, and the number that stands if the words give none
 pub record OptionTerms : Type 0 where
   pub name : Text
   pub least : ℕ
@@ -64,7 +64,7 @@ day = (with_plan (new_app (codes "day"))).top
 abbrev pub with_subcommands : App → App
 with_subcommands command = with_subcommand (with_subcommand (with_subcommand command replay) clear) day
 
--- the program's command: the words name one of its subcommands, and where there are none, it shows its help
+-- the program's command: the words name one of its subcommands, and if there are none, it shows its help
 abbrev pub program : App
 program =
     let command = with_subcommands (new_app (codes "dam")) in
@@ -77,7 +77,7 @@ program =
       };
     }
 
--- a whole number in decimal digits, behind a plus sign or none
+-- a whole number in decimal digits, after a plus sign or none
 abbrev pub is_number : Text → Bool
 is_number text =
     let digits = without_leading_plus text in
@@ -86,13 +86,13 @@ is_number text =
 abbrev pub number_in : Text → ℕ
 number_in text = digits_value 10 (without_leading_plus text)
 
--- the number that the text gives the option: none where it is no number in its range
+-- the number that the text gives the option: none if it is no number in its range
 abbrev pub read_number : OptionTerms → Text → Option ℕ
 read_number option text =
     if is_number text && (nat_le option.least (number_in text) && nat_le (number_in text) option.most)
     then Some (number_in text) else None
 
--- the number of the option by the matches: its default where they give it none
+-- the number of the option by the matches: its default if they give it none
 abbrev pub number_given : OptionTerms → List Row → ℕ
 number_given option matches = unwrap_or (option_and_then (read_number option) (one_of option.name matches)) option.default
 
@@ -118,8 +118,8 @@ pub record IsInItsRange (option : OptionTerms) (matches : List Row) : Type 0 whe
   pub read : read_number option text ≡ Some number
 
 -- the name of a subcommand
-abbrev pub IsCommand : Text → Type 0
-IsCommand name = (name ≡ codes "replay") ⊎ ((name ≡ codes "clear") ⊎ (name ≡ codes "day"))
+abbrev pub IsSubcommand : Text → Type 0
+IsSubcommand name = (name ≡ codes "replay") ⊎ ((name ≡ codes "clear") ⊎ (name ≡ codes "day"))
 
 -- the job of a subcommand, by its name and its matches
 abbrev pub job_of : Text × List Row → Option Job
@@ -138,7 +138,7 @@ abbrev pub is_help : ErrorKind → Bool
 is_help DisplayHelp = true
 is_help _ = false
 
--- `clap` refuses the words by a kind of error that is no want of memory; `help` says whether it answers that help was asked for
+-- `clap` refuses the words by a kind of error other than lack of memory; `help` says whether it answers that help was asked for
 pub record AreRefused (words : List Text) (help : Bool) : Type 0 where
   pub kind : ErrorKind
   pub refuses : IsAmong kind (fault_of program words)
@@ -151,6 +151,6 @@ IsRefusal kind answer (Refused help text) = (kind ≢ OutOfMemory) × (help ≡ 
 IsRefusal kind answer Memory = (kind ≡ OutOfMemory) ⊎ IsErr answer
 
 -- what words can be answered that ask for no job
-abbrev pub IsFaultOf : List Text → LineFault → Type 0
-IsFaultOf words (Refused help text) = AreRefused words help
-IsFaultOf words Memory = Unit {0}
+abbrev pub IsLineFault : List Text → LineFault → Type 0
+IsLineFault words (Refused help text) = AreRefused words help
+IsLineFault words Memory = Unit {0}

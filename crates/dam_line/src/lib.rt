@@ -1,4 +1,4 @@
-//! The command line of `dam`: what the words behind the program's name ask for.
+//! The command line of `dam`: what the words after the program's name ask for.
 //!
 //! ```
 //! match read_line(alloc, &words) {

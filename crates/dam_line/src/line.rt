@@ -2,7 +2,7 @@ ghost use Rattle.std.specs.Prelude.{◌≡◌, Some, map, IfOk, IfErr};
 ghost use Rattle.clap.specs.Words.{found_of, rows_of};
 ghost use Rattle.std.specs.Int.{IsInRange};
 ghost use Rattle.dam_line.specs.Options.{terms_of};
-ghost use Rattle.dam_line.specs.Line.{AsksFor, IsCommand, IsFaultOf, IsRefusal};
+ghost use Rattle.dam_line.specs.Line.{AsksFor, IsSubcommand, IsLineFault, IsRefusal};
 ghost use Rattle.dam_line.specs.Line.{is_help, job_of, number_given, plan_given};
 
 use crate::command::{CLEAR, DAY, REPLAY, program_command};
@@ -30,8 +30,8 @@ pub enum Job {
 /// The text is `clap`'s, so no contract says what it is.
 #[derive(PartialEq, Eq, Debug, Drop, Error)]
 pub enum LineFault {
-    /// `clap` refuses the words. Where they ask for help, `help` is true and `text` is the help;
-    /// else `text` says what is wrong with them. It ends with a line feed.
+    /// `clap` refuses the words. If they ask for help, `help` is true and `text` is the help;
+    /// otherwise `text` says what is wrong with them. It ends with a line feed.
     #[error("{text}")]
     Refused { help: bool, text: String },
     /// A growth was refused.
@@ -39,11 +39,11 @@ pub enum LineFault {
     Memory,
 }
 
-/// The job that the words behind the program's name ask for, as `clap` reads them: a subcommand, and
+/// The job that the words after the program's name ask for, as `clap` reads them: a subcommand, and
 /// then its options in any order, each `--NAME NUMBER` or `--NAME=NUMBER`, once at most.
 pub fn read_line<'a, S: AsStr>(alloc: Global, words: &'a [S]) -> Result<Job, LineFault>
     ensures ok { IfOk result (AsksFor (map S.text words.entry.now)) }
-    ensures refused { IfErr result (IsFaultOf (map S.text words.entry.now)) }
+    ensures refused { IfErr result (IsLineFault (map S.text words.entry.now)) }
 {
     let Ok(command) = program_command(alloc) else {
         return Err(LineFault::Memory);
@@ -80,7 +80,7 @@ fn is_help(kind: ErrorKind) -> bool
 
 /// The job of a subcommand.
 fn job_of(name: &str, options: &ArgMatches<'_>) -> Job
-    requires { IsCommand name.now }
+    requires { IsSubcommand name.now }
     ensures { job_of (name.now, rows_of (found_of options.now)) ≡ Some result }
 {
     if name == REPLAY {
@@ -107,7 +107,7 @@ fn plan_given(options: &ArgMatches<'_>) -> Plan
     plan
 }
 
-/// The number of an option: its default where the options give none in its range.
+/// The number of an option: its default if the options give none in its range.
 fn number_given(options: &ArgMatches<'_>, option: NumberOption) -> u32
     requires { IsInRange option.least option.most option.default }
     ensures value { result ≡ number_given (terms_of option) (rows_of (found_of options.now)) }

@@ -6,7 +6,7 @@ pub struct NumberOption {
     pub name: &'static str,
     pub least: u32,
     pub most: u32,
-    /// What stands where the words give no number.
+    /// What stands if the words give no number.
     pub default: u32,
     /// `default`, as it would stand among the words.
     pub default_text: &'static str,

@@ -1,5 +1,6 @@
 -- The best selection of a problem is its result, and a closed book is cleared in one way.
-use Rattle.std.proofs.Common.{◌≡◌, ◌≢◌, ◌<◌, ◌⊎◌, inl, inr, ℕ, ℤ, pos, ◌<ℤ◌, Bool, true, false, Option, Some, List, [], ◌∷◌, length, sym, subst, arith}
+use Rattle.std.proofs.Common.{◌≡◌, ◌≢◌, ◌<◌, ◌⊎◌, inl, inr, ℕ, ℤ, pos, ◌<ℤ◌, Bool, true, false, Option, Some, List, [], ◌∷◌, length, sym}
+use Rattle.std.proofs.Common.{subst, arith}
 use Rattle.std.proofs.lemmas.Int.{ints, by_lt_z}
 use Rattle.dam_book.specs.Limits.{most_blocks}
 use Rattle.dam_book.specs.Book.{BookState}
@@ -46,12 +47,14 @@ result-best law problem sel v is = record {
   others = λ other w eligible differs.
       elim (law.either v w sel other) as (λ _. IsBetter v sel w other) [
         | inl above ↦ above_better v w sel other above
-        | inr below ↦ absurd (differs (sym (law.same v w sel other is.eligible.as_long eligible.as_long below (is.others other w eligible)).0))
+        | inr below ↦ absurd (differs (sym
+            (law.same v w sel other is.eligible.as_long eligible.as_long below (is.others other w eligible)).0))
       ];
 }
 
 not_better : (v w : ℤ) (xs ys : List Bool) → RanksAbove w ys v xs → ¬ (IsBetter v xs w ys)
-not_better v w xs ys above (inl less) = let most = above.by_welfare in absurd (let no : 0 < 0 = omega (arith, ints, most, less) in omega (arith, no))
+not_better v w xs ys above (inl less) = let most = above.by_welfare in absurd
+    (let no : 0 < 0 = omega (arith, ints, most, less) in omega (arith, no))
 not_better v w xs ys above (inr same) = not_both xs ys same.1 (above.by_order same.0)
 
 pub best-result : AreRanked → (problem : ProblemState) (sel : List Bool) (v : ℤ) → IsBestSelection problem sel v → IsResult problem sel v
@@ -74,12 +77,14 @@ same_welfare : (o : Option ℤ) (v w : ℤ) → o ≡ Some v → o ≡ Some w �
 same_welfare o v w e f = cc
 
 pub published-cleared : ((problem : ProblemState) (sel : List Bool) (v : ℤ) → IsResult problem sel v → IsBestSelection problem sel v)
-    → (book : BookState) (problem : ProblemState) (sel : List Bool) (found welfare : ℕ) (periods : List PeriodResult) (rows : List RowResult)
+    → (book : BookState) (problem : ProblemState) (sel : List Bool) (found welfare : ℕ) (periods : List PeriodResult)
+    (rows : List RowResult)
     → book.closed ≡ true → problem ≡ problem_of book → IsResult problem sel (pos found) → ArePublished problem sel welfare periods rows
     → IsClearing book welfare periods rows
 published-cleared law book problem sel found welfare periods rows closed made is published =
     let best = law problem sel (pos found) is in
-    let same : pos found ≡ pos welfare = same_welfare (selection_welfare problem sel) (pos found) (pos welfare) is.eligible.welfare_is published.welfare_is in
+    let same : pos found ≡ pos welfare = same_welfare (selection_welfare problem sel) (pos found)
+    (pos welfare) is.eligible.welfare_is published.welfare_is in
     let moved : IsBestSelection problem sel (pos welfare) = subst (λ v. IsBestSelection problem sel v) same best in
     record {
       closed = closed;
@@ -92,8 +97,10 @@ published-cleared law book problem sel found welfare periods rows closed made is
 pub record AreOne : Type 0 where
   pub best : (problem : ProblemState) (sel : List Bool) (v : ℤ) → IsBestSelection problem sel v → IsResult problem sel v
   pub result : (problem : ProblemState) (xs ys : List Bool) (v w : ℤ) → IsResult problem xs v → IsResult problem ys w → (xs ≡ ys) × (v ≡ w)
-  pub published : (problem : ProblemState) (sel : List Bool) (welfare other : ℕ) (periods days : List PeriodResult) (rows others : List RowResult)
-      → ArePublished problem sel welfare periods rows → ArePublished problem sel other days others → (welfare ≡ other) × (periods ≡ days) × (rows ≡ others)
+  pub published : (problem : ProblemState) (sel : List Bool) (welfare other : ℕ) (periods days : List PeriodResult)
+      (rows others : List RowResult)
+      → ArePublished problem sel welfare periods rows → ArePublished problem sel other days others → (welfare ≡ other) × (periods ≡ days) ×
+      (rows ≡ others)
 
 pub cleared-alike : AreOne → (book : BookState) (welfare other : ℕ) (periods days : List PeriodResult) (rows others : List RowResult)
     → IsClearing book welfare periods rows → IsClearing book other days others → (welfare ≡ other) × (periods ≡ days) × (rows ≡ others)
@@ -101,5 +108,6 @@ cleared-alike law book welfare other periods days rows others a b =
     let problem = problem_of book in
     let same = law.result problem a.selection b.selection (pos welfare) (pos other) (law.best problem a.selection (pos welfare) a.best)
     (law.best problem b.selection (pos other) b.best) in
-    let moved : ArePublished problem b.selection welfare periods rows = subst (λ sel. ArePublished problem sel welfare periods rows) same.0 a.published in
+    let moved : ArePublished problem b.selection welfare periods rows = subst
+    (λ sel. ArePublished problem sel welfare periods rows) same.0 a.published in
     law.published problem b.selection welfare other periods days rows others moved b.published

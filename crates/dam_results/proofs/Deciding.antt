@@ -1,5 +1,6 @@
 -- What can be decided: it holds, or it doesn't.
-use Rattle.std.proofs.Common.{◌≡◌, ◌⊎◌, inl, inr, ℕ, zero, suc, ◌<◌, ◌≤◌, Bool, true, false, List, [], ◌∷◌, ◌++◌, refl, sym, ap₂, subst, arith}
+use Rattle.std.proofs.Common.{◌≡◌, ◌⊎◌, inl, inr, ℕ, zero, suc, ◌<◌, ◌≤◌, Bool, true, false, List, [], ◌∷◌, ◌++◌, refl, sym, ap₂, subst}
+use Rattle.std.proofs.Common.{arith}
 use Rattle.std.specs.Str.{bytes_eq}
 use Rattle.std.proofs.lemmas.Bool.{cases_lt, cases_eq}
 use Rattle.std.proofs.lemmas.Slice.Eq.{bytes_eq-Decides}
@@ -68,7 +69,8 @@ module _ (Q : List ℕ → Type 0) (decided : (rest : List ℕ) → IsDecided (Q
   abbrev Fronted : List ℕ → List ℕ → Type 0
   Fronted front text = (rest : List ℕ) × (text ≡ front ++ rest) × Q rest
 
-  one_byte : (x y : ℕ) (front text : List ℕ) → (x ≡ y) ⊎ (x ≡ y → ⊥) → IsDecided (Fronted front text) → IsDecided (Fronted (y ∷ front) (x ∷ text))
+  one_byte : (x y : ℕ) (front text : List ℕ) → (x ≡ y) ⊎ (x ≡ y → ⊥) → IsDecided (Fronted front text) → IsDecided
+      (Fronted (y ∷ front) (x ∷ text))
   one_byte x y front text (inl same) behind = decided_as
       (λ some. (some.0, ap₂ (λ (z : ℕ) (zs : List ℕ). z ∷ zs) same some.1, some.2))
       (λ some. (some.0, tails x y text (front ++ some.0) some.1, some.2)) behind

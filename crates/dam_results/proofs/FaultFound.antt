@@ -1,5 +1,6 @@
 -- The first fault of records.
-use Rattle.std.proofs.Common.{◌≡◌, ◌⊎◌, ℕ, ◌+◌, ◌≤◌, ◌<◌, ◌==◌, inl, inr, true, false, if◌then◌else◌, sym, List, [], ◌∷◌, ◌++◌, length, map, Result, Ok, Err, refl, ap, subst, ◌∙◌, arith, append_assoc, append-nil, MatchResult}
+use Rattle.std.proofs.Common.{◌≡◌, ◌⊎◌, ℕ, ◌+◌, ◌≤◌, ◌<◌, ◌==◌, inl, inr, true, false, if◌then◌else◌, sym, List, [], ◌∷◌, ◌++◌, length, map}
+use Rattle.std.proofs.Common.{Result, Ok, Err, refl, ap, subst, ◌∙◌, arith, append_assoc, append-nil, MatchResult}
 use Rattle.std.specs.List.{AllByRecursion}
 use Rattle.std.proofs.lemmas.List.{map-append, length-map, length-append}
 use Rattle.std.proofs.lemmas.Bool.Decides.{nat_tests}
@@ -7,11 +8,12 @@ use Rattle.dam_book.specs.Book.{is_day}
 use Rattle.dam_book.specs.declared.command.Command.{Command}
 use Rattle.dam_results.specs.Limits.{most_records}
 use Rattle.dam_results.specs.declared.journal.JournalFault.{JournalFault}
-use Rattle.dam_results.specs.declared.journal.JournalFault.TheVariants.{TooLong, NotAscii, TooManyRecords, NotDay, FieldCount, BadField, Memory}
+use Rattle.dam_results.specs.declared.journal.JournalFault.TheVariants.{TooLong, NotAscii, TooManyRecords, NotDay, FieldCount, BadField}
+use Rattle.dam_results.specs.declared.journal.JournalFault.TheVariants.{Memory}
 use Rattle.dam_results.specs.Records.{Fields, day_row, row_of}
 use Rattle.dam_results.specs.Rules.{day_rules, command_rules, IsLeastBroken}
-use Rattle.dam_results.specs.inside.Row.{fields_in}
-use Rattle.dam_results.specs.declared.row.Row.{Row}
+use Rattle.dam_results.specs.inside.NineFields.{fields_in}
+use Rattle.dam_results.specs.declared.nine_fields.NineFields.{NineFields}
 use Rattle.dam_results.specs.Journal.{AreRecords, IsCommand}
 use Rattle.dam_results.specs.Faults.{IsRecordFault, HasFault, IsFaultOfRecords}
 
@@ -25,8 +27,10 @@ IsFaultOfRecords-has rows (BadField at field) h = h
 IsFaultOfRecords-has rows Memory h = tt
 
 -- the first record has that fault
-pub in_first : (rows rest : List Fields) (row : Fields) (fault : JournalFault) → rows ≡ row ∷ rest → IsRecordFault 1 row fault → IsFaultOfRecords rows fault
-in_first rows rest row fault e h = IsFaultOfRecords-has rows fault (record { front = []; row = row; rest = rest; parts = e; fine = inl refl; faulty = h })
+pub in_first : (rows rest : List Fields) (row : Fields) (fault : JournalFault) → rows ≡ row ∷ rest → IsRecordFault 1 row fault
+    → IsFaultOfRecords rows fault
+in_first rows rest row fault e h = IsFaultOfRecords-has rows fault
+    (record { front = []; row = row; rest = rest; parts = e; fine = inl refl; faulty = h })
 
 -- what the first record says, or its fault
 pub first_record : {Open : Type 0} (rows rest : List Fields) (row : Fields) (read : Result ℕ JournalFault) → Open → rows ≡ row ∷ rest
@@ -36,12 +40,19 @@ first_record rows rest row (Ok periods) opened e h = (h.0, opened, e ∙ ap (λ 
 first_record rows rest row (Err fault) opened e h = in_first rows rest row fault e h
 
 -- a later record of nine fields, one of which breaks its rule
-pub bad_later : (number : ℕ) (row : Fields) (own : Row) (field : ℕ) → 1 < number → number ≤ most_records → row ≡ fields_in own → IsLeastBroken (command_rules (fields_in own)) (fields_in own) field
+pub bad_later : (number : ℕ) (row : Fields) (own : NineFields) (field : ℕ) → 1 < number → number ≤ most_records → row ≡ fields_in own
+    → IsLeastBroken (command_rules (fields_in own)) (fields_in own) field
     → IsRecordFault number row (BadField number field)
 bad_later number row own field later few same broken =
     let other : (number == 1) ≡ false = grind (arith, nat_tests, later) in
-    let rules : IsLeastBroken (if number == 1 then day_rules else command_rules (fields_in own)) (fields_in own) field = rw other broken in
-    ((few, λ first. absurd (omega (arith, later, first))), refl, ap length same, subst (λ (r : Fields). IsLeastBroken (if number == 1 then day_rules else command_rules r) r field) (sym same) rules)
+    let rules : IsLeastBroken (if number == 1 then day_rules else command_rules (fields_in own)) (fields_in own) field =
+    rw other broken in (
+      (few, λ first. absurd (omega (arith, later, first))),
+      refl,
+      ap length same,
+      subst
+          (λ (r : Fields). IsLeastBroken (if number == 1 then day_rules else command_rules r) r field) (sym same) rules,
+    )
 
 -- the commands read so far of the records after the day, and the records left
 pub record Reads (rows : List Fields) (commands : List Command) (rest : List Fields) : Type 0 where
@@ -49,11 +60,13 @@ pub record Reads (rows : List Fields) (commands : List Command) (rest : List Fie
   pub valid : AllByRecursion IsCommand commands
   pub few : length commands + 1 ≤ most_records
 
-AllByRecursion-push : (cs : List Command) (c : Command) → AllByRecursion IsCommand cs → IsCommand c → AllByRecursion IsCommand (cs ++ c ∷ [])
+AllByRecursion-push : (cs : List Command) (c : Command) → AllByRecursion IsCommand cs → IsCommand c → AllByRecursion IsCommand
+    (cs ++ c ∷ [])
 AllByRecursion-push [] c h k = (k, tt)
 AllByRecursion-push (d ∷ cs) c h k = (h.0, AllByRecursion-push cs c h.1 k)
 
-pub Reads-more : (rows : List Fields) (commands : List Command) (rest more : List Fields) (row : Fields) (command : Command) → Reads rows commands rest → rest ≡ row ∷ more
+pub Reads-more : (rows : List Fields) (commands : List Command) (rest more : List Fields) (row : Fields) (command : Command)
+    → Reads rows commands rest → rest ≡ row ∷ more
     → (length commands + 2 ≤ most_records) × IsCommand command × (row ≡ row_of command) → Reads rows (commands ++ command ∷ []) more
 Reads-more rows commands rest more row command h e k = record {
   parts = h.parts ∙ rw (e, k.2, map-append, append_assoc) refl;
@@ -62,7 +75,8 @@ Reads-more rows commands rest more row command h e k = record {
 }
 
 -- a later record has that fault
-pub in_later : (rows : List Fields) (periods : ℕ) (commands : List Command) (rest more : List Fields) (row : Fields) (fault : JournalFault) → is_day periods ≡ true → Reads rows commands rest → rest ≡ row ∷ more
+pub in_later : (rows : List Fields) (periods : ℕ) (commands : List Command) (rest more : List Fields) (row : Fields) (fault : JournalFault)
+    → is_day periods ≡ true → Reads rows commands rest → rest ≡ row ∷ more
     → IsRecordFault (length commands + 2) row fault → IsFaultOfRecords (day_row periods ∷ rows) fault
 in_later rows periods commands rest more row fault day h e faulty =
     let front : List Fields = day_row periods ∷ map row_of commands in
@@ -78,7 +92,8 @@ in_later rows periods commands rest more row fault day h e faulty =
     })
 
 -- at the end of the records they are a journal
-pub AreRecords-all : (rows : List Fields) (periods : ℕ) (commands : List Command) (rest : List Fields) → is_day periods ≡ true → Reads rows commands rest → rest ≡ [] → AreRecords (day_row periods ∷ rows) periods commands
+pub AreRecords-all : (rows : List Fields) (periods : ℕ) (commands : List Command) (rest : List Fields) → is_day periods ≡ true
+    → Reads rows commands rest → rest ≡ [] → AreRecords (day_row periods ∷ rows) periods commands
 AreRecords-all rows periods commands rest day h e =
     let len : length (map row_of commands) ≡ length commands = length-map commands row_of in
     let all : rows ≡ map row_of commands = h.parts ∙ rw (e, append-nil) refl in
@@ -90,17 +105,20 @@ AreRecords-all rows periods commands rest day h e =
     }
 
 -- the commands read so far, of which there are so many, made this
-pub record ReadsInto {T : Type 0} (MadeOf : ℕ → List Command → T → Type 0) (periods : ℕ) (rows rest : List Fields) (count : ℕ) (made : T) : Type 0 where
+pub record ReadsInto {T : Type 0} (MadeOf : ℕ → List Command → T → Type 0) (periods : ℕ) (rows rest : List Fields) (count : ℕ)
+    (made : T) : Type 0 where
   pub commands : List Command
   pub reads : Reads rows commands rest
   pub counted : count ≡ length commands
   pub made_of : MadeOf periods commands made
 
 -- one command more
-pub ReadsInto-more : {T : Type 0} (MadeOf : ℕ → List Command → T → Type 0) (periods : ℕ) (rows rest more : List Fields) (row : Fields) (count next : ℕ) (command : Command) (before after : T)
+pub ReadsInto-more : {T : Type 0} (MadeOf : ℕ → List Command → T → Type 0) (periods : ℕ) (rows rest more : List Fields) (row : Fields)
+    (count next : ℕ) (command : Command) (before after : T)
     → (h : ReadsInto MadeOf periods rows rest count before) → rest ≡ row ∷ more → next ≡ count + 1
     → (next + 1 ≤ most_records) × IsCommand command × (row ≡ row_of command)
-    → ((commands : List Command) → length commands + 1 ≡ next → MadeOf periods commands before → MadeOf periods (commands ++ command ∷ []) after)
+    → ((commands : List Command) → length commands + 1 ≡ next → MadeOf periods commands before → MadeOf periods
+    (commands ++ command ∷ []) after)
     → ReadsInto MadeOf periods rows more next after
 ReadsInto-more MadeOf periods rows rest more row count next command before after h first following said takes =
     let n = said.0 in
@@ -114,8 +132,10 @@ ReadsInto-more MadeOf periods rows rest more row count next command before after
     }
 
 -- where memory ran out or the next record has a fault, the records have it
-pub ReadsInto-fault : {T : Type 0} (MadeOf : ℕ → List Command → T → Type 0) (periods : ℕ) (rows rest more : List Fields) (row : Fields) (count number : ℕ) (made : T) (fault : JournalFault)
-    → is_day periods ≡ true → ReadsInto MadeOf periods rows rest count made → rest ≡ row ∷ more → number ≡ count + 2 → (fault ≡ Memory) ⊎ IsRecordFault number row fault
+pub ReadsInto-fault : {T : Type 0} (MadeOf : ℕ → List Command → T → Type 0) (periods : ℕ) (rows rest more : List Fields) (row : Fields)
+    (count number : ℕ) (made : T) (fault : JournalFault)
+    → is_day periods ≡ true → ReadsInto MadeOf periods rows rest count made → rest ≡ row ∷ more → number ≡ count + 2 → (fault ≡ Memory)
+    ⊎ IsRecordFault number row fault
     → IsFaultOfRecords (day_row periods ∷ rows) fault
 ReadsInto-fault MadeOf periods rows rest more row count number made fault day h first at (inl memory) = rw memory tt
 ReadsInto-fault MadeOf periods rows rest more row count number made fault day h first at (inr faulty) =
@@ -124,6 +144,8 @@ ReadsInto-fault MadeOf periods rows rest more row count number made fault day h 
     in_later rows periods h.commands rest more row fault day h.reads first (subst (λ (n : ℕ). IsRecordFault n row fault) place faulty)
 
 -- at the end of the records, what was made is what the whole journal makes
-pub ReadsInto-all : {T : Type 0} (MadeOf : ℕ → List Command → T → Type 0) (periods : ℕ) (rows rest : List Fields) (count : ℕ) (made : T) → is_day periods ≡ true → ReadsInto MadeOf periods rows rest count made
+pub ReadsInto-all : {T : Type 0} (MadeOf : ℕ → List Command → T → Type 0) (periods : ℕ) (rows rest : List Fields) (count : ℕ) (made : T)
+    → is_day periods ≡ true → ReadsInto MadeOf periods rows rest count made
     → rest ≡ [] → (commands : List Command) × AreRecords (day_row periods ∷ rows) periods commands × MadeOf periods commands made
-ReadsInto-all MadeOf periods rows rest count made day h none = (h.commands, AreRecords-all rows periods h.commands rest day h.reads none, h.made_of)
+ReadsInto-all MadeOf periods rows rest count made day h none =
+    (h.commands, AreRecords-all rows periods h.commands rest day h.reads none, h.made_of)

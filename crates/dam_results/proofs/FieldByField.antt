@@ -2,7 +2,7 @@
 use Rattle.std.proofs.Common.{◌≡◌, ℕ, zero, suc, List, [], ◌∷◌, length, Some, None, refl}
 use Rattle.csv.specs.Records.{field_at}
 use Rattle.dam_results.specs.Records.{kind_field}
-use Rattle.dam_results.specs.inside.Row.{field_or_empty}
+use Rattle.dam_results.specs.inside.NineFields.{field_or_empty}
 
 pub field_or_empty-Some : (fs : List (List ℕ)) (i : ℕ) (f : List ℕ) → Some f ≡ field_at fs i → f ≡ field_or_empty fs i
 unfolding field_at
@@ -18,7 +18,8 @@ field_or_empty-None (g ∷ fs) (suc i) e = field_or_empty-None fs i e
 
 -- nine fields are these
 pub nine : (fs : List (List ℕ)) → length fs ≡ 9
-    → fs ≡ field_or_empty fs 0 ∷ field_or_empty fs 1 ∷ field_or_empty fs 2 ∷ field_or_empty fs 3 ∷ field_or_empty fs 4 ∷ field_or_empty fs 5 ∷ field_or_empty fs 6 ∷ field_or_empty fs 7 ∷ field_or_empty fs 8 ∷ []
+    → fs ≡ field_or_empty fs 0 ∷ field_or_empty fs 1 ∷ field_or_empty fs 2 ∷ field_or_empty fs 3 ∷ field_or_empty fs 4 ∷ field_or_empty fs 5
+    ∷ field_or_empty fs 6 ∷ field_or_empty fs 7 ∷ field_or_empty fs 8 ∷ []
 nine (a ∷ b ∷ c ∷ d ∷ e ∷ f ∷ g ∷ h ∷ i ∷ []) len = refl
 nine [] len = absurd cc
 nine (a ∷ []) len = absurd cc

@@ -1,5 +1,6 @@
 -- The fields of the records of days and of commands: which bytes they have, and how many.
-use Rattle.std.proofs.Common.{◌≡◌, ℕ, ℤ, pos, negsuc, suc, ◌+◌, ◌*◌, ◌%◌, ◌<◌, ◌≤◌, ◌^◌, nat_le, ◌&&◌, Bool, true, List, [], ◌∷◌, ◌++◌, length, Option, Some, None, refl, arith, length-append, codes}
+use Rattle.std.proofs.Common.{◌≡◌, ℕ, ℤ, pos, negsuc, suc, ◌+◌, ◌*◌, ◌%◌, ◌<◌, ◌≤◌, ◌^◌, nat_le, ◌&&◌, Bool, true, List, [], ◌∷◌, ◌++◌}
+use Rattle.std.proofs.Common.{length, Option, Some, None, refl, arith, length-append, codes}
 use Rattle.std.specs.Prelude.{decimal, IfSome}
 use Rattle.std.specs.Fmt.{signed_decimal}
 use Rattle.std.specs.Int.Signed.{mag}
@@ -73,14 +74,16 @@ pair p h g =
     let qty : length (decimal p.1) ≤ 5 = length-decimal-le 5 p.1 (omega arith) (omega arith) (omega arith) in
     record {
       fits = omega (arith, length-append (decimal p.0) (58 ∷ decimal p.1));
-      bytes = HasFieldBytes-append (decimal p.0) (58 ∷ decimal p.1) (digits p.0 (omega arith)) (HasFieldBytes-cons 58 (decimal p.1) (omega arith) (omega arith) (digits p.1 (omega arith)));
+      bytes = HasFieldBytes-append (decimal p.0) (58 ∷ decimal p.1) (digits p.0 (omega arith))
+          (HasFieldBytes-cons 58 (decimal p.1) (omega arith) (omega arith) (digits p.1 (omega arith)));
     }
 
 volumes_bytes : (ps : List Pair) → ArePairs ps → HasFieldBytes (volumes_text ps)
 volumes_bytes [] h = refl
 volumes_bytes (p ∷ []) h = (pair p h.0 h.1).bytes
 volumes_bytes (p ∷ q ∷ ps) h =
-    HasFieldBytes-append (pair_text p) (59 ∷ volumes_text (q ∷ ps)) (pair p h.0 h.1).bytes (HasFieldBytes-cons 59 (volumes_text (q ∷ ps)) (omega arith) (omega arith) (volumes_bytes (q ∷ ps) h.2))
+    HasFieldBytes-append (pair_text p) (59 ∷ volumes_text (q ∷ ps)) (pair p h.0 h.1).bytes
+    (HasFieldBytes-cons 59 (volumes_text (q ∷ ps)) (omega arith) (omega arith) (volumes_bytes (q ∷ ps) h.2))
 
 volumes_length : (ps : List Pair) → 0 < length ps → ArePairs ps → length (volumes_text ps) + 1 ≤ 10 * length ps
 volumes_length [] some h = absurd (omega arith)
@@ -91,7 +94,8 @@ volumes_length (p ∷ q ∷ ps) some h =
     omega (arith, length-append (pair_text p) (59 ∷ volumes_text (q ∷ ps)))
 
 volumes : (ps : List Pair) → IsVolumes ps → IsFieldText 999 (volumes_text ps)
-volumes ps h = let long = volumes_length ps h.nonempty h.ranges in let few = h.fits in record { fits = omega arith; bytes = volumes_bytes ps h.ranges }
+volumes ps h = let long = volumes_length ps h.nonempty h.ranges in let few = h.fits in
+    record { fits = omega arith; bytes = volumes_bytes ps h.ranges }
 
 -- names
 
@@ -148,12 +152,30 @@ command_fields (Submit who text (Hour o)) h =
     let word : IsFieldText 6 (codes "submit") = record { fits = omega arith; bytes = refl } in
     let form : IsFieldText 5 (codes "hour") = record { fits = omega arith; bytes = refl } in
     let one = pair (o.period, o.qty) h.2.period h.2.qty in
-    let qty : IsFieldText 999 (volumes_text ((o.period, o.qty) ∷ [])) = record { fits = let f = one.fits in omega arith; bytes = one.bytes } in
+    let qty : IsFieldText 999 (volumes_text ((o.period, o.qty) ∷ [])) =
+    record { fits = let f = one.fits in omega arith; bytes = one.bytes } in
     (word, (participant who h.0, (name text h.1, (form, (side o.side, (price o.price h.2.price, (qty, (empty _, (empty _, tt)))))))))
 command_fields (Submit who text (Block o)) h =
     let word : IsFieldText 6 (codes "submit") = record { fits = omega arith; bytes = refl } in
-    let form : IsFieldText 5 (codes "block") = record { fits = omega arith; bytes = refl } in
-    (word, (participant who h.0, (name text h.1, (form, (side o.side, (price o.price h.2.price, (volumes o.volumes h.2.volumes, (optional_name o.parent h.2.parent, (optional_name o.group h.2.group, tt)))))))))
+    let form : IsFieldText 5 (codes "block") = record { fits = omega arith; bytes = refl } in (
+      word,
+      (
+        participant who h.0,
+        (
+          name text h.1,
+          (
+            form,
+            (
+              side o.side,
+              (
+                price o.price h.2.price,
+                (volumes o.volumes h.2.volumes, (optional_name o.parent h.2.parent, (optional_name o.group h.2.group, tt))),
+              ),
+            ),
+          ),
+        ),
+      ),
+    )
 command_fields (Amend who text cents pairs) h =
     let word : IsFieldText 6 (codes "amend") = record { fits = omega arith; bytes = refl } in
     (word, (participant who h.0, (name text h.1, (empty _, (empty _, (price cents h.2, (volumes pairs h.3, (empty _, (empty _, tt)))))))))

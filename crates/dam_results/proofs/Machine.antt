@@ -62,15 +62,18 @@ at_end false fields p h = absurd cc
 at_byte : (test : Bool) (move : State × Action) (fields : List (List ℕ)) (rest : List ℕ) (c : ℕ) (more : Option Read) (p : Read)
     → is_end move.1 ≡ test → Closes move → (more ≡ Some p → IsAfter p rest)
     → cond test (Some (fields, move.0, rest)) more ≡ Some p → IsAfter p (c ∷ rest)
-at_byte true move fields rest c more p e closes ih h = subst (λ (q : Read). IsAfter q (c ∷ rest)) (some_is _ _ h) (record { closed = closes.at_end e; shorter = omega arith })
+at_byte true move fields rest c more p e closes ih h = subst (λ (q : Read). IsAfter q (c ∷ rest)) (some_is _ _ h)
+    (record { closed = closes.at_end e; shorter = omega arith })
 at_byte false move fields rest c more p e closes ih h = let q : IsAfter p rest = ih h in record { closed = q.closed; shorter = omega arith }
 
-pub next_record-after : (s : State) (fields : List (List ℕ)) (field : List ℕ) (xs : List ℕ) (p : Read) → next_record default_config s fields field xs ≡ Some p → IsAfter p xs
+pub next_record-after : (s : State) (fields : List (List ℕ)) (field : List ℕ) (xs : List ℕ) (p : Read)
+    → next_record default_config s fields field xs ≡ Some p → IsAfter p xs
 unfolding next_record
 next_record-after s fields field [] p h = at_end _ _ p h
 next_record-after s fields field (c ∷ rest) p h =
     let move = step default_config s c in
-    at_byte _ move _ rest c _ p refl (Closes-step s c) (next_record-after move.0 (fields_after move.1 fields field) (field_after move.1 c field) rest p) h
+    at_byte _ move _ rest c _ p refl (Closes-step s c)
+    (next_record-after move.0 (fields_after move.1 fields field) (field_after move.1 c field) rest p) h
 
 shorter : (test : Bool) (move : State × Action) (fields : List (List ℕ)) (rest : List ℕ) (c : ℕ) (more : Option Read) (p : Read)
     → (more ≡ Some p → IsAfter p rest) → cond test (Some (fields, move.0, rest)) more ≡ Some p → length p.2 < length (c ∷ rest)
@@ -78,7 +81,8 @@ shorter true move fields rest c more p ih h = let e = ap (λ (q : Read). length 
 shorter false move fields rest c more p ih h = let q : IsAfter p rest = ih h in omega (arith, q.shorter)
 
 -- between records a read takes a byte at least
-pub next_record-shorter : (s : State) (xs : List ℕ) (p : Read) → ends_at_end s ≡ false → next_record default_config s [] [] xs ≡ Some p → length p.2 < length xs
+pub next_record-shorter : (s : State) (xs : List ℕ) (p : Read) → ends_at_end s ≡ false → next_record default_config s [] [] xs ≡ Some p
+    → length p.2 < length xs
 unfolding next_record
 next_record-shorter s [] p e h = absurd (let g = rw e at h in cc)
 next_record-shorter s (c ∷ rest) p e h =

@@ -1,18 +1,21 @@
 -- A text has one first fault: a record has one fault at most, and of two faulty records only the first has a journal in front of it.
-use Rattle.std.proofs.Common.{◌≡◌, ℕ, zero, suc, ◌+◌, ◌<◌, ◌≤◌, ◌⊎◌, inl, inr, List, [], ◌∷◌, ◌++◌, length, Some, None, refl, sym, ap, ap₂, subst, ◌∙◌, arith}
+use Rattle.std.proofs.Common.{◌≡◌, ℕ, zero, suc, ◌+◌, ◌<◌, ◌≤◌, ◌⊎◌, inl, inr, List, [], ◌∷◌, ◌++◌, length, Some, None, refl, sym, ap, ap₂}
+use Rattle.std.proofs.Common.{subst, ◌∙◌, arith}
 use Rattle.std.proofs.Math.Nat.{lt_of_not-le}
 use Rattle.std.proofs.lemmas.List.{length-append}
 use Rattle.dam_results.specs.Limits.{most_bytes}
 use Rattle.dam_results.specs.declared.journal.JournalFault.{JournalFault}
-use Rattle.dam_results.specs.declared.journal.JournalFault.TheVariants.{TooLong, NotAscii, TooManyRecords, NotDay, FieldCount, BadField, Memory}
+use Rattle.dam_results.specs.declared.journal.JournalFault.TheVariants.{TooLong, NotAscii, TooManyRecords, NotDay, FieldCount, BadField}
+use Rattle.dam_results.specs.declared.journal.JournalFault.TheVariants.{Memory}
 use Rattle.dam_results.specs.Records.{Fields, records_of}
 use Rattle.dam_results.specs.Rules.{FieldRule, IsLeastBroken, rules_of}
 use Rattle.dam_results.specs.Journal.{first_high}
-use Rattle.dam_results.specs.Faults.{IsRecordFault, HasFault, IsFaultOfRecords, IsFaultOf}
+use Rattle.dam_results.specs.Faults.{IsRecordFault, HasFault, IsFaultOfRecords, IsJournalFault}
 use Rattle.dam_results.proofs.JournalsHaveNoFault.{HasFault-none}
 
 -- one field is the least that breaks its rule
-least_broken-one : (rules : List FieldRule) (fields : Fields) (m n : ℕ) → IsLeastBroken rules fields m → IsLeastBroken rules fields n → m ≡ n
+least_broken-one : (rules : List FieldRule) (fields : Fields) (m n : ℕ) → IsLeastBroken rules fields m → IsLeastBroken rules fields n
+    → m ≡ n
 least_broken-one [] fields m n h k = absurd h
 least_broken-one (rule ∷ rules) [] m n h k = absurd h
 least_broken-one (rule ∷ rules) (field ∷ fields) zero n h k = absurd h
@@ -21,7 +24,8 @@ least_broken-one (rule ∷ rules) (field ∷ fields) (suc zero) (suc zero) h k =
 least_broken-one (rule ∷ rules) (field ∷ fields) (suc zero) (suc (suc n)) h k = absurd (h k.0)
 least_broken-one (rule ∷ rules) (field ∷ fields) (suc (suc m)) zero h k = absurd k
 least_broken-one (rule ∷ rules) (field ∷ fields) (suc (suc m)) (suc zero) h k = absurd (k h.0)
-least_broken-one (rule ∷ rules) (field ∷ fields) (suc (suc m)) (suc (suc n)) h k = ap suc (least_broken-one rules fields (suc m) (suc n) h.1 k.1)
+least_broken-one (rule ∷ rules) (field ∷ fields) (suc (suc m)) (suc (suc n)) h k = ap suc
+    (least_broken-one rules fields (suc m) (suc n) h.1 k.1)
 
 -- a record has one fault at most
 record_fault-one : (number : ℕ) (row : Fields) (f g : JournalFault) → IsRecordFault number row f → IsRecordFault number row g → f ≡ g
@@ -59,7 +63,8 @@ record_fault-one number row (BadField at field) (BadField other second) h k =
 record_fault-one number row (BadField at field) Memory h k = absurd k
 
 -- of two records of a list, the earlier one stands in front of the later one
-front_splits : (xs ys tail rest : List Fields) (x y : Fields) → xs ++ x ∷ tail ≡ ys ++ y ∷ rest → length xs < length ys → (mid : List Fields) × (ys ≡ xs ++ x ∷ mid)
+front_splits : (xs ys tail rest : List Fields) (x y : Fields) → xs ++ x ∷ tail ≡ ys ++ y ∷ rest → length xs < length ys →
+    (mid : List Fields) × (ys ≡ xs ++ x ∷ mid)
 front_splits xs [] tail rest x y e less = absurd (omega (arith, less))
 front_splits [] (z ∷ ys) tail rest x y e less = (ys, let first : z ≡ x = cc in cc)
 front_splits (w ∷ xs) (z ∷ ys) tail rest x y e less =
@@ -81,7 +86,8 @@ not_earlier rows f g h k less =
     let split = front_splits h.front k.front h.rest k.rest h.row k.row (sym h.parts ∙ k.parts) less in
     elim k.fine [
       | inl none ↦ let empty : length k.front ≡ 0 = ap length none in omega (arith, less, empty)
-      | inr fine ↦ HasFault-none k.front f fine.0 fine.1 fine.2 (record { front = h.front; row = h.row; rest = split.0; parts = split.1; fine = h.fine; faulty = h.faulty })
+      | inr fine ↦ HasFault-none k.front f fine.0 fine.1 fine.2
+          (record { front = h.front; row = h.row; rest = split.0; parts = split.1; fine = h.fine; faulty = h.faulty })
     ]
 
 HasFault-one : (rows : List Fields) (f g : JournalFault) → HasFault rows f → HasFault rows g → f ≡ g
@@ -90,7 +96,8 @@ HasFault-one rows f g h k =
     let at_least : length h.front < suc (length k.front) = lt_of_not-le (not_earlier rows g f k h) in
     let same : length h.front ≡ length k.front = omega (arith, at_most, at_least) in
     let row : h.row ≡ k.row = record_at-one h.front k.front h.rest k.rest h.row k.row (sym h.parts ∙ k.parts) same in
-    let moved : IsRecordFault (length k.front + 1) k.row f = subst (λ (r : Fields). IsRecordFault (length k.front + 1) r f) row (subst (λ (n : ℕ). IsRecordFault (n + 1) h.row f) same h.faulty) in
+    let moved : IsRecordFault (length k.front + 1) k.row f = subst (λ (r : Fields). IsRecordFault (length k.front + 1) r f) row
+    (subst (λ (n : ℕ). IsRecordFault (n + 1) h.row f) same h.faulty) in
     record_fault-one (length k.front + 1) k.row f g moved k.faulty
 
 HasFault-some : (rows : List Fields) (f : JournalFault) → HasFault rows f → rows ≡ [] → ⊥
@@ -133,7 +140,7 @@ data Source (text : List ℕ) (f : JournalFault) : Type 0 where
   OfByte : (offset : ℕ) → length text ≤ most_bytes → first_high text ≡ Some offset → f ≡ NotAscii offset → Source text f
   OfRecords : length text ≤ most_bytes → first_high text ≡ None → Cause (records_of text) f → Source text f
 
-source_of : (text : List ℕ) (f : JournalFault) → IsFaultOf text f → Source text f
+source_of : (text : List ℕ) (f : JournalFault) → IsJournalFault text f → Source text f
 source_of text TooLong h = OfLength h refl
 source_of text (NotAscii offset) h = OfByte offset h.0 h.1 refl
 source_of text TooManyRecords h = OfRecords h.0 h.1 (cause_of (records_of text) TooManyRecords h.2)
@@ -147,11 +154,12 @@ sources-alike text f g (OfLength long is) (OfLength too same) = inl (is ∙ sym 
 sources-alike text f g (OfLength long is) (OfByte offset short high same) = absurd (omega (arith, long, short))
 sources-alike text f g (OfLength long is) (OfRecords short low cause) = absurd (omega (arith, long, short))
 sources-alike text f g (OfByte offset short high is) (OfLength long same) = absurd (omega (arith, long, short))
-sources-alike text f g (OfByte offset short high is) (OfByte other less found same) = let one : offset ≡ other = cc in inl (is ∙ ap NotAscii one ∙ sym same)
+sources-alike text f g (OfByte offset short high is) (OfByte other less found same) = let one : offset ≡ other = cc in inl
+    (is ∙ ap NotAscii one ∙ sym same)
 sources-alike text f g (OfByte offset short high is) (OfRecords less low cause) = absurd (cc)
 sources-alike text f g (OfRecords short low cause) (OfLength long same) = absurd (omega (arith, long, short))
 sources-alike text f g (OfRecords short low cause) (OfByte offset less high same) = absurd (cc)
 sources-alike text f g (OfRecords short low cause) (OfRecords less none other) = causes-alike (records_of text) f g cause other
 
-pub faults-alike : (text : List ℕ) (f g : JournalFault) → IsFaultOf text f → IsFaultOf text g → AreAlike f g
+pub faults-alike : (text : List ℕ) (f g : JournalFault) → IsJournalFault text f → IsJournalFault text g → AreAlike f g
 faults-alike text f g h k = sources-alike text f g (source_of text f h) (source_of text g k)

@@ -16,11 +16,13 @@ use Rattle.dam_blocks.specs.Selection.{net_volume, bought_volume}
 use Rattle.dam_results.specs.declared.published.PeriodResult.{PeriodResult}
 use Rattle.dam_results.specs.declared.published.RowResult.{RowResult}
 use Rattle.dam_results.specs.declared.published.RowResult.TheVariants.{Hour as HourResult, Block as BlockResult}
-use Rattle.dam_results.specs.Published.{prices_of, IsPeriodResult, ArePeriodResults, IsExecuted, HasSurplus, IsRowResult, AreRowResults, ArePublished}
+use Rattle.dam_results.specs.Published.{prices_of, IsPeriodResult, ArePeriodResults, IsExecuted, HasSurplus, IsRowResult, AreRowResults}
+use Rattle.dam_results.specs.Published.{ArePublished}
 
 -- the law of one period
 pub record IsOfOne : Type 0 where
-  pub ends : (steps : List Step) (net low high other_low other_high : ℤ) → AreEnds steps net low high → AreEnds steps net other_low other_high → (low ≡ other_low) × (high ≡ other_high)
+  pub ends : (steps : List Step) (net low high other_low other_high : ℤ) → AreEnds steps net low high
+      → AreEnds steps net other_low other_high → (low ≡ other_low) × (high ≡ other_high)
   pub best : (steps : List Step) (net : ℤ) (xs ys : List ℕ) → IsBest steps net xs → IsBest steps net ys → xs ≡ ys
 
 same_some : {A : Type 0} (a b : A) → Some a ≡ Some b → a ≡ b
@@ -36,7 +38,8 @@ same_result r s price volume =
     let number : r.volume ≡ s.volume = omega (arith, ints, volume) in
     ap₂ (λ (p : ℤ) (v : ℕ). record { price = p; volume = v }) price number
 
-period-one : IsOfOne → (blocks : List Block) (sel : List Bool) (t : ℕ) (ss : List Step) (r s : PeriodResult) → IsPeriodResult blocks sel t ss r → IsPeriodResult blocks sel t ss s → r ≡ s
+period-one : IsOfOne → (blocks : List Block) (sel : List Bool) (t : ℕ) (ss : List Step) (r s : PeriodResult)
+    → IsPeriodResult blocks sel t ss r → IsPeriodResult blocks sel t ss s → r ≡ s
 period-one law blocks sel t ss r s a b =
     let net = net_volume blocks sel t in
     let best = law.best ss net a.executed b.executed a.best b.best in
@@ -51,16 +54,20 @@ periods-one law blocks sel t [] (r ∷ rs) qs a b = absurd a
 periods-one law blocks sel t (ss ∷ hours) [] qs a b = absurd a
 periods-one law blocks sel t (ss ∷ hours) (r ∷ rs) [] a b = absurd b
 periods-one law blocks sel t (ss ∷ hours) (r ∷ rs) (q ∷ qs) a b =
-    ap₂ (λ (x : PeriodResult) (xs : List PeriodResult). x ∷ xs) (period-one law blocks sel t ss r q a.0 b.0) (periods-one law blocks sel (suc t) hours rs qs a.1 b.1)
+    ap₂ (λ (x : PeriodResult) (xs : List PeriodResult). x ∷ xs) (period-one law blocks sel t ss r q a.0 b.0)
+    (periods-one law blocks sel (suc t) hours rs qs a.1 b.1)
 
-executed-one : IsOfOne → (problem : ProblemState) (sel : List Bool) (t i x y : ℕ) → IsExecuted problem sel t i x → IsExecuted problem sel t i y → x ≡ y
+executed-one : IsOfOne → (problem : ProblemState) (sel : List Bool) (t i x y : ℕ) → IsExecuted problem sel t i x
+    → IsExecuted problem sel t i y → x ≡ y
 executed-one law problem sel t i x y a b =
     let net = net_volume problem.blocks sel t in
     let hour : b.hour ≡ a.hour = same_some b.hour a.hour (sym b.stands ∙ a.stands) in
-    let best : a.executed ≡ b.executed = law.best a.hour net a.executed b.executed a.best (subst (λ ss. IsBest ss net b.executed) hour b.best) in
+    let best : a.executed ≡ b.executed = law.best a.hour net a.executed b.executed a.best
+    (subst (λ ss. IsBest ss net b.executed) hour b.best) in
     same_some x y (sym a.volume_is ∙ ap (λ xs. slice_get xs i) best ∙ b.volume_is)
 
-surplus-one : (blocks : List Block) (prices : List ℤ) (i : ℕ) (x y : ℤ) → HasSurplus blocks prices i x → HasSurplus blocks prices i y → x ≡ y
+surplus-one : (blocks : List Block) (prices : List ℤ) (i : ℕ) (x y : ℤ) → HasSurplus blocks prices i x → HasSurplus blocks prices i y
+    → x ≡ y
 surplus-one blocks prices i x y a b =
     let block : a.block ≡ b.block = same_some a.block b.block (sym a.stands ∙ b.stands) in
     a.surplus_is ∙ ap (λ (b : Block). surplus_of prices b.order) block ∙ sym b.surplus_is
@@ -78,7 +85,8 @@ row-one : IsOfOne → (problem : ProblemState) (sel : List Bool) (prices : List 
     → IsRowResult problem sel prices row r → IsRowResult problem sel prices row q → r ≡ q
 row-one law problem sel prices row (HourResult who name x) (HourResult other called y) a b =
     let place = same_hour a.2.0 a.2.1 b.2.0 b.2.1 (sym a.2.2 ∙ b.2.2) in
-    let moved : IsExecuted problem sel b.2.0 b.2.1 x = subst (λ i. IsExecuted problem sel b.2.0 i x) place.1 (subst (λ t. IsExecuted problem sel t a.2.1 x) place.0 a.2.3) in
+    let moved : IsExecuted problem sel b.2.0 b.2.1 x = subst (λ i. IsExecuted problem sel b.2.0 i x) place.1
+    (subst (λ t. IsExecuted problem sel t a.2.1 x) place.0 a.2.3) in
     let volume : x ≡ y = executed-one law problem sel b.2.0 b.2.1 x y moved b.2.3 in
     let same : who ≡ other = a.0 ∙ sym b.0 in
     let named : name ≡ called = a.1 ∙ sym b.1 in
@@ -102,7 +110,8 @@ rows-one law problem sel prices [] (r ∷ rs) qs a b = absurd a
 rows-one law problem sel prices (row ∷ rows) [] qs a b = absurd a
 rows-one law problem sel prices (row ∷ rows) (r ∷ rs) [] a b = absurd b
 rows-one law problem sel prices (row ∷ rows) (r ∷ rs) (q ∷ qs) a b =
-    ap₂ (λ (x : RowResult) (xs : List RowResult). x ∷ xs) (row-one law problem sel prices row r q a.0 b.0) (rows-one law problem sel prices rows rs qs a.1 b.1)
+    ap₂ (λ (x : RowResult) (xs : List RowResult). x ∷ xs) (row-one law problem sel prices row r q a.0 b.0)
+    (rows-one law problem sel prices rows rs qs a.1 b.1)
 
 pub published-one : IsOfOne → (problem : ProblemState) (sel : List Bool) (v w : ℕ) (ps qs : List PeriodResult) (rs ss : List RowResult)
     → ArePublished problem sel v ps rs → ArePublished problem sel w qs ss → (v ≡ w) × (ps ≡ qs) × (rs ≡ ss)
@@ -111,5 +120,6 @@ published-one law problem sel v w ps qs rs ss a b =
     let welfare : pos v ≡ pos w = same_some (pos v) (pos w) (sym a.welfare_is ∙ b.welfare_is) in (
       omega (arith, ints, welfare),
       periods,
-      rows-one law problem sel (prices_of qs) problem.rows rs ss (subst (λ xs. AreRowResults problem sel (prices_of xs) problem.rows rs) periods a.rows_are) b.rows_are,
+      rows-one law problem sel (prices_of qs) problem.rows rs ss
+          (subst (λ xs. AreRowResults problem sel (prices_of xs) problem.rows rs) periods a.rows_are) b.rows_are,
     )

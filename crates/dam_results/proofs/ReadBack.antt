@@ -1,5 +1,6 @@
 -- The written journal, and every text that spells its records, reads as its periods and commands.
-use Rattle.std.proofs.Common.{◌≡◌, ℕ, ◌+◌, ◌*◌, ◌≤◌, nat_lt, ltb, true, false, List, [], ◌∷◌, ◌++◌, length, map, None, refl, sym, ap, subst, arith, length-append, append_assoc}
+use Rattle.std.proofs.Common.{◌≡◌, ℕ, ◌+◌, ◌*◌, ◌≤◌, nat_lt, ltb, true, false, List, [], ◌∷◌, ◌++◌, length, map, None, refl, sym, ap, subst}
+use Rattle.std.proofs.Common.{arith, length-append, append_assoc}
 use Rattle.std.specs.List.{AllByRecursion, list_any, flat_map, join_with_byte, position_or_len}
 use Rattle.std.proofs.lemmas.Bool.Decides.{nat_tests}
 use Rattle.std.proofs.lemmas.List.{length-map}
@@ -12,7 +13,8 @@ use Rattle.dam_book.specs.Limits.{most_entries}
 use Rattle.dam_results.specs.Limits.{most_bytes}
 use Rattle.dam_results.specs.Records.{Fields, records_of, day_row, row_of}
 use Rattle.dam_results.specs.Journal.{IsCommand, ReadsAs, first_high}
-use Rattle.dam_results.specs.Spelling.{IsLineEnd, LineFeed, CarriageReturn, Both, IsSpelledField, Bare, Quoted, IsSpelledRow, One, More, IsSpelled, Nothing, EmptyLine, Record, LastRecord}
+use Rattle.dam_results.specs.Spelling.{IsLineEnd, LineFeed, CarriageReturn, Both, IsSpelledField, Bare, Quoted, IsSpelledRow, One, More}
+use Rattle.dam_results.specs.Spelling.{IsSpelled, Nothing, EmptyLine, Record, LastRecord}
 use Rattle.dam_results.specs.Written.{row_line, command_line, written, journal_text}
 use Rattle.dam_results.proofs.FieldBytes.{HasFieldBytes, AreFields, limits, day_fields, command_fields}
 use Rattle.dam_results.proofs.SpelledRecords.{IsPlain, ArePlain, IsPlainRow, ArePlainRows, records_of-spelled}
@@ -59,7 +61,8 @@ command_rows : (commands : List Command) → AllByRecursion IsCommand commands �
 command_rows [] h = tt
 command_rows (c ∷ cs) h = (command_fields c h.0, command_rows cs h.1)
 
-journal_rows : (periods : ℕ) (commands : List Command) → is_day periods ≡ true → AllByRecursion IsCommand commands → AreRows (day_row periods ∷ map row_of commands)
+journal_rows : (periods : ℕ) (commands : List Command) → is_day periods ≡ true → AllByRecursion IsCommand commands → AreRows
+    (day_row periods ∷ map row_of commands)
 journal_rows periods commands day valid = (day_fields periods day, command_rows commands valid)
 
 -- texts of ASCII bytes
@@ -85,7 +88,8 @@ low_line : (row : Fields) (line : List ℕ) → IsSpelledRow row line → (ns : 
 low_line _ _ (One x text f) [] h = absurd h
 low_line _ _ (One x text f) (n ∷ ns) h = low_spelled_field x text f h.0.bytes
 low_line _ _ (More x text xs others f g) [] h = absurd h
-low_line _ _ (More x text xs others f g) (n ∷ ns) h = IsLow-append text (44 ∷ others) (low_spelled_field x text f h.0.bytes) (low_line xs others g ns h.1)
+low_line _ _ (More x text xs others f g) (n ∷ ns) h = IsLow-append text (44 ∷ others) (low_spelled_field x text f h.0.bytes)
+    (low_line xs others g ns h.1)
 
 low_end : (end : List ℕ) → IsLineEnd end → IsLow end
 low_end _ LineFeed = refl
@@ -95,7 +99,8 @@ low_end _ Both = refl
 low_text : (rows : List Fields) (text : List ℕ) → IsSpelled rows text → AreRows rows → IsLow text
 low_text _ _ Nothing h = refl
 low_text _ _ (EmptyLine rows end rest e s) h = IsLow-append end rest (low_end end e) (low_text rows rest s h)
-low_text _ _ (Record row rows line end rest l e s) h = IsLow-append line (end ++ rest) (low_line row line l limits h.0) (IsLow-append end rest (low_end end e) (low_text rows rest s h.1))
+low_text _ _ (Record row rows line end rest l e s) h = IsLow-append line (end ++ rest) (low_line row line l limits h.0)
+    (IsLow-append end rest (low_end end e) (low_text rows rest s h.1))
 low_text _ _ (LastRecord row line l) h = low_line row line l limits h.0
 
 all_low : (x : List ℕ) → IsLow x → position_or_len (nat_lt 127) x ≡ length x
@@ -112,7 +117,8 @@ pub first_high-low : (x : List ℕ) → IsLow x → first_high x ≡ None
 first_high-low x h = rw (all_low x h, not_less (length x)) refl
 
 -- a text that spells a journal's records reads as that journal
-pub reads_spelled : (periods : ℕ) (commands : List Command) (text : List ℕ) → is_day periods ≡ true → AllByRecursion IsCommand commands → length commands ≤ most_entries
+pub reads_spelled : (periods : ℕ) (commands : List Command) (text : List ℕ) → is_day periods ≡ true → AllByRecursion IsCommand commands
+    → length commands ≤ most_entries
     → length text ≤ most_bytes → IsSpelled (day_row periods ∷ map row_of commands) text → ReadsAs text periods commands
 reads_spelled periods commands text day valid few short spelled =
     let rows : List Fields = day_row periods ∷ map row_of commands in
@@ -135,19 +141,23 @@ joined : (x : List ℕ) (xs : Fields) → IsSpelledRow (x ∷ xs) (join_with_byt
 joined x [] = One x x (Bare x)
 joined x (y ∷ ys) = More x x (y ∷ ys) (join_with_byte 44 (y ∷ ys)) (Bare x) (joined y ys)
 
-spelled_line : (row : Fields) (rows : List Fields) (rest : List ℕ) → AreFields limits row → IsSpelled rows rest → IsSpelled (row ∷ rows) (row_line row ++ rest)
+spelled_line : (row : Fields) (rows : List Fields) (rest : List ℕ) → AreFields limits row → IsSpelled rows rest → IsSpelled (row ∷ rows)
+    (row_line row ++ rest)
 unfolding limits
 spelled_line [] rows rest h s = absurd h
 spelled_line (x ∷ xs) rows rest h s =
     subst (λ (text : List ℕ). IsSpelled ((x ∷ xs) ∷ rows) text) (sym (append_assoc (join_with_byte 44 (x ∷ xs)) (10 ∷ []) rest))
     (Record (x ∷ xs) rows (join_with_byte 44 (x ∷ xs)) (10 ∷ []) rest (joined x xs) LineFeed s)
 
-spelled_lines : (commands : List Command) → AllByRecursion IsCommand commands → IsSpelled (map row_of commands) (flat_map command_line commands)
+spelled_lines : (commands : List Command) → AllByRecursion IsCommand commands → IsSpelled (map row_of commands)
+    (flat_map command_line commands)
 spelled_lines [] h = Nothing
 spelled_lines (c ∷ cs) h = spelled_line (row_of c) (map row_of cs) (flat_map command_line cs) (command_fields c h.0) (spelled_lines cs h.1)
 
-pub spelled_written : (periods : ℕ) (commands : List Command) → is_day periods ≡ true → AllByRecursion IsCommand commands → IsSpelled (day_row periods ∷ map row_of commands) (written periods commands)
-spelled_written periods commands day valid = spelled_line (day_row periods) (map row_of commands) (flat_map command_line commands) (day_fields periods day) (spelled_lines commands valid)
+pub spelled_written : (periods : ℕ) (commands : List Command) → is_day periods ≡ true → AllByRecursion IsCommand commands → IsSpelled
+    (day_row periods ∷ map row_of commands) (written periods commands)
+spelled_written periods commands day valid = spelled_line (day_row periods) (map row_of commands) (flat_map command_line commands)
+    (day_fields periods day) (spelled_lines commands valid)
 
 -- and is short enough
 
@@ -172,23 +182,28 @@ short_line : (row : Fields) → AreFields limits row → length (row_line row) �
 unfolding limits
 short_line row h = let f = line_length limits row h in omega (arith, length-append (join_with_byte 44 row) (10 ∷ []))
 
-short_lines : (commands : List Command) → AllByRecursion IsCommand commands → length (flat_map command_line commands) ≤ 1075 * length commands
+short_lines : (commands : List Command) → AllByRecursion IsCommand commands → length
+    (flat_map command_line commands) ≤ 1075 * length commands
 short_lines [] h = omega arith
 short_lines (c ∷ cs) h =
     let first = short_line (row_of c) (command_fields c h.0) in
     let more = short_lines cs h.1 in
     omega (arith, length-append (command_line c) (flat_map command_line cs))
 
-short_written : (periods : ℕ) (commands : List Command) → is_day periods ≡ true → AllByRecursion IsCommand commands → length commands ≤ most_entries → length (written periods commands) ≤ most_bytes
+short_written : (periods : ℕ) (commands : List Command) → is_day periods ≡ true → AllByRecursion IsCommand commands
+    → length commands ≤ most_entries → length (written periods commands) ≤ most_bytes
 short_written periods commands day valid few =
     let first = short_line (day_row periods) (day_fields periods day) in
     let more = short_lines commands valid in
     omega (arith, length-append (row_line (day_row periods)) (flat_map command_line commands))
 
-pub reads_written : (periods : ℕ) (commands : List Command) → is_day periods ≡ true → AllByRecursion IsCommand commands → length commands ≤ most_entries → ReadsAs (written periods commands) periods commands
+pub reads_written : (periods : ℕ) (commands : List Command) → is_day periods ≡ true → AllByRecursion IsCommand commands
+    → length commands ≤ most_entries → ReadsAs (written periods commands) periods commands
 reads_written periods commands day valid few =
-    reads_spelled periods commands (written periods commands) day valid few (short_written periods commands day valid few) (spelled_written periods commands day valid)
+    reads_spelled periods commands (written periods commands) day valid few (short_written periods commands day valid few)
+    (spelled_written periods commands day valid)
 
-pub reads_journal_text : (periods : ℕ) (entries : List Entry) → is_day periods ≡ true → AllByRecursion IsCommand (commands_of entries) → length entries ≤ most_entries → ReadsAs (journal_text periods entries) periods (commands_of entries)
+pub reads_journal_text : (periods : ℕ) (entries : List Entry) → is_day periods ≡ true → AllByRecursion IsCommand (commands_of entries)
+    → length entries ≤ most_entries → ReadsAs (journal_text periods entries) periods (commands_of entries)
 reads_journal_text periods entries day valid few =
     reads_written periods (commands_of entries) day valid (let m = length-map entries (λ (e : Entry). e.command) in omega arith)

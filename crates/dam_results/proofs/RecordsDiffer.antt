@@ -1,5 +1,6 @@
 -- Written records: different commands have different records, and each keeps its rules.
-use Rattle.std.proofs.Common.{◌≡◌, ℕ, ℤ, ◌^◌, ◌<◌, true, List, [], ◌∷◌, length, Option, None, Some, IfSome, map, refl, sym, ap, ◌∙◌, arith, codes, decimal}
+use Rattle.std.proofs.Common.{◌≡◌, ℕ, ℤ, ◌^◌, ◌<◌, true, List, [], ◌∷◌, length, Option, None, Some, IfSome, map, refl, sym, ap, ◌∙◌, arith}
+use Rattle.std.proofs.Common.{codes, decimal}
 use Rattle.std.specs.List.{AllByRecursion}
 use Rattle.std.proofs.lemmas.Fmt.{decimal_injective}
 use Rattle.dam_book.specs.Price.{IsPrice}
@@ -43,7 +44,8 @@ same_terms s t p q i j x y a b d e = cc
 abbrev block_terms : Side → ℤ → List Pair → Option (List ℕ) → Option (List ℕ) → BlockTerms
 block_terms side price volumes parent group = record { side = side; price = price; volumes = volumes; parent = parent; group = group }
 
-same_block : (s t : Side) (p q : ℤ) (v w : List Pair) (a b c d : Option (List ℕ)) → s ≡ t → p ≡ q → v ≡ w → a ≡ b → c ≡ d → block_terms s p v a c ≡ block_terms t q w b d
+same_block : (s t : Side) (p q : ℤ) (v w : List Pair) (a b c d : Option (List ℕ)) → s ≡ t → p ≡ q → v ≡ w → a ≡ b → c ≡ d
+    → block_terms s p v a c ≡ block_terms t q w b d
 same_block s t p q v w a b c d e f g h k = cc
 
 -- a name is not empty, so the text of an optional name says whether there is one
@@ -63,7 +65,8 @@ same_hour differ o r h k e =
     same_terms _ _ _ _ _ _ _ _ (side_word-injective o.side r.side sides) (differ.prices o.price r.price h.price k.price prices)
     (ap (λ (ps : List Pair). (first_pair ps).0) pairs) (ap (λ (ps : List Pair). (first_pair ps).1) pairs)
 
-same_block_order : TextsDiffer → (o r : BlockTerms) → IsBlockOrder o → IsBlockOrder r → order_fields (Block o) ≡ order_fields (Block r) → o ≡ r
+same_block_order : TextsDiffer → (o r : BlockTerms) → IsBlockOrder o → IsBlockOrder r → order_fields (Block o) ≡ order_fields (Block r)
+    → o ≡ r
 same_block_order differ o r h k e =
     let sides : side_word o.side ≡ side_word r.side = cc in
     let prices : price_text o.price ≡ price_text r.price = cc in
@@ -71,7 +74,8 @@ same_block_order differ o r h k e =
     let parents : optional_text o.parent ≡ optional_text r.parent = cc in
     let groups : optional_text o.group ≡ optional_text r.group = cc in
     same_block _ _ _ _ _ _ _ _ _ _ (side_word-injective o.side r.side sides) (differ.prices o.price r.price h.price k.price prices)
-    (differ.volumes o.volumes r.volumes h.volumes k.volumes volumes) (optional_text-injective o.parent r.parent h.parent k.parent parents) (optional_text-injective o.group r.group h.group k.group groups)
+    (differ.volumes o.volumes r.volumes h.volumes k.volumes volumes) (optional_text-injective o.parent r.parent h.parent k.parent parents)
+    (optional_text-injective o.group r.group h.group k.group groups)
 
 same_order : TextsDiffer → (o r : Order) → IsOrder o → IsOrder r → order_fields o ≡ order_fields r → o ≡ r
 same_order differ (Hour o) (Hour r) h k e = ap (λ (t : HourTerms). Hour t) (same_hour differ o r h k e)
@@ -139,7 +143,8 @@ row_of-injective differ Close (Amend b n q w) h k e = absurd (amend-close (ap ki
 row_of-injective differ Close (Cancel b n) h k e = absurd (cancel-close (ap kind_field (sym e)))
 row_of-injective differ Close Close h k e = refl
 
-rows-injective : TextsDiffer → (cs ds : List Command) → AllByRecursion IsCommand cs → AllByRecursion IsCommand ds → map row_of cs ≡ map row_of ds → cs ≡ ds
+rows-injective : TextsDiffer → (cs ds : List Command) → AllByRecursion IsCommand cs → AllByRecursion IsCommand ds
+    → map row_of cs ≡ map row_of ds → cs ≡ ds
 rows-injective differ [] [] h k e = refl
 rows-injective differ [] (d ∷ ds) h k e = absurd cc
 rows-injective differ (c ∷ cs) [] h k e = absurd cc
@@ -152,7 +157,8 @@ small_day : (periods : ℕ) → is_day periods ≡ true → periods < 2 ^ 64
 small_day periods day = let short = short_day periods day in omega (arith, short)
 
 -- records are at most one journal
-pub AreRecords-one : TextsDiffer → (rows : List Fields) (p q : ℕ) (cs ds : List Command) → AreRecords rows p cs → AreRecords rows q ds → (p ≡ q) × (cs ≡ ds)
+pub AreRecords-one : TextsDiffer → (rows : List Fields) (p q : ℕ) (cs ds : List Command) → AreRecords rows p cs → AreRecords rows q ds →
+    (p ≡ q) × (cs ≡ ds)
 AreRecords-one differ rows p q cs ds h k =
     let e : day_row p ∷ map row_of cs ≡ day_row q ∷ map row_of ds = sym h.written ∙ k.written in
     let texts : decimal p ≡ decimal q = cc in

@@ -1,5 +1,6 @@
 -- The records that a reader over a text has still to give.
-use Rattle.std.proofs.Common.{◌≡◌, ℕ, zero, suc, ◌+◌, ◌<◌, ◌≤◌, Bool, true, false, List, [], ◌∷◌, length, Option, Some, None, Bor, ltb, nat_lt, eqb, refl, sym, ap, ◌∙◌, arith, add-one}
+use Rattle.std.proofs.Common.{◌≡◌, ℕ, zero, suc, ◌+◌, ◌<◌, ◌≤◌, Bool, true, false, List, [], ◌∷◌, length, Option, Some, None, Bor, ltb}
+use Rattle.std.proofs.Common.{nat_lt, eqb, refl, sym, ap, ◌∙◌, arith, add-one}
 use Rattle.std.specs.Prelude.{IsSome, MatchBool}
 use Rattle.std.proofs.lemmas.Bool.{ltb-false, lt-ltb}
 use Rattle.std.proofs.lemmas.Bool.Decides.{nat_tests}
@@ -10,13 +11,14 @@ use Rattle.csv.specs.declared.parser.State.TheVariants as st
 use Rattle.csv.proofs.ReadFacts.{rows-end, rows-more}
 use Rattle.dam_results.specs.Records.{Fields, records_of}
 use Rattle.dam_results.specs.Journal.{first_high}
-use Rattle.dam_results.specs.inside.Reader.{RecordReader, IsOpen, rows_left, rows_from, unread}
+use Rattle.dam_results.specs.inside.Reader.{RecordReader, IsOpen, rows_left, rows_left_in, unread}
 use Rattle.dam_results.proofs.Machine.{IsAfter, next_record-after, next_record-shorter}
 
 abbrev given : Bor (List ℕ) → Option (List ℕ)
 given s = Some s.now
 
-records_from-None : (n : ℕ) (s : State) (xs : List ℕ) → next_record default_config s [] [] xs ≡ None → records_from default_config n s xs ≡ []
+records_from-None : (n : ℕ) (s : State) (xs : List ℕ) → next_record default_config s [] [] xs ≡ None
+    → records_from default_config n s xs ≡ []
 unfolding records_from
 records_from-None zero s xs e = refl
 records_from-None (suc n) s xs e = rw e refl
@@ -32,12 +34,15 @@ enough : (n m : ℕ) (s : State) (xs : List ℕ) → ends_at_end s ≡ false →
 enough zero m s xs e p q = absurd (omega arith)
 enough (suc n) zero s xs e p q = absurd (omega arith)
 enough (suc n) (suc m) s xs e p q =
-    elim (next_record default_config s [] [] xs) as (λ (o : Option Read). next_record default_config s [] [] xs ≡ o → records_from default_config (suc n) s xs ≡ records_from default_config (suc m) s xs) [
+    elim (next_record default_config s [] [] xs) as
+    (λ (o : Option Read). next_record default_config s [] [] xs ≡ o → records_from default_config
+    (suc n) s xs ≡ records_from default_config (suc m) s xs) [
       | None ↦ λ none. records_from-None (suc n) s xs none ∙ sym (records_from-None (suc m) s xs none)
       | Some r ↦ λ some.
           let less : length r.2 < length xs = next_record-shorter s xs r e some in
           let after : IsAfter r xs = next_record-after s [] [] xs r some in
-          let same : records_from default_config n r.1 r.2 ≡ records_from default_config m r.1 r.2 = enough n m r.1 r.2 after.closed (omega arith) (omega arith) in
+          let same : records_from default_config n r.1 r.2 ≡ records_from default_config m r.1 r.2 = enough n m r.1 r.2 after.closed
+          (omega arith) (omega arith) in
           records_from-Some n s xs r some ∙ (ap (λ (rows : List Fields). r.0 ∷ rows) same ∙ sym (records_from-Some m s xs r some))
     ] refl
 
@@ -47,7 +52,8 @@ pub record Left (reader : RecordReader) : Type 0 where
   pub source : unread reader ≡ Some bytes
   pub rows : rows_left reader ≡ records_from default_config (length bytes + 1) (reader_state reader) bytes
 
-left_of : (state : State) (known : Option (List ℕ)) → IsSome known → (bytes : List ℕ) × (known ≡ Some bytes) × (rows_from state known ≡ records_from default_config (length bytes + 1) state bytes)
+left_of : (state : State) (known : Option (List ℕ)) → IsSome known → (bytes : List ℕ) × (known ≡ Some bytes) ×
+    (rows_left_in state known ≡ records_from default_config (length bytes + 1) state bytes)
 left_of state None k = absurd cc
 left_of state (Some bytes) k = (bytes, refl, refl)
 
@@ -58,7 +64,8 @@ Left-open reader h = let p = left_of (reader_state reader) (unread reader) h.kno
 pub rows_left-none : (a b : RecordReader) (fields : Fields) → IsOpen a → ReadRecord given a b false fields → rows_left a ≡ []
 rows_left-none a b fields h r =
     let left = Left-open a h in
-    left.rows ∙ records_from-None (length left.bytes + 1) (reader_state a) left.bytes (rows-end given a b fields default_config left.bytes h.config left.source r)
+    left.rows ∙ records_from-None (length left.bytes + 1) (reader_state a) left.bytes
+    (rows-end given a b fields default_config left.bytes h.config left.source r)
 
 abbrev read : Fields → State → List ℕ → Option Read
 read fields s xs = Some (fields, s, xs)
@@ -66,9 +73,11 @@ read fields s xs = Some (fields, s, xs)
 same : (a b : Fields) (s t : State) (xs ys : List ℕ) → a ≡ b → s ≡ t → xs ≡ ys → read a s xs ≡ read b t ys
 same a b s t xs ys e f g = cc
 
-one_read : (s s2 : State) (xs ys : List ℕ) (fields : Fields) → Reached default_config s xs (fields ∷ []) s2 ys → next_record default_config s [] [] xs ≡ Some (fields, s2, ys)
+one_read : (s s2 : State) (xs ys : List ℕ) (fields : Fields) → Reached default_config s xs (fields ∷ []) s2 ys
+    → next_record default_config s [] [] xs ≡ Some (fields, s2, ys)
 unfolding Reached
-one_read s s2 xs ys fields h = let e = h.1 in let f = h.2 in let g = h.3.0 in let k = h.3.1 in e ∙ same h.0.0 fields h.0.1 s2 h.0.2 ys (sym f) g k
+one_read s s2 xs ys fields h = let e = h.1 in let f = h.2 in let g = h.3.0 in let k = h.3.1 in e ∙ same h.0.0 fields h.0.1 s2 h.0.2 ys
+    (sym f) g k
 
 here : (s : State) (xs : List ℕ) → Reached default_config s xs [] s xs
 unfolding Reached
@@ -99,7 +108,7 @@ rows_left-takes a b fields h r ready =
         between = after.closed;
         known = rw m.1 refl;
       };
-      rows = all ∙ ap (λ (rows : List Fields). fields ∷ rows) (fewer ∙ ap (λ (known : Option (List ℕ)). rows_from t known) (sym m.1));
+      rows = all ∙ ap (λ (rows : List Fields). fields ∷ rows) (fewer ∙ ap (λ (known : Option (List ℕ)). rows_left_in t known) (sym m.1));
     }
 
 -- what a read says of the records left: it took the first of them, or there was none
@@ -127,6 +136,7 @@ strip_bom-ascii (a ∷ b ∷ c ∷ rest) e =
     rw ne refl
 
 -- a reader that has read nothing has all the records of its text left
-pub rows_left-start : (reader : RecordReader) (text : List ℕ) → first_high text ≡ None → reader_state reader ≡ st.StartRecord → unread reader ≡ Some (strip_bom text)
+pub rows_left-start : (reader : RecordReader) (text : List ℕ) → first_high text ≡ None → reader_state reader ≡ st.StartRecord
+    → unread reader ≡ Some (strip_bom text)
     → rows_left reader ≡ records_of text
 rows_left-start reader text ascii state source = rw (source, state, strip_bom-ascii text ascii) refl

@@ -1,11 +1,13 @@
 -- The lines that the writer of comma-separated values writes for fields with no mark of the format.
-use Rattle.std.proofs.Common.{◌≡◌, ◌<◌, ◌≤◌, ◌+◌, ℕ, List, [], ◌∷◌, ◌++◌, length, take, get_or, true, false, refl, sym, ap, subst, ◌∙◌, append-nil}
+use Rattle.std.proofs.Common.{◌≡◌, ◌<◌, ◌≤◌, ◌+◌, ℕ, List, [], ◌∷◌, ◌++◌, length, take, get_or, true, false, refl, sym, ap, subst, ◌∙◌}
+use Rattle.std.proofs.Common.{append-nil}
 use Rattle.std.specs.Prelude.{Result, Ok, Err, OnOk, Option, Some}
 use Rattle.std.specs.Io.KnownBytes.{Keeps}
 use Rattle.std.specs.List.{AllByRecursion, flat_map, join_with_byte}
 use Rattle.std.specs.declared.vec.Vec.{Vec}
 use Rattle.std.proofs.lemmas.List.{take_more, take_all, map-append, flat_map_more}
-use Rattle.csv.specs.Writing.{default_writer, field_text, fields_text, is_blank, row_text, fields_written, has_written, writer_setup, writer_under, writer_pending, text_written}
+use Rattle.csv.specs.Writing.{default_writer, field_text, fields_text, is_blank, row_text, fields_written, has_written, writer_setup}
+use Rattle.csv.specs.Writing.{writer_under, writer_pending, text_written}
 use Rattle.csv.specs.declared.writer.Writer.{Writer}
 use Rattle.dam_book.specs.declared.command.Command.{Command}
 use Rattle.dam_book.specs.declared.command.Entry.{Entry}
@@ -38,19 +40,28 @@ row_text-line (x ∷ []) h = absurd h.1
 row_text-line (x ∷ y ∷ ys) h = bare_row x y ys (plain_fields limits (x ∷ y ∷ ys) h)
 
 pub wrote_line : {A T E : Type 0} (before after : Writer (Vec ℕ A)) (result : Result T E) (row : Fields) → AreFields limits row
-    → OnOk result ((text : List ℕ) → Wrote before text → Wrote after (text ++ row_text default_writer row)) → OnOk result ((text : List ℕ) → Wrote before text → Wrote after (text ++ row_line row))
+    → OnOk result ((text : List ℕ) → Wrote before text → Wrote after (text ++ row_text default_writer row)) → OnOk result
+    ((text : List ℕ) → Wrote before text → Wrote after (text ++ row_line row))
 wrote_line before after (Ok x) row h w = λ text at. subst (λ (line : List ℕ). Wrote after (text ++ line)) (row_text-line row h) (w text at)
 wrote_line before after (Err e) row h w = tt
 
-pub puts_command : {A T E : Type 0} (before after : Writer (Vec ℕ A)) (result : Result T E) (row : Fields) (command : Command) → IsCommand command → row ≡ row_of command
-    → OnOk result ((text : List ℕ) → Wrote before text → Wrote after (text ++ row_text default_writer row)) → OnOk result (PutsCommand before after command)
+pub puts_command : {A T E : Type 0} (before after : Writer (Vec ℕ A)) (result : Result T E) (row : Fields) (command : Command)
+    → IsCommand command → row ≡ row_of command
+    → OnOk result ((text : List ℕ) → Wrote before text → Wrote after (text ++ row_text default_writer row)) → OnOk result
+    (PutsCommand before after command)
 puts_command before after (Ok x) row command h e w =
-    record { valid = h; line = λ text at. subst (λ (line : List ℕ). Wrote after (text ++ line)) (ap (row_text default_writer) e ∙ row_text-line (row_of command) (command_fields command h)) (w text at) }
+    record {
+      valid = h;
+      line = λ text at. subst (λ (line : List ℕ). Wrote after (text ++ line))
+          (ap (row_text default_writer) e ∙ row_text-line (row_of command) (command_fields command h)) (w text at);
+    }
 puts_command before after (Err x) row command h e w = tt
 
 -- a writer that has written nothing
-pub wrote_none : {A : Type 0} (out : Writer (Vec ℕ A)) → fields_written out ≡ 0 → has_written out ≡ false → writer_setup out ≡ default_writer → (writer_under out).items ≡ [] → writer_pending out ≡ [] → Wrote out []
-wrote_none out between clean setup under pending = record { between = between; clean = clean; setup = setup; bytes = rw (under, pending) refl }
+pub wrote_none : {A : Type 0} (out : Writer (Vec ℕ A)) → fields_written out ≡ 0 → has_written out ≡ false
+    → writer_setup out ≡ default_writer → (writer_under out).items ≡ [] → writer_pending out ≡ [] → Wrote out []
+wrote_none out between clean setup under pending =
+    record { between = between; clean = clean; setup = setup; bytes = rw (under, pending) refl }
 
 -- the entries so far, and one more
 
@@ -58,31 +69,38 @@ valid_more : (cs : List Command) (c : Command) → AllByRecursion IsCommand cs �
 valid_more [] c h k = (k, tt)
 valid_more (d ∷ cs) c h k = (h.0, valid_more cs c h.1 k)
 
-commands_more : (entries : List Entry) (i : ℕ) (e : Entry) → i < length entries → get_or entries i e ≡ e → commands_of (take (i + 1) entries) ≡ commands_of (take i entries) ++ e.command ∷ []
+commands_more : (entries : List Entry) (i : ℕ) (e : Entry) → i < length entries → get_or entries i e ≡ e → commands_of
+    (take (i + 1) entries) ≡ commands_of (take i entries) ++ e.command ∷ []
 commands_more entries i e within here = rw (take_more entries i e, here, map-append) refl
 
 pub puts_none : {A : Type 0} (out : Writer (Vec ℕ A)) → PutsCommands out out []
 puts_none out = record { valid = tt; lines = λ text at. rw append-nil at }
 
-pub puts_more : {A : Type 0} (first before after : Writer (Vec ℕ A)) (entries : List Entry) (i : ℕ) (e : Entry) → i < length entries → get_or entries i e ≡ e
-    → PutsCommands first before (commands_of (take i entries)) → PutsCommand before after e.command → PutsCommands first after (commands_of (take (i + 1) entries))
+pub puts_more : {A : Type 0} (first before after : Writer (Vec ℕ A)) (entries : List Entry) (i : ℕ) (e : Entry) → i < length entries
+    → get_or entries i e ≡ e
+    → PutsCommands first before (commands_of (take i entries)) → PutsCommand before after e.command → PutsCommands first after
+    (commands_of (take (i + 1) entries))
 puts_more first before after entries i e within here h p =
     let cs = commands_of (take i entries) in
     let more : commands_of (take (i + 1) entries) ≡ cs ++ e.command ∷ [] = commands_more entries i e within here in
     let both : PutsCommands first after (cs ++ e.command ∷ []) = record {
       valid = valid_more cs e.command h.valid p.valid;
-      lines = λ text at. subst (λ (all : List ℕ). Wrote after all) (flat_map_more command_line text cs e.command) (p.line (text ++ flat_map command_line cs) (h.lines text at));
+      lines = λ text at. subst (λ (all : List ℕ). Wrote after all) (flat_map_more command_line text cs e.command)
+          (p.line (text ++ flat_map command_line cs) (h.lines text at));
     } in
     subst (λ (ds : List Command). PutsCommands first after ds) (sym more) both
 
-pub puts_all : {A : Type 0} (first out : Writer (Vec ℕ A)) (entries : List Entry) (i : ℕ) → length entries ≤ i → PutsCommands first out (commands_of (take i entries)) → PutsCommands first out (commands_of entries)
+pub puts_all : {A : Type 0} (first out : Writer (Vec ℕ A)) (entries : List Entry) (i : ℕ) → length entries ≤ i → PutsCommands first out
+    (commands_of (take i entries)) → PutsCommands first out (commands_of entries)
 puts_all first out entries i over h = rw (take_all i entries over) at h
 
 -- what the writer gives at the end is what it has written
-pub wrote_text : {A : Type 0} (out : Writer (Vec ℕ A)) (text : Vec ℕ A) (written : List ℕ) → Wrote out written → Keeps (text_written (λ (v : Vec ℕ A). Some v.items) out) (Some text.items) → text.items ≡ written
+pub wrote_text : {A : Type 0} (out : Writer (Vec ℕ A)) (text : Vec ℕ A) (written : List ℕ) → Wrote out written → Keeps
+    (text_written (λ (v : Vec ℕ A). Some v.items) out) (Some text.items) → text.items ≡ written
 wrote_text out text written h keeps = subst (λ (known : Option (List ℕ)). Keeps known (Some text.items)) h.bytes keeps
 
 -- and it reads as the day and the commands
-pub wrote_reads : (text : List ℕ) (periods : ℕ) (entries : List Entry) → text ≡ journal_text periods entries → is_day periods ≡ true → length entries ≤ most_entries → AllByRecursion IsCommand (commands_of entries)
+pub wrote_reads : (text : List ℕ) (periods : ℕ) (entries : List Entry) → text ≡ journal_text periods entries → is_day periods ≡ true
+    → length entries ≤ most_entries → AllByRecursion IsCommand (commands_of entries)
     → ReadsAs text periods (commands_of entries)
 wrote_reads text periods entries same day few valid = rw same (reads_journal_text periods entries day valid few)

@@ -6,7 +6,7 @@ use Rattle.dam_blocks.specs.Eligible.{IsEligible}
 use Rattle.dam_blocks.specs.Result.{accepts_first}
 use Rattle.dam_results.specs.declared.published.PeriodResult.{PeriodResult}
 use Rattle.dam_results.specs.declared.published.RowResult.{RowResult}
-use Rattle.dam_results.specs.Published.{ArePublished}
+use Rattle.dam_results.specs.Published.{ArePublished, results_text}
 
 -- the best selection, with its welfare: each other eligible selection has less welfare; or the same, and then this one accepts
 -- the first block at which they differ
@@ -22,3 +22,9 @@ pub record IsClearing (book : BookState) (welfare : ℕ) (periods : List PeriodR
   pub selection : List Bool
   pub best : IsBestSelection (problem_of book) selection (pos welfare)
   pub published : ArePublished (problem_of book) selection welfare periods rows
+
+-- the text is the results text of what is published of the closed book
+abbrev pub IsResultsText : BookState → List ℕ → Type 0
+IsResultsText book text =
+    (welfare : ℕ) × (periods : List PeriodResult) × (rows : List RowResult)
+    × IsClearing book welfare periods rows × (text ≡ results_text welfare periods rows)

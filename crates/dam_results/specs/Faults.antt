@@ -9,7 +9,7 @@ use Rattle.dam_results.specs.Records.{Fields, records_of, kind_field}
 use Rattle.dam_results.specs.Rules.{rules_of, IsLeastBroken}
 use Rattle.dam_results.specs.Journal.{AreRecords, first_high}
 
--- the record of that number is within the limit, and a day where it is the first
+-- the record of that number is within the limit, and a day if it is the first
 abbrev pub IsInPlace : ℕ → Fields → Type 0
 IsInPlace number row = (number ≤ most_records) × (number ≡ 1 → kind_field row ≡ codes "day")
 
@@ -25,7 +25,7 @@ IsRecordFault number row TooLong = ⊥
 IsRecordFault number row (NotAscii offset) = ⊥
 IsRecordFault number row Memory = ⊥
 
--- one of the records has that fault, and those in front of it, where there are any, make a journal
+-- one of the records has that fault, and those before it, if there are any, make a journal
 pub record HasFault (rows : List Fields) (fault : JournalFault) : Type 0 where
   pub front : List Fields
   pub row : Fields
@@ -35,17 +35,17 @@ pub record HasFault (rows : List Fields) (fault : JournalFault) : Type 0 where
       × AreRecords front periods commands)
   pub faulty : IsRecordFault (length front + 1) row fault
 
--- these records make no journal, and this is their first fault; of want of memory it says nothing
+-- these records make no journal, and this is their first fault; of lack of memory it says nothing
 abbrev pub IsFaultOfRecords : List Fields → JournalFault → Type 0
 IsFaultOfRecords rows NotDay = (rows ≡ []) ⊎ HasFault rows NotDay
 IsFaultOfRecords rows Memory = Unit {0}
 IsFaultOfRecords rows fault = HasFault rows fault
 
--- the text is no journal, and this is its first fault; of want of memory it says only that the
+-- the text is no journal, and this is its first fault; of lack of memory it says only that the
 -- whole text has no fault of length or bytes
-abbrev pub IsFaultOf : List ℕ → JournalFault → Type 0
-IsFaultOf text TooLong = most_bytes < length text
-IsFaultOf text (NotAscii offset) = (length text ≤ most_bytes) × (first_high text ≡ Some offset)
-IsFaultOf text Memory = (length text ≤ most_bytes) × (first_high text ≡ None)
-IsFaultOf text fault =
+abbrev pub IsJournalFault : List ℕ → JournalFault → Type 0
+IsJournalFault text TooLong = most_bytes < length text
+IsJournalFault text (NotAscii offset) = (length text ≤ most_bytes) × (first_high text ≡ Some offset)
+IsJournalFault text Memory = (length text ≤ most_bytes) × (first_high text ≡ None)
+IsJournalFault text fault =
     (length text ≤ most_bytes) × (first_high text ≡ None) × IsFaultOfRecords (records_of text) fault

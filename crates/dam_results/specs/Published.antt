@@ -19,7 +19,8 @@ use Rattle.dam_results.specs.declared.published.PeriodResult.{PeriodResult}
 use Rattle.dam_results.specs.declared.published.RowResult.{RowResult}
 use Rattle.dam_results.specs.declared.published.RowResult.TheVariants.{Hour as HourResult, Block as BlockResult}
 
--- the price of a period, and the volume of its executed hourly buys and its accepted buy blocks
+-- what is published of period t: its price, and the volume of its executed hourly buys and of the accepted
+-- buy blocks
 pub record IsPeriodResult (blocks : List Block) (sel : List Bool) (t : ℕ) (ss : List Step)
     (published : PeriodResult) : Type 0 where
   pub price : IsClearingPrice ss (net_volume blocks sel t) published.price
@@ -57,8 +58,8 @@ pub record HasSurplus (blocks : List Block) (prices : List ℤ) (i : ℕ) (surpl
   pub stands : slice_get blocks i ≡ Some block
   pub surplus_is : surplus ≡ surplus_of prices block.order
 
--- what becomes of an order: the executed volume of an hourly one; of a block whether it is
--- accepted, and its surplus, of a rejected one too
+-- what becomes of an order: of an hourly one, its executed volume; of a block, whether it is
+-- accepted, and its surplus at the prices, even if it is rejected
 abbrev pub IsRowResult : ProblemState → List Bool → List ℤ → ProblemRow → RowResult → Type 0
 IsRowResult problem sel prices row (HourResult who name executed) =
     (who ≡ row.who) × (name ≡ row.name)
@@ -77,14 +78,14 @@ AreRowResults problem sel prices (row ∷ rows) (r ∷ rs) =
 AreRowResults problem sel prices [] (r ∷ rs) = ⊥
 AreRowResults problem sel prices (row ∷ rows) [] = ⊥
 
--- the welfare, the periods and the orders as a selection makes them
+-- what is published of a selection: its welfare, each period, and what becomes of each order
 pub record ArePublished (problem : ProblemState) (sel : List Bool) (welfare : ℕ)
     (periods : List PeriodResult) (rows : List RowResult) : Type 0 where
   pub welfare_is : selection_welfare problem sel ≡ Some (pos welfare)
   pub periods_are : ArePeriodResults problem.blocks sel 1 problem.hours periods
   pub rows_are : AreRowResults problem sel (prices_of periods) problem.rows rows
 
--- The results text: the day, the welfare, a line for each period, and a line for each order.
+-- The results text, line by line.
 
 -- the line of the welfare
 abbrev pub welfare_line : ℕ → List ℕ
@@ -114,7 +115,7 @@ row_result_line (BlockResult who name accepted surplus) =
     codes "block," ++ (who ++ (codes "," ++ (name ++ (codes ","
     ++ (acceptance_word accepted ++ (codes "," ++ (signed_decimal surplus ++ codes "\n")))))))
 
--- all lines
+-- the results text: the day, the welfare, a line for each period, and a line for each order
 abbrev pub results_text : ℕ → List PeriodResult → List RowResult → List ℕ
 results_text welfare periods rows =
     day_line (length periods)

@@ -19,8 +19,8 @@ Fields = List (List ℕ)
 abbrev pub records_of : List ℕ → List Fields
 records_of text = records default_config text
 
--- what stands in the first field, which says what the record is (never used where there is no
--- field, as each record has one)
+-- what stands in the first field, which says what the record is (never used without a field, as each
+-- record has one)
 abbrev pub kind_field : Fields → List ℕ
 kind_field [] = []
 kind_field (f ∷ fs) = f
@@ -30,7 +30,7 @@ abbrev pub form_field : Fields → List ℕ
 form_field (kind ∷ who ∷ name ∷ form ∷ fs) = form
 form_field fs = []
 
--- the record of a day of so many periods
+-- the record of a day of this many periods
 abbrev pub day_row : ℕ → Fields
 day_row periods = codes "day" ∷ decimal periods ∷ [] ∷ [] ∷ [] ∷ [] ∷ [] ∷ [] ∷ [] ∷ []
 
@@ -38,7 +38,7 @@ abbrev pub side_word : Side → List ℕ
 side_word Buy = codes "buy"
 side_word Sell = codes "sell"
 
--- a name, or the empty field where there is none
+-- a name, or the empty field if there is none
 abbrev pub optional_text : Option (List ℕ) → List ℕ
 optional_text None = []
 optional_text (Some name) = name

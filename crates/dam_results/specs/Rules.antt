@@ -26,18 +26,18 @@ pub data FieldRule : Type 0 where
 -- the field holds it: no byte, one of these words, the number of a day's periods, a participant's
 -- code, the name of an order, a price, one pair of a period and a volume, pairs of them, or a name
 -- or no byte
-abbrev pub Keeps : FieldRule → List ℕ → Type 0
-Keeps Empty field = field ≡ []
-Keeps (OneOf words) field = list_any (bytes_eq field) words ≡ true
-Keeps Periods field = (periods : ℕ) × (is_day periods ≡ true) × (field ≡ decimal periods)
-Keeps Code field = IsParticipant field
-Keeps OrderName field = IsName field
-Keeps LimitPrice field = (price : ℤ) × IsPrice price × (field ≡ price_text price)
-Keeps OneVolume field =
+abbrev pub Obeys : FieldRule → List ℕ → Type 0
+Obeys Empty field = field ≡ []
+Obeys (OneOf words) field = list_any (bytes_eq field) words ≡ true
+Obeys Periods field = (periods : ℕ) × (is_day periods ≡ true) × (field ≡ decimal periods)
+Obeys Code field = IsParticipant field
+Obeys OrderName field = IsName field
+Obeys LimitPrice field = (price : ℤ) × IsPrice price × (field ≡ price_text price)
+Obeys OneVolume field =
     (period : ℕ) × (qty : ℕ) × IsPeriod period × IsQuantity qty
     × (field ≡ volumes_text ((period, qty) ∷ []))
-Keeps AllVolumes field = (volumes : List Pair) × IsVolumes volumes × (field ≡ volumes_text volumes)
-Keeps NameOrEmpty field = (field ≡ []) ⊎ IsName field
+Obeys AllVolumes field = (volumes : List Pair) × IsVolumes volumes × (field ≡ volumes_text volumes)
+Obeys NameOrEmpty field = (field ≡ []) ⊎ IsName field
 
 -- the field must be this word
 abbrev pub word : List ℕ → FieldRule
@@ -59,7 +59,7 @@ block_rules =
     word (codes "block") ∷ OneOf (codes "buy" ∷ codes "sell" ∷ []) ∷ LimitPrice ∷ AllVolumes
     ∷ NameOrEmpty ∷ NameOrEmpty ∷ []
 
--- the same by what stands in field 4; where that is no form of an order, it breaks the one rule
+-- the same by what stands in field 4; if that is no form of an order, it breaks the one rule
 abbrev pub form_rules : List ℕ → List FieldRule
 form_rules form =
     if bytes_eq form (codes "hour") then hour_rules
@@ -86,8 +86,8 @@ abbrev pub close_rules : List FieldRule
 close_rules =
     word (codes "close") ∷ Empty ∷ Empty ∷ Empty ∷ Empty ∷ Empty ∷ Empty ∷ Empty ∷ Empty ∷ []
 
--- the rules of a later record than the first, by the kind in its first field; where that is no
--- kind, it breaks the one rule
+-- the rules of a later record than the first, by the kind in its first field; if that is no kind, it
+-- breaks the one rule
 abbrev pub command_rules : Fields → List FieldRule
 command_rules row =
     if bytes_eq (kind_field row) (codes "submit") then submit_rules row
@@ -100,9 +100,9 @@ command_rules row =
 abbrev pub rules_of : ℕ → Fields → List FieldRule
 rules_of number row = if number == 1 then day_rules else command_rules row
 
--- the field of that number, counted from 1, breaks its rule, and those in front of it keep theirs
+-- the field of that number, counted from 1, breaks its rule, and each before it obeys its own
 abbrev pub IsLeastBroken : List FieldRule → Fields → ℕ → Type 0
-IsLeastBroken (rule ∷ rules) (field ∷ fields) (suc zero) = ¬ (Keeps rule field)
+IsLeastBroken (rule ∷ rules) (field ∷ fields) (suc zero) = ¬ (Obeys rule field)
 IsLeastBroken (rule ∷ rules) (field ∷ fields) (suc (suc n)) =
-    Keeps rule field × IsLeastBroken rules fields (suc n)
+    Obeys rule field × IsLeastBroken rules fields (suc n)
 IsLeastBroken rules fields n = ⊥

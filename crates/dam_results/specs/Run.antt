@@ -7,7 +7,7 @@ use Rattle.dam_book.specs.declared.command.Entry.{Entry}
 use Rattle.dam_book.specs.declared.command.Reply.{Reply}
 use Rattle.dam_book.specs.declared.command.Reply.TheVariants.{Done, Refused}
 
--- the commands make this book of the empty one of a day of so many periods
+-- the commands make this book of the empty one of a day of this many periods
 abbrev pub IsRun : ℕ → List Command → BookState → Type 0
 IsRun periods commands book = book ≡ run periods commands
 
@@ -19,6 +19,6 @@ is_refusal (Refused reason) = true
 abbrev pub refused_among : List Entry → ℕ
 refused_among entries = length (filter (λ (e : Entry). is_refusal e.reply) entries)
 
--- the run of these commands refuses so many of them
+-- the run of these commands refuses this many of them
 abbrev pub HasRefused : ℕ → List Command → ℕ → Type 0
 HasRefused periods commands refused = refused ≡ refused_among (entries_of periods commands)

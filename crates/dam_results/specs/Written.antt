@@ -15,7 +15,7 @@ row_line row = join_with_byte comma row ++ line_feed ∷ []
 abbrev pub command_line : Command → List ℕ
 command_line command = row_line (row_of command)
 
--- the text of a day of so many periods and of commands
+-- the text of a day of this many periods and of these commands
 abbrev pub written : ℕ → List Command → List ℕ
 written periods commands = row_line (day_row periods) ++ flat_map command_line commands
 

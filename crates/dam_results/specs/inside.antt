@@ -1,5 +1,5 @@
 -- What only contracts inside this crate cite.
-pub mod Row
+pub mod NineFields
 pub mod Reader
 pub mod Writer
 pub mod Cleared

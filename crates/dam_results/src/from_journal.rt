@@ -8,7 +8,7 @@ use std::alloc::{AllocError, Global};
 
 /// What is made of the commands of a journal, one after another.
 pub trait FromJournal: Drop {
-    /// It is what these commands make of a day of that number of periods.
+    /// It is what these commands make of a day of this many periods.
     ghost made_of: { ℕ → List Command → Self → Type 0 };
 
     /// What no command makes. A book in it hashes names by the seed.

@@ -7,15 +7,15 @@ ghost use Rattle.dam_results.specs.Limits.{most_bytes, most_records};
 ghost use Rattle.dam_results.specs.Records.{records_of, kind_field, day_row};
 ghost use Rattle.dam_results.specs.Journal.{AreRecords, IsMadeFrom, ReadsAs};
 ghost use Rattle.dam_results.specs.Journal;
-ghost use Rattle.dam_results.specs.Faults.{IsFaultOf, IsFaultOfRecords, IsRecordFault};
+ghost use Rattle.dam_results.specs.Faults.{IsJournalFault, IsFaultOfRecords, IsRecordFault};
 ghost use Rattle.dam_results.specs.inside.Reader.{IsOpen, rows_left};
-ghost use Rattle.dam_results.specs.inside.Row.{fields_in, TakesRow};
+ghost use Rattle.dam_results.specs.inside.NineFields.{fields_in, TakesRow};
 
 use crate::from_journal::FromJournal;
 use crate::laws;
 use crate::limits::{MOST_BYTES, MOST_RECORDS};
+use crate::nine_fields::{NineFields, field_of};
 use crate::record::{read_command, read_day};
-use crate::row::{Row, field_of};
 use csv::{ByteRecord, Reader, ReaderBuilder};
 use dam_book::{Command, DayLength, Seed};
 use std::alloc::{AllocError, AllocFailed, Global};
@@ -106,7 +106,7 @@ fn first_high(text: &[u8]) -> Option<usize>
 fn check_bytes(text: &[u8]) -> Result<(), JournalFault>
     ensures { MatchResult result
         (λ _. (length text.now ≤ most_bytes) × (Journal.first_high text.now ≡ None))
-        (IsFaultOf text.now) }
+        (IsJournalFault text.now) }
 {
     if text.len() > MOST_BYTES {
         return Err(JournalFault::TooLong);
@@ -131,14 +131,14 @@ fn read_first(fields: &ByteRecord) -> Result<DayLength, JournalFault>
     if kind(fields) != b"day".as_slice() {
         return Err(JournalFault::NotDay);
     }
-    let Some(row) = Row::of(fields) else {
+    let Some(row) = NineFields::of(fields) else {
         return Err(JournalFault::FieldCount(1));
     };
     read_day(&row).map_err(|field| JournalFault::BadField(1, field))
 }
 
-/// The fields of a later record, where its number is within the limit and it has nine.
-fn later_row<'a>(number: usize, fields: &'a ByteRecord) -> Result<Row<'a>, JournalFault>
+/// The fields of a later record, if its number is within the limit and it has nine.
+fn later_row<'a>(number: usize, fields: &'a ByteRecord) -> Result<NineFields<'a>, JournalFault>
     requires { 1 < number }
     ensures { MatchResult result
         (λ row. (number ≤ most_records) × (fields_of fields.entry.now ≡ fields_in row))
@@ -147,7 +147,7 @@ fn later_row<'a>(number: usize, fields: &'a ByteRecord) -> Result<Row<'a>, Journ
     if number > MOST_RECORDS {
         return Err(JournalFault::TooManyRecords);
     }
-    let Some(row) = Row::of(fields) else {
+    let Some(row) = NineFields::of(fields) else {
         return Err(JournalFault::FieldCount(number));
     };
     Ok(row)
@@ -173,7 +173,8 @@ fn records<'a>(alloc: Global, text: &'a [u8]) -> Records<'a>
 fn next_record(records: &mut Records, fields: &mut ByteRecord) -> Result<bool, AllocError>
     requires { IsOpen records.old }
     ensures { IfOk result (λ found. MatchBool found
-        (IsOpen records.new × (rows_left records.old ≡ fields_of fields.new ∷ rows_left records.new))
+        (IsOpen records.new
+        × (rows_left records.old ≡ fields_of fields.new ∷ rows_left records.new))
         (rows_left records.old ≡ [])) }
 {
     let Ok(found) = records.read_byte_record(fields) else {
@@ -262,7 +263,7 @@ fn read_records<T: FromJournal>(
 
 fn read_text<T: FromJournal>(alloc: Global, seed: Seed, text: &[u8]) -> Result<T, JournalFault>
     ensures ok { IfOk result (IsMadeFrom T.made_of text.now) }
-    ensures fault { IfErr result (IsFaultOf text.now) }
+    ensures fault { IfErr result (IsJournalFault text.now) }
 {
     check_bytes(text)?;
     let mut records = records(alloc, text);
@@ -273,7 +274,7 @@ fn read_text<T: FromJournal>(alloc: Global, seed: Seed, text: &[u8]) -> Result<T
 /// records past the first faulty one.
 pub fn read_into<T: FromJournal>(alloc: Global, seed: Seed, text: &[u8]) -> Result<T, JournalFault>
     ensures ok { IfOk result (IsMadeFrom T.made_of text.now) }
-    ensures fault { IfErr result (IsFaultOf text.now) }
+    ensures fault { IfErr result (IsJournalFault text.now) }
 
     // A journal is read, unless memory runs out.
     ensures exact { (periods : ℕ) (commands : List Command) → ReadsAs text.now periods commands
@@ -290,7 +291,7 @@ pub fn read_into<T: FromJournal>(alloc: Global, seed: Seed, text: &[u8]) -> Resu
 /// records past the first faulty one. It isn't asked that the last command be a close.
 pub fn read_journal(alloc: Global, text: &[u8]) -> Result<JournalRead, JournalFault>
     ensures ok { IfOk result (λ journal. ReadsAs text.now journal.periods journal.commands.items) }
-    ensures fault { IfErr result (IsFaultOf text.now) }
+    ensures fault { IfErr result (IsJournalFault text.now) }
 
     // A journal is read, unless memory runs out.
     ensures exact { (periods : ℕ) (commands : List Command) → ReadsAs text.now periods commands

@@ -6,7 +6,7 @@ ghost use Rattle.dam_results.specs.declared.journal.JournalFault.{JournalFault};
 ghost use Rattle.dam_results.specs.declared.journal.JournalFault.TheVariants.{Memory};
 ghost use Rattle.dam_results.specs.Limits.{most_bytes, most_records};
 ghost use Rattle.dam_results.specs.Journal.{ReadsAs};
-ghost use Rattle.dam_results.specs.Faults.{IsFaultOf};
+ghost use Rattle.dam_results.specs.Faults.{IsJournalFault};
 
 use crate::limits::{MOST_BYTES, MOST_RECORDS};
 use dam_book::laws::{price_texts_differ, volumes_texts_differ};
@@ -27,23 +27,23 @@ pub fn text_is_one_journal()
     volumes_texts_differ();
 }
 
-/// A text that has a fault, other than want of memory, is no journal.
+/// A text that has a fault other than lack of memory is no journal.
 pub fn fault_is_no_journal()
     ensures { (text : List ℕ) (fault : JournalFault) (periods : ℕ) (commands : List Command)
-        → IsFaultOf text fault → ReadsAs text periods commands → fault ≡ Memory }
+        → IsJournalFault text fault → ReadsAs text periods commands → fault ≡ Memory }
 {}
 
-/// A text has one first fault: of two that differ, one is want of memory.
+/// A text has one first fault: of two that differ, one is lack of memory.
 pub fn text_has_one_fault()
     ensures { (text : List ℕ) (fault other : JournalFault)
-        → IsFaultOf text fault → IsFaultOf text other
+        → IsJournalFault text fault → IsJournalFault text other
         → (fault ≡ other) ⊎ ((fault ≡ Memory) ⊎ (other ≡ Memory)) }
 {}
 
-/// Each text is a journal, or has a first fault other than want of memory. With the laws above, the
+/// Each text is a journal, or has a first fault other than lack of memory. With the laws above, the
 /// reader's answer follows from the text, unless memory runs out.
 pub fn text_is_journal_or_faulty()
     ensures { (text : List ℕ)
         → ((periods : ℕ) × (commands : List Command) × ReadsAs text periods commands)
-        ⊎ ((fault : JournalFault) × IsFaultOf text fault × (fault ≢ Memory)) }
+        ⊎ ((fault : JournalFault) × IsJournalFault text fault × (fault ≢ Memory)) }
 {}

@@ -2,7 +2,7 @@
 //!
 //! A journal's text is read into its commands (`read_journal`), its book (`book_of_text`), its book and how
 //! many commands that refused (`run_of_text`), the replies to its commands (`replay_text`), or what else is
-//! made of its commands one by one (`read_into`), each with the first fault where the text is no journal.
+//! made of its commands one by one (`read_into`), each with the first fault if the text is no journal.
 //! `results` finds what is published of an eligible selection;
 //! `results_text`, `replies_text` and `journal_text` write.
 //!
@@ -14,7 +14,7 @@
 //! ```
 //!
 //! A contract sees a text as the list of its bytes, a book as its state, and results as their parts. Only
-//! tested is what the faults say, and that memory isn't said to have run out where it hasn't.
+//! tested is what the faults say, and that memory isn't said to have run out if it hasn't.
 //!
 //! The crate knows nothing of how the best selection is found, nor of readers, writers and the command
 //! line.
@@ -26,6 +26,7 @@ mod journal;
 pub mod laws;
 mod limits;
 mod lines;
+mod nine_fields;
 mod outcome;
 mod publish;
 mod published;
@@ -33,7 +34,6 @@ pub mod publishing_laws;
 mod record;
 mod replay;
 mod replies;
-mod row;
 pub mod spelling_laws;
 mod text;
 mod writer;

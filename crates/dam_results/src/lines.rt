@@ -16,7 +16,7 @@ pub(crate) fn write_number<A: Allocator>(
     text.extend_from_slice(Buffer::new().format(number).as_bytes())
 }
 
-/// Appends the line of a day of so many periods.
+/// Appends the line of a day of this many periods.
 pub(crate) fn write_day<A: Allocator>(text: &mut Vec<u8, A>, periods: u64) -> Result<(), AllocError>
     ensures { OnOk result (text.new.items ≡ text.old.items ++ day_line periods) }
 {

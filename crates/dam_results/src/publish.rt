@@ -11,8 +11,8 @@ use std::alloc::{AllocError, Allocator};
 /// What is published of an eligible selection: the price of each period at which it clears, with the
 /// volume that is bought there, and what becomes of each order.
 ///
-/// The caller's condition is that `score` answers `Eligible` with that welfare. An `Err` is want of
-/// memory.
+/// The caller's condition is that `score` answers `Eligible` with that welfare. An `Err` means that memory
+/// ran out.
 pub fn results<A: Allocator + Copy, B: Allocator>(
     alloc: A,
     problem: &Problem<B>,

@@ -21,7 +21,7 @@ pub enum RowResult {
     },
     /// A block, whether it is accepted, and its surplus at the prices, in cents per MWh times tenths of
     /// a MW. A rejected block may have any surplus, one above 0 too
-    /// ("PRB reinsertion"), as where its parent or its group keeps it out.
+    /// ("PRB reinsertion"), for example if its parent or its group keeps it out.
     Block {
         who: Participant,
         name: Name,

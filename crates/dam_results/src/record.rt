@@ -6,10 +6,10 @@ ghost use Rattle.dam_book.specs.Name.{IsName};
 ghost use Rattle.dam_book.specs.Fields.{volumes_text};
 ghost use Rattle.dam_book.specs.Book.{is_day};
 ghost use Rattle.dam_results.specs.Records.{day_row, optional_text, side_word};
-ghost use Rattle.dam_results.specs.inside.Row.{fields_in, ChecksEmpty, ReadsCommand};
-ghost use Rattle.dam_results.specs.Rules.{OneOf, Periods, OneVolume, NameOrEmpty, Keeps, IsLeastBroken, day_rules, hour_rules, block_rules, submit_of, submit_rules, amend_rules, cancel_rules, close_rules, command_rules};
+ghost use Rattle.dam_results.specs.inside.NineFields.{fields_in, ChecksEmpty, ReadsCommand};
+ghost use Rattle.dam_results.specs.Rules.{OneOf, Periods, OneVolume, NameOrEmpty, Obeys, IsLeastBroken, day_rules, hour_rules, block_rules, submit_of, submit_rules, amend_rules, cancel_rules, close_rules, command_rules};
 
-use crate::row::Row;
+use crate::nine_fields::NineFields;
 use dam_book::{
     BlockOrder, Command, DayLength, HourOrder, Name, Order, Participant, Period, Qty, Side, laws,
     read_pair, read_price, read_volumes,
@@ -31,7 +31,7 @@ fn check_empty(field: &[u8], number: usize) -> Result<(), usize>
 }
 
 /// The fields 8 and 9: no parent and no group.
-fn check_no_family(row: &Row) -> Result<(), usize>
+fn check_no_family(row: &NineFields) -> Result<(), usize>
     ensures { ChecksEmpty 8 (drop 7 (fields_in row.now)) result }
 {
     check_empty(row.parent, 8)?;
@@ -39,7 +39,7 @@ fn check_no_family(row: &Row) -> Result<(), usize>
 }
 
 /// The fields 4 to 9, which say what is ordered.
-fn check_no_order(row: &Row) -> Result<(), usize>
+fn check_no_order(row: &NineFields) -> Result<(), usize>
     ensures { ChecksEmpty 4 (drop 3 (fields_in row.now)) result }
 {
     check_empty(row.form, 4)?;
@@ -70,7 +70,7 @@ fn read_number(field: &[u8]) -> Option<u8>
 
 fn read_periods(field: &[u8]) -> Option<DayLength>
     ensures { MatchOption result
-        (¬ (Keeps Periods field.now))
+        (¬ (Obeys Periods field.now))
         (λ periods. (is_day periods ≡ true) × (field.now ≡ decimal periods)) }
 {
     laws::days_are_short();
@@ -80,7 +80,7 @@ fn read_periods(field: &[u8]) -> Option<DayLength>
 
 fn read_side(field: &[u8]) -> Option<Side>
     ensures { MatchOption result
-        (¬ (Keeps (OneOf (codes "buy" ∷ codes "sell" ∷ [])) field.now))
+        (¬ (Obeys (OneOf (codes "buy" ∷ codes "sell" ∷ [])) field.now))
         (λ side. field.now ≡ side_word side) }
 {
     if field == b"buy".as_slice() {
@@ -94,7 +94,7 @@ fn read_side(field: &[u8]) -> Option<Side>
 
 fn read_one_volume(field: &[u8]) -> Option<(Period, Qty)>
     ensures { MatchOption result
-        (¬ (Keeps OneVolume field.now))
+        (¬ (Obeys OneVolume field.now))
         (λ pair. IsPeriod pair.0 × IsQuantity pair.1
         × (field.now ≡ volumes_text ((pair.0, pair.1) ∷ []))) }
 {
@@ -104,10 +104,10 @@ fn read_one_volume(field: &[u8]) -> Option<(Period, Qty)>
     Some(pair)
 }
 
-// A name, or none where the field is empty.
+/// A name, or none if the field is empty.
 fn read_name_or_empty(field: &[u8]) -> Option<Option<Name>>
     ensures { MatchOption result
-        (¬ (Keeps NameOrEmpty field.now))
+        (¬ (Obeys NameOrEmpty field.now))
         (λ name. IfSome name IsName × (field.now ≡ optional_text name)) }
 {
     if field.is_empty() {
@@ -118,7 +118,7 @@ fn read_name_or_empty(field: &[u8]) -> Option<Option<Name>>
 }
 
 /// The day of the first record: how many periods it has.
-pub(crate) fn read_day(row: &Row) -> Result<DayLength, usize>
+pub(crate) fn read_day(row: &NineFields) -> Result<DayLength, usize>
     requires { row.now.kind.now ≡ codes "day" }
     ensures { MatchResult result
         (λ periods. (is_day periods ≡ true) × (fields_in row.now ≡ day_row periods))
@@ -130,7 +130,7 @@ pub(crate) fn read_day(row: &Row) -> Result<DayLength, usize>
     Ok(periods)
 }
 
-fn read_hour(row: &Row) -> Result<Command, usize>
+fn read_hour(row: &NineFields) -> Result<Command, usize>
     requires kind { row.now.kind.now ≡ codes "submit" }
     requires form { row.now.form.now ≡ codes "hour" }
     ensures { ReadsCommand (submit_of hour_rules) row.now result }
@@ -145,7 +145,7 @@ fn read_hour(row: &Row) -> Result<Command, usize>
     Ok(Command::Submit { who, name, order })
 }
 
-fn read_block(row: &Row) -> Result<Command, usize>
+fn read_block(row: &NineFields) -> Result<Command, usize>
     requires kind { row.now.kind.now ≡ codes "submit" }
     requires form { row.now.form.now ≡ codes "block" }
     ensures { ReadsCommand (submit_of block_rules) row.now result }
@@ -164,7 +164,7 @@ fn read_block(row: &Row) -> Result<Command, usize>
 }
 
 /// A submit of something that is no form of an order.
-fn read_no_form(row: &Row) -> Result<Command, usize>
+fn read_no_form(row: &NineFields) -> Result<Command, usize>
     requires kind { row.now.kind.now ≡ codes "submit" }
     requires hour { bytes_eq row.now.form.now (codes "hour") ≡ false }
     requires block { bytes_eq row.now.form.now (codes "block") ≡ false }
@@ -177,7 +177,7 @@ fn read_no_form(row: &Row) -> Result<Command, usize>
 
 /// Each form's reader makes the whole command, which has room for the volumes of a block, so that it is
 /// moved as little as may be.
-fn read_submit(row: &Row) -> Result<Command, usize>
+fn read_submit(row: &NineFields) -> Result<Command, usize>
     requires { row.now.kind.now ≡ codes "submit" }
     ensures { ReadsCommand (submit_rules (fields_in row.now)) row.now result }
 {
@@ -190,7 +190,7 @@ fn read_submit(row: &Row) -> Result<Command, usize>
     }
 }
 
-fn read_amend(row: &Row) -> Result<Command, usize>
+fn read_amend(row: &NineFields) -> Result<Command, usize>
     requires { row.now.kind.now ≡ codes "amend" }
     ensures { ReadsCommand amend_rules row.now result }
 {
@@ -209,7 +209,7 @@ fn read_amend(row: &Row) -> Result<Command, usize>
     })
 }
 
-fn read_cancel(row: &Row) -> Result<Command, usize>
+fn read_cancel(row: &NineFields) -> Result<Command, usize>
     requires { row.now.kind.now ≡ codes "cancel" }
     ensures { ReadsCommand cancel_rules row.now result }
 {
@@ -219,7 +219,7 @@ fn read_cancel(row: &Row) -> Result<Command, usize>
     Ok(Command::Cancel { who, name })
 }
 
-fn read_close(row: &Row) -> Result<Command, usize>
+fn read_close(row: &NineFields) -> Result<Command, usize>
     requires { row.now.kind.now ≡ codes "close" }
     ensures { ReadsCommand close_rules row.now result }
 {
@@ -230,7 +230,7 @@ fn read_close(row: &Row) -> Result<Command, usize>
 }
 
 /// The command of a later record.
-pub(crate) fn read_command(row: &Row) -> Result<Command, usize>
+pub(crate) fn read_command(row: &NineFields) -> Result<Command, usize>
     ensures { ReadsCommand (command_rules (fields_in row.now)) row.now result }
 {
     if row.kind == b"submit".as_slice() {

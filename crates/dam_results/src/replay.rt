@@ -5,7 +5,7 @@ ghost use Rattle.std.specs.List.{flat_map};
 ghost use Rattle.dam_book.specs.Book.{book_after, entries_from, reply_to, run};
 ghost use Rattle.dam_book.specs.declared.command.Command.{Command};
 ghost use Rattle.dam_results.specs.Journal.{IsMadeFrom, ReadsAs};
-ghost use Rattle.dam_results.specs.Faults.{IsFaultOf};
+ghost use Rattle.dam_results.specs.Faults.{IsJournalFault};
 ghost use Rattle.dam_results.specs.Replies.{AreReplies, day_line, entry_line, reply_line};
 ghost use Rattle.dam_results.specs.Replies;
 ghost use Rattle.dam_results.specs.Run.{HasRefused, IsRun};
@@ -112,7 +112,7 @@ impl FromJournal for Replay {
 /// The replies text of the run of the commands on a book, as `replies_text` writes it, without a list
 /// of its entries: each reply is written as it is given.
 ///
-/// An `Err` comes only where a growth was refused; the book is then gone.
+/// An `Err` comes only if memory ran out; the book is then gone.
 pub fn run_text<A: Allocator + Copy, B: Allocator>(
     alloc: B,
     book: Book<A>,
@@ -133,7 +133,7 @@ pub fn run_text<A: Allocator + Copy, B: Allocator>(
 /// Each command is applied as it is read, and no list of them is kept. The book hashes names by the seed.
 pub fn replay_text(alloc: Global, seed: Seed, text: &[u8]) -> Result<Vec<u8>, JournalFault>
     ensures ok { IfOk result (λ replies. IsMadeFrom AreReplies text.now replies.items) }
-    ensures fault { IfErr result (IsFaultOf text.now) }
+    ensures fault { IfErr result (IsJournalFault text.now) }
 
     // A journal is run, unless memory runs out.
     ensures exact { (periods : ℕ) (commands : List Command) → ReadsAs text.now periods commands
@@ -152,7 +152,7 @@ pub fn run_of_text(alloc: Global, seed: Seed, text: &[u8]) -> Result<Run, Journa
     ensures ok { IfOk result (λ run. (periods : ℕ) × (commands : List Command)
         × ReadsAs text.now periods commands
         × IsRun periods commands run.book × HasRefused periods commands run.refused) }
-    ensures fault { IfErr result (IsFaultOf text.now) }
+    ensures fault { IfErr result (IsJournalFault text.now) }
 {
     read_into(alloc, seed, text)
 }
@@ -163,7 +163,7 @@ pub fn run_of_text(alloc: Global, seed: Seed, text: &[u8]) -> Result<Run, Journa
 /// Each command is applied as it is read, and no list of them is kept. The book hashes names by the seed.
 pub fn book_of_text(alloc: Global, seed: Seed, text: &[u8]) -> Result<Book, JournalFault>
     ensures ok { IfOk result (IsMadeFrom IsRun text.now) }
-    ensures fault { IfErr result (IsFaultOf text.now) }
+    ensures fault { IfErr result (IsJournalFault text.now) }
 
     // A journal is run, unless memory runs out.
     ensures exact { (periods : ℕ) (commands : List Command) → ReadsAs text.now periods commands

@@ -49,7 +49,7 @@ pub(crate) fn write_line<A: Allocator>(
     text.extend_from_slice(b"\n")
 }
 
-/// The replies text of a day of that number of periods: the line `day,<periods>`, and for each entry the
+/// The replies text of a day of this many periods: the line `day,<periods>`, and for each entry the
 /// line `<number>,done` or `<number>,refused,<Reason>`.
 pub fn replies_text<A: Allocator>(
     alloc: A,

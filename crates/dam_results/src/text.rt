@@ -9,7 +9,7 @@ use dam_book::{Name, Participant, write_price};
 use itoa::Buffer;
 use std::alloc::{AllocError, Allocator};
 
-/// Appends a number in decimal, with a dash in front where it is below zero.
+/// Appends a number in decimal, with a dash before it if it is below zero.
 fn write_signed<A: Allocator>(text: &mut Vec<u8, A>, number: i64) -> Result<(), AllocError>
     ensures { OnOk result (text.new.items ≡ text.old.items ++ signed_decimal number) }
 {
@@ -46,7 +46,7 @@ fn acceptance_word(accepted: bool) -> &'static str
     if accepted { "accepted" } else { "rejected" }
 }
 
-/// Appends the participant's code and the order's name, with a comma behind each.
+/// Appends the participant's code and the order's name, each followed by a comma.
 fn write_names<A: Allocator>(
     text: &mut Vec<u8, A>,
     who: &Participant,

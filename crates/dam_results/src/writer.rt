@@ -202,7 +202,7 @@ fn put_entries(
 /// The written journal: the record of the day, and then that of each entry's command, refused ones
 /// too. The fields of a record are joined by commas, with no quotes, and each record ends in one LF.
 ///
-/// It fails only where memory runs out.
+/// It fails only if memory runs out.
 pub fn journal_text(
     alloc: Global,
     periods: DayLength,

@@ -15,15 +15,15 @@ RecordReader = Reader (Bor (List ℕ))
 abbrev pub unread : RecordReader → Option (List ℕ)
 unread reader = source_of (λ (s : Bor (List ℕ)). Some s.now) reader
 
-abbrev pub rows_from : State → Option (List ℕ) → List Fields
-rows_from state None = []
-rows_from state (Some bytes) = records_from default_config (length bytes + 1) state bytes
+abbrev pub rows_left_in : State → Option (List ℕ) → List Fields
+rows_left_in state None = []
+rows_left_in state (Some bytes) = records_from default_config (length bytes + 1) state bytes
 
 -- the records that it has left
 abbrev pub rows_left : RecordReader → List Fields
-rows_left reader = rows_from (reader_state reader) (unread reader)
+rows_left reader = rows_left_in (reader_state reader) (unread reader)
 
--- it reads on as it began, and has a record's end behind it
+-- it reads on as it began, and has come to a record's end
 pub record IsOpen (reader : RecordReader) : Type 0 where
   pub untrimmed : reader_trim reader ≡ trim.None
   pub ready : Ready reader

@@ -4,11 +4,7 @@ use Rattle.dam_engines.proofs.alone.clear_book_alone.Goals as goal
 pub returns-clause-done : goal.returns-clause-done
 returns-clause-done c =
     let made = c.in_ok-problem.ensures.ok in
+    let clearing = c.published_results_are_clearings.ensures c.args.book.now _ _ _ _ _ _ made.0 made.1 c.in_ok-best.ensures.ok
+    c.in_ok-published.ensures in
     let found = c.in_ok-published.published in
-    record {
-      welfare = found.welfare;
-      periods = found.periods.items;
-      rows = found.rows.items;
-      clearing = c.published_results_are_clearings.ensures c.args.book.now _ _ _ _ _ _ made.0 made.1 c.in_ok-best.ensures.ok c.in_ok-published.ensures;
-      text_is = c.in_ok-results_text.ensures;
-    }
+    (found.welfare, found.periods.items, found.rows.items, clearing, c.in_ok-results_text.ensures)

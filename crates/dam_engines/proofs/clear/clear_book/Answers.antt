@@ -8,17 +8,14 @@ pub returns-in_err-best-clause-fault : goal.returns-in_err-best-clause-fault
 returns-in_err-best-clause-fault g c =
     let p = err_from_is_err_and c.from_residual-in_err-best.result c.from_residual-in_err-best.ensures.1 in
     let made = c.in_ok-problem.ensures.ok in
-    rw (p.1, p.2) (search_fault-book c.args.plan c.args.book.now c.in_err-best.field-0.0 made.0 (λ piece visited is. rw made.1 at (c.in_err-best.ensures.unfinished piece visited (ap Err is)))
+    rw (p.1, p.2) (search_fault-book c.args.plan c.args.book.now c.in_err-best.field-0.0 made.0
+    (λ piece visited is. rw made.1 at (c.in_err-best.ensures.unfinished piece visited (ap Err is)))
     (λ piece is. c.in_err-best.ensures.whole piece (ap Err is)))
 
 pub returns-clause-done : goal.returns-clause-done
 returns-clause-done g c =
     let made = c.in_ok-problem.ensures.ok in
+    let clearing = c.published_results_are_clearings.ensures c.args.book.now _ _ _ _ _ _ made.0 made.1 c.in_ok-best.ensures.ok
+    c.in_ok-published.ensures in
     let found = c.in_ok-published.published in
-    record {
-      welfare = found.welfare;
-      periods = found.periods.items;
-      rows = found.rows.items;
-      clearing = c.published_results_are_clearings.ensures c.args.book.now _ _ _ _ _ _ made.0 made.1 c.in_ok-best.ensures.ok c.in_ok-published.ensures;
-      text_is = c.in_ok-results_text.ensures;
-    }
+    (found.welfare, found.periods.items, found.rows.items, clearing, c.in_ok-results_text.ensures)

@@ -2,21 +2,27 @@
 use Rattle.std.proofs.Common.{subst}
 use Rattle.std.proofs.lemmas.Result.{err_from_is_err_and, IfErr-weaker, IfOk-weaker}
 use Rattle.dam_book.specs.Book.{BookState}
-use Rattle.dam_engines.specs.Clear.{IsBookFault, IsClearedAs}
-use Rattle.dam_engines.proofs.Fronts.{book_fault-text, text_fault-clear}
+use Rattle.dam_results.specs.Clearing.{IsResultsText}
+use Rattle.dam_engines.specs.Clear.{IsBookFault, IsClearFault}
+use Rattle.dam_engines.proofs.Fronts.{made_fault-run, text_fault-run}
 use Rattle.dam_engines.proofs.clear.clear_text.Goals as goal
 
 pub returns-in_err-run-clause-fault : goal.returns-in_err-run-clause-fault
 returns-in_err-run-clause-fault g c =
     let p = err_from_is_err_and c.from_residual.result c.from_residual.ensures.1 in
-    rw (p.1, p.2) (text_fault-clear c.args.plan c.args.text.now _ c.in_err-run.ensures.fault)
+    rw (p.1, p.2) (text_fault-run (IsClearFault c.args.plan) c.args.text.items _
+    (rw c.as_slice.ensures.value at c.in_err-run.ensures.fault))
 
 pub returns-clause-done : goal.returns-clause-done
 returns-clause-done g c =
-    let made = c.in_ok-run.ensures.done in
-    IfOk-weaker c.clear_book.result _ _ (λ results is. (made.0, made.1, made.2, subst (λ (b : BookState). IsClearedAs b results.items) made.3 is)) c.clear_book.ensures.done
+    let made = rw c.as_slice.ensures.value at c.in_ok-run.ensures.done in
+    IfOk-weaker c.clear_book.result _ _
+    (λ results is. (made.0, made.1, made.2, subst (λ (b : BookState). IsResultsText b results.items) made.3 is))
+    c.clear_book.ensures.done
 
 pub returns-clause-fault : goal.returns-clause-fault
 returns-clause-fault g c =
-    let made = c.in_ok-run.ensures.done in
-    IfErr-weaker c.clear_book.result _ _ (λ fault is. book_fault-text c.args.plan c.args.text.now made.0 made.1 fault made.2 (subst (λ (b : BookState). IsBookFault c.args.plan b fault) made.3 is)) c.clear_book.ensures.fault
+    let made = rw c.as_slice.ensures.value at c.in_ok-run.ensures.done in
+    IfErr-weaker c.clear_book.result _ _
+    (λ fault is. made_fault-run (IsClearFault c.args.plan) c.args.text.items (λ periods commands why no. no) fault
+    (made.0, made.1, made.2, subst (λ (b : BookState). IsBookFault c.args.plan b fault) made.3 is)) c.clear_book.ensures.fault

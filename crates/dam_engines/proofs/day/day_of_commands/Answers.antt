@@ -1,13 +1,20 @@
 -- What the book of the settled journal is answered, its commands are answered.
 use Rattle.std.proofs.Common.{subst, IfErr}
+use Rattle.std.proofs.lemmas.Result.{err_from_is_err_and}
 use Rattle.dam_gate.specs.Journal.{JournalState}
 use Rattle.dam_engines.specs.Clear.{IsBookFault}
 use Rattle.dam_engines.proofs.DayFaults.{journal_fault-day}
 use Rattle.dam_engines.proofs.day.day_of_commands.Goals as goal
+
+pub returns-in_err-settled-clause-fault : goal.returns-in_err-settled-clause-fault
+returns-in_err-settled-clause-fault g c =
+    let p = err_from_is_err_and c.from_residual.result c.from_residual.ensures.1 in
+    rw (p.1, p.2) (c.in_err-settled.ensures.fault c.args.plan)
 
 pub returns-clause-fault : goal.returns-clause-fault
 returns-clause-fault g c =
     let day = c.in_ok-settled in
     journal_fault-day c.args.plan c.args.periods c.args.commands.now day.settled c.print_day.result
     day.ensures.taken day.ensures.day day.ensures.journal day.ensures.periods
-    (subst (λ (j : JournalState). IfErr c.print_day.result (IsBookFault c.args.plan j.book)) c.journal.ensures.value c.print_day.ensures.fault)
+    (subst (λ (j : JournalState). IfErr c.print_day.result (IsBookFault c.args.plan j.book)) c.journal.ensures.value
+    c.print_day.ensures.fault)

@@ -14,7 +14,8 @@ returns-clause-text g c = elim c.loop-chunk-test.branch [
       let full : length c.loop-chunk.text.items ≡ most_read = omega (arith, c.loop-chunk.invariant.within) in
       read-most _ _ _ most_read c.loop-chunk.invariant.taken full
   | then-loop-chunk-test+in-Ok+then-count-eq0 w ↦
-      let room : 0 < length w.read.new.buf = omega (arith, w.read.auto.buf, length-take w.min-room.result c.loop-chunk.chunk, c.loop-chunk.invariant.chunk) in
+      let room : 0 < length w.read.new.buf = omega
+      (arith, w.read.auto.buf, length-take w.min-room.result c.loop-chunk.chunk, c.loop-chunk.invariant.chunk) in
       let last = w.in-Ok.ensures.bytes in
       let taken = read-nothing _ _ _ _ _ w.in-Ok.count c.loop-chunk.invariant.taken last.0 w.if-count-eq0.true in
       read-all _ _ _ most_read taken (last.1 w.if-count-eq0.true room) c.loop-chunk.invariant.within
@@ -32,7 +33,8 @@ returns-clause-cause g c = elim c.loop-chunk-test.branch [
 pub returns-in_err-extend_from_slice-clause-cause : goal.returns-in_err-extend_from_slice-clause-cause
 returns-in_err-extend_from_slice-clause-cause g c =
     let p = err_from_is_err_and c.from_residual.result c.from_residual.ensures.1 in
-    let room : length c.read.new.buf ≤ c.min-room.result = omega (arith, c.read.auto.buf, length-take c.min-room.result c.loop-chunk.chunk) in
+    let room : length c.read.new.buf ≤ c.min-room.result = omega
+    (arith, c.read.auto.buf, length-take c.min-room.result c.loop-chunk.chunk) in
     let more = take c.in-Ok.count c.read.new.buf in
     let few = length-take c.in-Ok.count c.read.new.buf in
     let both = length-append c.loop-chunk.text.items more in

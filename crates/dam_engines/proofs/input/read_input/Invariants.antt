@@ -8,7 +8,7 @@ use Rattle.dam_engines.proofs.input.read_input.Given as goal
 abbrev pub invariant-loop-chunk : goal.invariant-loop-chunk
 invariant-loop-chunk g l = record {
   within : length l.text.items ≤ most_read;
-  taken : Consumes l.initial.reader.given l.reader.given l.text.items;
+  taken : Consumes l.initial.reader.unread l.reader.unread l.text.items;
   chunk : length l.chunk ≡ CHUNK;
   asked : l.reader.asked ≤ l.initial.reader.asked + length l.text.items;
   failed : l.reader.failed ≡ false;

@@ -10,8 +10,8 @@ use Rattle.clap.specs.declared.builder.value_parser.ValueParser.TheVariants.{Sig
 use Rattle.dam_line.proofs.command.number_option.Goals as goal
 
 -- a range narrows the parser of `u32` to itself
-narrowed : (least most : ℕ) (parser : ValueParser) → least ≤ 4294967295 → most ≤ 4294967295
-    → NarrowsTo (Signed (pos 0) (pos 4294967295)) (Some (pos least)) (Some (pos most)) parser → parser ≡ Signed (pos least) (pos most)
+narrowed : (least most : ℕ) (parser : ValueParser) → least ≤ 4294967295 → most ≤ 4294967295 → NarrowsTo (Signed (pos 0) (pos 4294967295))
+    (Some (pos least)) (Some (pos most)) parser → parser ≡ Signed (pos least) (pos most)
 narrowed least most parser low high to = search rules
 
 pub returns-clause-rule : goal.returns-clause-rule
@@ -21,8 +21,8 @@ returns-clause-rule c =
     let end : range_inclusive_end c.new-range.result ≡ pos option.most = omega (arith, ints) in
     let to = rw (c.value_parser.ensures, start, end) at c.range.ensures in
     let given = c.value_parser-2.ensures.given in
-    let parser : c.value_parser-2.result.value_parser ≡ Some (Signed (pos option.least) (pos option.most)) =
-    given.1 ∙ ap Some (given.2 ∙ narrowed option.least option.most c.range.result (omega arith) (omega arith) to) in
+    let parser : c.value_parser-2.result.value_parser ≡ Some (Signed (pos option.least) (pos option.most)) = given.1 ∙ ap Some
+    (given.2 ∙ narrowed option.least option.most c.range.result (omega arith) (omega arith) to) in
     rw (
       c.help.ensures,
       c.default_value.ensures,
@@ -37,7 +37,7 @@ returns-clause-rule c =
       long = Some option.name.now;
       action = Some Set;
       value_names = 1;
-      parser =
-          Some (Signed (pos option.least) (pos option.most));
+      parser = Some
+          (Signed (pos option.least) (pos option.most));
       defaults = decimal option.default ∷ [];
     }) c.new.ensures.rule)

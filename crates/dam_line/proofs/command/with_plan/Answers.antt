@@ -19,8 +19,8 @@ number_option-requires-3 c = refl
 
 pub returns-clause-app : goal.returns-clause-app
 returns-clause-app c =
-    let first = c.in_ok-arg.ensures.shape c.number_option.ensures.local
-    ∙ ap (with_rule (app_of c.args.command)) c.number_option.ensures.rule in
+    let first = c.in_ok-arg.ensures.shape c.number_option.ensures.local ∙ ap
+    (with_rule (app_of c.args.command)) c.number_option.ensures.rule in
     let second = c.in_ok-arg-2.ensures.shape c.number_option-2.ensures.local ∙ ap₂ with_rule first c.number_option-2.ensures.rule in
     IfOk-weaker c.arg-3.result _ _ (λ command third. third.shape c.number_option-3.ensures.local
     ∙ ap₂ with_rule second c.number_option-3.ensures.rule) c.arg-3.ensures

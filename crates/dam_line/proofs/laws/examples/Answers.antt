@@ -37,10 +37,5 @@ returns-clause-unknown c = record { kind = UnknownArgument; refuses = inl refl; 
 
 pub returns-clause-nothing : goal.returns-clause-nothing
 unfolding clap_on_literals digits
-returns-clause-nothing c = record {
-  kind = DisplayHelpOnMissingArgumentOrSubcommand;
-  refuses = inl refl;
-  no_memory =
-      nothing_is_no_memory;
-  is_help = refl;
-}
+returns-clause-nothing c = record
+    { kind = DisplayHelpOnMissingArgumentOrSubcommand; refuses = inl refl; no_memory = nothing_is_no_memory; is_help = refl }

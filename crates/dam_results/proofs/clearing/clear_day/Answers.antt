@@ -11,7 +11,9 @@ clear_period-requires g c =
 
 pub loop-place-preserved : goal.loop-place-preserved
 loop-place-preserved g c =
-    cleared_more c.args.problem.now c.args.best.selection c.loop-place.place _ _ _ _ _ _ _ c.in_ok-result.result c.in_ok-result.executed.items c.at-period.ensures c.in_ok-result.ensures
+    cleared_more c.args.problem.now c.args.best.selection c.loop-place.place _ _ _ _ _ _ _ c.in_ok-result.result
+    c.in_ok-result.executed.items c.at-period.ensures c.in_ok-result.ensures
     c.in_ok-push-2.ensures.items c.in_ok-push.ensures.items
-    (ap (map (λ v. v.items)) c.in_ok-push-3.ensures.items ∙ map-append (λ v. v.items) c.loop-place.executions.items (c.in_ok-result.executed ∷ []))
+    (ap (map (λ v. v.items)) c.in_ok-push-3.ensures.items ∙ map-append (λ v. v.items) c.loop-place.executions.items
+    (c.in_ok-result.executed ∷ []))
     c.loop-place.invariant

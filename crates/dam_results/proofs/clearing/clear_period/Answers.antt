@@ -8,11 +8,15 @@ use Rattle.dam_results.proofs.clearing.clear_period.Goals as goal
 
 pub returns : goal.returns
 returns g c =
-    let net = c.net_volume-net.ensures.value ∙ ap (λ (bs : List Block). net_volume bs c.args.selection c.args.period) c.blocks-blocks.ensures.value in
-    let bought = c.bought_volume.ensures.value ∙ ap (λ (bs : List Block). bought_volume bs c.args.selection c.args.period) c.blocks-blocks.ensures.value in
+    let net = c.net_volume-net.ensures.value ∙ ap
+    (λ (bs : List Block). net_volume bs c.args.selection c.args.period) c.blocks-blocks.ensures.value in
+    let bought = c.bought_volume.ensures.value ∙ ap
+    (λ (bs : List Block). bought_volume bs c.args.selection c.args.period) c.blocks-blocks.ensures.value in
     let least = c.net_volume-net.ensures.valid.at_least in
     let most = c.net_volume-net.ensures.valid.at_most in
-    period_cleared c.args.problem.now c.args.selection c.args.period c.in-Some.cleared.bought c.in-Some.cleared.sold c.bought_volume.result c.unwrap-hour.result.now _
+    period_cleared c.args.problem.now c.args.selection c.args.period c.in-Some.cleared.bought c.in-Some.cleared.sold c.bought_volume.result
+    c.unwrap-hour.result.now _
     c.in-Some.cleared.low c.in-Some.cleared.high c.in-Some.cleared.price c.in-Some.cleared.welfare c.in-Some-2.executed.items
-    (search rules) (omega (arith, ints, net, least, most)) c.in-Some.ensures.ends c.in-Some.ensures.price c.in-Some.ensures.totals (rw c.in-Some-2.is at c.in_ok-executed.ensures)
+    (search rules) (omega (arith, ints, net, least, most)) c.in-Some.ensures.ends c.in-Some.ensures.price c.in-Some.ensures.totals
+    (rw c.in-Some-2.is at c.in_ok-executed.ensures)
     bought

@@ -1,3 +1,4 @@
+-- The kind of a record is its first field.
 use Rattle.std.proofs.Common.{◌∙◌}
 use Rattle.csv.specs.Records.{fields_of}
 use Rattle.dam_results.proofs.FieldByField.{first_kind}

@@ -1,3 +1,4 @@
+-- A new reader has all records of the text left.
 use Rattle.std.proofs.Common.{◌≡◌, Some, refl, ◌∙◌, inr}
 use Rattle.csv.specs.Reading.{strip_bom}
 use Rattle.dam_results.specs.inside.Reader.{unread}

@@ -1,3 +1,4 @@
+-- A journal has no fault.
 use Rattle.dam_results.proofs.JournalsHaveNoFault.{only_memory}
 use Rattle.dam_results.proofs.laws.fault_is_no_journal.Goals as goal
 

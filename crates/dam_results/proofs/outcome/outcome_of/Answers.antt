@@ -5,12 +5,14 @@ use Rattle.dam_results.proofs.outcome.outcome_of.Goals as goal
 
 pub unreachable-requires : goal.unreachable-requires
 unreachable-requires g c =
-    let found = executed_at c.args.problem.now c.args.selection c.in-Hour.period c.in-Hour.place _ c.args.row.now _ c.in-Hour.is c.requires.place c.requires.cleared.are_best c.executed.ensures in
+    let found = executed_at c.args.problem.now c.args.selection c.in-Hour.period c.in-Hour.place _ c.args.row.now _ c.in-Hour.is
+    c.requires.place c.requires.cleared.are_best c.executed.ensures in
     rw c.in_default.is at found
 
 pub returns-in-Some : goal.returns-in-Some
 returns-in-Some g c =
-    let found = executed_at c.args.problem.now c.args.selection c.in-Hour.period c.in-Hour.place _ c.args.row.now _ c.in-Hour.is c.requires.place c.requires.cleared.are_best c.executed.ensures in
+    let found = executed_at c.args.problem.now c.args.selection c.in-Hour.period c.in-Hour.place _ c.args.row.now _ c.in-Hour.is
+    c.requires.place c.requires.cleared.are_best c.executed.ensures in
     (c.copy-who.ensures, c.copy-name.ensures, (c.in-Hour.period, c.in-Hour.place, c.in-Hour.is, rw c.in-Some.is at found))
 
 pub surplus_at-requires-clause-place : goal.surplus_at-requires-clause-place
@@ -18,6 +20,7 @@ surplus_at-requires-clause-place g c = block_at c.args.problem.now c.in-Block.pl
 
 pub surplus_at-requires-clause-prices : goal.surplus_at-requires-clause-prices
 surplus_at-requires-clause-prices g c =
-    let few = few_prices c.args.problem.now.blocks c.args.selection c.args.problem.now.hours c.args.clearing.now.periods.items c.args.clearing.now.prices.items _ c.periods-limits.ensures.valid.day c.requires.cleared in
+    let few = few_prices c.args.problem.now.blocks c.args.selection c.args.problem.now.hours c.args.clearing.now.periods.items
+    c.args.clearing.now.prices.items _ c.periods-limits.ensures.valid.day c.requires.cleared in
     let same = ap length c.deref.ensures.value in
     omega (arith, few, same)

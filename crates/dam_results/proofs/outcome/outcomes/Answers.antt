@@ -10,9 +10,11 @@ pub outcome_of-requires-clause-place : goal.outcome_of-requires-clause-place
 outcome_of-requires-clause-place g c =
     let rows = c.rows-rows.ensures in
     rows.valid.rows c.loop-row.row-index c.row-item.result
-    (subst (λ (rs : List ProblemRow). slice_get rs c.loop-row.row-index ≡ Some c.row-item.result) rows.value (slice_get_read _ _ _ _ refl c.loop-row-test.true c.row-item.is))
+    (subst (λ (rs : List ProblemRow). slice_get rs c.loop-row.row-index ≡ Some c.row-item.result) rows.value
+    (slice_get_read _ _ _ _ refl c.loop-row-test.true c.row-item.is))
 
 pub loop-row-preserved : goal.loop-row-preserved
 loop-row-preserved g c =
-    rows_more c.args.problem.now c.args.selection c.args.clearing.now.prices.items c.rows-rows.result.now c.loop-row.row-index _ _ c.row-item.result c.outcome_of.result
+    rows_more c.args.problem.now c.args.selection c.args.clearing.now.prices.items c.rows-rows.result.now c.loop-row.row-index _ _
+    c.row-item.result c.outcome_of.result
     (slice_get_read _ _ _ _ refl c.loop-row-test.true c.row-item.is) c.outcome_of.ensures c.in_ok-push.ensures.items c.loop-row.invariant

@@ -3,7 +3,23 @@ use Rattle.dam_results.proofs.BestSelections.{best-result, result-best}
 use Rattle.dam_results.proofs.publishing_laws.best_selection_is_result.Goals as goal
 
 pub returns-clause-best : goal.returns-clause-best
-returns-clause-best c = result-best (record { either = c.ranking.ensures.either; apart = c.ranking.ensures.apart; itself = c.ranking.ensures.itself; same = c.ranking.ensures.same; one = c.verdict.ensures.one })
+returns-clause-best c = result-best
+    (record {
+      either = c.ranking.ensures.either;
+      apart = c.ranking.ensures.apart;
+      itself = c.ranking.ensures.itself;
+      same =
+          c.ranking.ensures.same;
+      one = c.verdict.ensures.one;
+    })
 
 pub returns-clause-result : goal.returns-clause-result
-returns-clause-result c = best-result (record { either = c.ranking.ensures.either; apart = c.ranking.ensures.apart; itself = c.ranking.ensures.itself; same = c.ranking.ensures.same; one = c.verdict.ensures.one })
+returns-clause-result c = best-result
+    (record {
+      either = c.ranking.ensures.either;
+      apart = c.ranking.ensures.apart;
+      itself = c.ranking.ensures.itself;
+      same =
+          c.ranking.ensures.same;
+      one = c.verdict.ensures.one;
+    })

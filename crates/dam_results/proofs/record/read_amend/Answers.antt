@@ -12,7 +12,8 @@ returns c =
     let volumes = rw c.in_ok-volumes.ensures.ok_part at c.read_volumes.ensures in
     let rest = c.in_ok-check_no_family.ensures in (
       (rw who.1 who.0, rw name.1 name.0, price.0, volumes.0),
-      nine_alike _ _ _ _ _ _ _ _ _ _ _ _ _ _ _ _ _ _ c.requires (sym who.1) (sym name.1) c.in_ok-check_empty.ensures c.in_ok-check_empty-2.ensures price.1 volumes.1 rest.0 rest.1.0,
+      nine_alike _ _ _ _ _ _ _ _ _ _ _ _ _ _ _ _ _ _ c.requires (sym who.1)
+          (sym name.1) c.in_ok-check_empty.ensures c.in_ok-check_empty-2.ensures price.1 volumes.1 rest.0 rest.1.0,
     )
 
 pub returns-in_err-check_empty : goal.returns-in_err-check_empty
@@ -36,5 +37,21 @@ returns-in_err-check_no_family c =
     let price = rw c.in_ok-price.ensures.ok_part at c.read_price.ensures in
     let volumes = rw c.in_ok-volumes.ensures.ok_part at c.read_volumes.ensures in
     let broken = c.in_err-check_no_family.ensures in
-    stops amend_rules c.args.row.now _ (suc (suc (suc (suc (suc (suc (suc (suc broken.0)))))))) _ c.from_residual-in_err-check_no_family.ensures.1 (omega (arith, broken.1))
-    (is_word (codes "amend") _ c.requires, (who.0, (name.0, (c.in_ok-check_empty.ensures, (c.in_ok-check_empty-2.ensures, ((c.in_ok-price.price, price.0, price.1), ((c.in_ok-volumes.volumes, volumes.0, volumes.1), broken.2)))))))
+    stops amend_rules c.args.row.now _
+    (suc (suc (suc (suc (suc (suc (suc (suc broken.0)))))))) _ c.from_residual-in_err-check_no_family.ensures.1
+    (omega (arith, broken.1)) (
+      is_word (codes "amend") _ c.requires,
+      (
+        who.0,
+        (
+          name.0,
+          (
+            c.in_ok-check_empty.ensures,
+            (
+              c.in_ok-check_empty-2.ensures,
+              ((c.in_ok-price.price, price.0, price.1), ((c.in_ok-volumes.volumes, volumes.0, volumes.1), broken.2)),
+            ),
+          ),
+        ),
+      ),
+    )

@@ -1,6 +1,6 @@
 -- The rules of a submit are those of its form.
 use Rattle.std.proofs.Common.{◌≡◌, ℕ, codes, rules}
-use Rattle.dam_results.specs.inside.Row.{fields_in}
+use Rattle.dam_results.specs.inside.NineFields.{fields_in}
 use Rattle.dam_results.proofs.Rules.{hour_broken, block_broken, other_fault}
 use Rattle.dam_results.proofs.record.read_submit.Goals as goal
 

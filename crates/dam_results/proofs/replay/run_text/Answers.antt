@@ -1,3 +1,4 @@
+-- The entries are numbered from 1.
 use Rattle.std.proofs.Common.{refl, ◌∙◌}
 use Rattle.dam_results.proofs.replay.run_text.Goals as goal
 

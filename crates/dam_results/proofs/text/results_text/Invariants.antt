@@ -6,9 +6,11 @@ use Rattle.dam_results.specs.Published.{welfare_line, period_lines, row_result_l
 use Rattle.dam_results.proofs.text.results_text.Given as goal
 
 abbrev pub invariant-loop-place : goal.invariant-loop-place
-invariant-loop-place g l = l.text.items ≡ day_line (length l.results.periods.items) ++ (welfare_line l.results.welfare ++ period_lines 1 (take l.place l.results.periods.items))
+invariant-loop-place g l = l.text.items ≡ day_line (length l.results.periods.items) ++
+    (welfare_line l.results.welfare ++ period_lines 1 (take l.place l.results.periods.items))
 
 abbrev pub invariant-loop-row : goal.invariant-loop-row
 invariant-loop-row g l =
     l.text.items ≡ day_line (length l.results.periods.items)
-    ++ (welfare_line l.results.welfare ++ (period_lines 1 l.results.periods.items ++ flat_map row_result_line (take l.row-index l.results.rows.items)))
+    ++ (welfare_line l.results.welfare ++
+    (period_lines 1 l.results.periods.items ++ flat_map row_result_line (take l.row-index l.results.rows.items)))

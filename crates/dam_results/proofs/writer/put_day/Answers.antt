@@ -1,3 +1,4 @@
+-- The record of a day.
 use Rattle.std.proofs.Common.{◌≡◌}
 use Rattle.std.specs.Prelude.{decimal}
 use Rattle.dam_results.specs.Records.{day_row}

@@ -12,11 +12,13 @@ use Rattle.dam_results.proofs.replay.Replay.apply_all.Goals as goal
 abbrev lines_from : ℕ → BookState → List Command → List ℕ
 lines_from n b cs = flat_map entry_line (entries_from n b cs)
 
-text_more : (n m : ℕ) (b : BookState) (text all : List ℕ) (cs rest : List Command) (c : Command) → suc n ≡ m → cs ≡ c ∷ rest → text ++ lines_from n b cs ≡ all
+text_more : (n m : ℕ) (b : BookState) (text all : List ℕ) (cs rest : List Command) (c : Command) → suc n ≡ m → cs ≡ c ∷ rest
+    → text ++ lines_from n b cs ≡ all
     → (text ++ reply_line n (reply_to b c)) ++ lines_from m (book_after b c) rest ≡ all
 text_more n m b text all cs rest c following next kept =
     let line : List ℕ = reply_line n (reply_to b c) in
-    append_assoc text line (lines_from m (book_after b c) rest) ∙ ap (λ (k : ℕ). text ++ (line ++ lines_from k (book_after b c) rest)) (sym following)
+    append_assoc text line (lines_from m (book_after b c) rest) ∙ ap (λ (k : ℕ). text ++ (line ++ lines_from k (book_after b c) rest))
+    (sym following)
     ∙ ap (λ (ds : List Command). text ++ lines_from n b ds) (sym next) ∙ kept
 
 pub loop-command-preserved : goal.loop-command-preserved
@@ -24,12 +26,15 @@ loop-command-preserved g c =
     let i = c.loop-command.command-index in
     let inside : i < length c.args.commands.now = omega arith in
     let next : drop i c.args.commands.now ≡ c.command-item.result ∷ drop (i + 1) c.args.commands.now =
-    drop-cons c.args.commands.now i c.command-item.result inside ∙ ap₂ (λ (d : Command) (j : ℕ). d ∷ drop j c.args.commands.now) (sym c.command-item.is) (let e : suc i ≡ i + 1 = omega arith in e) in
+    drop-cons c.args.commands.now i c.command-item.result inside ∙ ap₂ (λ (d : Command) (j : ℕ). d ∷ drop j c.args.commands.now)
+    (sym c.command-item.is) (let e : suc i ≡ i + 1 = omega arith in e) in
     record {
       numbered = omega (arith, c.loop-command.invariant.numbered);
       text =
           rw (c.in_ok-apply.ensures.text, c.in_ok-apply.ensures.book)
-          (text_more (c.loop-command.number + 1) (c.loop-command.number + 1 + 1) c.loop-command.self.book c.loop-command.self.text.items _ _ _ c.command-item.result (omega arith) next c.loop-command.invariant.text);
+          (text_more (c.loop-command.number + 1)
+          (c.loop-command.number + 1 + 1) c.loop-command.self.book c.loop-command.self.text.items _ _ _ c.command-item.result
+          (omega arith) next c.loop-command.invariant.text);
     }
 
 pub returns : goal.returns

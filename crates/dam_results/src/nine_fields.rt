@@ -1,12 +1,12 @@
 ghost use Rattle.std.specs.Prelude.{◌≡◌, ◌≢◌, length, MatchOption};
 ghost use Rattle.csv.specs.Records.{fields_of};
-ghost use Rattle.dam_results.specs.inside.Row.{field_or_empty, fields_in};
+ghost use Rattle.dam_results.specs.inside.NineFields.{field_or_empty, fields_in};
 
 use csv::ByteRecord;
 
 /// The fields of a record that has nine, each named for what it holds in a submit.
 #[derive(Clone, Copy)]
-pub(crate) struct Row<'a> {
+pub(crate) struct NineFields<'a> {
     pub(crate) kind: &'a [u8],
     /// In a day, how many periods it has.
     pub(crate) who: &'a [u8],
@@ -29,9 +29,9 @@ pub(crate) fn field_of(fields: &ByteRecord, place: usize) -> &[u8]
     }
 }
 
-impl<'a> Row<'a> {
-    /// `None` where the record doesn't have nine fields.
-    pub(crate) fn of(fields: &'a ByteRecord) -> Option<Row<'a>>
+impl<'a> NineFields<'a> {
+    /// `None` if the record doesn't have nine fields.
+    pub(crate) fn of(fields: &'a ByteRecord) -> Option<NineFields<'a>>
         ensures { MatchOption result
             (length (fields_of fields.entry.now) ≢ 9)
             (λ row. fields_of fields.entry.now ≡ fields_in row) }
@@ -39,7 +39,7 @@ impl<'a> Row<'a> {
         if fields.len() != 9 {
             return None;
         }
-        Some(Row {
+        Some(NineFields {
             kind: field_of(fields, 0),
             who: field_of(fields, 1),
             name: field_of(fields, 2),

@@ -5,7 +5,7 @@ use Rattle.dam_results.specs.Limits.{most_records}
 use Rattle.dam_results.specs.Records.{Fields, row_of}
 use Rattle.dam_results.specs.Rules.{FieldRule, Empty, IsLeastBroken}
 use Rattle.dam_results.specs.Journal.{IsCommand}
-use Rattle.dam_results.specs.declared.row.Row.{Row}
+use Rattle.dam_results.specs.declared.nine_fields.NineFields.{NineFields}
 
 -- the field at that place, counted from 0, or no byte if there is none
 abbrev pub field_or_empty : Fields → ℕ → List ℕ
@@ -14,13 +14,13 @@ field_or_empty (f ∷ fs) zero = f
 field_or_empty (f ∷ fs) (suc place) = field_or_empty fs place
 
 -- the fields of a record of nine, in their order
-abbrev pub fields_in : Row → Fields
+abbrev pub fields_in : NineFields → Fields
 fields_in r =
     r.kind.now ∷ r.who.now ∷ r.name.now ∷ r.form.now ∷ r.side.now ∷ r.price.now ∷ r.volumes.now
     ∷ r.parent.now ∷ r.group.now ∷ []
 
 -- the record of a command within its limits, or the least field that breaks its rule
-abbrev pub ReadsCommand : List FieldRule → Row → Result Command ℕ → Type 0
+abbrev pub ReadsCommand : List FieldRule → NineFields → Result Command ℕ → Type 0
 ReadsCommand rules row read = MatchResult read
     (λ command. IsCommand command × (fields_in row ≡ row_of command))
     (IsLeastBroken rules (fields_in row))

@@ -1,6 +1,7 @@
+-- A field by its place, as the record of `csv` has it.
 use Rattle.csv.specs.Records.{fields_of}
 use Rattle.dam_results.proofs.FieldByField.{field_or_empty-Some, field_or_empty-None}
-use Rattle.dam_results.proofs.row.field_of.Goals as goal
+use Rattle.dam_results.proofs.nine_fields.field_of.Goals as goal
 
 pub returns-in-Some : goal.returns-in-Some
 returns-in-Some c = field_or_empty-Some (fields_of c.args.fields.now) c.args.place _ c.in-Some.ensures.value
