@@ -29,8 +29,8 @@ order_up gone order = cond (nat_lt gone (place_of order)) (order - 1) order
 place_is : (r n : ℕ) → n < most_steps → place_of (r * most_steps + n) ≡ n
 place_is r n l = mod-mul-add r most_steps n l
 
-order_behind : (gone order : ℕ) → gone < place_of order → order_up gone order ≡ order - 1
-order_behind gone order l = ap (λ (b : Bool). cond b (order - 1) order) (lt-ltb gone (place_of order) l)
+order_after : (gone order : ℕ) → gone < place_of order → order_up gone order ≡ order - 1
+order_after gone order l = ap (λ (b : Bool). cond b (order - 1) order) (lt-ltb gone (place_of order) l)
 
 order_front : (gone order : ℕ) → place_of order ≤ gone → order_up gone order ≡ order
 order_front gone order l = ap (λ (b : Bool). cond b (order - 1) order) (le-ltb gone (place_of order) l)
@@ -38,7 +38,7 @@ order_front gone order l = ap (λ (b : Bool). cond b (order - 1) order) (le-ltb 
 -- none moves by more than one, so the order stays
 up_near : (gone order : ℕ) → (order_up gone order ≤ order) × (order ≤ order_up gone order + 1)
 up_near gone order = elim (cases_lt gone (place_of order)) [
-  | inl less ↦ (let e = order_behind gone order less in (omega (arith, e), omega (arith, e)))
+  | inl less ↦ (let e = order_after gone order less in (omega (arith, e), omega (arith, e)))
   | inr more ↦ (let e = order_front gone order more in (omega (arith, e), omega (arith, e)))
 ]
 
@@ -114,21 +114,21 @@ part_front gone r n f s l few =
     (ne_eqb (place_of (r * most_steps + n)) gone (λ e. let same = sym place ∙ e in absurd (omega (arith, same, l))))
     ∙ ap (λ (order : ℕ). f order s) (order_front gone (r * most_steps + n) (subst (λ (k : ℕ). k ≤ gone) (sym place) (omega (arith, l))))
 
-part_behind : (gone r n : ℕ) (f : ℕ → Step → ℕ) (s : Step) → gone ≤ n → suc n < most_steps
+part_after : (gone r n : ℕ) (f : ℕ → Step → ℕ) (s : Step) → gone ≤ n → suc n < most_steps
     → part gone f (r * most_steps + suc n) s ≡ f (r * most_steps + n) s
-part_behind gone r n f s l few =
+part_after gone r n f s l few =
     let place = place_is r (suc n) few in
     ap (λ (b : Bool). cond b 0 (f (order_up gone (r * most_steps + suc n)) s))
     (ne_eqb (place_of (r * most_steps + suc n)) gone (λ e. let same = sym place ∙ e in absurd (omega (arith, same, l))))
-    ∙ ap (λ (order : ℕ). f order s) (order_behind gone (r * most_steps + suc n) (subst (λ (k : ℕ). gone < k) (sym place) (omega (arith, l)))
+    ∙ ap (λ (order : ℕ). f order s) (order_after gone (r * most_steps + suc n) (subst (λ (k : ℕ). gone < k) (sym place) (omega (arith, l)))
     ∙ (let one : (r * most_steps + suc n) - 1 ≡ r * most_steps + n = omega arith in one))
 
-side_behind : (side : Side) (f : ℕ → Step → ℕ) (gone n : ℕ) (ss : List Step) → gone ≤ n → suc n + length ss ≤ most_steps
+side_after : (side : Side) (f : ℕ → Step → ℕ) (gone n : ℕ) (ss : List Step) → gone ≤ n → suc n + length ss ≤ most_steps
     → side_total side (part gone f) (suc n) ss ≡ side_total side f n ss
-side_behind side f gone n [] l few = refl
-side_behind side f gone n (s ∷ ss) l few =
-    let here = part_behind gone (rank_of side s.price) n f s l (omega (arith, few)) in
-    let rest = side_behind side f gone (suc n) ss (omega (arith, l)) (omega (arith, few)) in
+side_after side f gone n [] l few = refl
+side_after side f gone n (s ∷ ss) l few =
+    let here = part_after gone (rank_of side s.price) n f s l (omega (arith, few)) in
+    let rest = side_after side f gone (suc n) ss (omega (arith, l)) (omega (arith, few)) in
     ap (λ (x : ℕ). volume_on side s.side x + side_total side (part gone f) (suc (suc n)) ss) here
     ∙ ap (λ (x : ℕ). volume_on side s.side (f (order_of side s.price n) s) + x) rest
 
@@ -145,7 +145,7 @@ side_without side f gone n zero (s ∷ ss) e l few =
     let same : n ≡ gone = omega (arith, e) in
     let here = subst (λ (m : ℕ). part gone f (rank_of side s.price * most_steps + m) s ≡ 0) (sym same)
     (part_at gone (rank_of side s.price) f s (omega (arith, same, few))) in
-    let rest = side_behind side f gone n ss (omega (arith, same)) (omega (arith, few)) in
+    let rest = side_after side f gone n ss (omega (arith, same)) (omega (arith, few)) in
     let none = none_on side s.side in
     ap (λ (x : ℕ). volume_on side s.side x + side_total side (part gone f) (suc n) ss) here ∙ (omega (arith, none, rest))
 side_without side f gone n (suc k) (s ∷ ss) e l few =

@@ -272,9 +272,9 @@ some_under rows (p ∷ ps) unit (suc j) e point first last = omega arith
 some_under rows (p ∷ ps) unit zero e point first last =
     let d : Rung = record { placed = p; before = record { volume = 0; value = pos 0 } } in
     let long = ap length e ∙ rows_long 0 (pos 0) (p ∷ ps) in
-    let behind = ltb-false _ _ (point.1 0 d (omega arith) (omega (arith, long))) in
+    let later = ltb-false _ _ (point.1 0 d (omega arith) (omega (arith, long))) in
     let none = ap (λ (rs : List Rung). (get_or rs 0 d).before.volume) e in
-    absurd (omega (arith, behind, none, first))
+    absurd (omega (arith, later, none, first))
 
 pub holds_unit : (rows : List Rung) (ps : List Placed) (unit n k : ℕ) → rows ≡ rows_from 0 (pos 0) ps → k ≤ length rows → k ≡ suc n
     → IsPartitionPoint (λ (r : Rung). ltb r.before.volume unit ≡ true) (λ (r : Rung). ltb r.before.volume unit ≡ false) rows k
@@ -289,10 +289,10 @@ holds_unit rows (p ∷ ps) unit n k e h s point last =
       omega (arith, front, at_n),
       elim (cases_lt (suc n) (length rows)) [
         | inl less ↦
-            (let behind = ltb-false _ _ (point.1 (suc n) d (omega (arith, s)) less) in
+            (let later = ltb-false _ _ (point.1 (suc n) d (omega (arith, s)) less) in
             let at_next = ap (λ (rs : List Rung). (get_or rs (suc n) d).before.volume) e
             ∙ row_volume 0 (pos 0) (p ∷ ps) (suc n) d (omega (arith, long, less)) in
-            omega (arith, behind, at_next))
+            omega (arith, later, at_next))
         | inr more ↦
             (let whole = ap (λ (qs : List Placed). total (λ q. q.step.qty) qs) (take_all (suc n) (p ∷ ps) (omega (arith, long, more))) in
             omega (arith, whole, last))

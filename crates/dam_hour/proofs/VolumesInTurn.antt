@@ -24,11 +24,11 @@ left_of : (p : ℤ) (ss : List Step) (bought sold buys sells : ℕ) → buys ≡
 left_of p ss bought sold buys sells b s Buy = b
 left_of p ss bought sold buys sells b s Sell = s
 
-left_behind : (own : Side) (taken buys sells buys' sells' : ℕ) → buys' ≡ buys - volume_on Buy own taken
+left_after : (own : Side) (taken buys sells buys' sells' : ℕ) → buys' ≡ buys - volume_on Buy own taken
     → sells' ≡ sells - volume_on Sell own taken
     → (side : Side) → total_on side buys' sells' ≡ total_on side buys sells - volume_on side own taken
-left_behind own taken buys sells buys' sells' b s Buy = b
-left_behind own taken buys sells buys' sells' b s Sell = s
+left_after own taken buys sells buys' sells' b s Buy = b
+left_after own taken buys sells buys' sells' b s Sell = s
 
 -- what the totals leave for each side
 pub fill_from_totals : (p : ℤ) (ss : List Step) (bought sold buys sells : ℕ) (out : List ℕ) → buys ≡ bought - better_volume Buy p ss
@@ -52,7 +52,7 @@ fill_more p ss i s out pushed all x left buys sells buys' sells' so_far push wit
     let next : Side → ℕ = λ side. total_on side buys sells - volume_on side s.side taken in
     let opened : drop i ss ≡ s ∷ rest = drop_more ss i s within ∙ ap (λ (u : Step). u ∷ rest) (sym is) in
     let later : fill p rest (λ side. total_on side buys' sells') ≡ fill p rest next =
-    fill_same p rest (λ side. total_on side buys' sells') next (left_behind s.side taken buys sells buys' sells' b t) in
+    fill_same p rest (λ side. total_on side buys' sells') next (left_after s.side taken buys sells buys' sells' b t) in
     ap (λ (ys : List ℕ). ys ++ fill p rest (λ side. total_on side buys' sells')) push
     ∙ append_assoc out (x ∷ []) (fill p rest (λ side. total_on side buys' sells'))
     ∙ ap₂ (λ (n : ℕ) (ys : List ℕ). out ++ n ∷ ys) (volume ∙ ap (λ (n : ℕ). share (margin_of s.side s.price p) s.qty n) own) later

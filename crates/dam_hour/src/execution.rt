@@ -25,7 +25,7 @@ impl Left {
     }
 
     /// What is left after a step: if its limit is the price, less by its volume.
-    fn behind(self, step: Step, price: Price) -> Left
+    fn after(self, step: Step, price: Price) -> Left
         ensures buys { result.buys ≡ self.buys - at_part Buy price step }
         ensures sells { result.sells ≡ self.sells - at_part Sell price step }
     {
@@ -60,7 +60,7 @@ pub(crate) fn fill<B: Allocator>(
     for step in steps {
         let share = step.share(price, left.on(step.side));
         volumes.push(share as u32)?;
-        left = left.behind(*step, price);
+        left = left.after(*step, price);
     }
     Ok(volumes)
 }

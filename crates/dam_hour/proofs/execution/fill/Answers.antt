@@ -7,6 +7,6 @@ pub loop-step-preserved : goal.loop-step-preserved
 loop-step-preserved g c =
     fill_more c.args.price c.args.steps.now c.loop-step.step-index c.step-item.result c.loop-step.volumes.items c.push.new.self.items _
     c.share-share.result c.on.result
-    c.loop-step.left.buys c.loop-step.left.sells c.behind-left.result.buys c.behind-left.result.sells
+    c.loop-step.left.buys c.loop-step.left.sells c.after-left.result.buys c.after-left.result.sells
     c.loop-step.invariant c.in_ok-push.ensures.items (omega arith) c.step-item.is c.on.ensures c.share-share.ensures.value
-    c.behind-left.ensures.buys c.behind-left.ensures.sells
+    c.after-left.ensures.buys c.after-left.ensures.sells

@@ -1,5 +1,5 @@
 -- The ends are those of the tests, and at the least price as much is traded as balances.
-use Rattle.std.proofs.Common.{ℤ, subst, refl, arith}
+use Rattle.std.proofs.Common.{ℤ, subst, arith}
 use Rattle.std.proofs.lemmas.Int.{ints, to_z-of_z}
 use mir.Syntax.{w64}
 use Rattle.dam_hour.specs.inside.Volumes.{IsLeastHighEnough, IsGreatestLowEnough}
