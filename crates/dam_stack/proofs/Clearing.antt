@@ -1,5 +1,6 @@
 -- What a stack answers is the greatest welfare and the ends of the supporting prices.
-use Rattle.std.proofs.Common.{◌≡◌, ℕ, ◌+◌, ◌-◌, ◌*◌, ◌<◌, ◌≤◌, ℤ, pos, ◌+ℤ◌, ◌-ℤ◌, ◌*ℤ◌, ◌≤ℤ◌, ◌<ℤ◌, Some, List, [], ◌∷◌, ap, ◌∙◌, refl, arith}
+use Rattle.std.proofs.Common.{◌≡◌, ℕ, ◌+◌, ◌-◌, ◌*◌, ◌<◌, ◌≤◌, ℤ, pos, ◌+ℤ◌, ◌-ℤ◌, ◌*ℤ◌, ◌≤ℤ◌, ◌<ℤ◌, Some, List, [], ◌∷◌, ap, ◌∙◌, refl}
+use Rattle.std.proofs.Common.{arith}
 use Rattle.std.proofs.lemmas.Int.{ints, by_lt_z}
 use Rattle.std.proofs.lemmas.Nat.{mul-le}
 use Rattle.dam_book.specs.Limits.{lowest_price, highest_price}
@@ -14,7 +15,8 @@ use Rattle.dam_stack.specs.declared.row.Row.{Row}
 use Rattle.dam_stack.specs.Supply.{height_of, all_units, units_under, units_up_to, gain_at, AreUnitsAt}
 use Rattle.dam_stack.specs.inside.Supply.{worth_of, Reaches, Holds, IsCostOf, IsLow, IsHigh}
 use Rattle.dam_stack.proofs.Parts.{under_none, up_to_full, up_to_under, part_most, times_net}
-use Rattle.dam_stack.proofs.Supplying.{taken, spent, height_is, taken_total, supported_reaches, supported_spent, reached_execution, welfare_spent}
+use Rattle.dam_stack.proofs.Supplying.{taken, spent, height_is, taken_total, supported_reaches, supported_spent, reached_execution}
+use Rattle.dam_stack.proofs.Supplying.{welfare_spent}
 
 -- ---- one height and a greater one
 pub up_to_below : (h k : ℕ) (ss : List Step) → h < k → units_up_to h ss ≤ units_under k ss
@@ -102,28 +104,32 @@ row_cost_small ss units row h =
     omega (arith, e, m)
 
 -- ---- the net volume
--- an execution takes so many units exactly where it balances
+-- an execution takes this number of units exactly if it balances
 taken_units : (net : ℤ) (x t o b s : ℕ) → pos x +ℤ net ≡ pos o → t + b ≡ o + s → pos s +ℤ net ≡ pos b → t ≡ x
 taken_units net x t o b s u e f = omega (arith, ints, u, e, f)
 
 units_balance : (net : ℤ) (x t o b s : ℕ) → pos x +ℤ net ≡ pos o → t + b ≡ o + s → t ≡ x → pos s +ℤ net ≡ pos b
 units_balance net x t o b s u e f = omega (arith, ints, u, e, f)
 
-pub reaches_supporting : (ss : List Step) (net p : ℤ) (x : ℕ) → AreInRange ss → AreUnitsAt ss net x → IsPrice p → Reaches ss x (height_of p) → IsSupporting ss net p
+pub reaches_supporting : (ss : List Step) (net p : ℤ) (x : ℕ) → AreInRange ss → AreUnitsAt ss net x → IsPrice p → Reaches ss x (height_of p)
+    → IsSupporting ss net p
 reaches_supporting ss net p x a u r h =
     let found = reached_execution p ss x r a h in
     record {
       in_range = r;
       volumes = found.0;
       execution = found.1;
-      balance = units_balance net x (taken ss found.0) (offered_volume Buy ss) (executed_volume Buy ss found.0) (executed_volume Sell ss found.0) u.balance (taken_total ss found.0 found.1) found.3;
+      balance = units_balance net x (taken ss found.0) (offered_volume Buy ss) (executed_volume Buy ss found.0)
+          (executed_volume Sell ss found.0) u.balance (taken_total ss found.0 found.1) found.3;
       support = found.2;
     }
 
-pub supporting_reaches : (ss : List Step) (net p : ℤ) (x : ℕ) → AreInRange ss → AreUnitsAt ss net x → IsSupporting ss net p → Reaches ss x (height_of p)
+pub supporting_reaches : (ss : List Step) (net p : ℤ) (x : ℕ) → AreInRange ss → AreUnitsAt ss net x → IsSupporting ss net p
+    → Reaches ss x (height_of p)
 supporting_reaches ss net p x a u s =
     let reaches = supported_reaches p ss s.volumes s.in_range a s.execution s.support in
-    let same = taken_units net x (taken ss s.volumes) (offered_volume Buy ss) (executed_volume Buy ss s.volumes) (executed_volume Sell ss s.volumes) u.balance (taken_total ss s.volumes s.execution) s.balance in
+    let same = taken_units net x (taken ss s.volumes) (offered_volume Buy ss) (executed_volume Buy ss s.volumes)
+    (executed_volume Sell ss s.volumes) u.balance (taken_total ss s.volumes s.execution) s.balance in
     let under = reaches.under in let up_to = reaches.up_to in
     record { under = omega (arith, under, same); up_to = omega (arith, up_to, same) }
 
@@ -144,7 +150,8 @@ high_greatest ss x high p g r h = by_lt_z high p
     absurd (let no : 0 < 0 = omega (arith, k, under) in omega (arith, no))))
     (λ more. more)
 
-pub ends_are : (ss : List Step) (net low high : ℤ) (x : ℕ) → AreInRange ss → AreUnitsAt ss net x → IsLow ss x low → IsHigh ss x high → AreEnds ss net low high
+pub ends_are : (ss : List Step) (net low high : ℤ) (x : ℕ) → AreInRange ss → AreUnitsAt ss net x → IsLow ss x low → IsHigh ss x high
+    → AreEnds ss net low high
 ends_are ss net low high x a u l h = record {
   low_supports = reaches_supporting ss net low x a u l.in_range l.reaches;
   high_supports = reaches_supporting ss net high x a u h.in_range h.reaches;
@@ -155,14 +162,18 @@ ends_are ss net low high x a u l h = record {
 -- ---- the welfare
 -- what the welfare's law says
 pub record Laws : Type 0 where
-  pub reached : (ss : List Step) (net w : ℤ) → greatest_welfare ss net ≡ Some w → (xs : List ℕ) × IsExecution ss xs × Balances ss net xs × (welfare_of ss xs ≡ w)
-  pub bound : (ss : List Step) (net w : ℤ) → greatest_welfare ss net ≡ Some w → (xs : List ℕ) → IsExecution ss xs → Balances ss net xs → welfare_of ss xs ≤ℤ w
+  pub reached : (ss : List Step) (net w : ℤ) → greatest_welfare ss net ≡ Some w
+      → (xs : List ℕ) × IsExecution ss xs × Balances ss net xs × (welfare_of ss xs ≡ w)
+  pub bound : (ss : List Step) (net w : ℤ) → greatest_welfare ss net ≡ Some w → (xs : List ℕ) → IsExecution ss xs → Balances ss net xs
+      → welfare_of ss xs ≤ℤ w
   pub some : (ss : List Step) (net : ℤ) → IsBalanced ss net → (w : ℤ) × (greatest_welfare ss net ≡ Some w)
   pub welfare : (p net : ℤ) (ss : List Step) (xs : List ℕ) → Balances ss net xs → welfare_of ss xs ≡ surplus_at p ss xs +ℤ p *ℤ net
-  pub greatest : (p : ℤ) (ss : List Step) (xs ys : List ℕ) → IsExecution ss xs → Supports p ss xs → IsExecution ss ys → surplus_at p ss ys ≤ℤ surplus_at p ss xs
+  pub greatest : (p : ℤ) (ss : List Step) (xs ys : List ℕ) → IsExecution ss xs → Supports p ss xs → IsExecution ss ys
+      → surplus_at p ss ys ≤ℤ surplus_at p ss xs
 
 -- what a price supports has the greatest welfare
-supporting_welfare : Laws → (ss : List Step) (net p : ℤ) (s : IsSupporting ss net p) → greatest_welfare ss net ≡ Some (welfare_of ss s.volumes)
+supporting_welfare : Laws → (ss : List Step) (net p : ℤ) (s : IsSupporting ss net p)
+    → greatest_welfare ss net ≡ Some (welfare_of ss s.volumes)
 supporting_welfare laws ss net p s =
     let found = laws.some ss net (s.volumes, s.execution, s.balance) in
     let best = laws.reached ss net found.0 found.1 in
@@ -177,7 +188,8 @@ supporting_welfare laws ss net p s =
 spent_is : (s g h t x cost : ℕ) → s + g ≡ h * t → t ≡ x → cost + g ≡ h * x → s ≡ cost
 spent_is s g h t x cost e f k = let m = ap (λ n. h * n) f in omega (arith, e, k, m)
 
-welfare_sum : (net w : ℤ) (s b k worth cost : ℕ) → (w +ℤ pos k) +ℤ lowest_price *ℤ pos s ≡ pos worth +ℤ lowest_price *ℤ pos b → pos s +ℤ net ≡ pos b → k ≡ cost
+welfare_sum : (net w : ℤ) (s b k worth cost : ℕ) → (w +ℤ pos k) +ℤ lowest_price *ℤ pos s ≡ pos worth +ℤ lowest_price *ℤ pos b
+    → pos s +ℤ net ≡ pos b → k ≡ cost
     → w ≡ (pos worth -ℤ pos cost) +ℤ lowest_price *ℤ net
 welfare_sum net w s b k worth cost e f same =
     let t = times_net lowest_price net b s f in
@@ -187,9 +199,11 @@ pub welfare_is : Laws → (ss : List Step) (net : ℤ) (x cost : ℕ) → AreInR
     → greatest_welfare ss net ≡ Some ((pos (worth_of ss) -ℤ pos cost) +ℤ lowest_price *ℤ net)
 welfare_is laws ss net x cost a u c =
     let s = reaches_supporting ss net c.price x a u c.in_range c.reaches in
-    let same = taken_units net x (taken ss s.volumes) (offered_volume Buy ss) (executed_volume Buy ss s.volumes) (executed_volume Sell ss s.volumes) u.balance (taken_total ss s.volumes s.execution) s.balance in
+    let same = taken_units net x (taken ss s.volumes) (offered_volume Buy ss) (executed_volume Buy ss s.volumes)
+    (executed_volume Sell ss s.volumes) u.balance (taken_total ss s.volumes s.execution) s.balance in
     let k = spent_is (spent ss s.volumes) (gain_at (height_of c.price) ss) (height_of c.price) (taken ss s.volumes) x cost
     (supported_spent c.price ss s.volumes c.in_range a s.execution s.support) same c.cost_is in
-    let sum = welfare_sum net (welfare_of ss s.volumes) (executed_volume Sell ss s.volumes) (executed_volume Buy ss s.volumes) (spent ss s.volumes) (worth_of ss) cost
+    let sum = welfare_sum net (welfare_of ss s.volumes) (executed_volume Sell ss s.volumes) (executed_volume Buy ss s.volumes)
+    (spent ss s.volumes) (worth_of ss) cost
     (welfare_spent ss s.volumes a s.execution) s.balance k in
     supporting_welfare laws ss net c.price s ∙ ap (λ (z : ℤ). Some z) sum

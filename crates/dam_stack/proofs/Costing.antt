@@ -172,7 +172,15 @@ none_taken ss =
 
 pub row_taken : (ss : List Step) (units next near cost : ℕ) (row : Row) → Holds ss units row → Holds ss next row → units ≤ next
     → cost ≡ row.cost + height_of row.price * (units - row.before)
-    → IsTaken ss (record { units = units; height = height_of row.price; held = units - row.before; free = next - units; near = near; cost = cost })
+    → IsTaken ss (record {
+      units = units;
+      height = height_of row.price;
+      held = units - row.before;
+      free = next - units;
+      near = near;
+      cost =
+          cost;
+    })
 row_taken ss units next near cost row h n l e =
     let before = h.before in let under = h.under in let up_to = n.up_to in
     let sum = row_cost row.cost (gain_at (height_of row.price) ss) (height_of row.price) row.before units (omega (arith, before))

@@ -1,5 +1,6 @@
--- The greatest welfare of a period, with a step and without it, where the step lies wholly on one side of the units taken.
-use Rattle.std.proofs.Common.{◌≡◌, ℕ, ◌+◌, ◌*◌, ◌<◌, ◌≤◌, Bool, true, false, cond, ℤ, pos, ◌+ℤ◌, ◌-ℤ◌, ◌*ℤ◌, ◌≤ℤ◌, Option, Some, List, [], ◌∷◌, ◌++◌, ap, refl, arith}
+-- The greatest welfare of a period, with a step and without it, if the step lies wholly on one side of the units taken.
+use Rattle.std.proofs.Common.{◌≡◌, ℕ, ◌+◌, ◌*◌, ◌<◌, ◌≤◌, Bool, true, false, cond, ℤ, pos, ◌+ℤ◌, ◌-ℤ◌, ◌*ℤ◌, ◌≤ℤ◌, Option, Some, List, []}
+use Rattle.std.proofs.Common.{◌∷◌, ◌++◌, ap, refl, arith}
 use Rattle.std.proofs.lemmas.Int.{ints}
 use borrow.Author.Differences.{up, down}
 use Rattle.dam_book.specs.Limits.{lowest_price}
@@ -17,15 +18,17 @@ use Rattle.dam_stack.proofs.Supplying.{height_is, all_offered}
 use Rattle.dam_stack.proofs.Clearing.{Laws, welfare_is}
 
 -- ---- a step among the others
-offered_middle : (side : Side) (us vs : List Step) (s : Step) → offered_volume side (us ++ s ∷ vs) ≡ volume_on side s.side s.qty + offered_volume side (us ++ vs)
+offered_middle : (side : Side) (us vs : List Step) (s : Step)
+    → offered_volume side (us ++ s ∷ vs) ≡ volume_on side s.side s.qty + offered_volume side (us ++ vs)
 offered_middle side [] vs s = refl
 offered_middle side (u ∷ us) vs s = let rest = offered_middle side us vs s in omega (arith, rest)
 
-worth_middle : (us vs : List Step) (s : Step) → worth_of (us ++ s ∷ vs) ≡ volume_on Buy s.side (height_of s.price * s.qty) + worth_of (us ++ vs)
+worth_middle : (us vs : List Step) (s : Step)
+    → worth_of (us ++ s ∷ vs) ≡ volume_on Buy s.side (height_of s.price * s.qty) + worth_of (us ++ vs)
 worth_middle [] vs s = refl
 worth_middle (u ∷ us) vs s = let rest = worth_middle us vs s in omega (arith, rest)
 
--- what falls away, where the step's units do
+-- what falls away, if the step's units do
 abbrev pub fallen : Side → Bool → ℕ → ℕ
 fallen side accept n = cond (falls side accept) n 0
 
@@ -38,7 +41,8 @@ times_more p net other v e =
     omega (arith, ints, m, n)
 
 -- ---- what is to be taken
-decided_balance : (side : Side) (accept : Bool) (q units left o other : ℕ) (net next : ℤ) → pos units +ℤ net ≡ pos o → o ≡ volume_on Buy side q + other
+decided_balance : (side : Side) (accept : Bool) (q units left o other : ℕ) (net next : ℤ) → pos units +ℤ net ≡ pos o
+    → o ≡ volume_on Buy side q + other
     → left + fallen side accept q ≡ units → next ≡ net +ℤ net_by side accept q → pos left +ℤ next ≡ pos other
 decided_balance Buy true q units left o other net next e f g h = omega (arith, ints, e, f, g, h)
 decided_balance Buy false q units left o other net next e f g h = omega (arith, ints, e, f, g, h)
@@ -50,7 +54,8 @@ pub decided_units : (us vs : List Step) (s : Step) (accept : Bool) (net next : �
     → AreUnitsAt (us ++ vs) next left
 decided_units us vs s accept net next units left u e f l = record {
   balance =
-      decided_balance s.side accept s.qty units left (offered_volume Buy (us ++ s ∷ vs)) (offered_volume Buy (us ++ vs)) net next u.balance (offered_middle Buy us vs s) e f;
+      decided_balance s.side accept s.qty units left (offered_volume Buy (us ++ s ∷ vs)) (offered_volume Buy (us ++ vs)) net next u.balance
+      (offered_middle Buy us vs s) e f;
   within = l;
 }
 
@@ -76,18 +81,21 @@ decided_sum Sell false price net next w v a q worth other cost left e f g h i =
     let t = ap (λ (z : ℤ). lowest_price *ℤ z) same in
     omega (arith, ints, f, h, i, t)
 
--- the welfare behind the decision: together with the step's value it has lost what the units left cost more than before
+-- the welfare after the decision: together with the step's value it has lost what the units left cost more than before
 pub record IsWelfareAfter (ss : List Step) (s : Step) (accept : Bool) (next w : ℤ) (cost left : ℕ) : Type 0 where
   pub after : ℤ
   pub after_is : greatest_welfare ss next ≡ Some after
-  pub sum : ((after +ℤ value_by s.side accept s.price s.qty) +ℤ pos left) +ℤ pos (fallen s.side accept (height_of s.price * s.qty)) ≡ w +ℤ pos cost
+  pub sum : ((after +ℤ value_by s.side accept s.price s.qty) +ℤ pos left) +ℤ pos (fallen s.side accept (height_of s.price * s.qty)) ≡ w
+      +ℤ pos cost
 
 known : (x y : ℤ) (o : Option ℤ) → o ≡ Some x → o ≡ Some y → x ≡ y
 known x y o e f = cc
 
-pub decided_welfare : Laws → (us vs : List Step) (s : Step) (accept : Bool) (net next w : ℤ) (units cost left left_cost : ℕ) → AreInRange (us ++ s ∷ vs)
+pub decided_welfare : Laws → (us vs : List Step) (s : Step) (accept : Bool) (net next w : ℤ) (units cost left left_cost : ℕ)
+    → AreInRange (us ++ s ∷ vs)
     → AreUnitsAt (us ++ s ∷ vs) net units → IsCostOf (us ++ s ∷ vs) units cost → greatest_welfare (us ++ s ∷ vs) net ≡ Some w
-    → left + fallen s.side accept s.qty ≡ units → next ≡ net +ℤ net_by s.side accept s.qty → left ≤ all_units (us ++ vs) → IsCostOf (us ++ vs) left left_cost
+    → left + fallen s.side accept s.qty ≡ units → next ≡ net +ℤ net_by s.side accept s.qty → left ≤ all_units (us ++ vs)
+    → IsCostOf (us ++ vs) left left_cost
     → IsWelfareAfter (us ++ vs) s accept next w cost left_cost
 decided_welfare laws us vs s accept net next w units cost left left_cost a u c is e f l d =
     let range = range_middle us vs s a in
@@ -97,16 +105,19 @@ decided_welfare laws us vs s accept net next w units cost left left_cost a u c i
       after = (pos (worth_of (us ++ vs)) -ℤ pos left_cost) +ℤ lowest_price *ℤ next;
       after_is = after;
       sum =
-          decided_sum s.side accept s.price net next w ((pos (worth_of (us ++ vs)) -ℤ pos left_cost) +ℤ lowest_price *ℤ next) (height_of s.price) s.qty (worth_of (us ++ s ∷ vs)) (worth_of (us ++ vs)) cost left_cost
+          decided_sum s.side accept s.price net next w ((pos (worth_of (us ++ vs)) -ℤ pos left_cost) +ℤ lowest_price *ℤ next)
+          (height_of s.price) s.qty (worth_of (us ++ s ∷ vs)) (worth_of (us ++ vs)) cost left_cost
           (height_is s.price range.1) (worth_middle us vs s) f before refl;
     }
 
--- ---- where it cannot be
+-- ---- if it cannot be
 -- too few units are taken for the step's to fall away
-pub decided_few : (us vs : List Step) (s : Step) (accept : Bool) (net next : ℤ) (units : ℕ) → AreUnitsAt (us ++ s ∷ vs) net units → next ≡ net +ℤ net_by s.side accept s.qty
+pub decided_few : (us vs : List Step) (s : Step) (accept : Bool) (net next : ℤ) (units : ℕ) → AreUnitsAt (us ++ s ∷ vs) net units
+    → next ≡ net +ℤ net_by s.side accept s.qty
     → units < fallen s.side accept s.qty → IsWithinOffers (us ++ vs) next → ⊥
 decided_few us vs s accept net next units u f l w =
-    few s.side accept s.qty units (offered_volume Buy (us ++ s ∷ vs)) (offered_volume Buy (us ++ vs)) net next u.balance (offered_middle Buy us vs s) f l w.at_most
+    few s.side accept s.qty units (offered_volume Buy (us ++ s ∷ vs)) (offered_volume Buy (us ++ vs)) net next u.balance
+    (offered_middle Buy us vs s) f l w.at_most
   where
     few : (side : Side) (accept : Bool) (q units o other : ℕ) (net next : ℤ) → pos units +ℤ net ≡ pos o → o ≡ volume_on Buy side q + other
         → next ≡ net +ℤ net_by side accept q → units < fallen side accept q → next ≤ℤ pos other → ⊥
@@ -117,9 +128,11 @@ decided_few us vs s accept net next units u f l w =
 
 -- the steps left are fewer than the units left
 pub decided_many : (us vs : List Step) (s : Step) (accept : Bool) (net next : ℤ) (units left : ℕ) → AreUnitsAt (us ++ s ∷ vs) net units
-    → left + fallen s.side accept s.qty ≡ units → next ≡ net +ℤ net_by s.side accept s.qty → all_units (us ++ vs) < left → IsWithinOffers (us ++ vs) next → ⊥
+    → left + fallen s.side accept s.qty ≡ units → next ≡ net +ℤ net_by s.side accept s.qty → all_units (us ++ vs) < left
+    → IsWithinOffers (us ++ vs) next → ⊥
 decided_many us vs s accept net next units left u e f l w =
-    let balance = decided_balance s.side accept s.qty units left (offered_volume Buy (us ++ s ∷ vs)) (offered_volume Buy (us ++ vs)) net next u.balance (offered_middle Buy us vs s) e f in
+    let balance = decided_balance s.side accept s.qty units left (offered_volume Buy (us ++ s ∷ vs)) (offered_volume Buy (us ++ vs)) net
+    next u.balance (offered_middle Buy us vs s) e f in
     let both = all_offered (us ++ vs) in
     let least = w.at_least in
     let no : 0 < 0 = omega (arith, ints, balance, both, least, l) in

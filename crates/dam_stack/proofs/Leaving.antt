@@ -1,5 +1,6 @@
 -- The rows without one of them are those of the steps without that row's.
-use Rattle.std.proofs.Common.{◌≡◌, ℕ, zero, suc, ◌+◌, ◌-◌, ◌*◌, ◌<◌, ◌≤◌, List, [], ◌∷◌, ◌++◌, length, length-append, length-drop, map, drop, get_or, ap, ap₂, ◌∙◌, sym, subst, inl, inr, refl, arith}
+use Rattle.std.proofs.Common.{◌≡◌, ℕ, zero, suc, ◌+◌, ◌-◌, ◌*◌, ◌<◌, ◌≤◌, List, [], ◌∷◌, ◌++◌, length, length-append, length-drop, map}
+use Rattle.std.proofs.Common.{drop, get_or, ap, ap₂, ◌∙◌, sym, subst, inl, inr, refl, arith}
 use Rattle.std.specs.List.{remove}
 use Rattle.std.specs.List.Sorted.{IsNonDecreasingBy}
 use Rattle.std.proofs.lemmas.Bool.{cases_lt}
@@ -14,7 +15,8 @@ use Rattle.dam_stack.specs.inside.Rows.{IsRowOf, StandOn, lowered, without_row}
 use Rattle.dam_stack.proofs.Stacking.{rows_length}
 
 -- ---- a step fewer in the list
-total_remove : (f : Step → ℕ) (ss : List Step) (p : ℕ) (d : Step) → p < length ss → total_of f ss ≡ f (get_or ss p d) + total_of f (remove ss p)
+total_remove : (f : Step → ℕ) (ss : List Step) (p : ℕ) (d : Step) → p < length ss
+    → total_of f ss ≡ f (get_or ss p d) + total_of f (remove ss p)
 total_remove f [] p d l = absurd (omega (arith, l))
 total_remove f (s ∷ ss) zero d l = refl
 total_remove f (s ∷ ss) (suc p) d l =
@@ -28,7 +30,8 @@ pub total_middle : (f : Step → ℕ) (us vs : List Step) (s : Step) → total_o
 total_middle f us vs s =
     let a = total_append f us (s ∷ vs) in let b = total_append f us vs in omega (arith, a, b)
 
-pub range_middle : (us vs : List Step) (s : Step) → AreInRange (us ++ s ∷ vs) → AreInRange (us ++ vs) × IsPrice s.price × (1 ≤ s.qty) × (s.qty ≤ greatest_volume)
+pub range_middle : (us vs : List Step) (s : Step) → AreInRange (us ++ s ∷ vs)
+    → AreInRange (us ++ vs) × IsPrice s.price × (1 ≤ s.qty) × (s.qty ≤ greatest_volume)
 range_middle [] vs s a = (a.2, a.0, a.1.at_least, a.1.at_most)
 range_middle (u ∷ us) vs s a = let rest = range_middle us vs s a.2 in ((a.0, a.1, rest.0), rest.1, rest.2, rest.3)
 
@@ -61,7 +64,8 @@ over_reads (s ∷ ss) zero i d l = refl
 over_reads (s ∷ ss) (suc p) zero d l = refl
 over_reads (s ∷ ss) (suc p) (suc i) d l = over_reads ss p i d (omega (arith, l))
 
-rises_remove : (ss : List Step) (p : ℕ) → p < length ss → IsNonDecreasingBy (λ s. height_of s.price) ss → IsNonDecreasingBy (λ s. height_of s.price) (remove ss p)
+rises_remove : (ss : List Step) (p : ℕ) → p < length ss → IsNonDecreasingBy (λ s. height_of s.price) ss
+    → IsNonDecreasingBy (λ s. height_of s.price) (remove ss p)
 rises_remove ss p l rises i j d le m =
     let below = rises (over p i) (over p j) d (over_rises p i j le) (over_within ss p j l m) in
     let a = ap (λ (s : Step). height_of s.price) (over_reads ss p i d l) in
@@ -79,18 +83,21 @@ lowered_rows b c e k q v (s ∷ ss) f g =
     ap₂ (λ (x y : ℕ). one s x y ∷ map (lowered q v) (rows_from (e + s.qty) (k + height_of s.price * s.qty) ss))
     (let t : e - q ≡ b = omega (arith, f) in t) (let t : k - v ≡ c = omega (arith, g) in t)
     ∙ ap (λ (rs : List Row). one s b c ∷ rs)
-    (lowered_rows (b + s.qty) (c + height_of s.price * s.qty) (e + s.qty) (k + height_of s.price * s.qty) q v ss (omega (arith, f)) (omega (arith, g)))
+    (lowered_rows (b + s.qty) (c + height_of s.price * s.qty) (e + s.qty) (k + height_of s.price * s.qty) q v ss (omega (arith, f))
+    (omega (arith, g)))
   where
     one : Step → ℕ → ℕ → Row
     one s x y = record { before = x; price = s.price; cost = y }
 
 rows_remove : (b c : ℕ) (ss : List Step) (p : ℕ) (d : Step) → p < length ss
-    → rows_from b c (remove ss p) ≡ without_row (rows_from b c ss) p (get_or ss p d).qty (height_of (get_or ss p d).price * (get_or ss p d).qty)
+    → rows_from b c (remove ss p)
+    ≡ without_row (rows_from b c ss) p (get_or ss p d).qty (height_of (get_or ss p d).price * (get_or ss p d).qty)
 rows_remove b c [] p d l = absurd (omega (arith, l))
 rows_remove b c (s ∷ ss) zero d l =
     sym (lowered_rows b c (b + s.qty) (c + height_of s.price * s.qty) s.qty (height_of s.price * s.qty) ss refl refl)
 rows_remove b c (s ∷ ss) (suc p) d l =
-    ap (λ (rs : List Row). record { before = b; price = s.price; cost = c } ∷ rs) (rows_remove (b + s.qty) (c + height_of s.price * s.qty) ss p d (omega (arith, l)))
+    ap (λ (rs : List Row). record { before = b; price = s.price; cost = c } ∷ rs)
+    (rows_remove (b + s.qty) (c + height_of s.price * s.qty) ss p d (omega (arith, l)))
 
 -- a row, and the step that it is of
 record IsOfStep (row next : Row) (s : Step) : Type 0 where
@@ -110,7 +117,7 @@ row_of_step b c (s ∷ ss) zero d e l =
     record { price_is = refl; volume_is = first.0; cost_is = first.1 }
 row_of_step b c (s ∷ ss) (suc p) d e l = row_of_step (b + s.qty) (c + height_of s.price * s.qty) ss p d e (omega (arith, l))
 
--- each row behind it stands on at least the volume and the cost of those before
+-- each row after it stands on at least the volume and the cost of those before
 rows_above : (b c : ℕ) (ss : List Step) (i : ℕ) (d : Row) → i < length (rows_from b c ss)
     → (b ≤ (get_or (rows_from b c ss) i d).before) × (c ≤ (get_or (rows_from b c ss) i d).cost)
 rows_above b c [] zero d l = (omega arith, omega arith)
@@ -132,7 +139,7 @@ rows_over b c (s ∷ ss) (suc p) (suc i) d e l m =
     rows_over (b + s.qty) (c + height_of s.price * s.qty) ss p i d e (omega (arith, l)) (omega (arith, m))
 
 -- ---- where a step's row is
--- 1 where the numbers are those, and else 0
+-- 1 if the numbers are those, and else 0
 abbrev is_both : ℕ → ℕ → ℕ → ℕ → ℕ
 is_both h q k r = 1 - (((k - h) + (h - k)) + ((r - q) + (q - r)))
 
@@ -152,7 +159,8 @@ found h q (s ∷ ss) l = elim (cases_lt 0 (is_both h q (height_of s.price) s.qty
 ]
 
 -- the row of a step at its place by price
-row_of_found : (h q : ℕ) (rows : List Row) (ss : List Step) (e : Step) → rows ≡ rows_from 0 0 ss → (at : IsFound h q ss) → IsRowOf rows at.place h q
+row_of_found : (h q : ℕ) (rows : List Row) (ss : List Step) (e : Step) → rows ≡ rows_from 0 0 ss → (at : IsFound h q ss)
+    → IsRowOf rows at.place h q
 row_of_found h q rows ss e is at =
     subst (λ (ws : List Row). IsRowOf ws at.place h q) (sym is)
     (let long = rows_length 0 0 ss in let within = at.within in
@@ -168,7 +176,8 @@ row_of_found h q rows ss e is at =
     })
 
 -- a step of the list has a row
-pub step_found : (us vs : List Step) (s : Step) (rows : List Row) → AreRowsOf (us ++ s ∷ vs) rows → (p : ℕ) × IsRowOf rows p (height_of s.price) s.qty
+pub step_found : (us vs : List Step) (s : Step) (rows : List Row) → AreRowsOf (us ++ s ∷ vs) rows
+    → (p : ℕ) × IsRowOf rows p (height_of s.price) s.qty
 step_found us vs s rows a =
     let one : is_both (height_of s.price) s.qty (height_of s.price) s.qty ≡ 1 = omega arith in
     let total = a.same (is_both (height_of s.price) s.qty) in
@@ -193,7 +202,8 @@ some_row : Step → Row
 some_row s = record { before = 0; price = s.price; cost = 0 }
 
 -- ---- the stack without a step
-pub rows_without : (us vs : List Step) (s : Step) (rows : List Row) (p : ℕ) → AreRowsOf (us ++ s ∷ vs) rows → IsRowOf rows p (height_of s.price) s.qty
+pub rows_without : (us vs : List Step) (s : Step) (rows : List Row) (p : ℕ) → AreRowsOf (us ++ s ∷ vs) rows
+    → IsRowOf rows p (height_of s.price) s.qty
     → AreRowsOf (us ++ vs) (without_row rows p s.qty (height_of s.price * s.qty))
 rows_without us vs s rows p a at =
     let is = found_of_row (height_of s.price) s.qty rows a.rising s (some_row s) p a.rows_are at in
@@ -214,7 +224,8 @@ rows_without us vs s rows p a at =
 
 -- ---- the row that goes
 -- the rows above it stand on its volume and its cost
-pub stand_on : (us vs : List Step) (s : Step) (rows : List Row) (p : ℕ) → AreRowsOf (us ++ s ∷ vs) rows → IsRowOf rows p (height_of s.price) s.qty
+pub stand_on : (us vs : List Step) (s : Step) (rows : List Row) (p : ℕ) → AreRowsOf (us ++ s ∷ vs) rows
+    → IsRowOf rows p (height_of s.price) s.qty
     → StandOn s.qty (height_of s.price * s.qty) (drop (suc p) rows)
 stand_on us vs s rows p a at i d l =
     let own = found_of_row (height_of s.price) s.qty rows a.rising s (some_row s) p a.rows_are at in

@@ -1,3 +1,4 @@
+-- The lemmas that several functions need.
 pub mod Parts
 pub mod Supplying
 pub mod Stacking

@@ -1,5 +1,6 @@
 -- What a decision makes of what is taken in a period, and of its greatest welfare.
-use Rattle.std.proofs.Common.{◌≡◌, inl, inr, ℕ, ◌+◌, ◌-◌, ◌*◌, ◌^◌, ◌≤◌, Bool, true, false, cond, ℤ, pos, neg_ℤ, ◌+ℤ◌, ◌-ℤ◌, ◌*ℤ◌, ◌≤ℤ◌, ◌<◌, Option, None, Some, MatchOption, List, [], ◌∷◌, ◌++◌, length, ap, ap₂, ◌∙◌, sym, refl, arith}
+use Rattle.std.proofs.Common.{◌≡◌, inl, inr, ℕ, ◌+◌, ◌-◌, ◌*◌, ◌^◌, ◌≤◌, Bool, true, false, cond, ℤ, pos, neg_ℤ, ◌+ℤ◌, ◌-ℤ◌, ◌*ℤ◌, ◌≤ℤ◌}
+use Rattle.std.proofs.Common.{◌<◌, Option, None, Some, MatchOption, List, [], ◌∷◌, ◌++◌, length, ap, ap₂, ◌∙◌, sym, refl, arith}
 use Rattle.std.proofs.lemmas.Int.{ints}
 use Rattle.std.proofs.lemmas.Nat.{mul-le}
 use Rattle.dam_book.specs.Limits.{lowest_price, greatest_volume}
@@ -7,7 +8,8 @@ use Rattle.dam_book.specs.declared.order.Side.{Side}
 use Rattle.dam_book.specs.declared.order.Side.TheVariants.{Buy, Sell}
 use Rattle.dam_hour.specs.declared.step.Step.{Step}
 use Rattle.dam_hour.specs.Limits.{price_span}
-use Rattle.dam_hour.specs.Execution.{AreInRange, IsHour, IsExecution, executed_volume, Balances, IsWithinOffers, IsUnbalanced, offered_volume}
+use Rattle.dam_hour.specs.Execution.{AreInRange, IsHour, IsExecution, executed_volume, Balances, IsWithinOffers, IsUnbalanced}
+use Rattle.dam_hour.specs.Execution.{offered_volume}
 use Rattle.dam_hour.specs.Best.{signed, welfare_of, greatest_welfare, AreSmall}
 use Rattle.dam_stack.specs.declared.taken.Taken.{Taken}
 use Rattle.dam_stack.specs.declared.taken.Cut.{Cut}
@@ -56,7 +58,7 @@ small_welfare all ss net w is e =
     let equal = best.3 in let least = small.welfare_at_least in let most = small.welfare_at_most in
     record { few = is.few; at_least = omega (arith, ints, equal, least); at_most = omega (arith, ints, equal, most) }
 
--- ---- what is taken where the steps balance
+-- ---- what is taken if the steps balance
 pub taken_at : HourLaws → (ss : List Step) (net : ℤ) (t : Taken) → IsHour ss → AreUnitsAt ss net t.units → IsTaken ss t → IsTakenAt ss net t
 taken_at all ss net t is u k =
     let w = welfare_is all.laws ss net t.units t.cost is.in_range u (taken_cost ss t k) in
@@ -72,7 +74,8 @@ taken_at all ss net t is u k =
 -- ---- a decision
 -- what falls away, by the step and by its cut
 fallen_is : (s : Step) (cut : Cut) (served accept : Bool) → IsCutOf s cut → served ≡ falls s.side accept
-    → (cond served cut.volume 0 ≡ fallen s.side accept s.qty) × (cond served (cut.height * cut.volume) 0 ≡ fallen s.side accept (height_of s.price * s.qty))
+    → (cond served cut.volume 0 ≡ fallen s.side accept s.qty)
+    × (cond served (cut.height * cut.volume) 0 ≡ fallen s.side accept (height_of s.price * s.qty))
 fallen_is s cut served accept of e = (
   ap₂ (λ (b : Bool) (n : ℕ). cond b n 0) e of.volume_is,
   ap₂ (λ (b : Bool) (n : ℕ). cond b n 0) e (ap₂ (λ (h q : ℕ). h * q) of.height_is of.volume_is),
@@ -164,7 +167,8 @@ value_is s cut of =
 
 pub fewer_moved : HourLaws → (ss : List Step) (s : Step) (cut : Cut) (accept : Bool) (net : ℤ) (t left : Taken) (change : ℤ)
     → IsCutOf s cut → IsTakenAt ss net t → falls s.side accept ≡ true → IsLeft ss t cut.volume (cut.height * cut.volume) left change
-    → IsMoved ss net ss (net +ℤ turned_by accept (neg_ℤ (signed s.side (pos s.qty)))) (turned_by accept (signed s.side (s.price *ℤ pos s.qty))) left change
+    → IsMoved ss net ss (net +ℤ turned_by accept (neg_ℤ (signed s.side (pos s.qty))))
+    (turned_by accept (signed s.side (s.price *ℤ pos s.qty))) left change
 fewer_moved all ss s cut accept net t left change of at e l =
     let parts = turned_parts s.side accept s.qty (s.price *ℤ pos s.qty) in
     let more = parts.0 ∙ ap (λ (b : Bool). cond b (pos s.qty) (neg_ℤ (pos s.qty))) e in
@@ -180,7 +184,8 @@ fewer_moved all ss s cut accept net t left change of at e l =
 
 pub more_moved : HourLaws → (ss : List Step) (s : Step) (cut : Cut) (accept : Bool) (net : ℤ) (t all_taken : Taken) (change : ℤ)
     → IsCutOf s cut → IsTakenAt ss net t → falls s.side accept ≡ false → IsMore ss t cut.volume (cut.height * cut.volume) all_taken change
-    → IsMoved ss net ss (net +ℤ turned_by accept (neg_ℤ (signed s.side (pos s.qty)))) (turned_by accept (signed s.side (s.price *ℤ pos s.qty))) all_taken change
+    → IsMoved ss net ss (net +ℤ turned_by accept (neg_ℤ (signed s.side (pos s.qty))))
+    (turned_by accept (signed s.side (s.price *ℤ pos s.qty))) all_taken change
 more_moved all ss s cut accept net t other change of at e l =
     let parts = turned_parts s.side accept s.qty (s.price *ℤ pos s.qty) in
     let less = parts.0 ∙ ap (λ (b : Bool). cond b (pos s.qty) (neg_ℤ (pos s.qty))) e in
@@ -194,7 +199,7 @@ more_moved all ss s cut accept net t other change of at e l =
     (record { balance = omega (arith, ints, balance, units, volume, less); within = units_most ss other l.taken_is })
     (omega (arith, ints, worth, product, value, sum)) (omega (arith, ints, sum, was, now, own)) (omega (arith, ints, sum, was, now, own))
 
--- where so many can't be taken, nothing balances
+-- if that many can't be taken, nothing balances
 pub fewer_none : HourLaws → (ss : List Step) (s : Step) (cut : Cut) (accept : Bool) (net : ℤ) (t : Taken) → IsCutOf s cut
     → IsTakenAt ss net t
     → falls s.side accept ≡ true → IsTooMuch ss t.units cut.volume

@@ -10,7 +10,7 @@ use Rattle.dam_hour.specs.Price.{IsBetter, IsWorse}
 use Rattle.dam_hour.specs.Best.{signed}
 use Rattle.dam_stack.specs.Supply.{if_any}
 
--- ---- the volume of a step, where it stands under a height or up to it
+-- ---- the volume of a step, if it stands under a height or up to it
 any_full : (g q : ℕ) → 0 < g → if_any g q ≡ q
 any_full zero q h = absurd (omega (arith, h))
 any_full (suc g) q h = refl
@@ -53,7 +53,7 @@ abbrev pub taken_of : Side → ℕ → ℕ → ℕ
 taken_of Buy q x = q - x
 taken_of Sell q x = x
 
--- the executed volume, where so much is taken
+-- the executed volume, if this much is taken
 pub taken_back : (side : Side) (q y : ℕ) → y ≤ q → taken_of side q (taken_of side q y) ≡ y
 taken_back Buy q y l = omega arith
 taken_back Sell q y l = refl
@@ -87,7 +87,8 @@ worse_none Sell limit p c a h q y el ep f b w l = w (omega (arith, ints))
 -- what is taken lies between the volume under the height and the volume up to it
 pub part_within : (a h q y : ℕ) → y ≤ q → (a < h → y ≡ q) → (h < a → y ≡ 0) → (if_any (h - a) q ≤ y) × (y ≤ if_any (suc h - a) q)
 part_within a h q y f b w = elim (cases_lt a h) [
-  | inl l ↦ (let u = part_most (h - a) q in let v = up_to_full a h q (omega arith) in let e = b l in (omega (arith, u, e), omega (arith, v, e)))
+  | inl l ↦ (let u = part_most (h - a) q in let v = up_to_full a h q (omega arith) in let e = b l in
+      (omega (arith, u, e), omega (arith, v, e)))
   | inr m ↦ elim (cases_lt h a) [
     | inl l ↦ (let u = under_none a h q m in let e = w l in (omega (arith, u), omega (arith, e)))
     | inr n ↦ (let u = under_none a h q m in let v = up_to_full a h q n in (omega (arith, u), omega (arith, v, f)))

@@ -6,7 +6,8 @@ use Rattle.std.proofs.lemmas.List.Sums.{sum_by-cons}
 use Rattle.std.proofs.lemmas.List.Sorted.{sum_by-IsPermutation}
 use Rattle.dam_hour.specs.declared.step.Step.{Step}
 use Rattle.dam_stack.specs.declared.row.Row.{Row}
-use Rattle.dam_stack.specs.Supply.{height_of, if_any, total_of, all_units, units_under, units_up_to, gain_at, rows_from, AreAlike, AreRowsOf}
+use Rattle.dam_stack.specs.Supply.{height_of, if_any, total_of, all_units, units_under, units_up_to, gain_at, rows_from, AreAlike}
+use Rattle.dam_stack.specs.Supply.{AreRowsOf}
 use Rattle.dam_stack.specs.inside.Supply.{Holds}
 use Rattle.dam_book.specs.Price.{IsPrice}
 use Rattle.dam_stack.proofs.Parts.{under_none, up_to_full, part_most}
@@ -61,9 +62,11 @@ first_before b c (s ∷ ss) d = refl
 last_before : (b c : ℕ) (ss : List Step) (d : Row) → (get_or (rows_from b c ss) (length ss) d).before ≡ b + all_units ss
 last_before b c [] d = omega arith
 last_before b c (s ∷ ss) d =
-    last_before (b + s.qty) (c + height_of s.price * s.qty) ss d ∙ (let e : (b + s.qty) + all_units ss ≡ b + (s.qty + all_units ss) = omega arith in e)
+    last_before (b + s.qty) (c + height_of s.price * s.qty) ss d
+    ∙ (let e : (b + s.qty) + all_units ss ≡ b + (s.qty + all_units ss) = omega arith in e)
 
-row_height : (m b c : ℕ) (ss : List Step) (i : ℕ) (d : Row) → AtLeast m ss → i < length ss → m ≤ height_of (get_or (rows_from b c ss) i d).price
+row_height : (m b c : ℕ) (ss : List Step) (i : ℕ) (d : Row) → AtLeast m ss → i < length ss
+    → m ≤ height_of (get_or (rows_from b c ss) i d).price
 row_height m b c [] i d a l = absurd (omega (arith, l))
 row_height m b c (s ∷ ss) zero d a l = a.0
 row_height m b c (s ∷ ss) (suc i) d a l = row_height m (b + s.qty) (c + height_of s.price * s.qty) ss i d a.1 (omega (arith, l))
@@ -151,7 +154,8 @@ last_row ss rows a d =
     ∙ (let z : 0 + all_units a.rising ≡ all_units a.rising = omega arith in z)
     ∙ a.same (λ k q. q)
 
-row_found : (ss : List Step) (rows : List Row) → AreRowsOf ss rows → (i : ℕ) (d : Row) → i < length ss → IsRowOf ss (get_or rows i d) (get_or rows (suc i) d)
+row_found : (ss : List Step) (rows : List Row) → AreRowsOf ss rows → (i : ℕ) (d : Row) → i < length ss
+    → IsRowOf ss (get_or rows i d) (get_or rows (suc i) d)
 row_found ss rows a i d l =
     subst (λ rs. IsRowOf ss (get_or rs i d) (get_or rs (suc i) d)) (sym a.rows_are)
     (let same = same_length ss a.rising a.same in
@@ -163,12 +167,13 @@ row_found ss rows a i d l =
     let under = is.under in let up_to = is.up_to in let cost = is.cost_is in
     record { under = omega (arith, u, under); up_to = omega (arith, v, up_to); cost_is = omega (arith, g, cost) })
 
-pub rising_rows : (ss rising : List Step) (rows : List Row) → IsPermutation ss rising → IsNonDecreasingBy (λ s. height_of s.price) rising → rows ≡ rows_from 0 0 rising
+pub rising_rows : (ss rising : List Step) (rows : List Row) → IsPermutation ss rising → IsNonDecreasingBy (λ s. height_of s.price) rising
+    → rows ≡ rows_from 0 0 rising
     → AreRowsOf ss rows
 rising_rows ss rising rows same rises is =
     record { rising = rising; same = λ f. same_total (λ s. f (height_of s.price) s.qty) ss rising same; rises = rises; rows_are = is }
 
--- where there is a unit, there is a step
+-- if there is a unit, there is a step
 some_step : (ss : List Step) → 1 ≤ all_units ss → 1 ≤ length ss
 some_step [] l = l
 some_step (s ∷ ss) l = omega arith
@@ -181,7 +186,8 @@ some_rows ss rows unit a l m =
 pub first_under : (ss : List Step) (rows : List Row) (unit : ℕ) → AreRowsOf ss rows → 1 ≤ unit → (d : Row) → (get_or rows 0 d).before < unit
 first_under ss rows unit a l d = let e = first_row ss rows a d in omega (arith, e, l)
 
-pub last_over : (ss : List Step) (rows : List Row) (unit : ℕ) → AreRowsOf ss rows → unit ≤ all_units ss → (d : Row) → unit ≤ (get_or rows (length rows - 1) d).before
+pub last_over : (ss : List Step) (rows : List Row) (unit : ℕ) → AreRowsOf ss rows → unit ≤ all_units ss → (d : Row)
+    → unit ≤ (get_or rows (length rows - 1) d).before
 last_over ss rows unit a m d = let e = last_row ss rows a d in omega (arith, e, m)
 
 pub row_holds : (ss : List Step) (rows : List Row) (unit place : ℕ) (row : Row) → AreRowsOf ss rows → place + 1 < length rows
@@ -193,9 +199,12 @@ row_holds ss rows unit place row a l before after is r =
     let next : place + 1 ≡ suc place = omega arith in
     let step = ap (λ n. (get_or rows n row).before) next in
     let b = before row in let u = after row in
-    held unit (get_or rows place row).before row (get_or rows (suc place) row) ss (subst (λ w. IsRowOf ss w (get_or rows (suc place) row)) (sym is) found) r (ap (λ (w : Row). w.before) is) b (omega (arith, u, step))
+    held unit (get_or rows place row).before row (get_or rows (suc place) row) ss
+    (subst (λ w. IsRowOf ss w (get_or rows (suc place) row)) (sym is) found) r (ap (λ (w : Row). w.before) is) b
+    (omega (arith, u, step))
   where
-    held : (unit b : ℕ) (row next : Row) (ss : List Step) → IsRowOf ss row next → IsPrice row.price → row.before ≡ b → b < unit → unit ≤ next.before → Holds ss unit row
+    held : (unit b : ℕ) (row next : Row) (ss : List Step) → IsRowOf ss row next → IsPrice row.price → row.before ≡ b → b < unit
+        → unit ≤ next.before → Holds ss unit row
     held unit b row next ss f r e l m =
         let under = f.under in let up_to = f.up_to in
         record { in_range = r; before = omega (arith, e, l); under = under; up_to = omega (arith, up_to, m); cost_is = f.cost_is }

@@ -12,7 +12,8 @@ use Rattle.dam_hour.specs.Best.{welfare_of}
 use Rattle.dam_hour.specs.Price.{Supports}
 use Rattle.dam_stack.specs.Supply.{height_of, if_any, all_units, units_under, units_up_to, gain_at}
 use Rattle.dam_stack.specs.inside.Supply.{worth_of, Reaches}
-use Rattle.dam_stack.proofs.Parts.{under_up_to, under_full, up_to_none, part_most, taken_of, taken_back, taken_fits, taken_full, taken_none, better_full, worse_none, part_within, part_cost, part_welfare}
+use Rattle.dam_stack.proofs.Parts.{under_up_to, under_full, up_to_none, part_most, taken_of, taken_back, taken_fits, taken_full, taken_none}
+use Rattle.dam_stack.proofs.Parts.{better_full, worse_none, part_within, part_cost, part_welfare}
 
 -- the units that an execution takes of the supply: what it sells, and what of the buys isn't served
 abbrev pub taken : List Step → List ℕ → ℕ
@@ -34,12 +35,14 @@ taken_step : (side : Side) (q x t b o s : ℕ) → x ≤ q → t + b ≡ o + s
 taken_step Buy q x t b o s l e = omega arith
 taken_step Sell q x t b o s l e = omega arith
 
-pub taken_total : (ss : List Step) (xs : List ℕ) → IsExecution ss xs → taken ss xs + executed_volume Buy ss xs ≡ offered_volume Buy ss + executed_volume Sell ss xs
+pub taken_total : (ss : List Step) (xs : List ℕ) → IsExecution ss xs
+    → taken ss xs + executed_volume Buy ss xs ≡ offered_volume Buy ss + executed_volume Sell ss xs
 taken_total [] [] e = refl
 taken_total [] (x ∷ xs) e = absurd e
 taken_total (s ∷ ss) [] e = absurd e
 taken_total (s ∷ ss) (x ∷ xs) e =
-    taken_step s.side s.qty x (taken ss xs) (executed_volume Buy ss xs) (offered_volume Buy ss) (executed_volume Sell ss xs) e.0 (taken_total ss xs e.1)
+    taken_step s.side s.qty x (taken ss xs) (executed_volume Buy ss xs) (offered_volume Buy ss) (executed_volume Sell ss xs) e.0
+    (taken_total ss xs e.1)
 
 -- the supply is all buys and all sells
 offered_step : (side : Side) (q b s : ℕ) → q + (b + s) ≡ (volume_on Buy side q + b) + (volume_on Sell side q + s)
@@ -79,19 +82,20 @@ supported_spent p (s ∷ ss) (x ∷ xs) r a e h =
     (taken_full s.side s.price p lowest_price (height_of s.price) (height_of p) s.qty x el ep e.0 h.0 h.1)
     (taken_none s.side s.price p lowest_price (height_of s.price) (height_of p) s.qty x el ep e.0 h.0 h.1) in
     let rest = supported_spent p ss xs r a.2 e.1 h.2 in
-    spent_sum (height_of p) (height_of s.price * taken_of s.side s.qty x) ((height_of p - height_of s.price) * s.qty) (taken_of s.side s.qty x)
+    spent_sum (height_of p) (height_of s.price * taken_of s.side s.qty x) ((height_of p - height_of s.price) * s.qty)
+    (taken_of s.side s.qty x)
     (spent ss xs) (gain_at (height_of p) ss) (taken ss xs) here rest
   where
     spent_sum : (h c g y d k t : ℕ) → c + g ≡ h * y → d + k ≡ h * t → (c + d) + (g + k) ≡ h * (y + t)
     spent_sum h c g y d k t e f = omega (arith, e, f)
 
--- ---- so many units of the supply, as an execution that the price supports
+-- ---- a number of units of the supply, as an execution that the price supports
 under_most : (h : ℕ) (ss : List Step) → units_under h ss ≤ units_up_to h ss
 under_most h [] = omega arith
 under_most h (s ∷ ss) =
     let here = under_up_to (height_of s.price) h s.qty in let rest = under_most h ss in omega (arith, here, rest)
 
--- what a step gives of so many units
+-- what a step gives of a number of units
 pub record Part (u v under up_to x : ℕ) : Type 0 where
   pub y : ℕ
   pub at_least : u ≤ y
@@ -103,8 +107,26 @@ pub record Part (u v under up_to x : ℕ) : Type 0 where
 
 part_of : (u v under up_to x : ℕ) → u ≤ v → under ≤ up_to → u + under ≤ x → x ≤ v + up_to → Part u v under up_to x
 part_of u v under up_to x l m a b = elim (cases_lt v (x - under)) [
-  | inl less ↦ record { y = v; at_least = l; at_most = omega arith; rest = x - v; sum = omega arith; under_rest = omega arith; up_to_rest = omega arith }
-  | inr more ↦ record { y = x - under; at_least = omega arith; at_most = more; rest = under; sum = omega arith; under_rest = omega arith; up_to_rest = m }
+  | inl less ↦ record {
+    y = v;
+    at_least = l;
+    at_most = omega arith;
+    rest = x - v;
+    sum = omega arith;
+    under_rest = omega arith;
+    up_to_rest =
+        omega arith;
+  }
+  | inr more ↦ record {
+    y = x - under;
+    at_least = omega arith;
+    at_most = more;
+    rest = under;
+    sum = omega arith;
+    under_rest =
+        omega arith;
+    up_to_rest = m;
+  }
 ]
 
 pub reached_execution : (p : ℤ) (ss : List Step) (x : ℕ) → IsPrice p → AreInRange ss → Reaches ss x (height_of p)
@@ -142,5 +164,6 @@ welfare_spent [] [] a e = refl
 welfare_spent [] (x ∷ xs) a e = absurd e
 welfare_spent (s ∷ ss) [] a e = absurd e
 welfare_spent (s ∷ ss) (x ∷ xs) a e =
-    part_welfare s.side s.price lowest_price (height_of s.price) s.qty x (executed_volume Buy ss xs) (executed_volume Sell ss xs) (spent ss xs) (worth_of ss) 0 (welfare_of ss xs)
+    part_welfare s.side s.price lowest_price (height_of s.price) s.qty x (executed_volume Buy ss xs) (executed_volume Sell ss xs)
+    (spent ss xs) (worth_of ss) 0 (welfare_of ss xs)
     (height_is s.price a.0) e.0 (welfare_spent ss xs a.2 e.1)

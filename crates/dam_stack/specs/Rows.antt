@@ -13,16 +13,16 @@ abbrev pub rows_at : List Row → Span → List Row
 rows_at rows span = slice_range rows span.first (span.first + span.steps + 1)
 
 -- the stack of these steps of an hour stands there
-pub record IsStackAt (rows : List Row) (span : Span) (ss : List Step) : Type 0 where
+pub record IsStackAt (rows : List Row) (span : Span) (steps : List Step) : Type 0 where
   pub within : span.first + span.steps < length rows
-  pub units_are : span.units ≡ all_units ss
-  pub rows_are : AreRowsOf ss (rows_at rows span)
-  pub is_hour : IsHour ss
+  pub units_are : span.units ≡ all_units steps
+  pub rows_are : AreRowsOf steps (rows_at rows span)
+  pub is_hour : IsHour steps
 
 -- the cut is of the step, and leads to the stack of these other ones
-pub record IsCutOff (rows : List Row) (s : Step) (ss : List Step) (cut : Cut) : Type 0 where
-  pub is_of : IsCutOf s cut
-  pub stack : IsStackAt rows cut.span ss
+pub record IsCutOff (rows : List Row) (step : Step) (steps : List Step) (cut : Cut) : Type 0 where
+  pub is_of : IsCutOf step cut
+  pub stack : IsStackAt rows cut.span steps
 
 -- every stack that was there has the same rows
 abbrev pub Keeps : List Row → List Row → Type 0

@@ -1,4 +1,5 @@
--- The steps of a period as one stack of supply, in prices counted from the least one up: the sells with their volumes, and the buys with what of
+-- The steps of a period as one stack of supply, in prices counted from the least one up: the sells with their volumes,
+-- and the buys with what of
 -- them is not served.
 use Rattle.std.specs.Prelude.{◌≡◌, ℕ, zero, suc, ◌+◌, ◌-◌, ◌*◌, ◌≤◌, ℤ, pos, ◌+ℤ◌, ◌-ℤ◌, nat_abs, List, [], ◌∷◌}
 use Rattle.std.specs.List.Sorted.{IsNonDecreasingBy}
@@ -12,7 +13,7 @@ use Rattle.dam_stack.specs.declared.row.Row.{Row}
 abbrev pub height_of : ℤ → ℕ
 height_of p = nat_abs (p -ℤ lowest_price)
 
--- the volume, where the number is not 0
+-- the volume, if the number is not 0
 abbrev pub if_any : ℕ → ℕ → ℕ
 if_any zero q = 0
 if_any (suc n) q = q
@@ -20,42 +21,48 @@ if_any (suc n) q = q
 -- a number of each step, added up
 abbrev pub total_of : (Step → ℕ) → List Step → ℕ
 total_of f [] = 0
-total_of f (s ∷ ss) = f s + total_of f ss
+total_of f (step ∷ steps) = f step + total_of f steps
 
 -- the whole volume of the steps, of both sides
 abbrev pub all_units : List Step → ℕ
-all_units ss = total_of (λ s. s.qty) ss
+all_units steps = total_of (λ step. step.qty) steps
 
 -- the volume of the steps whose limit is under the height
 abbrev pub units_under : ℕ → List Step → ℕ
-units_under h ss = total_of (λ s. if_any (h - height_of s.price) s.qty) ss
+units_under h steps = total_of (λ step. if_any (h - height_of step.price) step.qty) steps
 
 -- the volume of the steps whose limit is not above the height
 abbrev pub units_up_to : ℕ → List Step → ℕ
-units_up_to h ss = total_of (λ s. if_any (suc h - height_of s.price) s.qty) ss
+units_up_to h steps = total_of (λ step. if_any (suc h - height_of step.price) step.qty) steps
 
 -- what the steps under the height gain at it as supply
 abbrev pub gain_at : ℕ → List Step → ℕ
-gain_at h ss = total_of (λ s. (h - height_of s.price) * s.qty) ss
+gain_at h steps = total_of (λ step. (h - height_of step.price) * step.qty) steps
 
 -- a row for each step, with what stands before it, and a last one
 abbrev pub rows_from : ℕ → ℕ → List Step → List Row
 rows_from before cost [] = record { before = before; price = highest_price; cost = cost } ∷ []
-rows_from before cost (s ∷ ss) =
-    record { before = before; price = s.price; cost = cost } ∷ rows_from (before + s.qty) (cost + height_of s.price * s.qty) ss
+rows_from before cost (step ∷ steps) =
+    record {
+      before = before;
+      price = step.price;
+      cost =
+          cost;
+    } ∷ rows_from (before + step.qty) (cost + height_of step.price * step.qty) steps
 
 -- two lists of steps that differ at most in their order and their sides: whatever number a height and a volume give, its total is the same
 abbrev pub AreAlike : List Step → List Step → Type 0
-AreAlike ss ts = (f : ℕ → ℕ → ℕ) → total_of (λ s. f (height_of s.price) s.qty) ts ≡ total_of (λ s. f (height_of s.price) s.qty) ss
+AreAlike steps ts = (f : ℕ → ℕ → ℕ)
+    → total_of (λ step. f (height_of step.price) step.qty) ts ≡ total_of (λ step. f (height_of step.price) step.qty) steps
 
 -- the rows of the steps by rising price
-pub record AreRowsOf (ss : List Step) (rows : List Row) : Type 0 where
+pub record AreRowsOf (steps : List Step) (rows : List Row) : Type 0 where
   pub rising : List Step
-  pub same : AreAlike ss rising
-  pub rises : IsNonDecreasingBy (λ s. height_of s.price) rising
+  pub same : AreAlike steps rising
+  pub rises : IsNonDecreasingBy (λ step. height_of step.price) rising
   pub rows_are : rows ≡ rows_from 0 0 rising
 
--- what is to be taken from the bottom at a net volume, where there is as much: all buys less the net volume
-pub record AreUnitsAt (ss : List Step) (net : ℤ) (units : ℕ) : Type 0 where
-  pub balance : pos units +ℤ net ≡ pos (offered_volume Buy ss)
-  pub within : units ≤ all_units ss
+-- what is to be taken from the bottom at a net volume, if there is as much: all buys less the net volume
+pub record AreUnitsAt (steps : List Step) (net : ℤ) (units : ℕ) : Type 0 where
+  pub balance : pos units +ℤ net ≡ pos (offered_volume Buy steps)
+  pub within : units ≤ all_units steps

@@ -15,7 +15,7 @@
 //!
 //! A contract sees the rows of all stacks, and asks of a span of them whose steps' stack it is. The welfare is that of `Hour::clear`
 //! at the same net volume, and the ends those of the prices that support it. Only tested is that memory isn't said to have run out
-//! where it hasn't.
+//! if it hasn't.
 //!
 //! The crate knows nothing of blocks, books and the other periods.
 #![tactic(auto)]

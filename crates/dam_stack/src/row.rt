@@ -1,13 +1,12 @@
 ghost use Rattle.std.specs.Prelude.{◌≡◌, ℕ, ◌+◌, ◌-◌, ◌*◌, ◌≤◌, ◌<◌, List, length, slice_index_or, IfOk};
 ghost use Rattle.std.specs.List.Sorted.{IsPermutation, IsNonDecreasingBy};
-ghost use Rattle.dam_book.specs.Limits.{lowest_price, highest_price};
 ghost use Rattle.dam_hour.specs.Limits.{most_steps, price_span};
 ghost use Rattle.dam_hour.specs.declared.step.Step.{Step};
 ghost use Rattle.dam_stack.specs.declared.row.Row.{Row};
 ghost use Rattle.dam_stack.specs.Supply.{height_of, rows_from, AreRowsOf};
 
-use dam_book::{HIGHEST_PRICE, LOWEST_PRICE, Price};
-use dam_hour::Step;
+use dam_book::{LOWEST_PRICE, Price};
+use dam_hour::{Step, highest_price};
 use std::alloc::{AllocError, Allocator};
 
 /// A row of a stack: a step's limit, and what stands under its volume.
@@ -28,22 +27,8 @@ pub(crate) fn height(price: Price) -> u32
     (price.get() - LOWEST_PRICE) as u32
 }
 
-/// The least price of the range.
-pub(crate) fn lowest() -> Price
-    ensures { result ≡ lowest_price }
-{
-    Price::new(LOWEST_PRICE).unwrap()
-}
-
-/// The greatest price of the range.
-pub(crate) fn highest() -> Price
-    ensures { result ≡ highest_price }
-{
-    Price::new(HIGHEST_PRICE).unwrap()
-}
-
 impl Row {
-    /// The cost of so many units from the bottom, the last of them in this row.
+    /// The cost of this number of units from the bottom, the last of them in this row.
     pub(crate) fn cost_of(self, units: u32) -> u64
         requires before { self.before ≤ units }
         requires cost { self.cost ≤ price_span * self.before }
@@ -74,7 +59,7 @@ fn rows_of<A: Allocator>(alloc: A, steps: &[Step]) -> Result<Vec<Row, A>, AllocE
     }
     rows.push(Row {
         before,
-        price: highest(),
+        price: highest_price(),
         cost,
     })?;
     Ok(rows)
@@ -84,7 +69,7 @@ fn rows_of<A: Allocator>(alloc: A, steps: &[Step]) -> Result<Vec<Row, A>, AllocE
 fn rising<A: Allocator>(alloc: A, steps: &[Step]) -> Result<Vec<Step, A>, AllocError>
     ensures moved { IfOk result (λ rising. IsPermutation steps.now rising.items) }
     ensures rises { IfOk result (λ rising.
-        IsNonDecreasingBy (λ s. height_of s.price) rising.items) }
+        IsNonDecreasingBy (λ step. height_of step.price) rising.items) }
 {
     let mut rising = Vec::with_capacity(alloc, steps.len())?;
     rising.extend_from_slice(steps)?;

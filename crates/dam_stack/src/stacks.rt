@@ -13,10 +13,10 @@ ghost use Rattle.dam_stack.specs.inside.Taken.{IsLeft, IsTooMuch, IsMore};
 ghost use Rattle.dam_stack.specs.inside.Rows.{IsRowOf, StandOn, lowered, without_row};
 
 use crate::demand::Demand;
-use crate::row::{Row, height, highest, lowest, place_of, stacked};
+use crate::row::{Row, height, place_of, stacked};
 use crate::taken::{Cut, Taken};
 use dam_book::{Price, Side};
-use dam_hour::{Hour, Step, laws};
+use dam_hour::{Hour, Step, highest_price, laws, lowest_price};
 use std::alloc::{AllocError, Allocator, Global};
 use std::marker::Model;
 
@@ -47,7 +47,7 @@ impl<A: Allocator> Model for Stacks<A> {
 }
 
 impl Row {
-    /// The row without so much volume and cost under it.
+    /// The row without this volume and this cost under it.
     fn lowered(self, volume: u32, cost: u64) -> Row
         requires volume { volume ≤ self.before }
         requires cost { cost ≤ self.cost }
@@ -61,7 +61,7 @@ impl Row {
     }
 }
 
-/// Takes so much volume and cost from under each row.
+/// Takes this volume and this cost from under each row.
 fn lower(rows: &mut [Row], volume: u32, cost: u64)
     requires { StandOn volume cost rows.old }
     ensures { rows.new ≡ map (lowered volume cost) rows.old }
@@ -71,7 +71,7 @@ fn lower(rows: &mut [Row], volume: u32, cost: u64)
     }
 }
 
-/// Takes so much volume and cost from under each row from a place on.
+/// Takes this volume and this cost from under each row from a place on.
 fn lower_from<A: Allocator>(rows: &mut Vec<Row, A>, from: usize, volume: u32, cost: u64)
     requires within { from ≤ length rows.old.items }
     requires above { StandOn volume cost (drop from rows.old.items) }
@@ -217,7 +217,7 @@ impl<A: Allocator> Stacks<A> {
 
     /// The row that holds a unit, counted from 1 at the bottom.
     fn holding(&self, span: Span, unit: u32, near: u32) -> usize
-        requires stack { (ss : List Step) × IsStackAt self.now span ss × (unit ≤ all_units ss) }
+        requires stack { (steps : List Step) × IsStackAt self.now span steps × (unit ≤ all_units steps) }
         requires first { 1 ≤ unit }
         ensures place { result < span.steps }
         ensures under { (d : Row)
@@ -232,10 +232,10 @@ impl<A: Allocator> Stacks<A> {
     ///
     /// The look-up goes from the row `near`, which may be any.
     fn taken(&self, span: Span, units: u32, near: u32) -> Option<Taken>
-        requires { (ss : List Step) × IsStackAt self.now span ss }
+        requires { (steps : List Step) × IsStackAt self.now span steps }
         ensures units { IfSome result (λ t. t.units ≡ units) }
-        ensures taken { (ss : List Step) → IsStackAt self.now span ss
-            → MatchOption result (all_units ss < units) (IsTaken ss) }
+        ensures taken { (steps : List Step) → IsStackAt self.now span steps
+            → MatchOption result (all_units steps < units) (IsTaken steps) }
     {
         if units == 0 {
             return Some(Taken::none());
@@ -260,10 +260,10 @@ impl<A: Allocator> Stacks<A> {
 
     /// The price of the row that holds a unit.
     fn price(&self, span: Span, unit: u32, near: u32) -> Price
-        requires stack { (ss : List Step) × IsStackAt self.now span ss × (unit ≤ all_units ss) }
+        requires stack { (steps : List Step) × IsStackAt self.now span steps × (unit ≤ all_units steps) }
         requires first { 1 ≤ unit }
-        ensures { (ss : List Step) → IsStackAt self.now span ss
-            → (row : Row) × Holds ss unit row × (row.price ≡ result) }
+        ensures { (steps : List Step) → IsStackAt self.now span steps
+            → (row : Row) × Holds steps unit row × (row.price ≡ result) }
     {
         let place = self.holding(span, unit, near);
         let rows = self.stack(span);
@@ -274,38 +274,38 @@ impl<A: Allocator> Stacks<A> {
 
     /// The price of the last of the units, or the least price if there is none.
     fn low(&self, span: Span, taken: Taken) -> Price
-        requires { (ss : List Step) × IsStackAt self.now span ss × (taken.units ≤ all_units ss) }
-        ensures { (ss : List Step) → IsStackAt self.now span ss → IsLow ss taken.units result }
+        requires { (steps : List Step) × IsStackAt self.now span steps × (taken.units ≤ all_units steps) }
+        ensures { (steps : List Step) → IsStackAt self.now span steps → IsLow steps taken.units result }
     {
         if taken.units == 0 {
-            return lowest();
+            return lowest_price();
         }
         self.price(span, taken.units, taken.near)
     }
 
     /// The price of the next unit, or the greatest price if there is none.
     fn high(&self, span: Span, taken: Taken) -> Price
-        requires { (ss : List Step) × IsStackAt self.now span ss × (taken.units ≤ all_units ss) }
-        ensures { (ss : List Step) → IsStackAt self.now span ss → IsHigh ss taken.units result }
+        requires { (steps : List Step) × IsStackAt self.now span steps × (taken.units ≤ all_units steps) }
+        ensures { (steps : List Step) → IsStackAt self.now span steps → IsHigh steps taken.units result }
     {
         if taken.units >= span.units {
-            return highest();
+            return highest_price();
         }
         self.price(span, taken.units + 1, taken.near)
     }
 
-    /// The least and the greatest supporting price where this is taken of a stack. Takes no memory.
+    /// The least and the greatest supporting price if this is taken of a stack. Takes no memory.
     pub fn ends(&self, span: Span, taken: Taken) -> (Price, Price)
-        requires { (ss : List Step) × (net : ℤ) × IsStackAt self.now span ss
-            × IsTakenAt ss net taken }
-        ensures { (ss : List Step) (net : ℤ) → IsStackAt self.now span ss
-            → IsTakenAt ss net taken → AreEnds ss net result.0 result.1 }
+        requires { (steps : List Step) × (net : ℤ) × IsStackAt self.now span steps
+            × IsTakenAt steps net taken }
+        ensures { (steps : List Step) (net : ℤ) → IsStackAt self.now span steps
+            → IsTakenAt steps net taken → AreEnds steps net result.0 result.1 }
     {
         (self.low(span, taken), self.high(span, taken))
     }
 
-    /// What is taken of an hour's stack at a net volume of 0, where it always balances, and the greatest
-    /// welfare there, in cents per MWh times tenths of a MW. Takes no memory.
+    /// What is taken of an hour's stack at a net volume of 0, at which it always balances, and the
+    /// greatest welfare there, in cents per MWh times tenths of a MW. Takes no memory.
     pub fn opened<B: Allocator>(&self, span: Span, hour: &Hour<B>) -> (Taken, i64)
         requires { IsStackAt self.now span hour.now }
         ensures taken { IsTakenAt hour.now (pos 0) result.0 }
@@ -324,12 +324,12 @@ impl<A: Allocator> Stacks<A> {
     /// What is taken of a stack, less the units of the step; with it, by how much this costs less than
     /// before, less the cost of the step.
     fn fewer(&self, span: Span, taken: Taken, cut: Cut) -> Option<(Taken, i64)>
-        requires stack { (ss : List Step) × IsStackAt self.now span ss }
-        requires taken { (ss : List Step) × IsHour ss × IsTaken ss taken }
-        requires cut { (s : Step) × IsCutOf s cut }
-        ensures { (ss : List Step) → IsStackAt self.now span ss
-            → MatchOption result (IsTooMuch ss taken.units cut.volume)
-            (λ d. IsLeft ss taken cut.volume (cut.height * cut.volume) d.0 d.1) }
+        requires stack { (steps : List Step) × IsStackAt self.now span steps }
+        requires taken { (steps : List Step) × IsHour steps × IsTaken steps taken }
+        requires cut { (step : Step) × IsCutOf step cut }
+        ensures { (steps : List Step) → IsStackAt self.now span steps
+            → MatchOption result (IsTooMuch steps taken.units cut.volume)
+            (λ d. IsLeft steps taken cut.volume (cut.height * cut.volume) d.0 d.1) }
     {
         let units = taken.units.checked_sub(cut.volume)?;
         let left = self.taken(span, units, taken.near)?;
@@ -340,12 +340,12 @@ impl<A: Allocator> Stacks<A> {
     /// What is taken of a stack, and the units of the step; with it, by how much this costs less than
     /// before, plus the cost of the step.
     fn more(&self, span: Span, taken: Taken, cut: Cut) -> Option<(Taken, i64)>
-        requires stack { (ss : List Step) × IsStackAt self.now span ss }
-        requires taken { (ss : List Step) × IsHour ss × IsTaken ss taken }
-        requires cut { (s : Step) × IsCutOf s cut }
-        ensures { (ss : List Step) → IsStackAt self.now span ss
-            → MatchOption result (all_units ss < taken.units + cut.volume)
-            (λ d. IsMore ss taken cut.volume (cut.height * cut.volume) d.0 d.1) }
+        requires stack { (steps : List Step) × IsStackAt self.now span steps }
+        requires taken { (steps : List Step) × IsHour steps × IsTaken steps taken }
+        requires cut { (step : Step) × IsCutOf step cut }
+        ensures { (steps : List Step) → IsStackAt self.now span steps
+            → MatchOption result (all_units steps < taken.units + cut.volume)
+            (λ d. IsMore steps taken cut.volume (cut.height * cut.volume) d.0 d.1) }
     {
         let units = taken.units.checked_add(cut.volume)?;
         let all = self.taken(span, units, taken.near)?;
@@ -355,11 +355,11 @@ impl<A: Allocator> Stacks<A> {
 
     /// The units that stay taken if a step's fall away from them.
     fn served(&self, taken: Taken, cut: Cut) -> Option<(Taken, i64)>
-        requires { (us : List Step) × (s : Step) × (vs : List Step)
-            × IsCutOff self.now s (us ++ vs) cut × IsHour (us ++ s ∷ vs)
-            × IsTaken (us ++ s ∷ vs) taken }
-        ensures { (us : List Step) (s : Step) (vs : List Step)
-            → IsCutOff self.now s (us ++ vs) cut → IsTaken (us ++ s ∷ vs) taken
+        requires { (us : List Step) × (step : Step) × (vs : List Step)
+            × IsCutOff self.now step (us ++ vs) cut × IsHour (us ++ step ∷ vs)
+            × IsTaken (us ++ step ∷ vs) taken }
+        ensures { (us : List Step) (step : Step) (vs : List Step)
+            → IsCutOff self.now step (us ++ vs) cut → IsTaken (us ++ step ∷ vs) taken
             → MatchOption result (IsTooMuch (us ++ vs) taken.units cut.volume)
             (λ d. IsLeft (us ++ vs) taken cut.volume (cut.height * cut.volume) d.0 d.1) }
     {
@@ -371,11 +371,11 @@ impl<A: Allocator> Stacks<A> {
 
     /// The same units of the supply without a step.
     fn passed(&self, taken: Taken, cut: Cut) -> Option<(Taken, i64)>
-        requires { (us : List Step) × (s : Step) × (vs : List Step)
-            × IsCutOff self.now s (us ++ vs) cut × IsHour (us ++ s ∷ vs)
-            × IsTaken (us ++ s ∷ vs) taken }
-        ensures { (us : List Step) (s : Step) (vs : List Step)
-            → IsCutOff self.now s (us ++ vs) cut → IsTaken (us ++ s ∷ vs) taken
+        requires { (us : List Step) × (step : Step) × (vs : List Step)
+            × IsCutOff self.now step (us ++ vs) cut × IsHour (us ++ step ∷ vs)
+            × IsTaken (us ++ step ∷ vs) taken }
+        ensures { (us : List Step) (step : Step) (vs : List Step)
+            → IsCutOff self.now step (us ++ vs) cut → IsTaken (us ++ step ∷ vs) taken
             → MatchOption result (IsTooMuch (us ++ vs) taken.units 0)
             (λ d. IsLeft (us ++ vs) taken 0 0 d.0 d.1) }
     {
@@ -394,15 +394,15 @@ impl<A: Allocator> Stacks<A> {
     /// fall away: an accepted sell's, and a rejected buy's, which ask for nothing then. If these are surely
     /// among those taken, or the others surely not, nothing is looked up. Takes no memory.
     pub fn decided(&self, taken: Taken, cut: Cut, is_served: bool) -> Option<(Taken, i64)>
-        requires { (us : List Step) × (s : Step) × (vs : List Step) × (net : ℤ)
-            × IsCutOff self.now s (us ++ vs) cut × IsTakenAt (us ++ s ∷ vs) net taken }
-        ensures { (us : List Step) (s : Step) (vs : List Step) (accept : Bool) (net : ℤ)
-            → IsCutOff self.now s (us ++ vs) cut → IsTakenAt (us ++ s ∷ vs) net taken
-            → is_served ≡ falls s.side accept
+        requires { (us : List Step) × (step : Step) × (vs : List Step) × (net : ℤ)
+            × IsCutOff self.now step (us ++ vs) cut × IsTakenAt (us ++ step ∷ vs) net taken }
+        ensures { (us : List Step) (step : Step) (vs : List Step) (accept : Bool) (net : ℤ)
+            → IsCutOff self.now step (us ++ vs) cut → IsTakenAt (us ++ step ∷ vs) net taken
+            → is_served ≡ falls step.side accept
             → MatchOption result
-            (IsUnbalanced (us ++ vs) (net +ℤ net_by s.side accept s.qty))
-            (λ d. IsMoved (us ++ s ∷ vs) net (us ++ vs)
-            (net +ℤ net_by s.side accept s.qty) (value_by s.side accept s.price s.qty)
+            (IsUnbalanced (us ++ vs) (net +ℤ net_by step.side accept step.qty))
+            (λ d. IsMoved (us ++ step ∷ vs) net (us ++ vs)
+            (net +ℤ net_by step.side accept step.qty) (value_by step.side accept step.price step.qty)
             d.0 d.1) }
     {
         laws::welfare();
@@ -416,7 +416,7 @@ impl<A: Allocator> Stacks<A> {
         }
     }
 
-    /// What a decision turned round makes of a period with every step decided that isn't an hourly order;
+    /// What the opposite decision makes of a period with every step decided that isn't an hourly order;
     /// with it, what the period's welfare and the value of what is accepted gain by it together, in cents
     /// per MWh times tenths of a MW. `None` exactly if no execution balances then.
     ///
@@ -429,17 +429,17 @@ impl<A: Allocator> Stacks<A> {
         cut: Cut,
         is_served: bool,
     ) -> Option<(Taken, i64)>
-        requires stack { (ss : List Step) × (net : ℤ) × IsStackAt self.now span ss
-            × IsTakenAt ss net taken }
-        requires cut { (s : Step) × IsCutOf s cut }
-        ensures { (ss : List Step) (s : Step) (accept : Bool) (net : ℤ)
-            → IsStackAt self.now span ss → IsCutOf s cut → IsTakenAt ss net taken
-            → is_served ≡ falls s.side accept
+        requires stack { (steps : List Step) × (net : ℤ) × IsStackAt self.now span steps
+            × IsTakenAt steps net taken }
+        requires cut { (step : Step) × IsCutOf step cut }
+        ensures { (steps : List Step) (step : Step) (accept : Bool) (net : ℤ)
+            → IsStackAt self.now span steps → IsCutOf step cut → IsTakenAt steps net taken
+            → is_served ≡ falls step.side accept
             → MatchOption result
-            (IsUnbalanced ss (net +ℤ turned_by accept (neg_ℤ (signed s.side (pos s.qty)))))
-            (λ d. IsMoved ss net ss
-            (net +ℤ turned_by accept (neg_ℤ (signed s.side (pos s.qty))))
-            (turned_by accept (signed s.side (s.price *ℤ pos s.qty))) d.0 d.1) }
+            (IsUnbalanced steps (net +ℤ turned_by accept (neg_ℤ (signed step.side (pos step.qty)))))
+            (λ d. IsMoved steps net steps
+            (net +ℤ turned_by accept (neg_ℤ (signed step.side (pos step.qty))))
+            (turned_by accept (signed step.side (step.price *ℤ pos step.qty))) d.0 d.1) }
     {
         laws::welfare();
         laws::surplus();

@@ -1,4 +1,4 @@
-//! What is taken of a stack from the bottom, and what can be told of it once a step is gone, without a look at the rows.
+//! What is taken of a stack from the bottom, and what of it is known without a look at the rows once a step is gone.
 
 ghost use Rattle.std.specs.Prelude.{◌≡◌, ◌+◌, ◌-◌, ◌*◌, ◌≤◌, List, ◌++◌, ◌∷◌, IfSome, IfNone};
 ghost use Rattle.dam_hour.specs.declared.step.Step.{Step};
@@ -69,7 +69,7 @@ impl Taken {
     /// No unit.
     pub fn none() -> Taken
         ensures units { result.units ≡ 0 }
-        ensures taken { (ss : List Step) → IsTaken ss result }
+        ensures taken { (steps : List Step) → IsTaken steps result }
     {
         Taken {
             units: 0,
@@ -111,12 +111,12 @@ impl Taken {
         self.free.checked_sub(cut.volume)
     }
 
-    /// What is left once the step's units fall away, if that can be told without a look at the rows.
+    /// What is left once the step's units fall away, if that is known without a look at the rows.
     pub(crate) fn freed(self, cut: Cut) -> Option<Taken>
-        requires { (us : List Step) × (s : Step) × (vs : List Step)
-            × IsCutOf s cut × IsTaken (us ++ s ∷ vs) self }
-        ensures taken { (us : List Step) (s : Step) (vs : List Step)
-            → IsCutOf s cut → IsTaken (us ++ s ∷ vs) self
+        requires { (us : List Step) × (step : Step) × (vs : List Step)
+            × IsCutOf step cut × IsTaken (us ++ step ∷ vs) self }
+        ensures taken { (us : List Step) (step : Step) (vs : List Step)
+            → IsCutOf step cut → IsTaken (us ++ step ∷ vs) self
             → IfSome result (λ left. IsFreed (us ++ vs) self cut left) }
         ensures none { IfNone result (self.height ≤ cut.height) }
     {
@@ -129,10 +129,10 @@ impl Taken {
         })
     }
 
-    /// The same units without the step, if that can be told without a look at the rows.
+    /// The same units without the step, if that is known without a look at the rows.
     pub(crate) fn kept(self, cut: Cut) -> Option<Taken>
-        ensures taken { (us : List Step) (s : Step) (vs : List Step)
-            → IsCutOf s cut → IsTaken (us ++ s ∷ vs) self
+        ensures taken { (us : List Step) (step : Step) (vs : List Step)
+            → IsCutOf step cut → IsTaken (us ++ step ∷ vs) self
             → IfSome result (λ left. IsTaken (us ++ vs) left) }
         ensures units { IfSome result (λ left. left.units ≡ self.units) }
         ensures cost { IfSome result (λ left. left.cost ≡ self.cost) }

@@ -9,11 +9,11 @@ pub record IsRowOf (rows : List Row) (place height volume : ℕ) : Type 0 where
   pub height_is : (d : Row) → height_of (slice_index_or rows place d).price ≡ height
   pub volume_is : (d : Row) → (slice_index_or rows (place + 1) d).before ≡ (slice_index_or rows place d).before + volume
 
--- a row that stands on so much less volume and cost
+-- a row that stands on this much less volume and cost
 abbrev pub lowered : ℕ → ℕ → Row → Row
 lowered volume cost row = record { before = row.before - volume; price = row.price; cost = row.cost - cost }
 
--- each of the rows stands on so much volume and cost at least
+-- each of the rows stands on at least this volume and this cost
 abbrev pub StandOn : ℕ → ℕ → List Row → Type 0
 StandOn volume cost rows = (i : ℕ) (d : Row) → i < length rows
     → (volume ≤ (slice_index_or rows i d).before) × (cost ≤ (slice_index_or rows i d).cost)

@@ -18,24 +18,24 @@ pub record IsFree (taken : Taken) (cut : Cut) (free : ℕ) : Type 0 where
   pub higher : taken.height < cut.height → free ≡ taken.free
   pub same : cut.height ≡ taken.height → free + cut.volume ≡ taken.free
 
--- so much less, of these steps
-pub record IsFreed (ss : List Step) (taken : Taken) (cut : Cut) (left : Taken) : Type 0 where
+-- the units and the cost of the cut less, of these steps
+pub record IsFreed (steps : List Step) (taken : Taken) (cut : Cut) (left : Taken) : Type 0 where
   pub units_are : left.units + cut.volume ≡ taken.units
   pub cost_is : left.cost + cut.height * cut.volume ≡ taken.cost
-  pub taken_is : IsTaken ss left
+  pub taken_is : IsTaken steps left
 
--- so many units less, of these steps, and by how much less they cost than what was taken less this cost
-pub record IsLeft (ss : List Step) (taken : Taken) (fallen cost : ℕ) (left : Taken) (change : ℤ) : Type 0 where
+-- this number of units less, of these steps, and by how much less they cost than what was taken less this cost
+pub record IsLeft (steps : List Step) (taken : Taken) (fallen cost : ℕ) (left : Taken) (change : ℤ) : Type 0 where
   pub units_are : left.units + fallen ≡ taken.units
-  pub taken_is : IsTaken ss left
+  pub taken_is : IsTaken steps left
   pub change_is : change ≡ (pos taken.cost -ℤ pos left.cost) -ℤ pos cost
 
 -- fewer units are taken than fall away, or fewer stand there than are left
 abbrev pub IsTooMuch : List Step → ℕ → ℕ → Type 0
-IsTooMuch ss units fallen = (units < fallen) ⊎ (all_units ss < units - fallen)
+IsTooMuch steps units fallen = (units < fallen) ⊎ (all_units steps < units - fallen)
 
--- so many units more, of these steps, and by how much less they cost than what was taken and this cost
-pub record IsMore (ss : List Step) (taken : Taken) (more cost : ℕ) (all : Taken) (change : ℤ) : Type 0 where
+-- this number of units more, of these steps, and by how much less they cost than what was taken and this cost
+pub record IsMore (steps : List Step) (taken : Taken) (more cost : ℕ) (all : Taken) (change : ℤ) : Type 0 where
   pub units_are : all.units ≡ taken.units + more
-  pub taken_is : IsTaken ss all
+  pub taken_is : IsTaken steps all
   pub change_is : change ≡ (pos taken.cost -ℤ pos all.cost) +ℤ pos cost

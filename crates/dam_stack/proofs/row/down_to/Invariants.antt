@@ -1,3 +1,4 @@
+-- The place is no later than the one to begin at.
 use Rattle.std.proofs.Common.{◌≤◌}
 use Rattle.dam_stack.proofs.row.down_to.Given as goal
 

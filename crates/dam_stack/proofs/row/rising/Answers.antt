@@ -1,3 +1,4 @@
+-- The steps are sorted by their height.
 use Rattle.std.proofs.Common.{rules}
 use Rattle.std.proofs.lemmas.List.Sorted.{IsNonDecreasingBy-from_sort_by_key}
 use Rattle.dam_stack.specs.Supply.{height_of}

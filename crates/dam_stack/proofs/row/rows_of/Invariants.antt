@@ -1,3 +1,4 @@
+-- The rows so far, and the volume and cost under the next one.
 use Rattle.std.proofs.Common.{◌≡◌, ◌*◌, ◌≤◌, ◌++◌, drop}
 use Rattle.dam_book.specs.Limits.{greatest_volume}
 use Rattle.dam_hour.specs.Limits.{price_span}

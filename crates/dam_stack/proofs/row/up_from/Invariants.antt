@@ -1,3 +1,4 @@
+-- The row at `place` has less than the unit under it.
 use Rattle.std.proofs.Common.{◌+◌, ◌-◌, ◌<◌, length, slice_index_or}
 use Rattle.dam_stack.specs.declared.row.Row.{Row}
 use Rattle.dam_stack.proofs.row.up_from.Given as goal

@@ -1,3 +1,4 @@
+-- The two copies are the stack without the row, once those above it are lowered.
 use Rattle.std.proofs.Common.{rules, ◌≡◌, ◌+◌, length, drop, sym, ◌∙◌, ap, subst, refl}
 use Rattle.dam_stack.specs.inside.Rows.{StandOn}
 use Rattle.dam_stack.proofs.Spans.{two_copies, upper_part, parts_are}

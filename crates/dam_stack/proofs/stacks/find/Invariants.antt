@@ -1,3 +1,4 @@
+-- The row that is looked for is not before `place`.
 use Rattle.std.proofs.Common.{ℕ, ◌-◌, ◌≤◌, length}
 use Rattle.dam_stack.specs.inside.Rows.{IsRowOf}
 use Rattle.dam_stack.proofs.stacks.find.Given as goal

@@ -1,3 +1,4 @@
+-- A row more is lowered.
 use Rattle.std.proofs.lemmas.List.Edits.{map_over_more}
 use Rattle.dam_stack.specs.inside.Rows.{lowered}
 use Rattle.dam_stack.proofs.stacks.lower.Goals as goal

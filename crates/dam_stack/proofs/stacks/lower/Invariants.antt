@@ -1,3 +1,4 @@
+-- The rows before `place` are lowered.
 use Rattle.std.proofs.Common.{◌≡◌, ◌++◌, map, take, drop}
 use Rattle.dam_stack.specs.inside.Rows.{lowered}
 use Rattle.dam_stack.proofs.stacks.lower.Given as goal

@@ -1,3 +1,4 @@
+-- The demand of the steps so far.
 use Rattle.std.proofs.Common.{◌≡◌, ◌+◌, ◌*◌, ◌≤◌, drop}
 use Rattle.dam_book.specs.Limits.{greatest_volume}
 use Rattle.dam_book.specs.declared.order.Side.TheVariants.{Buy}

@@ -1,3 +1,4 @@
+-- The prices of the last unit and of the next one are the ends.
 use Rattle.dam_stack.proofs.Clearing.{ends_are}
 use Rattle.dam_stack.proofs.stacks.Stacks.ends.Goals as goal
 

@@ -1,5 +1,6 @@
 -- At a net volume of 0 all buys are taken, which are no more than all units.
-use Rattle.std.proofs.Common.{◌≡◌, ◌<◌, ◌≤◌, ℕ, ℤ, pos, ◌-ℤ◌, ◌+ℤ◌, ◌*ℤ◌, Option, Some, None, MatchOption, ap, ◌∙◌, subst, refl, rules, arith}
+use Rattle.std.proofs.Common.{◌≡◌, ◌<◌, ◌≤◌, ℕ, ℤ, pos, ◌-ℤ◌, ◌+ℤ◌, ◌*ℤ◌, Option, Some, None, MatchOption, ap, ◌∙◌, subst, refl, rules}
+use Rattle.std.proofs.Common.{arith}
 use Rattle.std.specs.Option.{IsSome}
 use Rattle.std.proofs.lemmas.Int.{ints, to_z-of_z}
 use mir.Syntax.{w64}

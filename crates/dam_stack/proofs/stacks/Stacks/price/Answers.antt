@@ -1,3 +1,4 @@
+-- The row that holds the unit has its price.
 use Rattle.std.proofs.Common.{refl}
 use Rattle.dam_stack.proofs.Spans.{holds_at}
 use Rattle.dam_stack.proofs.stacks.Stacks.price.Goals as goal

@@ -1,3 +1,4 @@
+-- No unit is taken of any steps.
 use Rattle.dam_stack.proofs.Costing.{none_taken}
 use Rattle.dam_stack.proofs.taken.Taken.none.Goals as goal
 
