@@ -1,8 +1,8 @@
-//! The periods of the auction as stacks of supply, from which the greatest welfare and the ends of the price are read after one
-//! decision after another.
+//! The periods of the auction as stacks of supply, from which the greatest welfare and the ends of the price are read
+//! after one decision after another.
 //!
-//! The sells of a period stand in its stack with their volumes, and the buys with what of them isn't served, each at its limit, by
-//! rising price. What balances takes all buys less the net volume, from the bottom.
+//! The sells of a period stand in its stack with their volumes, and the buys with what of them isn't served, each at
+//! its limit, by rising price. What balances takes all buys less the net volume, from the bottom.
 //!
 //! ```
 //! let mut stacks = Stacks::new(alloc);
@@ -13,9 +13,9 @@
 //! let (low, high) = stacks.ends(cut.span(), accepted.0);
 //! ```
 //!
-//! A contract sees the rows of all stacks, and asks of a span of them whose steps' stack it is. The welfare is that of `Hour::clear`
-//! at the same net volume, and the ends those of the prices that support it. Only tested is that memory isn't said to have run out
-//! if it hasn't.
+//! A contract sees the rows of all stacks, and asks of a span of them whose steps' stack it is. The welfare is that of
+//! `Hour::clear` at the same net volume, and the ends those of the prices that support it. Only tested is that memory
+//! isn't said to have run out if it hasn't.
 //!
 //! The crate knows nothing of blocks, books and the other periods.
 #![tactic(auto)]

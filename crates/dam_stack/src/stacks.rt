@@ -217,7 +217,8 @@ impl<A: Allocator> Stacks<A> {
 
     /// The row that holds a unit, counted from 1 at the bottom.
     fn holding(&self, span: Span, unit: u32, near: u32) -> usize
-        requires stack { (steps : List Step) × IsStackAt self.now span steps × (unit ≤ all_units steps) }
+        requires stack { (steps : List Step) × IsStackAt self.now span steps
+            × (unit ≤ all_units steps) }
         requires first { 1 ≤ unit }
         ensures place { result < span.steps }
         ensures under { (d : Row)
@@ -260,7 +261,8 @@ impl<A: Allocator> Stacks<A> {
 
     /// The price of the row that holds a unit.
     fn price(&self, span: Span, unit: u32, near: u32) -> Price
-        requires stack { (steps : List Step) × IsStackAt self.now span steps × (unit ≤ all_units steps) }
+        requires stack { (steps : List Step) × IsStackAt self.now span steps
+            × (unit ≤ all_units steps) }
         requires first { 1 ≤ unit }
         ensures { (steps : List Step) → IsStackAt self.now span steps
             → (row : Row) × Holds steps unit row × (row.price ≡ result) }
@@ -274,8 +276,10 @@ impl<A: Allocator> Stacks<A> {
 
     /// The price of the last of the units, or the least price if there is none.
     fn low(&self, span: Span, taken: Taken) -> Price
-        requires { (steps : List Step) × IsStackAt self.now span steps × (taken.units ≤ all_units steps) }
-        ensures { (steps : List Step) → IsStackAt self.now span steps → IsLow steps taken.units result }
+        requires { (steps : List Step) × IsStackAt self.now span steps
+            × (taken.units ≤ all_units steps) }
+        ensures { (steps : List Step) → IsStackAt self.now span steps
+            → IsLow steps taken.units result }
     {
         if taken.units == 0 {
             return lowest_price();
@@ -285,8 +289,10 @@ impl<A: Allocator> Stacks<A> {
 
     /// The price of the next unit, or the greatest price if there is none.
     fn high(&self, span: Span, taken: Taken) -> Price
-        requires { (steps : List Step) × IsStackAt self.now span steps × (taken.units ≤ all_units steps) }
-        ensures { (steps : List Step) → IsStackAt self.now span steps → IsHigh steps taken.units result }
+        requires { (steps : List Step) × IsStackAt self.now span steps
+            × (taken.units ≤ all_units steps) }
+        ensures { (steps : List Step) → IsStackAt self.now span steps
+            → IsHigh steps taken.units result }
     {
         if taken.units >= span.units {
             return highest_price();
@@ -402,7 +408,8 @@ impl<A: Allocator> Stacks<A> {
             → MatchOption result
             (IsUnbalanced (us ++ vs) (net +ℤ net_by step.side accept step.qty))
             (λ d. IsMoved (us ++ step ∷ vs) net (us ++ vs)
-            (net +ℤ net_by step.side accept step.qty) (value_by step.side accept step.price step.qty)
+            (net +ℤ net_by step.side accept step.qty)
+            (value_by step.side accept step.price step.qty)
             d.0 d.1) }
     {
         laws::welfare();
