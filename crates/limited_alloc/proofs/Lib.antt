@@ -1,2 +1,3 @@
+-- The lemmas that several functions need.
 mod Handle
 mod Due
