@@ -133,6 +133,7 @@ impl<A: Allocator + Copy> Problem<A> {
             (λ problem. (book.now.closed ≡ true) × (problem ≡ problem_of book.now)) }
         ensures still_open { IsErrOf result ProblemFault.StillOpen ↔ (book.now.closed ≡ false) }
     {
+        dam_book::laws::days_are_short();
         if !book.is_closed() {
             return Err(ProblemFault::StillOpen);
         }
