@@ -6,7 +6,8 @@ use Rattle.std.proofs.Math.Decide.{map_dec}
 use Rattle.dam_blocks.specs.declared.problem.Block.{Block}
 use Rattle.dam_blocks.specs.Problem.{IsParent}
 use Rattle.dam_blocks.specs.Selection.{accepts, AreOfOneGroup, Permits, IsAllowed, IsAdmissible}
-use Rattle.dam_blocks.proofs.Deciding.{decided_both, decided_if, decided_not, decided_number, decided_text, decided_true, decided_some_text, decided_below, decided_each, decided_at}
+use Rattle.dam_blocks.proofs.Deciding.{decided_both, decided_if, decided_not, decided_number, decided_text, decided_true, decided_some_text}
+use Rattle.dam_blocks.proofs.Deciding.{decided_below, decided_each, decided_at}
 
 decided_parent : (p b : Block) → Dec (IsParent p b)
 decided_parent p b = map_dec {A = (p.who ≡ b.who) × (b.order.parent ≡ Some p.name)} {B = IsParent p b}
@@ -29,7 +30,8 @@ decided_group : (a b : Block) → Dec (AreOfOneGroup a b)
 decided_group a b = map_dec {A = (a.who ≡ b.who) × AreNamed a.order.group b.order.group} {B = AreOfOneGroup a b}
     (λ h. record { who = h.0; group = h.1.0; first = h.1.1; second = h.1.2 })
     (λ h. (h.who, (h.group, h.first, h.second)))
-    (decided_both (a.who ≡ b.who) (AreNamed a.order.group b.order.group) (decided_text a.who b.who) (decided_named a.order.group b.order.group))
+    (decided_both (a.who ≡ b.who) (AreNamed a.order.group b.order.group) (decided_text a.who b.who)
+    (decided_named a.order.group b.order.group))
 
 decided_permits : (other : Block) (is_accepted : Bool) (block : Block) → Dec (Permits other is_accepted block)
 decided_permits other true block = map_dec {A = AreOfOneGroup block other → ⊥} {B = Permits other true block}
@@ -50,9 +52,11 @@ decided_permitted_at blocks sel i block j = decided_at (slice_get blocks j) (λ 
     (λ other. decided_if (j ≢ i) (Permits other (accepts sel j) block)
     (decided_not (j ≡ i) (decided_number j i)) (decided_permits other (accepts sel j) block))
 
-decided_block : (blocks : List Block) (sel : List Bool) (i : ℕ) (found : Option Block) → slice_get blocks i ≡ found → Dec (IsAllowed blocks sel i)
+decided_block : (blocks : List Block) (sel : List Bool) (i : ℕ) (found : Option Block) → slice_get blocks i ≡ found
+    → Dec (IsAllowed blocks sel i)
 decided_block blocks sel i None e = no (λ h. absurd (let stands = h.stands in cc))
-decided_block blocks sel i (Some block) e = map_dec {A = (j : ℕ) → j < length blocks → IsPermittedAt blocks sel i block j} {B = IsAllowed blocks sel i}
+decided_block blocks sel i (Some block) e =
+    map_dec {A = (j : ℕ) → j < length blocks → IsPermittedAt blocks sel i block j} {B = IsAllowed blocks sel i}
     (λ all. record { block = block; stands = e; others = λ j other apart at. all j (slice_get_within blocks j other at) other at apart })
     (λ h j l other at apart.
     (let stands = h.stands in
@@ -70,4 +74,5 @@ decided_admissible blocks sel = map_dec {A = (i : ℕ) → accepts sel i ≡ tru
     (λ all. record { each = all })
     (λ h. h.each)
     (decided_each (λ (i : ℕ). accepts sel i ≡ true) (λ (i : ℕ). IsAllowed blocks sel i) (length sel) (accepted_within sel)
-    (λ i. decided_if (accepts sel i ≡ true) (IsAllowed blocks sel i) (decided_true (accepts sel i)) (decided_block blocks sel i (slice_get blocks i) refl)))
+    (λ i. decided_if (accepts sel i ≡ true) (IsAllowed blocks sel i) (decided_true (accepts sel i))
+    (decided_block blocks sel i (slice_get blocks i) refl)))

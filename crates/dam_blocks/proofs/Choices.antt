@@ -1,5 +1,6 @@
 -- Every list of acceptances is just one of the numbered choices.
-use Rattle.std.proofs.Common.{◌≡◌, ℕ, zero, suc, ◌+◌, ◌-◌, ◌*◌, ◌%◌, ◌^◌, ◌<◌, ◌≤◌, ℤ, Bool, true, false, cond, nat_lt, inl, inr, List, [], ◌∷◌, ◌++◌, length, replicate, take, drop, append_assoc, length-append, ap, ap₂, ◌∙◌, sym, subst, refl, arith}
+use Rattle.std.proofs.Common.{◌≡◌, ℕ, zero, suc, ◌+◌, ◌-◌, ◌*◌, ◌%◌, ◌^◌, ◌<◌, ◌≤◌, ℤ, Bool, true, false, cond, nat_lt, inl, inr, List, []}
+use Rattle.std.proofs.Common.{◌∷◌, ◌++◌, length, replicate, take, drop, append_assoc, length-append, ap, ap₂, ◌∙◌, sym, subst, refl, arith}
 use Rattle.std.proofs.lemmas.Bool.Decides.{nat_tests}
 use Rattle.std.proofs.lemmas.List.{get_or-drop, length-drop, length-take-le, take-append-drop}
 use Rattle.std.proofs.Math.ListN.{set}
@@ -92,14 +93,17 @@ padded_choice n sel few long only =
     let front : length (take n sel) ≡ n = length-take-le n sel (omega arith) in
     let found = some_choice (take n sel) in
     let is : choice n found.0 ≡ take n sel = subst (λ (m : ℕ). choice m found.0 ≡ take n sel) front found.2 in
-    let back = none_accepted (drop n sel) (λ i e. (let at = only (n + i) (sym (get_or-drop n sel i false) ∙ e) in absurd (omega (arith, at)))) in
-    let left : length (drop n sel) ≡ most_blocks - length (choice n found.0) = omega (arith, length-drop n sel, length-choice n found.0) in (
+    let back = none_accepted (drop n sel) (λ i e. (let at = only (n + i) (sym (get_or-drop n sel i false) ∙ e) in
+    absurd (omega (arith, at)))) in
+    let left : length (drop n sel) ≡ most_blocks - length (choice n found.0) = omega (arith, length-drop n sel, length-choice n found.0) in
+        (
       found.0,
       subst (λ (m : ℕ). found.0 < 2 ^ m) front found.1,
       ap₂ (λ (x y : List Bool). x ++ y) is (ap (λ (m : ℕ). replicate m false) (sym left) ∙ sym back) ∙ take-append-drop n sel,
     )
 
-pub admissible_choice : (problem : ProblemState) (sel : List Bool) → IsProblem problem → length sel ≡ most_blocks → IsAdmissible problem.blocks sel
+pub admissible_choice : (problem : ProblemState) (sel : List Bool) → IsProblem problem → length sel ≡ most_blocks
+    → IsAdmissible problem.blocks sel
     → (k : ℕ) × (k < 2 ^ length problem.blocks) × (padded (choice (length problem.blocks) k) ≡ sel)
 admissible_choice problem sel is long admissible =
     padded_choice (length problem.blocks) sel is.few_blocks long
@@ -113,7 +117,8 @@ pub record IsChosen (count number place rest : ℕ) (sel : List Bool) : Type 0 w
   pub is_padded : sel ≡ padded front
   pub whole : front ++ choice (count - place) rest ≡ choice count number
 
-set_front : (front : List Bool) (n : ℕ) → set (front ++ replicate (suc n) false) (length front) true ≡ (front ++ true ∷ []) ++ replicate n false
+set_front : (front : List Bool) (n : ℕ)
+    → set (front ++ replicate (suc n) false) (length front) true ≡ (front ++ true ∷ []) ++ replicate n false
 set_front [] n = refl
 set_front (x ∷ front) n = ap (λ (zs : List Bool). x ∷ zs) (set_front front n)
 
@@ -124,12 +129,14 @@ keep_front (x ∷ front) n = ap (λ (zs : List Bool). x ∷ zs) (keep_front fron
 length_one : (front : List Bool) (b : Bool) → length (front ++ b ∷ []) ≡ suc (length front)
 length_one front b = omega (arith, length-append front (b ∷ []))
 
-room : (front : List Bool) (b : Bool) → length front < most_blocks → most_blocks - length front ≡ suc (most_blocks - length (front ++ b ∷ []))
+room : (front : List Bool) (b : Bool) → length front < most_blocks
+    → most_blocks - length front ≡ suc (most_blocks - length (front ++ b ∷ []))
 room front b h = omega (arith, length_one front b)
 
 padded-true : (front : List Bool) → length front < most_blocks → set (padded front) (length front) true ≡ padded (front ++ true ∷ [])
 padded-true front h =
-    ap (λ (n : ℕ). set (front ++ replicate n false) (length front) true) (room front true h) ∙ set_front front (most_blocks - length (front ++ true ∷ []))
+    ap (λ (n : ℕ). set (front ++ replicate n false) (length front) true) (room front true h)
+    ∙ set_front front (most_blocks - length (front ++ true ∷ []))
 
 padded-false : (front : List Bool) → length front < most_blocks → padded front ≡ padded (front ++ false ∷ [])
 padded-false front h =
@@ -153,7 +160,8 @@ one_accepted count number place rest sel l few h c =
       long = omega (arith, length_one c.front true, long);
       is_padded = ap₂ (λ (xs : List Bool) (i : ℕ). set xs i true) c.is_padded (sym long) ∙ padded-true c.front (omega (arith, long));
       whole = append_assoc c.front (true ∷ []) (choice (count - (place + 1)) rest)
-          ∙ ap (λ (xs : List Bool). c.front ++ xs) (sym (ap (λ (n : ℕ). choice n rest) (one_less count place l) ∙ choice-true (count - (place + 1)) rest h))
+          ∙ ap (λ (xs : List Bool). c.front ++ xs)
+          (sym (ap (λ (n : ℕ). choice n rest) (one_less count place l) ∙ choice-true (count - (place + 1)) rest h))
           ∙ c.whole;
     }
 
@@ -166,7 +174,8 @@ one_rejected count number place rest sel l few h c =
       long = omega (arith, length_one c.front false, long);
       is_padded = c.is_padded ∙ padded-false c.front (omega (arith, long));
       whole = append_assoc c.front (false ∷ []) (choice (count - (place + 1)) (rest - 2 ^ (count - (place + 1))))
-          ∙ ap (λ (xs : List Bool). c.front ++ xs) (sym (ap (λ (n : ℕ). choice n rest) (one_less count place l) ∙ choice-false (count - (place + 1)) rest h))
+          ∙ ap (λ (xs : List Bool). c.front ++ xs)
+          (sym (ap (λ (n : ℕ). choice n rest) (one_less count place l) ∙ choice-false (count - (place + 1)) rest h))
           ∙ c.whole;
     }
 
@@ -180,7 +189,8 @@ power_is count few =
 pub half_is : (count place half : ℕ) → half ≡ 2 ^ (count - 1 - place) → half ≡ 2 ^ (count - (place + 1))
 half_is count place half e = let same : count - 1 - place ≡ count - (place + 1) = omega arith in e ∙ ap (λ (n : ℕ). 2 ^ n) same
 
-pub rest_small : (count place rest : ℕ) → place < count → rest < 2 ^ (count - place) → rest - 2 ^ (count - (place + 1)) < 2 ^ (count - (place + 1))
+pub rest_small : (count place rest : ℕ) → place < count → rest < 2 ^ (count - place)
+    → rest - 2 ^ (count - (place + 1)) < 2 ^ (count - (place + 1))
 rest_small count place rest l h =
     let whole : 2 ^ (count - place) ≡ 2 ^ (count - (place + 1)) + 2 ^ (count - (place + 1)) =
     ap (λ (n : ℕ). 2 ^ n) (one_less count place l) ∙ two-pow-succ (count - (place + 1)) in
@@ -190,31 +200,40 @@ rest_small count place rest l h =
 -- ---- the best of the choices so far
 pub record IsBestSoFar (problem : ProblemState) (count number : ℕ) (sel : List Bool) (welfare : ℤ) : Type 0 where
   pub eligible : IsEligible problem sel welfare
-  pub others : (j : ℕ) (v : ℤ) → j < number → IsEligible problem (padded (choice count j)) v → RanksAtOrBelow v (padded (choice count j)) welfare sel
+  pub others : (j : ℕ) (v : ℤ) → j < number → IsEligible problem (padded (choice count j)) v
+      → RanksAtOrBelow v (padded (choice count j)) welfare sel
 
-pub none_tried : (problem : ProblemState) (count : ℕ) (sel : List Bool) (welfare : ℤ) → IsEligible problem sel welfare → IsBestSoFar problem count 0 sel welfare
+pub none_tried : (problem : ProblemState) (count : ℕ) (sel : List Bool) (welfare : ℤ) → IsEligible problem sel welfare
+    → IsBestSoFar problem count 0 sel welfare
 none_tried problem count sel welfare e = record { eligible = e; others = λ j v l h. absurd (omega (arith, l)) }
 
-pub one_tried : (problem : ProblemState) (count number : ℕ) (tried sel sel' : List Bool) (w w' : ℤ) → tried ≡ padded (choice count number) → IsBestSoFar problem count number sel w
+pub one_tried : (problem : ProblemState) (count number : ℕ) (tried sel sel' : List Bool) (w w' : ℤ) → tried ≡ padded (choice count number)
+    → IsBestSoFar problem count number sel w
     → IsEligible problem sel' w' → RanksAtOrBelow w sel w' sel' → ((v : ℤ) → IsEligible problem tried v → RanksAtOrBelow v tried w' sel')
     → IsBestSoFar problem count (number + 1) sel' w'
 one_tried problem count number tried sel sel' w w' is so_far e kept better = record {
   eligible = e;
   others = λ j v l h. elim (cases_lt j number) [
-    | inl less ↦ ranks_trans v (padded (choice count j)) w sel w' sel' (h.as_long ∙ sym so_far.eligible.as_long) (so_far.eligible.as_long ∙ sym e.as_long) (so_far.others j v less h) kept
+    | inl less ↦ ranks_trans v (padded (choice count j)) w sel w' sel' (h.as_long ∙ sym so_far.eligible.as_long) (so_far.eligible.as_long
+        ∙ sym e.as_long) (so_far.others j v less h) kept
     | inr more ↦
         (let same : j ≡ number = omega (arith, l, more) in
         let this : padded (choice count j) ≡ tried = ap (λ (n : ℕ). padded (choice count n)) same ∙ sym is in
-        subst (λ (xs : List Bool). RanksAtOrBelow v xs w' sel') (sym this) (better v (subst (λ (xs : List Bool). IsEligible problem xs v) this h)))
+        subst (λ (xs : List Bool). RanksAtOrBelow v xs w' sel') (sym this)
+        (better v (subst (λ (xs : List Bool). IsEligible problem xs v) this h)))
   ];
 }
 
-pub all_tried : (problem : ProblemState) (count number : ℕ) (sel : List Bool) (welfare : ℤ) → count ≡ length problem.blocks → count ≤ most_blocks → 2 ^ count ≤ number
+pub all_tried : (problem : ProblemState) (count number : ℕ) (sel : List Bool) (welfare : ℤ) → count ≡ length problem.blocks
+    → count ≤ most_blocks → 2 ^ count ≤ number
     → IsBestSoFar problem count number sel welfare → IsResult problem sel welfare
 all_tried problem count number sel welfare is few all so_far = record {
   eligible = so_far.eligible;
   others = λ ys v h.
-      (let only = λ (i : ℕ) (e : accepts ys i ≡ true). (let allowed = h.admissible.each i e in let inside = slice_get_within problem.blocks i allowed.block allowed.stands in let l : i < count = omega (arith, inside, is) in l) in
+      (let only = λ (i : ℕ) (e : accepts ys i ≡ true).
+      (let allowed = h.admissible.each i e in
+      let inside = slice_get_within problem.blocks i allowed.block allowed.stands in
+      let l : i < count = omega (arith, inside, is) in l) in
       let found = padded_choice count ys few h.as_long only in
       let low = found.1 in
       subst (λ (xs : List Bool). RanksAtOrBelow v xs welfare sel) found.2

@@ -1,5 +1,6 @@
 -- What is decided: it holds, or it doesn't.
-use Rattle.std.proofs.Common.{◌≡◌, ℕ, zero, suc, ◌<◌, ℤ, ◌≤ℤ◌, Bool, true, false, Decides, inl, inr, Option, Some, None, List, ap, subst, refl, arith}
+use Rattle.std.proofs.Common.{◌≡◌, ℕ, zero, suc, ◌<◌, ℤ, ◌≤ℤ◌, Bool, true, false, Decides, inl, inr, Option, Some, None, List, ap, subst}
+use Rattle.std.proofs.Common.{refl, arith}
 use Rattle.std.proofs.lemmas.Int.{ints, by_lt_z}
 use Rattle.std.proofs.lemmas.Bool.{cases_lt}
 use Rattle.std.proofs.lemmas.Bool.Decides.{Decides-eqb}
@@ -38,7 +39,8 @@ decided_true false = no (λ e. absurd (cc))
 
 pub decided_some_text : (o : Option (List ℕ)) (xs : List ℕ) → Dec (o ≡ Some xs)
 decided_some_text None xs = no (λ e. absurd (cc))
-decided_some_text (Some ys) xs = map_dec {A = ys ≡ xs} {B = Some ys ≡ Some xs} (λ e. ap (λ (zs : List ℕ). Some zs) e) (λ e. cc) (decided_text ys xs)
+decided_some_text (Some ys) xs =
+    map_dec {A = ys ≡ xs} {B = Some ys ≡ Some xs} (λ e. ap (λ (zs : List ℕ). Some zs) e) (λ e. cc) (decided_text ys xs)
 
 pub decided_at_least : (a b : ℤ) → Dec (a ≤ℤ b)
 decided_at_least a b = by_lt_z b a
@@ -59,7 +61,7 @@ decided_below P each (suc n) = map_dec {A = ((k : ℕ) → k < n → P k) × P n
     (λ all. (λ k l. all k (omega (arith, l)), all n (omega arith)))
     (decided_both ((k : ℕ) → k < n → P k) (P n) (decided_below P each n) (each n))
 
--- where it holds of no place from n on
+-- if it holds of no place from n on
 pub decided_each : (P Q : ℕ → Type 0) (n : ℕ) → ((k : ℕ) → P k → k < n) → ((k : ℕ) → Dec (P k → Q k)) → Dec ((k : ℕ) → P k → Q k)
 decided_each P Q n only each = map_dec {A = (k : ℕ) → k < n → P k → Q k} {B = (k : ℕ) → P k → Q k}
     (λ below k p. below k (only k p) p)

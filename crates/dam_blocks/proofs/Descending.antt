@@ -1,8 +1,8 @@
 -- In a problem each child has one parent, which stands before it, so a chain of parents is never longer than the list of blocks.
-use Rattle.std.proofs.Common.{◌≡◌, ℕ, zero, suc, ◌↔◌, ◌<◌, ◌==◌, Bool, true, false, ◌||◌, Option, Some, None, List, length, get_or, ap, ◌∙◌, sym, subst, refl, inl, inr, arith}
-use Rattle.std.specs.List.{slice_get}
+use Rattle.std.proofs.Common.{◌≡◌, ℕ, zero, suc, ◌↔◌, ◌<◌, ◌==◌, Bool, true, false, ◌||◌, Option, Some, None, List, length, get_or, ap, ◌∙◌}
+use Rattle.std.proofs.Common.{sym, refl, inl, inr, arith}
 use Rattle.std.specs.Cmp.Lexicographic.{bytes_decides}
-use Rattle.std.proofs.lemmas.Bool.{eq-eqb, eqb-true, cases_eq, false_from_ne_true}
+use Rattle.std.proofs.lemmas.Bool.{eq-eqb, cases_eq, false_from_ne_true}
 use Rattle.std.proofs.lemmas.Option.{slice_get-get_or, slice_get_within}
 use Rattle.dam_book.specs.Name.{same_text}
 use Rattle.dam_book.specs.Order.{is_parent}
@@ -10,7 +10,7 @@ use Rattle.dam_blocks.specs.declared.problem.Block.{Block}
 use Rattle.dam_blocks.specs.Problem.{ProblemState, IsProblem, IsParent}
 use Rattle.dam_blocks.specs.Family.{names, parent_place, leads_to, descends, IsChildAt, Descends, Child, OfChild}
 use Rattle.dam_blocks.proofs.Families.{unequal, first_parent}
-use Rattle.dam_blocks.proofs.WelfareAtLeastZero.{HasParentAt, named_parent, parent_found, parent_stands_before, same_text_in}
+use Rattle.dam_blocks.proofs.WelfareAtLeastZero.{named_parent, parent_found, parent_stands_before, same_text_in}
 
 some_place : (p q : ℕ) → Some p ≡ Some q → p ≡ q
 some_place p q e = cc
@@ -29,7 +29,14 @@ named p b = (named_parent p b, parent_named p b)
 child_at : (blocks : List Block) (i j : ℕ) → parent_place blocks j ≡ Some i → IsChildAt blocks i j
 child_at blocks i j e =
     let found = parent_found blocks j i e in
-    record { parent = found.parent; child = found.child; parent_stands = found.parent_stands; child_stands = found.child_stands; is_parent = found.is_parent }
+    record {
+      parent = found.parent;
+      child = found.child;
+      parent_stands = found.parent_stands;
+      child_stands = found.child_stands;
+      is_parent =
+          found.is_parent;
+    }
 
 -- no other block is the parent
 no_other : (problem : ProblemState) (i j k : ℕ) → IsProblem problem → (at : IsChildAt problem.blocks i j) → k < i → (d : Block)
@@ -37,10 +44,12 @@ no_other : (problem : ProblemState) (i j k : ℕ) → IsProblem problem → (at 
 no_other problem i j k is at l d e =
     let inside = slice_get_within problem.blocks i at.parent at.parent_stands in
     let is_named = named_parent (get_or problem.blocks k at.child) at.child e in
-    is.unique k i (get_or problem.blocks k at.child) at.parent (slice_get-get_or problem.blocks k at.child (omega (arith, l, inside))) at.parent_stands
+    is.unique k i (get_or problem.blocks k at.child) at.parent (slice_get-get_or problem.blocks k at.child (omega (arith, l, inside)))
+    at.parent_stands
     (is_named.who ∙ sym at.is_parent.who) (same_text_in _ _ (sym is_named.name ∙ at.is_parent.name))
 
-place_of_child : (problem : ProblemState) (i j : ℕ) → IsProblem problem → IsChildAt problem.blocks i j → parent_place problem.blocks j ≡ Some i
+place_of_child : (problem : ProblemState) (i j : ℕ) → IsProblem problem → IsChildAt problem.blocks i j
+    → parent_place problem.blocks j ≡ Some i
 place_of_child problem i j is at =
     first_parent problem.blocks j i at.child at.parent at.child_stands at.parent_stands
     (λ k l. false_from_ne_true (names (get_or problem.blocks k at.child) at.child)
@@ -51,18 +60,21 @@ pub place : (problem : ProblemState) (i j : ℕ) → IsProblem problem → (pare
 place problem i j is = (child_at problem.blocks i j, place_of_child problem i j is)
 
 -- a chain that leads there is one of children
-chain_descends : (blocks : List Block) (i n j : ℕ) (o : Option ℕ) → parent_place blocks j ≡ o → leads_to n blocks i o ≡ true → Descends blocks i j
+chain_descends : (blocks : List Block) (i n j : ℕ) (o : Option ℕ) → parent_place blocks j ≡ o → leads_to n blocks i o ≡ true
+    → Descends blocks i j
 chain_descends blocks i n j None e leads = absurd (cc)
 chain_descends blocks i zero j (Some p) e leads = absurd (cc)
 chain_descends blocks i (suc n) j (Some p) e leads = elim (cases_eq p i) [
   | inl same ↦ Child j (child_at blocks i j (e ∙ ap (λ (m : ℕ). Some m) same))
   | inr apart ↦
-      (let further : leads_to n blocks i (parent_place blocks p) ≡ true = ap (λ (x : Bool). x || leads_to n blocks i (parent_place blocks p)) (sym (unequal p i apart)) ∙ leads in
+      (let further : leads_to n blocks i (parent_place blocks p) ≡ true = ap (λ (x : Bool). x || leads_to n blocks i
+      (parent_place blocks p)) (sym (unequal p i apart)) ∙ leads in
       OfChild p j (chain_descends blocks i n p (parent_place blocks p) refl further) (child_at blocks p j e))
 ]
 
 -- two numbers of steps that both reach back to the first block see the same chain
-enough : (problem : ProblemState) (i m n : ℕ) (o : Option ℕ) → IsProblem problem → ((p : ℕ) → o ≡ Some p → p < m) → ((p : ℕ) → o ≡ Some p → p < n)
+enough : (problem : ProblemState) (i m n : ℕ) (o : Option ℕ) → IsProblem problem → ((p : ℕ) → o ≡ Some p → p < m)
+    → ((p : ℕ) → o ≡ Some p → p < n)
     → leads_to m problem.blocks i o ≡ leads_to n problem.blocks i o
 enough problem i m n None is within also = refl
 enough problem i zero n (Some p) is within also = absurd (let wrong = within p refl in omega (arith, wrong))
@@ -75,7 +87,8 @@ enough problem i (suc m) (suc n) (Some p) is within also =
     (λ q e. (let before = parent_stands_before problem p q is e in omega (arith, before, near_too))))
 
 -- of a block whose parent is known: that one, or what it descends from
-of_parent : (problem : ProblemState) (i j p n : ℕ) → IsProblem problem → parent_place problem.blocks j ≡ Some p → length problem.blocks ≡ suc n → p < suc n
+of_parent : (problem : ProblemState) (i j p n : ℕ) → IsProblem problem → parent_place problem.blocks j ≡ Some p
+    → length problem.blocks ≡ suc n → p < suc n
     → descends problem.blocks i j ≡ ((p == i) || descends problem.blocks i p)
 of_parent problem i j p n is e long l =
     ap (λ (o : Option ℕ). leads_to (length problem.blocks) problem.blocks i o) e
@@ -100,11 +113,14 @@ or_true : (x : Bool) → (x || true) ≡ true
 or_true true = refl
 or_true false = refl
 
-descends_by_chain : (problem : ProblemState) (i j : ℕ) → IsProblem problem → Descends problem.blocks i j → descends problem.blocks i j ≡ true
+descends_by_chain : (problem : ProblemState) (i j : ℕ) → IsProblem problem → Descends problem.blocks i j
+    → descends problem.blocks i j ≡ true
 descends_by_chain problem i _ is (Child j at) =
     of_child problem i j i is at ∙ ap (λ (x : Bool). x || descends problem.blocks i i) (eq-eqb i i refl)
 descends_by_chain problem i _ is (OfChild k j further at) =
     of_child problem i j k is at ∙ ap (λ (x : Bool). (k == i) || x) (descends_by_chain problem i k is further) ∙ or_true (k == i)
 
-pub descends_is : (problem : ProblemState) (i j : ℕ) → IsProblem problem → (descends problem.blocks i j ≡ true) ↔ Descends problem.blocks i j
-descends_is problem i j is = (chain_descends problem.blocks i (length problem.blocks) j (parent_place problem.blocks j) refl, descends_by_chain problem i j is)
+pub descends_is : (problem : ProblemState) (i j : ℕ) → IsProblem problem
+    → (descends problem.blocks i j ≡ true) ↔ Descends problem.blocks i j
+descends_is problem i j is =
+    (chain_descends problem.blocks i (length problem.blocks) j (parent_place problem.blocks j) refl, descends_by_chain problem i j is)

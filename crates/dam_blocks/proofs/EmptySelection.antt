@@ -39,7 +39,8 @@ AreWithin blocks sel t (ss ∷ hours) = IsWithinOffers ss (net_volume blocks sel
 
 empty_within : (blocks : List Block) (t : ℕ) (hours : List (List Step)) → AreWithin blocks empty_selection t hours
 empty_within blocks t [] = tt
-empty_within blocks t (ss ∷ hours) = (within_offers ss (net_volume blocks empty_selection t) (empty_net blocks t), empty_within blocks (suc t) hours)
+empty_within blocks t (ss ∷ hours) =
+    (within_offers ss (net_volume blocks empty_selection t) (empty_net blocks t), empty_within blocks (suc t) hours)
 
 -- a list of prices and a welfare
 pub record Cleared (blocks : List Block) (sel : List Bool) (t : ℕ) (hours : List (List Step)) : Type 0 where
@@ -54,7 +55,8 @@ both x y u v e f = rw (e, f)
 raised : (x : Option ℤ) (k g : ℤ) → x ≡ Some g → option_map (λ w. w +ℤ k) x ≡ Some (g +ℤ k)
 raised x k g e = rw e
 
-pub cleared : ExistenceLaws → (blocks : List Block) (sel : List Bool) (t : ℕ) (hours : List (List Step)) → AreHours hours → AreWithin blocks sel t hours
+pub cleared : ExistenceLaws → (blocks : List Block) (sel : List Bool) (t : ℕ) (hours : List (List Step)) → AreHours hours
+    → AreWithin blocks sel t hours
     → Cleared blocks sel t hours
 cleared laws blocks sel t [] are within = record { prices = []; are_prices = tt; welfare = pos 0; welfare_is = refl }
 cleared laws blocks sel t (ss ∷ hours) are within =
@@ -68,7 +70,8 @@ cleared laws blocks sel t (ss ∷ hours) are within =
       welfare = (welfare_of ss best.0 +ℤ block_value blocks sel t) +ℤ rest.welfare;
       welfare_is = both (period_welfare blocks sel t ss) (welfare_from blocks sel (suc t) hours)
           (welfare_of ss best.0 +ℤ block_value blocks sel t) rest.welfare
-          (raised (greatest_welfare ss net) (block_value blocks sel t) (welfare_of ss best.0) (laws.welfare ss net best.0 best.1)) rest.welfare_is;
+          (raised (greatest_welfare ss net) (block_value blocks sel t) (welfare_of ss best.0) (laws.welfare ss net best.0 best.1))
+          rest.welfare_is;
     }
 
 pub empty_eligible : ExistenceLaws → (problem : ProblemState) → AreHours problem.hours → (w : ℤ) × IsEligible problem empty_selection w

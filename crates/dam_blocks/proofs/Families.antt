@@ -1,5 +1,7 @@
--- Where every accepted block with its accepted descendants gains, all accepted blocks together do: each stands in the family of just one that has no parent.
-use Rattle.std.proofs.Common.{◌≡◌, ℕ, zero, suc, ◌+◌, ◌<◌, ◌≤◌, ◌==◌, ℤ, pos, ◌+ℤ◌, ◌≤ℤ◌, Bool, true, false, ◌&&◌, ◌||◌, Option, Some, None, List, [], ◌∷◌, length, get_or, cond, nat_lt, lt-ltb, le-ltb, ap, ap₂, ◌∙◌, sym, subst, refl, inl, inr, arith}
+-- Where every accepted block with its accepted descendants gains, all accepted blocks together do: each stands in the
+-- family of just one that has no parent.
+use Rattle.std.proofs.Common.{◌≡◌, ℕ, zero, suc, ◌+◌, ◌<◌, ◌≤◌, ◌==◌, ℤ, pos, ◌+ℤ◌, ◌≤ℤ◌, Bool, true, false, ◌&&◌, ◌||◌, Option, Some, None}
+use Rattle.std.proofs.Common.{List, [], ◌∷◌, length, get_or, cond, nat_lt, lt-ltb, le-ltb, ap, ap₂, ◌∙◌, sym, subst, refl, inl, inr, arith}
 use Rattle.std.specs.List.{slice_get}
 use Rattle.std.proofs.lemmas.Int.{ints}
 use Rattle.std.proofs.lemmas.Option.{slice_get_within, get_or_from_slice_get}
@@ -95,7 +97,7 @@ where_accepted p t (a ∷ sel) zero e =
 where_accepted p t (a ∷ sel) (suc i) e =
     let rest = where_accepted p (suc t) sel i e in (rest.0, ap p (next_place t i) ∙ rest.1)
 
--- a sum over accepted places that is known to be at least 0 where there is any
+-- a sum over accepted places that is known to be at least 0 if there is any
 over_accepted-at_least_or : (f : BlockTerms → ℤ) (bs : List Block) (sel : List Bool)
     → ((i : ℕ) → accepts sel i ≡ true → pos 0 ≤ℤ over_accepted f bs sel) → pos 0 ≤ℤ over_accepted f bs sel
 over_accepted-at_least_or f [] sel h = omega (arith, ints)
@@ -114,11 +116,13 @@ by_place f n root (b ∷ bs) t (true ∷ sel) h =
     (λ r. over_accepted f (b ∷ bs) ((root t == r) ∷ accepted_where (λ j. root j == r) (suc t) sel))
     (λ r. where_true (root t == r) (f b.order) +ℤ over_accepted f bs (accepted_where (λ j. root j == r) (suc t) sel))
     (λ r. first_apart f b bs (root t == r) (accepted_where (λ j. root j == r) (suc t) sel)) in
-    let both = sum_below-plus n (λ r. where_true (root t == r) (f b.order)) (λ r. over_accepted f bs (accepted_where (λ j. root j == r) (suc t) sel)) in
+    let both = sum_below-plus n (λ r. where_true (root t == r) (f b.order))
+    (λ r. over_accepted f bs (accepted_where (λ j. root j == r) (suc t) sel)) in
     let here = at_just_one n (root t) (f b.order) (subst (λ (m : ℕ). root m < n) (first_place t) (h 0 refl)) in
     let rest = by_place f n root bs (suc t) sel (λ i e. subst (λ (m : ℕ). root m < n) (next_place t i) (h (suc i) e)) in
     omega (arith, ints, apart, both, here, rest)
-by_place f n root (b ∷ bs) t (false ∷ sel) h = by_place f n root bs (suc t) sel (λ i e. subst (λ (m : ℕ). root m < n) (next_place t i) (h (suc i) e))
+by_place f n root (b ∷ bs) t (false ∷ sel) h =
+    by_place f n root bs (suc t) sel (λ i e. subst (λ (m : ℕ). root m < n) (next_place t i) (h (suc i) e))
 
 -- one more place joins those that pass a test
 one_more : (f : BlockTerms → ℤ) (d : ℕ → Bool) (bs : List Block) (t k : ℕ) (sel : List Bool) (b : Block)
@@ -131,7 +135,8 @@ one_more f d (c ∷ bs) t zero (a ∷ sel) b apart acc at =
     let yes_here : (a && ((t == t + 0) || d t)) ≡ true = (let taken : a ≡ true = acc in let eq = eq-eqb t (t + 0) (omega arith) in cc) in
     let no_here : (a && d t) ≡ false = (let taken : a ≡ true = acc in let off : d t ≡ false = sym (ap d (first_place t)) ∙ apart in cc) in
     let rest = where_same (λ j. (j == t + 0) || d j) d (suc t) sel
-    (λ i e. ap (λ (x : Bool). x || d (suc t + i)) (unequal (suc t + i) (t + 0) (λ w. (let wrong : 0 < 0 = omega (arith, w) in omega (arith, wrong))))) in
+    (λ i e. ap (λ (x : Bool). x || d (suc t + i))
+    (unequal (suc t + i) (t + 0) (λ w. (let wrong : 0 < 0 = omega (arith, w) in omega (arith, wrong))))) in
     let with_it = first_apart f c bs (a && ((t == t + 0) || d t)) (accepted_where (λ j. (j == t + 0) || d j) (suc t) sel) in
     let without = first_apart f c bs (a && d t) (accepted_where d (suc t) sel) in
     let one = ap (λ (x : Bool). where_true x (f c.order)) yes_here in
@@ -142,7 +147,8 @@ one_more f d (c ∷ bs) t zero (a ∷ sel) b apart acc at =
 one_more f d (c ∷ bs) t (suc k) (a ∷ sel) b apart acc at =
     let place : suc t + k ≡ t + suc k = omega arith in
     let deeper = one_more f d bs (suc t) k sel b (ap d place ∙ apart) acc at in
-    let moved = subst (λ (m : ℕ). over_accepted f bs (accepted_where (λ j. (j == m) || d j) (suc t) sel) ≡ f b.order +ℤ over_accepted f bs (accepted_where d (suc t) sel)) place deeper in
+    let moved = subst (λ (m : ℕ). over_accepted f bs (accepted_where (λ j. (j == m) || d j) (suc t) sel) ≡ f b.order
+    +ℤ over_accepted f bs (accepted_where d (suc t) sel)) place deeper in
     let here : (a && ((t == t + suc k) || d t)) ≡ (a && d t) =
     ap (λ (x : Bool). a && (x || d t)) (unequal t (t + suc k) (λ w. (let wrong : 0 < 0 = omega (arith, w) in omega (arith, wrong)))) in
     let with_it = first_apart f c bs (a && ((t == t + suc k) || d t)) (accepted_where (λ j. (j == t + suc k) || d j) (suc t) sel) in
@@ -196,7 +202,7 @@ one_link blocks r n p None top e deeper = or_false (p == r)
 one_link blocks r n p (Some q) top e deeper =
     ap (λ (x : Bool). x || leads_to n blocks r (Some q)) (not_the_top blocks r p q top e) ∙ deeper q refl
 
--- a chain leads to a block without a parent exactly where it ends there
+-- a chain leads to a block without a parent exactly if it ends there
 leads_to_its_root : (blocks : List Block) (sel : List Bool) (r n j p : ℕ) → AreChains blocks sel → parent_place blocks r ≡ None → p < n
     → leads_to n blocks r (Some p) ≡ (root_from n blocks j (Some p) == r)
 leads_to_its_root blocks sel r zero j p chains top l = absurd (omega (arith, l))
@@ -225,9 +231,11 @@ top_gains blocks sel prices r chains no_loss is =
     let family = where_same (λ j. root blocks j == r) (λ j. (j == 0 + r) || descends blocks r j) 0 sel
     (λ i acc. subst (λ (m : ℕ). (root blocks m == r) ≡ ((m == 0 + r) || descends blocks r m)) (sym (zero_first i))
     (let there = chains.within i acc in
-    subst (λ (m : ℕ). (root blocks i == r) ≡ ((i == m) || descends blocks r i)) (sym (zero_first r)) (in_family blocks sel r i (parent_place blocks i) chains is.top refl (slice_get_within blocks i there.0 there.1)))) in
+    subst (λ (m : ℕ). (root blocks i == r) ≡ ((i == m) || descends blocks r i)) (sym (zero_first r))
+    (in_family blocks sel r i (parent_place blocks i) chains is.top refl (slice_get_within blocks i there.0 there.1)))) in
     let itself : descends blocks r r ≡ false = ap (λ (o : Option ℕ). leads_to (length blocks) blocks r o) is.top in
-    let more = one_more (surplus_of prices) (descends blocks r) blocks 0 r sel stands.0 (ap (λ (m : ℕ). descends blocks r m) (zero_first r) ∙ itself) is.accepted stands.1 in
+    let more = one_more (surplus_of prices) (descends blocks r) blocks 0 r sel stands.0 (ap (λ (m : ℕ). descends blocks r m) (zero_first r)
+    ∙ itself) is.accepted stands.1 in
     let same = ap (λ (m : List Bool). over_accepted (surplus_of prices) blocks m) family in
     let own : surplus_at blocks prices r ≡ surplus_of prices stands.0.order = rw stands.1 in
     let gain = no_loss.gains r is.accepted in
@@ -240,7 +248,8 @@ family_gains blocks sel prices r chains no_loss =
     (let parts = where_accepted (λ j. root blocks j == r) 0 sel i passes in
     let there = chains.within i parts.0 in
     let ends = root_is_top blocks sel (length blocks) i (parent_place blocks i) chains refl parts.0
-    (λ p is. (let below = chains.before i p is in let inside = slice_get_within blocks i there.0 there.1 in omega (arith, below, inside))) in
+    (λ p is. (let below = chains.before i p is in let inside = slice_get_within blocks i there.0 there.1 in
+    omega (arith, below, inside))) in
     let same = eqb-true (root blocks i) r (ap (λ (m : ℕ). root blocks m == r) (sym (zero_first i)) ∙ parts.1) in
     top_gains blocks sel prices r chains no_loss (subst (λ (m : ℕ). IsTop blocks sel m) same ends.0)))
 
@@ -257,12 +266,14 @@ no_loss_in_families blocks sel prices chains no_loss =
     omega (arith, ints, all, each)
 
 -- ---- going through the blocks for a parent
-pub first_parent : (blocks : List Block) (j i : ℕ) (child parent : Block) → slice_get blocks j ≡ Some child → slice_get blocks i ≡ Some parent
+pub first_parent : (blocks : List Block) (j i : ℕ) (child parent : Block) → slice_get blocks j ≡ Some child
+    → slice_get blocks i ≡ Some parent
     → ((k : ℕ) → k < i → names (get_or blocks k child) child ≡ false) → names parent child ≡ true → parent_place blocks j ≡ Some i
 first_parent blocks j i child parent at there before named =
     let inside = slice_get_within blocks i parent there in
     let is = get_or_from_slice_get blocks i parent child there in
-    let first = position_or_len_is (λ q. names q child) blocks i child (omega (arith, inside)) before (λ l. ap (λ (q : Block). names q child) is ∙ named) in
+    let first = position_or_len_is (λ q. names q child) blocks i child (omega (arith, inside)) before
+    (λ l. ap (λ (q : Block). names q child) is ∙ named) in
     ap (λ (o : Option Block). parent_among blocks o) at
     ∙ ap (λ (n : ℕ). cond (nat_lt n (length blocks)) (Some n) None) first
     ∙ ap (λ (b : Bool). cond b (Some i) None) (lt-ltb i (length blocks) inside)
@@ -275,7 +286,7 @@ no_parent blocks j child at none =
     ∙ ap (λ (n : ℕ). cond (nat_lt n (length blocks)) (Some n) None) last
     ∙ ap (λ (b : Bool). cond b (Some (length blocks)) None) (le-ltb (length blocks) (length blocks) (omega arith))
 
--- where a chain begins elsewhere, the rest of it leads to a place where all of it does
+-- if a chain begins elsewhere, the rest of it leads to a place if all of it does
 pub next_link : (blocks : List Block) (m n i p : ℕ) (o : Option ℕ) → n ≡ suc m → (p ≡ i → ⊥) → o ≡ Some p
     → leads_to m blocks i (parent_place blocks p) ≡ leads_to n blocks i o
 next_link blocks m n i p o one apart is =
@@ -288,5 +299,7 @@ accepts_where p t [] i = refl
 accepts_where p t (a ∷ sel) zero = ap (λ (m : ℕ). a && p m) (sym (first_place t))
 accepts_where p t (a ∷ sel) (suc i) = accepts_where p (suc t) sel i ∙ ap (λ (m : ℕ). accepts sel i && p m) (sym (next_place t i))
 
-pub accepts_descendant : (blocks : List Block) (sel : List Bool) (i j : ℕ) → accepts (accepted_descendants blocks sel i) j ≡ (accepts sel j && descends blocks i j)
-accepts_descendant blocks sel i j = accepts_where (descends blocks i) 0 sel j ∙ ap (λ (m : ℕ). accepts sel j && descends blocks i m) (zero_first j)
+pub accepts_descendant : (blocks : List Block) (sel : List Bool) (i j : ℕ)
+    → accepts (accepted_descendants blocks sel i) j ≡ (accepts sel j && descends blocks i j)
+accepts_descendant blocks sel i j =
+    accepts_where (descends blocks i) 0 sel j ∙ ap (λ (m : ℕ). accepts sel j && descends blocks i m) (zero_first j)

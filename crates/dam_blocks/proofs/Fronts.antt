@@ -50,7 +50,8 @@ front_allowed problem xs ys i is e allowed = record {
         parent = λ p.
             (let before = parent_before problem i j allowed.block other is allowed.stands at p in
             let inside = accepted_within xs i e in
-            whole_accepts xs (replicate (most_blocks - length xs) false) j (front_accepts xs ys j (omega (arith, before, inside)) (whole.parent p)));
+            whole_accepts xs (replicate (most_blocks - length xs) false) j
+            (front_accepts xs ys j (omega (arith, before, inside)) (whole.parent p)));
         group = λ a. whole.group (whole_accepts xs ys j (padded_accepts xs j a));
       });
 }

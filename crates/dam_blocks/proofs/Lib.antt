@@ -1,3 +1,4 @@
+-- The lemmas that several functions need.
 pub mod Sums
 pub mod Families
 pub mod WelfareAtLeastZero
@@ -18,3 +19,4 @@ pub mod AdmissionDecided
 pub mod Fronts
 pub mod ResultExists
 pub mod Hindering
+pub mod BestSelection

@@ -1,5 +1,6 @@
 -- How large values and welfares are.
-use Rattle.std.proofs.Common.{◌≡◌, ℕ, suc, ◌+◌, ◌*◌, ◌≤◌, ◌==◌, cond, ℤ, pos, negsuc, neg_ℤ, nat_abs, ◌*ℤ◌, ◌≤ℤ◌, Bool, true, false, Some, List, [], ◌∷◌, length, arith}
+use Rattle.std.proofs.Common.{◌≡◌, ℕ, suc, ◌+◌, ◌*◌, ◌≤◌, ◌==◌, cond, ℤ, pos, negsuc, neg_ℤ, nat_abs, ◌*ℤ◌, ◌≤ℤ◌, Bool, true, false, Some}
+use Rattle.std.proofs.Common.{List, [], ◌∷◌, length, arith}
 use Rattle.std.proofs.lemmas.Int.{ints}
 use Rattle.std.proofs.Math.Nat.{mul-le-mul}
 use Rattle.dam_book.specs.Limits.{lowest_price, greatest_volume, last_period, most_blocks}
@@ -21,17 +22,21 @@ use Rattle.dam_blocks.specs.Magnitude.{IsWithin, greatest_block_value_in_period,
 use Rattle.dam_blocks.proofs.WelfareAtLeastZero.{added_some, raised_some}
 
 -- ---- the hourly orders
-price_times : (p : ℤ) (x : ℕ) → IsPrice p → x ≤ greatest_volume → (neg_ℤ (pos greatest_value) ≤ℤ (p *ℤ pos x)) × ((p *ℤ pos x) ≤ℤ pos greatest_value)
+price_times : (p : ℤ) (x : ℕ) → IsPrice p → x ≤ greatest_volume
+    → (neg_ℤ (pos greatest_value) ≤ℤ (p *ℤ pos x)) × ((p *ℤ pos x) ≤ℤ pos greatest_value)
 price_times (pos n) x is h =
     let limit = is.at_most in
-    let m : n * x ≤ greatest_price * greatest_volume = mul-le-mul {n₁ = n} {m₁ = x} {n₂ = greatest_price} {m₂ = greatest_volume} (omega (arith, ints, limit)) h in
+    let m : n * x ≤ greatest_price * greatest_volume =
+    mul-le-mul {n₁ = n} {m₁ = x} {n₂ = greatest_price} {m₂ = greatest_volume} (omega (arith, ints, limit)) h in
     (omega (arith, ints, m), omega (arith, ints, m))
 price_times (negsuc n) x is h =
     let limit = is.at_least in
-    let m : suc n * x ≤ nat_abs lowest_price * greatest_volume = mul-le-mul {n₁ = suc n} {m₁ = x} {n₂ = nat_abs lowest_price} {m₂ = greatest_volume} (omega (arith, ints, limit)) h in
+    let m : suc n * x ≤ nat_abs lowest_price * greatest_volume =
+    mul-le-mul {n₁ = suc n} {m₁ = x} {n₂ = nat_abs lowest_price} {m₂ = greatest_volume} (omega (arith, ints, limit)) h in
     (omega (arith, ints, m), omega (arith, ints, m))
 
-signed_within : (side : Side) (z : ℤ) (n : ℕ) → neg_ℤ (pos n) ≤ℤ z → z ≤ℤ pos n → (neg_ℤ (pos n) ≤ℤ signed side z) × (signed side z ≤ℤ pos n)
+signed_within : (side : Side) (z : ℤ) (n : ℕ) → neg_ℤ (pos n) ≤ℤ z → z ≤ℤ pos n
+    → (neg_ℤ (pos n) ≤ℤ signed side z) × (signed side z ≤ℤ pos n)
 signed_within Buy z n l h = (l, h)
 signed_within Sell z n l h = (omega (arith, ints, l, h), omega (arith, ints, l, h))
 
@@ -59,7 +64,8 @@ value_within t o is =
     let w = signed_within o.side (o.price *ℤ pos (volume_in o.volumes t)) greatest_value own.0 own.1 in
     record { at_least = w.0; at_most = w.1 }
 
-block_value_within : (periods t : ℕ) (bs : List Block) (sel : List Bool) → AreBlocks periods bs → IsWithin (length bs * greatest_value) (block_value bs sel t)
+block_value_within : (periods t : ℕ) (bs : List Block) (sel : List Bool) → AreBlocks periods bs
+    → IsWithin (length bs * greatest_value) (block_value bs sel t)
 block_value_within periods t [] sel are = record { at_least = omega (arith, ints); at_most = omega (arith, ints) }
 block_value_within periods t (b ∷ bs) [] are = record { at_least = omega (arith, ints); at_most = omega (arith, ints) }
 block_value_within periods t (b ∷ bs) (true ∷ sel) are =
@@ -74,9 +80,11 @@ block_value_within periods t (b ∷ bs) (false ∷ sel) are =
 -- what the laws of one period say of a welfare, and those of the book of a day
 pub record Reached : Type 0 where
   pub short : (periods : ℕ) → is_day periods ≡ true → periods ≤ last_period
-  pub reached : (ss : List Step) (net w : ℤ) → greatest_welfare ss net ≡ Some w → (xs : List ℕ) × IsExecution ss xs × Balances ss net xs × (welfare_of ss xs ≡ w)
+  pub reached : (ss : List Step) (net w : ℤ) → greatest_welfare ss net ≡ Some w
+      → (xs : List ℕ) × IsExecution ss xs × Balances ss net xs × (welfare_of ss xs ≡ w)
 
-period_size : Reached → (periods t : ℕ) (blocks : List Block) (sel : List Bool) (ss : List Step) (u : ℤ) → AreBlocks periods blocks → length blocks ≤ most_blocks → AreInRange ss
+period_size : Reached → (periods t : ℕ) (blocks : List Block) (sel : List Bool) (ss : List Step) (u : ℤ) → AreBlocks periods blocks
+    → length blocks ≤ most_blocks → AreInRange ss
     → period_welfare blocks sel t ss ≡ Some u → IsWithin (length ss * greatest_value + greatest_block_value_in_period) u
 period_size laws periods t blocks sel ss u are few range e =
     let parts = raised_some (greatest_welfare ss (net_volume blocks sel t)) (block_value blocks sel t) u e in
@@ -86,8 +94,10 @@ period_size laws periods t blocks sel ss u are few range e =
     let l = value.at_least in let h = value.at_most in let is = best.3 in let sum = parts.2 in
     record { at_least = omega (arith, ints, hourly.0, l, is, sum, few); at_most = omega (arith, ints, hourly.1, h, is, sum, few) }
 
-periods_size : Reached → (periods t : ℕ) (blocks : List Block) (sel : List Bool) (hours : List (List Step)) (w : ℤ) → AreBlocks periods blocks → length blocks ≤ most_blocks → AreHours hours
-    → welfare_from blocks sel t hours ≡ Some w → IsWithin (hourly_orders hours * greatest_value + length hours * greatest_block_value_in_period) w
+periods_size : Reached → (periods t : ℕ) (blocks : List Block) (sel : List Bool) (hours : List (List Step)) (w : ℤ)
+    → AreBlocks periods blocks → length blocks ≤ most_blocks → AreHours hours
+    → welfare_from blocks sel t hours ≡ Some w
+    → IsWithin (hourly_orders hours * greatest_value + length hours * greatest_block_value_in_period) w
 periods_size laws periods t blocks sel [] w are few ranges e =
     let zero : pos 0 ≡ w = cc in record { at_least = omega (arith, ints, zero); at_most = omega (arith, ints, zero) }
 periods_size laws periods t blocks sel (ss ∷ hours) w are few ranges e =
@@ -97,7 +107,8 @@ periods_size laws periods t blocks sel (ss ∷ hours) w are few ranges e =
     let a = here.at_least in let b = rest.at_least in let c = here.at_most in let d = rest.at_most in let sum = parts.4 in
     record { at_least = omega (arith, ints, a, b, sum); at_most = omega (arith, ints, c, d, sum) }
 
-pub welfare_size : Reached → (problem : ProblemState) (sel : List Bool) (w : ℤ) → IsProblem problem → selection_welfare problem sel ≡ Some w → IsWithin greatest_selection_welfare w
+pub welfare_size : Reached → (problem : ProblemState) (sel : List Bool) (w : ℤ) → IsProblem problem → selection_welfare problem sel ≡ Some w
+    → IsWithin greatest_selection_welfare w
 welfare_size laws problem sel w is e =
     let size = periods_size laws (length problem.hours) 1 problem.blocks sel problem.hours w is.blocks is.few_blocks is.hours e in
     let l = size.at_least in let h = size.at_most in let hourly = is.few_hourly in let day = laws.short (length problem.hours) is.day in

@@ -1,5 +1,6 @@
 -- Clearing the periods one by one.
-use Rattle.std.proofs.Common.{◌≡◌, ℕ, zero, suc, ◌+◌, ◌-◌, ◌*◌, ◌<◌, ◌≤◌, ℤ, pos, neg_ℤ, ◌+ℤ◌, ◌≤ℤ◌, Bool, Option, Some, None, List, [], ◌∷◌, length, get_or, take, drop, ap, ap₂, ◌∙◌, sym, subst, refl, inl, inr, arith}
+use Rattle.std.proofs.Common.{◌≡◌, ℕ, zero, suc, ◌+◌, ◌-◌, ◌*◌, ◌<◌, ◌≤◌, ℤ, pos, neg_ℤ, ◌+ℤ◌, ◌≤ℤ◌, Bool, Option, Some, None, List, []}
+use Rattle.std.proofs.Common.{◌∷◌, length, get_or, take, drop, ap, ap₂, ◌∙◌, sym, subst, refl, inl, inr, arith}
 use Rattle.std.specs.List.{slice_get}
 use Rattle.std.specs.Option.{option_map}
 use Rattle.std.proofs.lemmas.Int.{ints}
@@ -22,7 +23,8 @@ use Rattle.dam_blocks.specs.Score.{IsFirstUnbalanced}
 use Rattle.dam_blocks.proofs.Magnitudes.{welfare_within}
 
 -- ---- one period
-pub hour_at : (hours : List (List Step)) (i most : ℕ) (ss : List Step) → AreHours hours → hourly_orders hours ≤ most → slice_get hours i ≡ Some ss
+pub hour_at : (hours : List (List Step)) (i most : ℕ) (ss : List Step) → AreHours hours → hourly_orders hours ≤ most
+    → slice_get hours i ≡ Some ss
     → AreInRange ss × (length ss ≤ most)
 hour_at [] i most ss are few e = absurd (cc)
 hour_at (hour ∷ hours) zero most ss are few e =
@@ -30,21 +32,35 @@ hour_at (hour ∷ hours) zero most ss are few e =
     (subst (λ (h : List Step). AreInRange h) same are.0, omega (arith, few, ap length same))
 hour_at (hour ∷ hours) (suc i) most ss are few e = hour_at hours i most ss are.1 (omega (arith, few)) e
 
-pub period_within : (hours : List (List Step)) (i : ℕ) (ss : List Step) (net : ℤ) (bought sold : ℕ) (w : ℤ) → AreHours hours → hourly_orders hours ≤ most_hourly
-    → slice_get hours i ≡ Some ss → AreBestTotals ss net bought sold w → (neg_ℤ (pos (most_hourly * greatest_value)) ≤ℤ w) × (w ≤ℤ pos (most_hourly * greatest_value))
+period_within : (hours : List (List Step)) (i : ℕ) (ss : List Step) (net : ℤ) (bought sold : ℕ) (w : ℤ) → AreHours hours
+    → hourly_orders hours ≤ most_hourly
+    → slice_get hours i ≡ Some ss → AreBestTotals ss net bought sold w
+    → (neg_ℤ (pos (most_hourly * greatest_value)) ≤ℤ w) × (w ≤ℤ pos (most_hourly * greatest_value))
 period_within hours i ss net bought sold w are few at t =
     let hour = hour_at hours i most_hourly ss are few at in
     let within = welfare_within ss t.volumes hour.0 t.best.execution in
     let is = t.welfare_is in let long = hour.1 in
     (omega (arith, ints, within.0, is, long), omega (arith, ints, within.1, is, long))
 
+-- the same of a period of the list that the code reads
+pub period_read : (hours hours' : List (List Step)) (i : ℕ) (ss : List Step) (net : ℤ) (bought sold : ℕ) (w : ℤ) → hours' ≡ hours
+    → AreHours hours → hourly_orders hours ≤ most_hourly → slice_get hours' i ≡ Some ss → AreBestTotals ss net bought sold w
+    → (neg_ℤ (pos (most_hourly * greatest_value)) ≤ℤ w) × (w ≤ℤ pos (most_hourly * greatest_value))
+period_read hours hours' i ss net bought sold w same are few at totals =
+    period_within hours i ss net bought sold w are few (ap (λ (hs : List (List Step)). slice_get hs i) (sym same) ∙ at) totals
+
+pub periods_read : (hours hours' : List (List Step)) → hours' ≡ hours → length hours ≤ last_period → length hours' ≤ last_period
+periods_read hours hours' same few = let long = ap length same in omega (arith, long, few)
+
 -- ---- the periods so far
-pub record IsClearedSoFar (blocks : List Block) (sel : List Bool) (hours : List (List Step)) (place : ℕ) (welfare : ℤ) (prices : List ℤ) : Type 0 where
+pub record IsClearedSoFar (blocks : List Block) (sel : List Bool) (hours : List (List Step)) (place : ℕ) (welfare : ℤ)
+    (prices : List ℤ) : Type 0 where
   pub sum : added (Some welfare) (welfare_from blocks sel (place + 1) (drop place hours)) ≡ welfare_from blocks sel 1 hours
   pub low : neg_ℤ (pos (place * (most_hourly * greatest_value + greatest_block_value_in_period))) ≤ℤ welfare
   pub high : welfare ≤ℤ pos (place * (most_hourly * greatest_value + greatest_block_value_in_period))
   pub long : length prices ≡ last_period
-  pub each : (k : ℕ) (ss : List Step) → k < place → slice_get hours k ≡ Some ss → IsClearingPrice ss (net_volume blocks sel (k + 1)) (get_or prices k (pos 0))
+  pub each : (k : ℕ) (ss : List Step) → k < place → slice_get hours k ≡ Some ss
+      → IsClearingPrice ss (net_volume blocks sel (k + 1)) (get_or prices k (pos 0))
 
 added_assoc : (w v : ℤ) (x : Option ℤ) → added (Some w) (added (Some v) x) ≡ added (Some (w +ℤ v)) x
 added_assoc w v None = refl
@@ -72,17 +88,22 @@ get_or-set_below (q ∷ prices) (suc i) (suc k) p h = get_or-set_below prices i 
 raised_is : (x : Option ℤ) (k g : ℤ) → x ≡ Some g → option_map (λ w. w +ℤ k) x ≡ Some (g +ℤ k)
 raised_is x k g e = rw e
 
-pub cleared_more : (blocks : List Block) (sel : List Bool) (hours : List (List Step)) (place t : ℕ) (welfare : ℤ) (prices : List ℤ) (ss : List Step)
+pub cleared_more : (blocks : List Block) (sel : List Bool) (hours : List (List Step)) (place t : ℕ) (welfare : ℤ) (prices : List ℤ)
+    (ss : List Step)
     (net low high p g value after : ℤ)
-    → slice_get hours place ≡ Some ss → place < last_period → t ≡ place + 1 → net ≡ net_volume blocks sel t → AreEnds ss net low high → IsClearingPrice ss net p
-    → greatest_welfare ss net ≡ Some g → value ≡ block_value blocks sel t → neg_ℤ (pos (most_hourly * greatest_value)) ≤ℤ g → g ≤ℤ pos (most_hourly * greatest_value)
+    → slice_get hours place ≡ Some ss → place < last_period → t ≡ place + 1 → net ≡ net_volume blocks sel t → AreEnds ss net low high
+    → IsClearingPrice ss net p
+    → greatest_welfare ss net ≡ Some g → value ≡ block_value blocks sel t → neg_ℤ (pos (most_hourly * greatest_value)) ≤ℤ g
+    → g ≤ℤ pos (most_hourly * greatest_value)
     → neg_ℤ (pos greatest_block_value_in_period) ≤ℤ value → value ≤ℤ pos greatest_block_value_in_period → after ≡ welfare +ℤ (g +ℤ value)
     → IsClearedSoFar blocks sel hours place welfare prices → IsClearedSoFar blocks sel hours (place + 1) after (set prices place p)
-cleared_more blocks sel hours place t welfare prices ss net low high p g value after at room period net_is ends price great value_is gl gh vl vh e so_far =
+cleared_more blocks sel hours place t welfare prices ss net low high p g value after at room period net_is ends price great value_is gl gh
+    vl vh e so_far =
     let one : suc place ≡ place + 1 = omega arith in
     let net_here : net ≡ net_volume blocks sel (place + 1) = net_is ∙ ap (λ (n : ℕ). net_volume blocks sel n) period in
     let value_here : value ≡ block_value blocks sel (place + 1) = value_is ∙ ap (λ (n : ℕ). block_value blocks sel n) period in
-    let great_here : greatest_welfare ss (net_volume blocks sel (place + 1)) ≡ Some g = ap (λ (z : ℤ). greatest_welfare ss z) (sym net_here) ∙ great in
+    let great_here : greatest_welfare ss (net_volume blocks sel (place + 1)) ≡ Some g =
+    ap (λ (z : ℤ). greatest_welfare ss z) (sym net_here) ∙ great in
     let here : period_welfare blocks sel (place + 1) ss ≡ Some (g +ℤ value) =
     raised_is (greatest_welfare ss (net_volume blocks sel (place + 1))) (block_value blocks sel (place + 1)) g great_here
     ∙ ap (λ (z : ℤ). Some (g +ℤ z)) (sym value_here) in
@@ -93,26 +114,33 @@ cleared_more blocks sel hours place t welfare prices ss net low high p g value a
     (ap₂ (λ (m n : ℕ). welfare_from blocks sel m (drop n hours)) (let s : suc (place + 1) ≡ (place + 1) + 1 = omega arith in s) one) in
     let sum = so_far.sum in let l = so_far.low in let h = so_far.high in
     record {
-      sum = ap (λ (z : ℤ). added (Some z) rest) e ∙ sym (added_assoc welfare (g +ℤ value) rest) ∙ ap (λ (x : Option ℤ). added (Some welfare) x) (sym unfolded) ∙ sum;
+      sum = ap (λ (z : ℤ). added (Some z) rest) e ∙ sym (added_assoc welfare (g +ℤ value) rest)
+          ∙ ap (λ (x : Option ℤ). added (Some welfare) x) (sym unfolded) ∙ sum;
       low = omega (arith, ints, l, gl, vl, e);
       high = omega (arith, ints, h, gh, vh, e);
       long = length-set prices place p ∙ so_far.long;
       each = λ k other below stands.
           elim (cases_lt k place) [
-            | inl less ↦ subst (λ (z : ℤ). IsClearingPrice other (net_volume blocks sel (k + 1)) z) (sym (get_or-set_below prices place k p less)) (so_far.each k other less stands)
+            | inl less ↦ subst (λ (z : ℤ). IsClearingPrice other (net_volume blocks sel (k + 1)) z)
+                (sym (get_or-set_below prices place k p less)) (so_far.each k other less stands)
             | inr more ↦
                 (let same : k ≡ place = omega (arith, below, more) in
                 let is : ss ≡ other = same_hour ss other (sym at ∙ ap (λ (n : ℕ). slice_get hours n) (sym same) ∙ stands) in
-                let set_is : get_or (set prices place p) k (pos 0) ≡ p = ap (λ (n : ℕ). get_or (set prices place p) n (pos 0)) same ∙ get_or-set_at prices place p (let long = so_far.long in omega (arith, room, long)) in
-                let first = subst (λ (z : ℤ). IsClearingPrice ss z p) (net_here ∙ ap (λ (n : ℕ). net_volume blocks sel (n + 1)) (sym same)) price in
+                let set_is : get_or (set prices place p) k (pos 0) ≡ p =
+                ap (λ (n : ℕ). get_or (set prices place p) n (pos 0)) same
+                ∙ get_or-set_at prices place p (let long = so_far.long in omega (arith, room, long)) in
+                let first = subst (λ (z : ℤ). IsClearingPrice ss z p) (net_here
+                ∙ ap (λ (n : ℕ). net_volume blocks sel (n + 1)) (sym same)) price in
                 subst (λ (z : ℤ). IsClearingPrice other (net_volume blocks sel (k + 1)) z) (sym set_is)
                 (subst (λ (h : List Step). IsClearingPrice h (net_volume blocks sel (k + 1)) p) is first))
           ];
     }
 
 -- the prices of all periods
-prices_from_each : (blocks : List Block) (sel : List Bool) (t : ℕ) (hours : List (List Step)) (prices : List ℤ) → length hours ≤ length prices
-    → ((k : ℕ) (ss : List Step) → slice_get hours k ≡ Some ss → IsClearingPrice ss (net_volume blocks sel (k + t)) (get_or prices k (pos 0)))
+prices_from_each : (blocks : List Block) (sel : List Bool) (t : ℕ) (hours : List (List Step)) (prices : List ℤ)
+    → length hours ≤ length prices
+    → ((k : ℕ) (ss : List Step) → slice_get hours k ≡ Some ss
+    → IsClearingPrice ss (net_volume blocks sel (k + t)) (get_or prices k (pos 0)))
     → ArePrices blocks sel t hours (take (length hours) prices)
 prices_from_each blocks sel t [] prices l each = tt
 prices_from_each blocks sel t (ss ∷ hours) [] l each = absurd (omega (arith, l))
@@ -124,19 +152,25 @@ prices_from_each blocks sel t (ss ∷ hours) (p ∷ prices) l each =
           subst (λ (n : ℕ). IsClearingPrice other (net_volume blocks sel n) (get_or prices k (pos 0))) next (each (suc k) other at))),
     )
 
-pub all_prices : (blocks : List Block) (sel : List Bool) (hours : List (List Step)) (place : ℕ) (welfare : ℤ) (prices : List ℤ) → length hours ≤ place → length hours ≤ last_period
+pub all_prices : (blocks : List Block) (sel : List Bool) (hours : List (List Step)) (place : ℕ) (welfare : ℤ) (prices : List ℤ)
+    → length hours ≤ place → length hours ≤ last_period
     → IsClearedSoFar blocks sel hours place welfare prices → ArePrices blocks sel 1 hours (take (length hours) prices)
 all_prices blocks sel hours place welfare prices all room so_far =
-    prices_from_each blocks sel 1 hours prices (let long = so_far.long in omega (arith, room, long)) (λ k ss at. (let inside = slice_get_within hours k ss at in so_far.each k ss (omega (arith, inside, all)) at))
+    prices_from_each blocks sel 1 hours prices (let long = so_far.long in
+    omega (arith, room, long)) (λ k ss at. (let inside = slice_get_within hours k ss at in
+    so_far.each k ss (omega (arith, inside, all)) at))
 
-pub all_welfare : (blocks : List Block) (sel : List Bool) (hours : List (List Step)) (place : ℕ) (welfare : ℤ) (prices : List ℤ) → length hours ≤ place
+pub all_welfare : (blocks : List Block) (sel : List Bool) (hours : List (List Step)) (place : ℕ) (welfare : ℤ) (prices : List ℤ)
+    → length hours ≤ place
     → IsClearedSoFar blocks sel hours place welfare prices → welfare_from blocks sel 1 hours ≡ Some welfare
 all_welfare blocks sel hours place welfare prices all so_far =
     let zero_left : welfare +ℤ pos 0 ≡ welfare = omega (arith, ints) in
-    sym so_far.sum ∙ ap (λ (hs : List (List Step)). added (Some welfare) (welfare_from blocks sel (place + 1) hs)) (drop_all place hours all) ∙ ap (λ (z : ℤ). Some z) zero_left
+    sym so_far.sum ∙ ap (λ (hs : List (List Step)). added (Some welfare) (welfare_from blocks sel (place + 1) hs))
+    (drop_all place hours all) ∙ ap (λ (z : ℤ). Some z) zero_left
 
 -- the first period that doesn't balance
-pub first_unbalanced : (problem : ProblemState) (sel : List Bool) (hours : List (List Step)) (place t : ℕ) (welfare : ℤ) (prices : List ℤ) (ss : List Step) (net : ℤ)
+pub first_unbalanced : (problem : ProblemState) (sel : List Bool) (hours : List (List Step)) (place t : ℕ) (welfare : ℤ) (prices : List ℤ)
+    (ss : List Step) (net : ℤ)
     → hours ≡ problem.hours → slice_get hours place ≡ Some ss → t ≡ place + 1 → net ≡ net_volume problem.blocks sel t → IsUnbalanced ss net
     → IsClearedSoFar problem.blocks sel hours place welfare prices → IsFirstUnbalanced problem sel t
 first_unbalanced problem sel hours place t welfare prices ss net same at period net_is none so_far =
@@ -151,5 +185,6 @@ first_unbalanced problem sel hours place t welfare prices ss net same at period 
           let price = so_far.each (s - 1) other (omega (arith, least, less, period)) there in
           let again : (s - 1) + 1 ≡ s = omega (arith, least) in
           let supports = price.ends.low_supports in
-          subst (λ (n : ℕ). IsBalanced other (net_volume problem.blocks sel n)) again (supports.volumes, supports.execution, supports.balance));
+          subst (λ (n : ℕ). IsBalanced other (net_volume problem.blocks sel n)) again
+          (supports.volumes, supports.execution, supports.balance));
     }

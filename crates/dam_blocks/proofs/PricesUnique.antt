@@ -23,4 +23,5 @@ prices_unique blocks sel t [] [] (q ∷ qs) h g = absurd g
 prices_unique blocks sel t (ss ∷ hours) [] qs h g = absurd h
 prices_unique blocks sel t (ss ∷ hours) (p ∷ ps) [] h g = absurd g
 prices_unique blocks sel t (ss ∷ hours) (p ∷ ps) (q ∷ qs) h g =
-    ap₂ (λ (x : ℤ) (xs : List ℤ). x ∷ xs) (price_unique ss (net_volume blocks sel t) p q h.0 g.0) (prices_unique blocks sel (suc t) hours ps qs h.1 g.1)
+    ap₂ (λ (x : ℤ) (xs : List ℤ). x ∷ xs) (price_unique ss (net_volume blocks sel t) p q h.0 g.0)
+    (prices_unique blocks sel (suc t) hours ps qs h.1 g.1)

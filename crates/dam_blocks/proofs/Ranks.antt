@@ -43,16 +43,25 @@ pub ranks_self : (v : ℤ) (xs : List Bool) → RanksAtOrBelow v xs v xs
 ranks_self v xs = record { by_welfare = omega (arith, ints); by_order = λ e. accepts_first-self xs }
 
 -- with one welfare the lists decide
-by_list : (v w : ℤ) (xs ys : List Bool) (b : Bool) → accepts_first xs ys ≡ b → w ≤ℤ v → v ≤ℤ w → RanksAbove v xs w ys ⊎ RanksAtOrBelow v xs w ys
+by_list : (v w : ℤ) (xs ys : List Bool) (b : Bool) → accepts_first xs ys ≡ b → w ≤ℤ v → v ≤ℤ w
+    → RanksAbove v xs w ys ⊎ RanksAtOrBelow v xs w ys
 by_list v w xs ys true e more less = inl (record { by_welfare = more; by_order = λ same. e })
 by_list v w xs ys false e more less = inr (record { by_welfare = less; by_order = λ same. e })
 
 -- of two, the first ranks above the second, or at or below it, and not both
 pub ranks_either : (v w : ℤ) (xs ys : List Bool) → RanksAbove v xs w ys ⊎ RanksAtOrBelow v xs w ys
 ranks_either v w xs ys = by_lt_z v w
-    (λ less. inr (record { by_welfare = omega (arith, ints, less); by_order = λ e. absurd (let no : 0 < 0 = omega (arith, ints, less, e) in omega (arith, no)) }))
+    (λ less. inr (record {
+      by_welfare = omega (arith, ints, less);
+      by_order =
+          λ e. absurd (let no : 0 < 0 = omega (arith, ints, less, e) in omega (arith, no));
+    }))
     (λ not_less. by_lt_z w v
-    (λ more. inl (record { by_welfare = omega (arith, ints, more); by_order = λ e. absurd (let no : 0 < 0 = omega (arith, ints, more, e) in omega (arith, no)) }))
+    (λ more. inl (record {
+      by_welfare = omega (arith, ints, more);
+      by_order =
+          λ e. absurd (let no : 0 < 0 = omega (arith, ints, more, e) in omega (arith, no));
+    }))
     (λ not_more. by_list v w xs ys (accepts_first xs ys) refl not_less not_more))
 
 pub ranks_apart : (v w : ℤ) (xs ys : List Bool) → RanksAbove v xs w ys → RanksAtOrBelow v xs w ys → ⊥
@@ -79,12 +88,14 @@ ranks_trans v xs w ys u zs l m h g =
           accepts_first-trans xs ys zs l m (h.by_order first) (g.by_order second));
     }
 
-pub same_rank : (v : ℤ) (xs : List Bool) (w : ℤ) (ys : List Bool) → length xs ≡ length ys → RanksAtOrBelow v xs w ys → RanksAtOrBelow w ys v xs → (xs ≡ ys) × (v ≡ w)
+pub same_rank : (v : ℤ) (xs : List Bool) (w : ℤ) (ys : List Bool) → length xs ≡ length ys → RanksAtOrBelow v xs w ys
+    → RanksAtOrBelow w ys v xs → (xs ≡ ys) × (v ≡ w)
 same_rank v xs w ys l h g =
     let a = h.by_welfare in let b = g.by_welfare in
     let same : v ≡ w = omega (arith, ints, a, b) in
     (accepts_first-same xs ys l (h.by_order same) (g.by_order (sym same)), same)
 
-pub result_unique : (problem : ProblemState) (xs ys : List Bool) (v w : ℤ) → IsResult problem xs v → IsResult problem ys w → (xs ≡ ys) × (v ≡ w)
+pub result_unique : (problem : ProblemState) (xs ys : List Bool) (v w : ℤ) → IsResult problem xs v → IsResult problem ys w
+    → (xs ≡ ys) × (v ≡ w)
 result_unique problem xs ys v w x y =
     same_rank v xs w ys (x.eligible.as_long ∙ sym y.eligible.as_long) (y.others xs v x.eligible) (x.others ys w y.eligible)

@@ -1,5 +1,6 @@
 -- A place more of a loop over a selection, its blocks and its periods.
-use Rattle.std.proofs.Common.{◌≡◌, ℕ, zero, suc, ◌+◌, ◌*◌, ◌<◌, ℤ, pos, neg_ℤ, ◌+ℤ◌, ◌≤ℤ◌, Bool, true, false, Some, List, [], ◌∷◌, length, get_or, drop, ap, ap₂, ◌∙◌, sym, refl, arith}
+use Rattle.std.proofs.Common.{◌≡◌, ℕ, zero, suc, ◌+◌, ◌*◌, ◌<◌, ℤ, pos, neg_ℤ, ◌+ℤ◌, ◌≤ℤ◌, Bool, true, false, Some, List, [], ◌∷◌, length}
+use Rattle.std.proofs.Common.{get_or, drop, ap, ap₂, ◌∙◌, sym, refl, arith}
 use Rattle.std.specs.List.{slice_get}
 use Rattle.std.proofs.lemmas.Int.{ints}
 use Rattle.std.proofs.Math.Seq.{drop-cons}
@@ -26,7 +27,8 @@ over_accepted-nil : (f : BlockTerms → ℤ) (bs : List Block) → over_accepted
 over_accepted-nil f [] = refl
 over_accepted-nil f (b ∷ bs) = refl
 
-nothing_left : (f : BlockTerms → ℤ) (i : ℕ) (sel : List Bool) → over_accepted f (drop i []) (drop i sel) ≡ over_accepted f (drop (suc i) []) (drop (suc i) sel)
+nothing_left : (f : BlockTerms → ℤ) (i : ℕ) (sel : List Bool)
+    → over_accepted f (drop i []) (drop i sel) ≡ over_accepted f (drop (suc i) []) (drop (suc i) sel)
 nothing_left f zero sel = refl
 nothing_left f (suc i) sel = refl
 
@@ -52,7 +54,12 @@ sum_more f limit bs sel place total v after b at accepted is low high e so_far =
     let step = sum-accepted f place bs b sel at accepted in
     let next = ap (λ (n : ℕ). over_accepted f (drop n bs) (drop n sel)) (one_more place) in
     let sum = so_far.sum in let l = so_far.low in let h = so_far.high in
-    record { sum = omega (arith, ints, step, next, sum, is, e); low = omega (arith, ints, l, low, e); high = omega (arith, ints, h, high, e) }
+    record {
+      sum = omega (arith, ints, step, next, sum, is, e);
+      low = omega (arith, ints, l, low, e);
+      high =
+          omega (arith, ints, h, high, e);
+    }
 
 pub sum_same : (f : BlockTerms → ℤ) (limit : ℕ) (bs : List Block) (sel : List Bool) (place : ℕ) (total after : ℤ)
     → accepts sel place ≡ false → after ≡ total → IsSumSoFar f limit bs sel place total → IsSumSoFar f limit bs sel (place + 1) after
@@ -74,7 +81,8 @@ pub record IsSurplusSoFar (o : BlockTerms) (prices : List ℤ) (place : ℕ) (to
   pub low : neg_ℤ (pos (place * greatest_gain)) ≤ℤ total
   pub high : total ≤ℤ pos (place * greatest_gain)
 
-pub surplus_more : (o : BlockTerms) (prices : List ℤ) (place t : ℕ) (p total v after : ℤ) → place < length prices → p ≡ get_or prices place p → t ≡ place + 1
+pub surplus_more : (o : BlockTerms) (prices : List ℤ) (place t : ℕ) (p total v after : ℤ) → place < length prices
+    → p ≡ get_or prices place p → t ≡ place + 1
     → v ≡ surplus_in t p o → neg_ℤ (pos greatest_gain) ≤ℤ v → v ≤ℤ pos greatest_gain → after ≡ total +ℤ v
     → IsSurplusSoFar o prices place total → IsSurplusSoFar o prices (place + 1) after
 surplus_more o prices place t p total v after l at period is low high e so_far =
@@ -83,4 +91,9 @@ surplus_more o prices place t p total v after l at period is low high e so_far =
     let next : surplus_from (suc (place + 1)) (drop (suc place) prices) o ≡ surplus_from ((place + 1) + 1) (drop (place + 1) prices) o =
     ap₂ (λ (m n : ℕ). surplus_from m (drop n prices) o) (one_more (place + 1)) (one_more place) in
     let sum = so_far.sum in let b = so_far.low in let h = so_far.high in
-    record { sum = omega (arith, ints, step, here, next, sum, is, e); low = omega (arith, ints, b, low, e); high = omega (arith, ints, h, high, e) }
+    record {
+      sum = omega (arith, ints, step, here, next, sum, is, e);
+      low = omega (arith, ints, b, low, e);
+      high =
+          omega (arith, ints, h, high, e);
+    }

@@ -1,5 +1,6 @@
 -- An eligible selection has a welfare of at least 0: the hourly orders gain at the prices, and no accepted block loses.
-use Rattle.std.proofs.Common.{◌≡◌, ℕ, suc, ◌↔◌, ℤ, pos, ◌+ℤ◌, ◌*ℤ◌, ◌≤ℤ◌, ◌<◌, Bool, true, Option, Some, None, List, [], ◌∷◌, get_or, ap, ◌∙◌, sym, subst, refl, arith}
+use Rattle.std.proofs.Common.{◌≡◌, ℕ, suc, ◌↔◌, ℤ, pos, ◌+ℤ◌, ◌*ℤ◌, ◌≤ℤ◌, ◌<◌, Bool, true, Option, Some, None, List, [], ◌∷◌, get_or, ap}
+use Rattle.std.proofs.Common.{◌∙◌, sym, subst, refl, arith}
 use Rattle.std.specs.List.{slice_get}
 use Rattle.std.specs.Option.{option_map}
 use Rattle.std.specs.Cmp.Lexicographic.{bytes_decides}
@@ -25,7 +26,8 @@ use Rattle.dam_blocks.proofs.Families.{AreChains, no_loss_in_families}
 pub record PriceLaws : Type 0 where
   pub between : (low high : ℤ) → low ≤ℤ high → (low ≤ℤ price_between low high) × (price_between low high ≤ℤ high)
   pub supports : (ss : List Step) (net low high p : ℤ) → AreEnds ss net low high → IsSupporting ss net p ↔ ((low ≤ℤ p) × (p ≤ℤ high))
-  pub bound : (ss : List Step) (net w : ℤ) → greatest_welfare ss net ≡ Some w → (xs : List ℕ) → IsExecution ss xs → Balances ss net xs → welfare_of ss xs ≤ℤ w
+  pub bound : (ss : List Step) (net w : ℤ) → greatest_welfare ss net ≡ Some w → (xs : List ℕ) → IsExecution ss xs → Balances ss net xs
+      → welfare_of ss xs ≤ℤ w
   pub welfare : (p net : ℤ) (ss : List Step) (xs : List ℕ) → Balances ss net xs → welfare_of ss xs ≡ surplus_at p ss xs +ℤ p *ℤ net
   pub at_least_zero : (p : ℤ) (ss : List Step) (xs : List ℕ) → IsExecution ss xs → Supports p ss xs → pos 0 ≤ℤ surplus_at p ss xs
 
@@ -92,7 +94,14 @@ parent_found blocks j p e = from (slice_get blocks j) refl
     from None at = absurd (let none = ap (λ (o : Option Block). parent_among blocks o) at in cc)
     from (Some b) at =
         let found = position-Some (λ q. names q b) blocks p b (sym (ap (λ (o : Option Block). parent_among blocks o) at) ∙ e) in
-        record { child = b; parent = get_or blocks p b; child_stands = at; parent_stands = slice_get-get_or blocks p b found.0; is_parent = named_parent (get_or blocks p b) b found.1 }
+        record {
+          child = b;
+          parent = get_or blocks p b;
+          child_stands = at;
+          parent_stands = slice_get-get_or blocks p b found.0;
+          is_parent =
+              named_parent (get_or blocks p b) b found.1;
+        }
 
 pub same_text_in : (xs ys : List ℕ) → Some xs ≡ Some ys → xs ≡ ys
 same_text_in xs ys e = cc
@@ -118,12 +127,14 @@ are_chains problem sel is admissible = record {
       let allowed = admissible.each j acc in
       let block : found.child ≡ allowed.block = same_block_in _ _ (sym found.child_stands ∙ allowed.stands) in
       let less = parent_stands_before problem j p is e in
-      let permits = allowed.others p found.parent (λ same. (let wrong : 0 < 0 = omega (arith, less, same) in omega (arith, wrong))) found.parent_stands in
+      let permits = allowed.others p found.parent (λ same. (let wrong : 0 < 0 = omega (arith, less, same) in omega (arith, wrong)))
+      found.parent_stands in
       permits.parent (subst (λ (b : Block). IsParent found.parent b) block found.is_parent));
   within = λ j acc. (let allowed = admissible.each j acc in (allowed.block, allowed.stands));
 }
 
-pub welfare_at_least_zero : PriceLaws → (problem : ProblemState) (sel : List Bool) (w : ℤ) → IsProblem problem → IsEligible problem sel w → pos 0 ≤ℤ w
+pub welfare_at_least_zero : PriceLaws → (problem : ProblemState) (sel : List Bool) (w : ℤ) → IsProblem problem → IsEligible problem sel w
+    → pos 0 ≤ℤ w
 welfare_at_least_zero laws problem sel w is e =
     let blocks = no_loss_in_families problem.blocks sel e.prices (are_chains problem sel is e.admissible) e.no_loss in
     let all = gains_from laws problem.blocks sel 1 problem.hours e.prices w e.are_prices e.welfare_is in

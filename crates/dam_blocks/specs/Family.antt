@@ -1,5 +1,6 @@
 -- Families of linked blocks: which blocks descend from another one by their chain of parents.
-use Rattle.std.specs.Prelude.{◌≡◌, ℕ, zero, suc, Bool, false, ◌==◌, ◌&&◌, ◌||◌, Option, Some, None, List, [], ◌∷◌, length, slice_get, position}
+use Rattle.std.specs.Prelude.{◌≡◌, ℕ, zero, suc, Bool, false, ◌==◌, ◌&&◌, ◌||◌, Option, Some, None, List, [], ◌∷◌, length, slice_get}
+use Rattle.std.specs.Prelude.{position}
 use Rattle.dam_book.specs.Name.{same_text}
 use Rattle.dam_book.specs.Order.{is_parent}
 use Rattle.dam_blocks.specs.declared.problem.Block.{Block}
@@ -31,11 +32,11 @@ descends blocks i j = leads_to (length blocks) blocks i (parent_place blocks j)
 -- of the selection from place j on, the accepted places that pass the test
 abbrev pub accepted_where : (ℕ → Bool) → ℕ → List Bool → List Bool
 accepted_where test j [] = []
-accepted_where test j (a ∷ sel) = (a && test j) ∷ accepted_where test (suc j) sel
+accepted_where test j (a ∷ selection) = (a && test j) ∷ accepted_where test (suc j) selection
 
 -- the accepted blocks that descend from the one at place i
 abbrev pub accepted_descendants : List Block → List Bool → ℕ → List Bool
-accepted_descendants blocks sel i = accepted_where (descends blocks i) 0 sel
+accepted_descendants blocks selection i = accepted_where (descends blocks i) 0 selection
 
 -- What the two above come to in a problem (a law of the crate): the block at place j is a child of the one at place i
 pub record IsChildAt (blocks : List Block) (i j : ℕ) : Type 0 where

@@ -1,5 +1,6 @@
 -- The problem of a closed book: the hourly orders of each period and the blocks, in book order.
-use Rattle.std.specs.Prelude.{◌≡◌, ℕ, zero, suc, ◌+◌, ◌-◌, ◌<◌, ◌≤◌, true, false, ◌==◌, Option, Some, None, List, [], ◌∷◌, ◌++◌, length, slice_get, filter_map, if◌then◌else◌}
+use Rattle.std.specs.Prelude.{◌≡◌, ℕ, zero, suc, ◌+◌, ◌-◌, ◌<◌, ◌≤◌, true, false, ◌==◌, Option, Some, None, List, [], ◌∷◌, ◌++◌, length}
+use Rattle.std.specs.Prelude.{slice_get, filter_map, if◌then◌else◌}
 use Rattle.dam_book.specs.Name.{IsName, IsParticipant}
 use Rattle.dam_book.specs.Terms.{IsBlockOrder}
 use Rattle.dam_book.specs.Volumes.{have_beyond}
@@ -21,7 +22,7 @@ pub record ProblemState : Type 0 where
   pub blocks : List Block
   pub rows : List ProblemRow
 
--- the order as a step, where it is an hourly order of this period
+-- the order as a step, if it is an hourly order of this period
 abbrev pub step_in : ℕ → Order → Option Step
 step_in t (Hour o) =
     if o.period == t then Some (record { side = o.side; price = o.price; qty = o.qty }) else None
@@ -36,7 +37,7 @@ abbrev pub hours_from : ℕ → ℕ → List Row → List (List Step)
 hours_from t zero rows = []
 hours_from t (suc n) rows = steps_in t rows ∷ hours_from (suc t) n rows
 
--- the order with its participant and name, where it is a block
+-- the order with its participant and name, if it is a block
 abbrev pub block_under : List ℕ → List ℕ → Order → Option Block
 block_under who name (Hour o) = None
 block_under who name (BlockVariant o) = Some (record { who = who; name = name; order = o })
@@ -45,16 +46,16 @@ block_under who name (BlockVariant o) = Some (record { who = who; name = name; o
 abbrev pub blocks_in : List Row → List Block
 blocks_in rows = filter_map (λ (r : Row). block_under r.0.0 r.0.1 r.1) rows
 
--- the place of an order behind the rows of `front`
-abbrev pub place_behind : List Row → Order → Place
-place_behind front (Hour o) = AtHour o.period (length (steps_in o.period front))
-place_behind front (BlockVariant o) = AtBlock (length (blocks_in front))
+-- the place of an order after the rows of `front`
+abbrev pub place_after : List Row → Order → Place
+place_after front (Hour o) = AtHour o.period (length (steps_in o.period front))
+place_after front (BlockVariant o) = AtBlock (length (blocks_in front))
 
 -- the rows with the places of their orders, those of `front` standing before them
-abbrev pub rows_behind : List Row → List Row → List ProblemRow
-rows_behind front [] = []
-rows_behind front (r ∷ rs) =
-    record { who = r.0.0; name = r.0.1; at = place_behind front r.1 } ∷ rows_behind (front ++ r ∷ []) rs
+abbrev pub rows_after : List Row → List Row → List ProblemRow
+rows_after front [] = []
+rows_after front (r ∷ rs) =
+    record { who = r.0.0; name = r.0.1; at = place_after front r.1 } ∷ rows_after (front ++ r ∷ []) rs
 
 -- the problem of a book: each period's hourly orders, the blocks, and where each row stands among
 -- these
@@ -62,7 +63,7 @@ abbrev pub problem_of : BookState → ProblemState
 problem_of b = record {
   hours = hours_from 1 b.periods b.rows;
   blocks = blocks_in b.rows;
-  rows = rows_behind [] b.rows;
+  rows = rows_after [] b.rows;
 }
 
 -- What every problem keeps.
@@ -70,12 +71,12 @@ problem_of b = record {
 -- the number of hourly orders
 abbrev pub hourly_orders : List (List Step) → ℕ
 hourly_orders [] = 0
-hourly_orders (ss ∷ hours) = length ss + hourly_orders hours
+hourly_orders (steps ∷ hours) = length steps + hourly_orders hours
 
 -- each period's limits and volumes are in range
 abbrev pub AreHours : List (List Step) → Type 0
 AreHours [] = Unit {0}
-AreHours (ss ∷ hours) = AreInRange ss × AreHours hours
+AreHours (steps ∷ hours) = AreInRange steps × AreHours hours
 
 -- the block's names and parts are within their limits, and its periods are the day's
 pub record IsBlock (periods : ℕ) (b : Block) : Type 0 where
@@ -84,7 +85,7 @@ pub record IsBlock (periods : ℕ) (b : Block) : Type 0 where
   pub order : IsBlockOrder b.order
   pub in_day : have_beyond periods b.order.volumes ≡ false
 
--- each block is one of a day of so many periods
+-- each block is one of a day of this number of periods
 abbrev pub AreBlocks : ℕ → List Block → Type 0
 AreBlocks periods [] = Unit {0}
 AreBlocks periods (b ∷ bs) = IsBlock periods b × AreBlocks periods bs

@@ -10,29 +10,29 @@ use Rattle.dam_blocks.specs.Selection.{accepts, net_volume, IsAdmissible}
 use Rattle.dam_blocks.specs.Eligible.{ArePrices, gain_at, IsEligible}
 
 -- no execution of the period balances, and one of each period before it does
-pub record IsFirstUnbalanced (problem : ProblemState) (sel : List Bool) (t : ℕ) : Type 0 where
+pub record IsFirstUnbalanced (problem : ProblemState) (selection : List Bool) (t : ℕ) : Type 0 where
   pub from_one : 1 ≤ t
   pub hour : List Step
   pub stands : slice_get problem.hours (t - 1) ≡ Some hour
-  pub unbalanced : IsUnbalanced hour (net_volume problem.blocks sel t)
-  pub before : (s : ℕ) (ss : List Step) → 1 ≤ s → s < t → slice_get problem.hours (s - 1) ≡ Some ss
-      → IsBalanced ss (net_volume problem.blocks sel s)
+  pub unbalanced : IsUnbalanced hour (net_volume problem.blocks selection t)
+  pub before : (s : ℕ) (steps : List Step) → 1 ≤ s → s < t → slice_get problem.hours (s - 1) ≡ Some steps
+      → IsBalanced steps (net_volume problem.blocks selection s)
 
 -- the accepted block at the place loses, and no accepted one before it does
-pub record IsFirstLosing (blocks : List Block) (sel : List Bool) (prices : List ℤ) (i : ℕ)
+pub record IsFirstLosing (blocks : List Block) (selection : List Bool) (prices : List ℤ) (i : ℕ)
     : Type 0 where
-  pub accepted : accepts sel i ≡ true
-  pub loses : gain_at blocks sel prices i <ℤ pos 0
-  pub before : (j : ℕ) → j < i → accepts sel j ≡ true
-      → pos 0 ≤ℤ gain_at blocks sel prices j
+  pub accepted : accepts selection i ≡ true
+  pub loses : gain_at blocks selection prices i <ℤ pos 0
+  pub before : (j : ℕ) → j < i → accepts selection j ≡ true
+      → pos 0 ≤ℤ gain_at blocks selection prices j
 
 -- the first of the faults, or the welfare
 abbrev pub IsVerdict : ProblemState → List Bool → Verdict → Type 0
-IsVerdict problem sel NotAdmissible = ¬ (IsAdmissible problem.blocks sel)
-IsVerdict problem sel (Unbalanced t) =
-    IsAdmissible problem.blocks sel × IsFirstUnbalanced problem sel t
-IsVerdict problem sel (Losing i) =
-    IsAdmissible problem.blocks sel
-    × ((prices : List ℤ) × ArePrices problem.blocks sel 1 problem.hours prices
-    × IsFirstLosing problem.blocks sel prices i)
-IsVerdict problem sel (Eligible welfare) = IsEligible problem sel (pos welfare)
+IsVerdict problem selection NotAdmissible = ¬ (IsAdmissible problem.blocks selection)
+IsVerdict problem selection (Unbalanced t) =
+    IsAdmissible problem.blocks selection × IsFirstUnbalanced problem selection t
+IsVerdict problem selection (Losing i) =
+    IsAdmissible problem.blocks selection
+    × ((prices : List ℤ) × ArePrices problem.blocks selection 1 problem.hours prices
+    × IsFirstLosing problem.blocks selection prices i)
+IsVerdict problem selection (Eligible welfare) = IsEligible problem selection (pos welfare)

@@ -1,5 +1,6 @@
 -- Selections of blocks: what they take part in, and which of them the links and the groups admit.
-use Rattle.std.specs.Prelude.{◌≡◌, ◌≢◌, ℕ, zero, suc, ◌-◌, ◌^◌, ℤ, pos, neg_ℤ, ◌+ℤ◌, ◌*ℤ◌, Bool, true, false, nat_lt, ◌==◌, Some, List, [], ◌∷◌, ◌++◌, length, replicate, slice_get, slice_index_or, if◌then◌else◌}
+use Rattle.std.specs.Prelude.{◌≡◌, ◌≢◌, ℕ, zero, suc, ◌-◌, ◌^◌, ℤ, pos, neg_ℤ, ◌+ℤ◌, ◌*ℤ◌, Bool, true, false, nat_lt, ◌==◌, Some, List, []}
+use Rattle.std.specs.Prelude.{◌∷◌, ◌++◌, length, replicate, slice_get, slice_index_or, if◌then◌else◌}
 use Rattle.dam_book.specs.Terms.{BlockTerms}
 use Rattle.dam_book.specs.Volumes.{Pair}
 use Rattle.dam_book.specs.Limits.{most_blocks}
@@ -13,7 +14,7 @@ use Rattle.dam_blocks.specs.Problem.{IsParent}
 
 -- whether the place is accepted
 abbrev pub accepts : List Bool → ℕ → Bool
-accepts sel i = slice_index_or sel i false
+accepts selection i = slice_index_or selection i false
 
 -- the acceptances of the first places, with no other place accepted
 abbrev pub padded : List Bool → List Bool
@@ -29,23 +30,23 @@ abbrev pub choice : ℕ → ℕ → List Bool
 choice zero k = []
 choice (suc n) k = if nat_lt k (2 ^ n) then true ∷ choice n k else false ∷ choice n (k - 2 ^ n)
 
--- the volume in a period, 0 where there is none
+-- the volume in a period, 0 if there is none
 abbrev pub volume_in : List Pair → ℕ → ℕ
 volume_in [] t = 0
 volume_in (p ∷ ps) t = if p.0 == t then p.1 else volume_in ps t
 
 -- the sum over the accepted blocks
 abbrev pub over_accepted : (BlockTerms → ℤ) → List Block → List Bool → ℤ
-over_accepted f (b ∷ bs) (true ∷ sel) = f b.order +ℤ over_accepted f bs sel
-over_accepted f (b ∷ bs) (false ∷ sel) = over_accepted f bs sel
+over_accepted f (b ∷ bs) (true ∷ selection) = f b.order +ℤ over_accepted f bs selection
+over_accepted f (b ∷ bs) (false ∷ selection) = over_accepted f bs selection
 over_accepted f _ _ = pos 0
 
--- what a block adds to the net volume of a period: its volume where it sells, and minus its volume
--- where it buys
+-- what a block adds to the net volume of a period: its volume if it sells, and minus its volume
+-- if it buys
 abbrev pub net_volume_of : ℕ → BlockTerms → ℤ
 net_volume_of t o = neg_ℤ (signed o.side (pos (volume_in o.volumes t)))
 
--- a block's volume in a period where it buys, 0 where it sells
+-- a block's volume in a period if it buys, 0 if it sells
 abbrev pub bought_volume_of : ℕ → BlockTerms → ℤ
 bought_volume_of t o = pos (volume_on Buy o.side (volume_in o.volumes t))
 
@@ -56,15 +57,15 @@ value_of t o = signed o.side (o.price *ℤ pos (volume_in o.volumes t))
 
 -- the accepted sell blocks' volume in a period less the accepted buy blocks'
 abbrev pub net_volume : List Block → List Bool → ℕ → ℤ
-net_volume blocks sel t = over_accepted (net_volume_of t) blocks sel
+net_volume blocks selection t = over_accepted (net_volume_of t) blocks selection
 
 -- the accepted buy blocks' volume in a period
 abbrev pub bought_volume : List Block → List Bool → ℕ → ℤ
-bought_volume blocks sel t = over_accepted (bought_volume_of t) blocks sel
+bought_volume blocks selection t = over_accepted (bought_volume_of t) blocks selection
 
 -- the accepted buy blocks' limit times volume in a period less the accepted sell blocks'
 abbrev pub block_value : List Block → List Bool → ℕ → ℤ
-block_value blocks sel t = over_accepted (value_of t) blocks sel
+block_value blocks selection t = over_accepted (value_of t) blocks selection
 
 -- both are in one exclusive group of one participant
 pub record AreOfOneGroup (a b : Block) : Type 0 where
@@ -79,13 +80,13 @@ pub record Permits (other : Block) (is_accepted : Bool) (block : Block) : Type 0
   pub group : is_accepted ≡ true → ¬ (AreOfOneGroup block other)
 
 -- a block stands at the place, and each other block permits it
-pub record IsAllowed (blocks : List Block) (sel : List Bool) (i : ℕ) : Type 0 where
+pub record IsAllowed (blocks : List Block) (selection : List Bool) (i : ℕ) : Type 0 where
   pub block : Block
   pub stands : slice_get blocks i ≡ Some block
   pub others : (j : ℕ) (other : Block) → j ≢ i → slice_get blocks j ≡ Some other
-      → Permits other (accepts sel j) block
+      → Permits other (accepts selection j) block
 
 -- only blocks are accepted, each with its parent, and at most one of each group; a problem's parents
 -- all stand among its blocks, so that none is missing
-pub record IsAdmissible (blocks : List Block) (sel : List Bool) : Type 0 where
-  pub each : (i : ℕ) → accepts sel i ≡ true → IsAllowed blocks sel i
+pub record IsAdmissible (blocks : List Block) (selection : List Bool) : Type 0 where
+  pub each : (i : ℕ) → accepts selection i ≡ true → IsAllowed blocks selection i

@@ -12,7 +12,7 @@ use crate::problem::Block;
 use crate::selection::Selection;
 use dam_book::{BlockOrder, Period, Side, Volumes};
 
-/// The volume in a period, in tenths of a MW; 0 where there is none.
+/// The volume in a period, in tenths of a MW; 0 if there is none.
 pub fn volume_in(volumes: &Volumes, period: Period) -> u32
     ensures value { result ≡ volume_in volumes.now period }
     ensures small { result ≤ greatest_volume }
@@ -50,8 +50,8 @@ pub(crate) fn times(cents: i32, volume: u32) -> i64
     i64::from(cents) * i64::from(volume)
 }
 
-/// What a block adds to the net volume of a period where it is accepted, in tenths of a MW: its volume
-/// there where it sells, and minus its volume where it buys.
+/// What a block adds to the net volume of a period if it is accepted, in tenths of a MW: its volume there
+/// if it sells, and minus its volume if it buys.
 pub fn net_volume_of(order: &BlockOrder, period: Period) -> i64
     ensures value { result ≡ net_volume_of period order.now }
     ensures low { neg_ℤ (pos greatest_volume) ≤ℤ result }
@@ -61,7 +61,7 @@ pub fn net_volume_of(order: &BlockOrder, period: Period) -> i64
     -signed(order.side(), volume)
 }
 
-/// A block's volume in a period where it buys, in tenths of a MW; 0 where it sells.
+/// A block's volume in a period if it buys, in tenths of a MW; 0 if it sells.
 pub fn bought_volume_of(order: &BlockOrder, period: Period) -> u32
     ensures value { pos result ≡ bought_volume_of period order.now }
     ensures small { result ≤ greatest_volume }
@@ -74,7 +74,7 @@ pub fn bought_volume_of(order: &BlockOrder, period: Period) -> u32
 }
 
 /// A block's limit times its volume in a period, in cents per MWh times tenths of a MW, with the other
-/// sign where it sells.
+/// sign if it sells.
 pub fn value_of(order: &BlockOrder, period: Period) -> i64
     ensures value { result ≡ value_of period order.now }
     ensures size { IsWithin greatest_value result }

@@ -23,7 +23,7 @@ fn difference(limit: Price, price: Price) -> i32
 }
 
 /// What a block gains at a price in a period in which it has this volume, in tenths of a MW; in cents
-/// per MWh times tenths of a MW, and below 0 where it pays more or gets less than its limit.
+/// per MWh times tenths of a MW, and below 0 if it pays more or gets less than its limit.
 pub fn surplus_at_price(order: &BlockOrder, price: Price, volume: u32) -> i64
     requires { volume ≤ greatest_volume }
     ensures value { result
@@ -44,7 +44,7 @@ fn surplus_in(order: &BlockOrder, period: Period, price: Price) -> i64
     surplus_at_price(order, price, volume_in(order.volumes(), period))
 }
 
-/// What a block gains at the prices, in cents per MWh times tenths of a MW; below 0 where it loses.
+/// What a block gains at the prices, in cents per MWh times tenths of a MW; below 0 if it loses.
 ///
 /// There is one price for each period of the day, in order; a block's periods past the list count
 /// nothing. In each period it is the volume times (price less limit) for a sell, and the volume
@@ -61,7 +61,7 @@ pub fn surplus(order: &BlockOrder, prices: &[Price]) -> i64
     total
 }
 
-/// The surplus of the block at a place; 0 where no block stands.
+/// The surplus of the block at a place; 0 if there is none.
 fn surplus_at(blocks: &[Block], prices: &[Price], place: usize) -> i64
     requires { length prices.now ≤ last_period }
     ensures value { result ≡ surplus_at blocks.now prices.now place }

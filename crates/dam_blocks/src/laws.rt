@@ -3,7 +3,7 @@
 //!
 //! A caller that needs one of them in a proof calls the function, at no cost.
 
-ghost use Rattle.std.specs.Prelude.{◌≡◌, ◌≢◌, ◌↔◌, true, ◌<◌, ◌^◌, ◌+ℤ◌, ◌≤ℤ◌, ◌⊎◌, ℕ, ℤ, pos, Some, List, ◌++◌, Bool, ◌&&◌, length, drop};
+ghost use Rattle.std.specs.Prelude.{◌≡◌, ◌≢◌, ◌↔◌, true, ◌<◌, ◌^◌, ◌+ℤ◌, ◌≤ℤ◌, ◌<ℤ◌, ◌⊎◌, ℕ, ℤ, pos, Some, List, ◌++◌, Bool, ◌&&◌, length, drop};
 ghost use Rattle.dam_book.specs.Terms.{BlockTerms};
 ghost use Rattle.dam_book.specs.Limits.{last_period, most_blocks};
 ghost use Rattle.dam_blocks.specs.declared.problem.Block.{Block};
@@ -15,7 +15,7 @@ ghost use Rattle.dam_blocks.specs.Family.{names, parent_place, descends, accepte
 ghost use Rattle.dam_blocks.specs.Eligible.{selection_welfare, IsEligible};
 ghost use Rattle.dam_blocks.specs.Magnitude.{IsWithin, greatest_hourly_value, greatest_block_value, greatest_surplus, greatest_selection_welfare};
 ghost use Rattle.dam_blocks.specs.Score.{IsVerdict};
-ghost use Rattle.dam_blocks.specs.Result.{RanksAbove, RanksAtOrBelow, IsResult};
+ghost use Rattle.dam_blocks.specs.Result.{accepts_first, RanksAbove, RanksAtOrBelow, IsResult};
 
 use crate::problem::MOST_PERIODS;
 
@@ -42,8 +42,8 @@ pub fn empty_is_eligible()
 /// An eligible selection has a welfare of at least 0: at the prices no hourly order loses, and the
 /// accepted blocks together don't either.
 pub fn eligible_welfare()
-    ensures { (problem : ProblemState) (sel : List Bool) (w : ℤ) → IsProblem problem
-        → IsEligible problem sel w → pos 0 ≤ℤ w }
+    ensures { (problem : ProblemState) (selection : List Bool) (w : ℤ) → IsProblem problem
+        → IsEligible problem selection w → pos 0 ≤ℤ w }
 {
     dam_hour::laws::price();
     dam_hour::laws::exchange();
@@ -54,29 +54,29 @@ pub fn eligible_welfare()
 /// The verdict on an eligible selection is that it is, with its welfare, of which there is one; and a
 /// selection with another verdict isn't eligible.
 pub fn verdict()
-    ensures eligible { (problem : ProblemState) (sel : List Bool) (verdict : Verdict) (w : ℤ)
-        → IsVerdict problem sel verdict → IsEligible problem sel w
+    ensures eligible { (problem : ProblemState) (selection : List Bool) (verdict : Verdict) (w : ℤ)
+        → IsVerdict problem selection verdict → IsEligible problem selection w
         → (n : ℕ) × (w ≡ pos n) × (verdict ≡ Eligible n) }
-    ensures other { (problem : ProblemState) (sel : List Bool) (verdict : Verdict) (w : ℤ)
-        → IsVerdict problem sel verdict → ((n : ℕ) → verdict ≢ Eligible n)
-        → ¬ (IsEligible problem sel w) }
-    ensures one { (problem : ProblemState) (sel : List Bool) (v w : ℤ)
-        → IsEligible problem sel v
-        → IsEligible problem sel w → v ≡ w }
+    ensures other { (problem : ProblemState) (selection : List Bool) (verdict : Verdict) (w : ℤ)
+        → IsVerdict problem selection verdict → ((n : ℕ) → verdict ≢ Eligible n)
+        → ¬ (IsEligible problem selection w) }
+    ensures one { (problem : ProblemState) (selection : List Bool) (v w : ℤ)
+        → IsEligible problem selection v
+        → IsEligible problem selection w → v ≡ w }
 {}
 
 /// How large the welfare of a selection can be: every hourly order, and every block in every period,
 /// counts at most the greatest limit times the greatest volume.
 pub fn magnitude()
-    ensures { (problem : ProblemState) (sel : List Bool) (w : ℤ) → IsProblem problem
-        → selection_welfare problem sel ≡ Some w → IsWithin greatest_selection_welfare w }
+    ensures { (problem : ProblemState) (selection : List Bool) (w : ℤ) → IsProblem problem
+        → selection_welfare problem selection ≡ Some w → IsWithin greatest_selection_welfare w }
 {
     dam_book::laws::days_are_short();
     dam_hour::laws::welfare();
 }
 
 /// The order of selections is a total one: of two, the first ranks either above the second, or at or
-/// below it; and each of two ranks at or below the other only where they are the same.
+/// below it; and each of two ranks at or below the other only if they are the same.
 pub fn ranking()
     ensures either { (v w : ℤ) (xs ys : List Bool)
         → RanksAbove v xs w ys ⊎ RanksAtOrBelow v xs w ys }
@@ -91,10 +91,21 @@ pub fn ranking()
         → RanksAtOrBelow v xs w ys → RanksAtOrBelow w ys v xs → (xs ≡ ys) × (v ≡ w) }
 {}
 
+/// What ranks above has the greater welfare, or the same, and then it accepts the first block at which the
+/// two differ. The result ranks above each other eligible selection.
+pub fn best()
+    ensures above { (v w : ℤ) (xs ys : List Bool) → RanksAbove v xs w ys
+        ↔ ((w <ℤ v) ⊎ ((w ≡ v) × (accepts_first xs ys ≡ true))) }
+    ensures others { (problem : ProblemState) (selection : List Bool) (w : ℤ)
+        → IsResult problem selection w
+        ↔ (IsEligible problem selection w × ((other : List Bool) (v : ℤ)
+        → IsEligible problem other v → other ≢ selection → RanksAbove w selection v other)) }
+{}
+
 /// A problem has a result.
 pub fn existence()
     ensures { (problem : ProblemState) → IsProblem problem
-        → (sel : List Bool) × ((w : ℤ) × IsResult problem sel w) }
+        → (selection : List Bool) × ((w : ℤ) × IsResult problem selection w) }
 {
     empty_is_eligible();
     dam_hour::laws::balance();
@@ -118,12 +129,12 @@ pub fn sums()
         → over_accepted f blocks (padded front) ≡ over_accepted f blocks front }
 {}
 
-/// A place is among a block's accepted descendants exactly where the selection accepts it and it
+/// A place is among a block's accepted descendants exactly if the selection accepts it and it
 /// descends from that block.
 pub fn descendants()
-    ensures { (blocks : List Block) (sel : List Bool) (i j : ℕ)
-        → accepts (accepted_descendants blocks sel i) j
-        ≡ (accepts sel j && descends blocks i j) }
+    ensures { (blocks : List Block) (selection : List Bool) (i j : ℕ)
+        → accepts (accepted_descendants blocks selection i) j
+        ≡ (accepts selection j && descends blocks i j) }
 {}
 
 /// Of the blocks of a problem, the one that a block names is its parent in the sense of the links, and the
@@ -137,22 +148,22 @@ pub fn families()
         → (descends problem.blocks i j ≡ true) ↔ Descends problem.blocks i j }
 {}
 
-/// Where a selection is admissible, so is each front of it with no other block: a block's parent stands
+/// If a selection is admissible, so is each front of it with no other block: a block's parent stands
 /// before it.
 pub fn fronts()
     ensures { (problem : ProblemState) (front rest : List Bool) → IsProblem problem
         → IsAdmissible problem.blocks (front ++ rest) → IsAdmissible problem.blocks (padded front) }
 {}
 
-/// Every list of acceptances is just one of the numbered choices over so many places, and an
+/// Every list of acceptances is just one of the numbered choices over that number of places, and an
 /// admissible selection is one of the choices over the problem's blocks.
 pub fn choices()
     ensures each { (xs : List Bool)
         → (k : ℕ) × (k < 2 ^ length xs) × (choice (length xs) k ≡ xs) }
-    ensures admissible { (problem : ProblemState) (sel : List Bool) → IsProblem problem
-        → length sel ≡ most_blocks → IsAdmissible problem.blocks sel
+    ensures admissible { (problem : ProblemState) (selection : List Bool) → IsProblem problem
+        → length selection ≡ most_blocks → IsAdmissible problem.blocks selection
         → (k : ℕ) × (k < 2 ^ length problem.blocks)
-        × (padded (choice (length problem.blocks) k) ≡ sel) }
+        × (padded (choice (length problem.blocks) k) ≡ selection) }
     ensures once { (n j k : ℕ) → j < 2 ^ n → k < 2 ^ n → choice n j ≡ choice n k
         → j ≡ k }
 {}

@@ -2,8 +2,8 @@
 //! score, and the plain search over all of them.
 //!
 //! A `Problem` has each period's hourly orders, ready to be cleared, and the blocks in book order. A
-//! `Selection` is a set of these blocks. `score` tells whether one is eligible and what its welfare
-//! is, or the first thing that speaks against it; `ranks_above` orders the eligible ones, and
+//! `Selection` is a set of these blocks. `score` says whether one is eligible and what its welfare is,
+//! or the first thing that speaks against it; `ranks_above` orders the eligible ones, and
 //! `best_of_all` finds the best of them by trying every selection.
 //!
 //! ```
@@ -16,7 +16,7 @@
 //!
 //! A contract sees a problem as the steps of each period, the blocks and the rows, a selection as the
 //! list of its acceptances, and a block as its names and terms. What these words mean stands in
-//! `specs/`. Only tested is what the faults say, and that memory isn't said to have run out where it
+//! `specs/`. Only tested is what the faults say, and that memory isn't said to have run out if it
 //! hasn't.
 //!
 //! The crate knows nothing of how a result is looked for without trying every selection, nor of texts.
@@ -41,6 +41,6 @@ pub use family::descends;
 pub use gain::{gain_at, surplus, surplus_at_price};
 pub use links::{admissible, is_allowed};
 pub use problem::{Block, MOST_PERIODS, Place, Problem, ProblemFault, ProblemRow};
-pub use result::{best_of_all, ranks_above};
+pub use result::{best_of_all, best_of_none, ranks_above};
 pub use scoring::{Verdict, score};
 pub use selection::{Best, Selection};

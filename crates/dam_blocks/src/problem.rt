@@ -136,6 +136,7 @@ impl<A: Allocator + Copy> Problem<A> {
             (λ problem. (book.now.closed ≡ true) × (problem ≡ problem_of book.now)) }
         ensures still_open { IsErrOf result ProblemFault.StillOpen ↔ (book.now.closed ≡ false) }
     {
+        dam_book::laws::days_are_short();
         if !book.is_closed() {
             return Err(ProblemFault::StillOpen);
         }
@@ -143,7 +144,7 @@ impl<A: Allocator + Copy> Problem<A> {
         let lists = lists_of(alloc, book)?;
         Ok(Problem {
             periods,
-            hours: hours_of(alloc, &lists.hourly, periods)?,
+            hours: hours_of(alloc, &lists.hourly, periods.get())?,
             hindrances: all_hindrances(alloc, &lists.blocks)?,
             blocks: lists.blocks,
             rows: lists.rows,

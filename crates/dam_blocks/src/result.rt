@@ -1,4 +1,5 @@
 ghost use Rattle.std.specs.Prelude.{◌≡◌, ◌⊎◌, ℤ, pos, MatchBool};
+ghost use Rattle.dam_blocks.specs.Selection.{empty_selection};
 ghost use Rattle.dam_blocks.specs.Eligible.{IsEligible};
 ghost use Rattle.dam_blocks.specs.Result.{accepts_first, RanksAbove, RanksAtOrBelow, IsResult};
 ghost use Rattle.dam_blocks.specs.inside.Better.{IsNoBetter};
@@ -10,8 +11,8 @@ use crate::selection::{Best, Selection, choices};
 use dam_book::MOST_BLOCKS;
 use std::alloc::Allocator;
 
-/// Whether the first is the better result: it has the greater welfare, or the same, and at the first
-/// place where they differ it accepts.
+/// Whether the first is the better result: it has the greater welfare, or the same, and then it accepts
+/// the first block at which they differ.
 pub fn ranks_above(first: Best, second: Best) -> bool
     ensures { MatchBool result
         (RanksAbove (pos first.welfare) first.selection (pos second.welfare) second.selection)
@@ -23,7 +24,7 @@ pub fn ranks_above(first: Best, second: Best) -> bool
     accepts_first(first.selection, second.selection)
 }
 
-/// Whether the first accepts at the first place where they differ.
+/// Whether the first accepts at the first place at which they differ.
 fn accepts_first(first: Selection, second: Selection) -> bool
     ensures { result ≡ accepts_first first second }
 {
@@ -36,9 +37,10 @@ fn accepts_first(first: Selection, second: Selection) -> bool
     false
 }
 
-/// The empty selection and its welfare.
-fn best_of_none<A: Allocator>(problem: &Problem<A>) -> Best
-    ensures { IsEligible problem.now result.selection (pos result.welfare) }
+/// The empty selection, which is eligible, and its welfare. Takes no memory.
+pub fn best_of_none<A: Allocator>(problem: &Problem<A>) -> Best
+    ensures none { result.selection ≡ empty_selection }
+    ensures eligible { IsEligible problem.now result.selection (pos result.welfare) }
 {
     laws::empty_is_eligible();
     let _kept = problem.periods(); // for the proof: what a problem keeps
@@ -62,7 +64,7 @@ fn higher(first: &Best, second: &Best) -> Best
     }
 }
 
-/// The better of `best` and this selection, where it is eligible.
+/// The better of `best` and this selection, if that is eligible.
 fn better<A: Allocator>(problem: &Problem<A>, best: Best, selection: Selection) -> Best
     requires { IsEligible problem.now best.selection (pos best.welfare) }
     ensures eligible { IsEligible problem.now result.selection (pos result.welfare) }

@@ -1,12 +1,12 @@
 //! The making of a problem: one pass over the rows of a book, in book order.
 
-ghost use Rattle.std.specs.Prelude.{◌≡◌, ◌<◌, ◌≤◌, [], Some, length, slice_get, IfOk};
-ghost use Rattle.dam_book.specs.Limits.{most_hourly};
-ghost use Rattle.dam_blocks.specs.Problem.{blocks_in, rows_behind};
-ghost use Rattle.dam_blocks.specs.inside.Making.{hourly_in, step_of, steps_among, hours_among};
+ghost use Rattle.std.specs.Prelude.{◌≡◌, ◌-◌, ◌<◌, ◌≤◌, [], Some, length, map, take, slice_get, slice_index_or, IfOk, OnOk};
+ghost use Rattle.dam_book.specs.Limits.{last_period, most_hourly};
+ghost use Rattle.dam_blocks.specs.Problem.{hours_from, hourly_orders, blocks_in, rows_after};
+ghost use Rattle.dam_blocks.specs.inside.Making.{with_step};
 
 use crate::problem::{Block, MOST_PERIODS, Place, ProblemRow};
-use dam_book::{Book, DayLength, HourOrder, Name, Order, Participant};
+use dam_book::{Book, HourOrder, Name, Order, Participant};
 use dam_hour::{Hour, Step};
 use std::alloc::{AllocError, Allocator};
 
@@ -18,37 +18,66 @@ fn row_at<B: Allocator + Copy>(book: &Book<B>, place: usize) -> (Participant, Na
     book.row(place).unwrap()
 }
 
-/// The orders of a book by their kind, and all its rows with the places of their orders.
+/// The orders of a book by their kind, the hourly ones by their period too, and all its rows with the
+/// places of their orders.
 #[derive(Drop)]
 pub(crate) struct Lists<A: Allocator> {
-    pub(crate) hourly: Vec<HourOrder, A>,
+    /// Those of each period that a day can have, from the first one on.
+    pub(crate) hourly: Vec<Vec<Step, A>, A>,
     pub(crate) blocks: Vec<Block, A>,
     pub(crate) rows: Vec<ProblemRow, A>,
 }
 
-/// Parts the orders of a book by their kind, in one pass over its rows.
+/// An empty list for each period that a day can have.
+fn no_steps<A: Allocator + Copy>(alloc: A) -> Result<Vec<Vec<Step, A>, A>, AllocError>
+    ensures { IfOk result (λ hourly.
+        map (λ steps. steps.items) hourly.items ≡ hours_from 1 last_period []) }
+{
+    let mut hourly = Vec::with_capacity(alloc, MOST_PERIODS)?;
+    for _ in 0..MOST_PERIODS {
+        hourly.push(Vec::new(alloc))?;
+    }
+    Ok(hourly)
+}
+
+/// Adds an order to those of its period; the answer is its place among them.
+fn add_step<A: Allocator>(
+    hourly: &mut Vec<Vec<Step, A>, A>,
+    order: &HourOrder,
+) -> Result<usize, AllocError>
+    requires { length hourly.old.items ≡ last_period }
+    ensures place { IfOk result (λ place. place ≡ length
+        (slice_index_or (map (λ steps. steps.items) hourly.old.items) (order.now.period - 1) [])) }
+    ensures added { OnOk result (map (λ steps. steps.items) hourly.new.items
+        ≡ with_step (map (λ steps. steps.items) hourly.old.items) order.now) }
+{
+    let steps = &mut hourly[usize::from(order.period().get()) - 1];
+    let place = steps.len();
+    steps.push(Step {
+        side: order.side(),
+        price: order.price(),
+        qty: order.qty(),
+    })?;
+    Ok(place)
+}
+
+/// Parts the orders of a book by their kind and period, in one pass over its rows.
 pub(crate) fn lists_of<A: Allocator + Copy, B: Allocator + Copy>(
     alloc: A,
     book: &Book<B>,
 ) -> Result<Lists<A>, AllocError>
-    ensures hourly { IfOk result (λ lists. lists.hourly.items ≡ hourly_in book.now.rows) }
+    ensures hourly { IfOk result (λ lists. map (λ steps. steps.items) lists.hourly.items
+        ≡ hours_from 1 last_period book.now.rows) }
     ensures blocks { IfOk result (λ lists. lists.blocks.items ≡ blocks_in book.now.rows) }
-    ensures rows { IfOk result (λ lists. lists.rows.items ≡ rows_behind [] book.now.rows) }
+    ensures rows { IfOk result (λ lists. lists.rows.items ≡ rows_after [] book.now.rows) }
 {
     let mut rows = Vec::with_capacity(alloc, book.len())?;
-    let mut hourly = Vec::new(alloc);
+    let mut hourly = no_steps(alloc)?;
     let mut blocks = Vec::new(alloc);
-    let mut steps = [0; MOST_PERIODS];
     for place in 0..book.len() {
         let (who, name, order) = row_at(book, place);
         let at = match order {
-            Order::Hour(order) => {
-                let period = usize::from(order.period().get());
-                let at = Place::Hour(order.period(), steps[period - 1]);
-                steps[period - 1] += 1;
-                hourly.push(*order)?;
-                at
-            }
+            Order::Hour(order) => Place::Hour(order.period(), add_step(&mut hourly, order)?),
             Order::Block(order) => {
                 let at = Place::Block(blocks.len());
                 blocks.push(Block::of(&who, &name, order))?;
@@ -64,51 +93,21 @@ pub(crate) fn lists_of<A: Allocator + Copy, B: Allocator + Copy>(
     })
 }
 
-/// The order as a step, where it is one of this period.
-fn step_of(order: &HourOrder, period: u8) -> Option<Step>
-    ensures { result ≡ step_of period order.now }
-{
-    if order.period().get() != period {
-        return None;
-    }
-    Some(Step {
-        side: order.side(),
-        price: order.price(),
-        qty: order.qty(),
-    })
-}
-
-/// Those of these orders that are of this period.
-fn steps_of<A: Allocator + Copy>(
-    alloc: A,
-    hourly: &[HourOrder],
-    period: u8,
-) -> Result<Vec<Step, A>, AllocError>
-    ensures { IfOk result (λ steps. steps.items ≡ steps_among period hourly.now) }
-{
-    let mut steps = Vec::new(alloc);
-    for order in hourly {
-        if let Some(step) = step_of(order, period) {
-            steps.push(step)?;
-        }
-    }
-    Ok(steps)
-}
-
-/// The hourly orders of each period of a day.
+/// The hours of a day's periods, each of its hourly orders.
 pub(crate) fn hours_of<A: Allocator + Copy>(
     alloc: A,
-    hourly: &[HourOrder],
-    periods: DayLength,
+    hourly: &[Vec<Step, A>],
+    periods: u8,
 ) -> Result<Vec<Hour<A>, A>, AllocError>
-    requires { length hourly.now ≤ most_hourly }
-    ensures { IfOk result (λ hours. hours.items ≡ hours_among 1 periods hourly.now) }
+    requires periods { periods ≤ length hourly.now }
+    requires few { hourly_orders (map (λ steps. steps.items) hourly.now) ≤ most_hourly }
+    ensures { IfOk result (λ hours.
+        hours.items ≡ take periods (map (λ steps. steps.items) hourly.now)) }
 {
-    let count = periods.get();
-    let mut hours = Vec::with_capacity(alloc, usize::from(count))?;
-    for number in 0..count {
-        let steps = steps_of(alloc, hourly, number + 1)?;
-        hours.push(Hour::build(alloc, &steps)?)?;
+    let mut hours = Vec::with_capacity(alloc, usize::from(periods))?;
+    for number in 0..periods {
+        let steps = &hourly[usize::from(number)];
+        hours.push(Hour::build(alloc, steps)?)?;
     }
     Ok(hours)
 }

@@ -35,7 +35,7 @@ struct PricedDay {
 }
 
 /// Finds the price of every period with the selection, and the welfare of the day; the `Err` is the first
-/// period that doesn't balance. What is published besides, as the executed volumes, isn't looked at.
+/// period that doesn't balance. What is also published, as the executed volumes, isn't looked at.
 fn price_day<A: Allocator>(problem: &Problem<A>, selection: Selection) -> Result<PricedDay, Period>
     ensures { MatchResult result
         (λ c. ArePrices problem.now.blocks selection 1 problem.now.hours
@@ -82,7 +82,7 @@ fn first_losing<A: Allocator>(
 /// Whether the selection is eligible, and its welfare; or else the first fault: it isn't admissible, a
 /// period doesn't balance (the least such), or an accepted block loses at the prices (the least such).
 ///
-/// An accepted block loses where its surplus and those of its accepted descendants come to less than 0
+/// An accepted block loses if its surplus and those of its accepted descendants add up to less than 0
 /// (EUPHEMIA Public Description, "Price Determination Sub-problem" and "Linked Block Orders"); a
 /// rejected one may have any surplus, also one over 0 ("PRB reinsertion"). Takes no memory.
 pub fn score<A: Allocator>(problem: &Problem<A>, selection: Selection) -> Verdict

@@ -23,7 +23,7 @@ impl Model for Selection {
     ghost inverse = { λ sel. record { accepted = sel } };
 }
 
-/// The number of choices over so many places.
+/// The number of choices over this number of places.
 pub(crate) fn choices(count: usize) -> u32
     requires { count ≤ most_blocks }
     ensures { result ≡ 2 ^ count }

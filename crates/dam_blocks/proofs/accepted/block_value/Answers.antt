@@ -15,6 +15,8 @@ loop-place-preserved c =
       | then-has w ↦
           sum_more (value_of c.args.period) greatest_value _ _ _ _ w.value_of-total.result _ c.index-blocks-place.result
           (slice_get_read _ _ _ _ (search rules) c.loop-place-test.true c.index-blocks-place.is) (sym c.has.ensures.value ∙ w.if-has.true)
-          w.value_of-total.ensures.value w.value_of-total.ensures.size.at_least w.value_of-total.ensures.size.at_most (omega (arith, ints, few, w.total-is)) c.loop-place.invariant
-      | else-has w ↦ sum_same (value_of c.args.period) greatest_value _ _ _ _ _ (sym c.has.ensures.value ∙ w.if-has.false) (omega (arith, ints)) c.loop-place.invariant
+          w.value_of-total.ensures.value w.value_of-total.ensures.size.at_least w.value_of-total.ensures.size.at_most
+          (omega (arith, ints, few, w.total-is)) c.loop-place.invariant
+      | else-has w ↦ sum_same (value_of c.args.period) greatest_value _ _ _ _ _ (sym c.has.ensures.value
+          ∙ w.if-has.false) (omega (arith, ints)) c.loop-place.invariant
     ]

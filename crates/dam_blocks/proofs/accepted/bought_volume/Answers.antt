@@ -15,6 +15,9 @@ loop-place-preserved c =
       | then-has w ↦
           sum_more (bought_volume_of c.args.period) greatest_volume _ _ _ _ _ _ c.index-blocks-place.result
           (slice_get_read _ _ _ _ (search rules) c.loop-place-test.true c.index-blocks-place.is) (sym c.has.ensures.value ∙ w.if-has.true)
-          (ap pos w.from-total.ensures ∙ w.bought_volume_of.ensures.value) (omega (arith, ints)) (omega (arith, ints)) (omega (arith, ints, few, w.total-is)) c.loop-place.invariant
-      | else-has w ↦ sum_same (bought_volume_of c.args.period) greatest_volume _ _ _ _ _ (sym c.has.ensures.value ∙ w.if-has.false) (omega (arith, ints)) c.loop-place.invariant
+          (ap pos w.from-total.ensures
+          ∙ w.bought_volume_of.ensures.value) (omega (arith, ints)) (omega (arith, ints)) (omega (arith, ints, few, w.total-is))
+          c.loop-place.invariant
+      | else-has w ↦ sum_same (bought_volume_of c.args.period) greatest_volume _ _ _ _ _ (sym c.has.ensures.value
+          ∙ w.if-has.false) (omega (arith, ints)) c.loop-place.invariant
     ]

@@ -10,5 +10,6 @@ loop-preserved c =
     let left = length blocks - (c.loop.counter + 1) in
     let same : c.in-Some.at ≡ c.in-Some-2.at = search rules in
     ap (λ (o : Option ℕ). leads_to left blocks c.args.ancestor o) c.parent_place-parent-in-Some-2.ensures
-    ∙ next_link blocks left (length blocks - c.loop.counter) c.args.ancestor c.in-Some-2.at c.loop.parent (omega (arith, c.loop-test.true)) (λ e. c.if-at-ancestor.false (same ∙ e)) c.in-Some-2.is
+    ∙ next_link blocks left (length blocks - c.loop.counter) c.args.ancestor c.in-Some-2.at c.loop.parent (omega (arith, c.loop-test.true))
+    (λ e. c.if-at-ancestor.false (same ∙ e)) c.in-Some-2.is
     ∙ c.loop.invariant

@@ -8,7 +8,8 @@ use Rattle.dam_blocks.specs.Magnitude.{greatest_surplus}
 use Rattle.dam_blocks.proofs.RunningSums.{sum_more, sum_same}
 use Rattle.dam_blocks.proofs.Families.{accepts_descendant}
 use Rattle.dam_blocks.proofs.gain.surplus_of_descendants.Goals as goal
-use Rattle.dam_blocks.proofs.gain.surplus_of_descendants.Goals.{then-has+then-descends, else-has, else-has-via-then-has+else-descends, else-has-via-else-has}
+use Rattle.dam_blocks.proofs.gain.surplus_of_descendants.Goals.{then-has+then-descends, else-has, else-has-via-then-has+else-descends}
+use Rattle.dam_blocks.proofs.gain.surplus_of_descendants.Goals.{else-has-via-else-has}
 
 pub loop-other-preserved : goal.loop-other-preserved
 loop-other-preserved c =
@@ -19,7 +20,8 @@ loop-other-preserved c =
           sum_more (surplus_of c.args.prices.now) greatest_surplus _ _ _ _ w.surplus-total.result _ c.index-blocks-other.result
           (slice_get_read _ _ _ _ (search rules) c.loop-other-test.true c.index-blocks-other.is)
           (both ∙ and_from _ _ (sym c.has.ensures.value ∙ w.if-has.true) (sym w.descends.ensures ∙ w.if-descends.true))
-          w.surplus-total.ensures.value w.surplus-total.ensures.size.at_least w.surplus-total.ensures.size.at_most (omega (arith, ints, few, w.total-is)) c.loop-other.invariant
+          w.surplus-total.ensures.value w.surplus-total.ensures.size.at_least w.surplus-total.ensures.size.at_most
+          (omega (arith, ints, few, w.total-is)) c.loop-other.invariant
       | else-has w ↦ (elim w.else-has.branch [
         | else-has-via-then-has+else-descends v ↦
             sum_same (surplus_of c.args.prices.now) greatest_surplus _ _ _ _ _

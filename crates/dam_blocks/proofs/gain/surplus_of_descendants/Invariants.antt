@@ -6,4 +6,5 @@ use Rattle.dam_blocks.proofs.RunningSums.{IsSumSoFar}
 use Rattle.dam_blocks.proofs.gain.surplus_of_descendants.Given as goal
 
 abbrev pub invariant-loop-other : goal.invariant-loop-other
-invariant-loop-other l = IsSumSoFar (surplus_of l.prices) greatest_surplus l.blocks (accepted_descendants l.blocks l.selection l.place) l.other l.total
+invariant-loop-other l =
+    IsSumSoFar (surplus_of l.prices) greatest_surplus l.blocks (accepted_descendants l.blocks l.selection l.place) l.other l.total

@@ -1,7 +1,6 @@
--- The hours so far and those of the periods that are left.
-use Rattle.std.proofs.Common.{◌≡◌, ◌+◌, ◌-◌, ◌++◌}
-use Rattle.dam_blocks.specs.inside.Making.{hours_among}
+-- The hours so far are those of the first lists.
+use Rattle.std.proofs.Common.{◌≡◌, take, map}
 use Rattle.dam_blocks.proofs.rows.hours_of.Given as goal
 
 abbrev pub invariant-loop-number : goal.invariant-loop-number
-invariant-loop-number g l = l.hours.items ++ hours_among (l.number + 1) (l.count - l.number) l.hourly ≡ hours_among 1 l.count l.hourly
+invariant-loop-number g l = l.hours.items ≡ take l.number (map (λ steps. steps.items) l.hourly)
