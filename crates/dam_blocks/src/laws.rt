@@ -54,7 +54,8 @@ pub fn eligible_welfare()
 /// The verdict on an eligible selection is that it is, with its welfare, of which there is one; and a
 /// selection with another verdict isn't eligible.
 pub fn verdict()
-    ensures eligible { (problem : ProblemState) (selection : List Bool) (verdict : Verdict) (w : ℤ)
+    ensures eligible { (problem : ProblemState) (selection : List Bool) (verdict : Verdict)
+        (w : ℤ)
         → IsVerdict problem selection verdict → IsEligible problem selection w
         → (n : ℕ) × (w ≡ pos n) × (verdict ≡ Eligible n) }
     ensures other { (problem : ProblemState) (selection : List Bool) (verdict : Verdict) (w : ℤ)
@@ -141,7 +142,8 @@ pub fn descendants()
 /// one that stands at its parent's place; and a block descends from another exactly if it is its child, or
 /// the child of one that descends from it.
 pub fn families()
-    ensures named { (parent child : Block) → (names parent child ≡ true) ↔ IsParent parent child }
+    ensures named { (parent child : Block)
+        → (names parent child ≡ true) ↔ IsParent parent child }
     ensures place { (problem : ProblemState) (i j : ℕ) → IsProblem problem
         → (parent_place problem.blocks j ≡ Some i) ↔ IsChildAt problem.blocks i j }
     ensures descends { (problem : ProblemState) (i j : ℕ) → IsProblem problem

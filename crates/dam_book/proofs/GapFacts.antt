@@ -1,5 +1,6 @@
 -- The rows that stand among places, as orders come, change and go.
-use Rattle.std.proofs.Common.{◌≡◌, ℕ, ◌+◌, zero, suc, Bool, true, false, cond, ◌&&◌, ◌||◌, List, [], ◌∷◌, ◌++◌, Option, Some, None, is_some, if◌then◌else◌, filter, slice_get, length, refl, sym, ap, ap₂, ◌∙◌, subst, arith, nat_eq}
+use Rattle.std.proofs.Common.{◌≡◌, ℕ, ◌+◌, zero, suc, Bool, true, false, cond, ◌&&◌, ◌||◌, List, [], ◌∷◌, ◌++◌, Option, Some, None, is_some}
+use Rattle.std.proofs.Common.{if◌then◌else◌, filter, slice_get, length, refl, sym, ap, ap₂, ◌∙◌, subst, arith, nat_eq}
 use Rattle.std.specs.Prelude.{⊤}
 use Rattle.std.specs.Cmp.{IsEquivalence, nat_eq_equiv}
 use Rattle.std.specs.Cmp.Lexicographic.{pointwise, nat_list_eq_equiv}
@@ -12,7 +13,8 @@ use Rattle.dam_book.specs.declared.order.Order.{Order}
 use Rattle.dam_book.specs.Name.{same_text}
 use Rattle.dam_book.specs.Order.{is_parent, parent_of}
 use Rattle.dam_book.specs.Book.{Key, Row, same_key, changed, names_parent}
-use Rattle.dam_book.specs.inside.Gaps.{Label, same_label, Place, with_place, held, one_if_gap, gap_count, IsNumbered, AreNumbered, child_at, is_child_place}
+use Rattle.dam_book.specs.inside.Gaps.{Label, same_label, Place, with_place, held, one_if_gap, gap_count, IsNumbered, AreNumbered, child_at}
+use Rattle.dam_book.specs.inside.Gaps.{is_child_place}
 use Rattle.dam_book.proofs.ChangeFacts.{set_value-changed}
 use Rattle.dam_book.proofs.Keys.{both_true, same_key-equal}
 
@@ -81,7 +83,8 @@ alike k n (p ∷ ps) row h = (alike_at k n p.0 p.1 row h.0, alike k (suc n) ps r
 
 -- A row is found as its place is.
 
-with-none : (t : Label → Bool) (r : Key → Bool) (l : Label) (o : Option Order) (rows : List Row) → AlikeAt t r l o → t l ≡ false → lookup r rows ≡ None → lookup r (with_place l.0 o rows) ≡ None
+with-none : (t : Label → Bool) (r : Key → Bool) (l : Label) (o : Option Order) (rows : List Row) → AlikeAt t r l o → t l ≡ false
+    → lookup r rows ≡ None → lookup r (with_place l.0 o rows) ≡ None
 with-none t r l None rows a e f = f
 with-none t r l (Some o) rows a e f = let g : r l.0 ≡ false = sym a ∙ e in rw g f
 
@@ -91,23 +94,28 @@ held-none t r (p ∷ ps) a e =
     let parts = none_head (t p.0) p.1 (lookup t ps) e in
     with-none t r p.0 p.1 (held ps) a.0 parts.0 (held-none t r ps a.1 parts.1)
 
-lookup-head : (t : Label → Bool) (r : Key → Bool) (l : Label) (o : Option Order) (ps : List Place) (b : Bool) → t l ≡ b → AlikeAt t r l o → Alike t r ps → (b ≡ true → lookup t ps ≡ None)
+lookup-head : (t : Label → Bool) (r : Key → Bool) (l : Label) (o : Option Order) (ps : List Place) (b : Bool) → t l ≡ b → AlikeAt t r l o
+    → Alike t r ps → (b ≡ true → lookup t ps ≡ None)
     → lookup r (held ps) ≡ flat (lookup t ps) → lookup r (with_place l.0 o (held ps)) ≡ flat (cond b (Some o) (lookup t ps))
 lookup-head t r l None ps true e a like none same = held-none t r ps like (none refl)
 lookup-head t r l None ps false e a like none same = same
 lookup-head t r l (Some o) ps true e a like none same = let g : r l.0 ≡ true = sym a ∙ e in rw g refl
 lookup-head t r l (Some o) ps false e a like none same = let g : r l.0 ≡ false = sym a ∙ e in rw g same
 
-pub lookup-held : (k : Label) (n : ℕ) (ps : List Place) → k.1 ≡ 0 → AreNumbered n ps → IsDistinct same_label (keys_of ps) → lookup (same_key k.0) (held ps) ≡ flat (lookup (same_label k) ps)
+pub lookup-held : (k : Label) (n : ℕ) (ps : List Place) → k.1 ≡ 0 → AreNumbered n ps → IsDistinct same_label (keys_of ps)
+    → lookup (same_key k.0) (held ps) ≡ flat (lookup (same_label k) ps)
 lookup-held k n [] row h d = refl
 lookup-held k n (p ∷ ps) row h d =
     lookup-head (same_label k) (same_key k.0) p.0 p.1 ps (same_label k p.0) refl (alike_at k n p.0 p.1 row h.0) (alike k (suc n) ps row h.1)
-    (λ hit. lookup-none (same_label k) ps (none_past_head same_label_equiv k p ps d hit)) (lookup-held k (suc n) ps row h.1 (distinct_tail p ps d))
+    (λ hit. lookup-none (same_label k) ps (none_past_head same_label_equiv k p ps d hit))
+    (lookup-held k (suc n) ps row h.1 (distinct_tail p ps d))
 
 -- An order taken out, its place left as a gap.
 
-taken-head : (t : Label → Bool) (r : Key → Bool) (l : Label) (x : Option Order) (ps : List Place) (o : Order) (b : Bool) → t l ≡ b → AlikeAt t r l x → cond b (Some x) (lookup t ps) ≡ Some (Some o)
-    → (lookup t ps ≡ Some (Some o) → (held (set_value t ps None) ≡ remove_entry r (held ps)) × (gap_count (set_value t ps None) ≡ gap_count ps + 1))
+taken-head : (t : Label → Bool) (r : Key → Bool) (l : Label) (x : Option Order) (ps : List Place) (o : Order) (b : Bool) → t l ≡ b
+    → AlikeAt t r l x → cond b (Some x) (lookup t ps) ≡ Some (Some o)
+    → (lookup t ps ≡ Some (Some o) → (held (set_value t ps None) ≡ remove_entry r (held ps))
+    × (gap_count (set_value t ps None) ≡ gap_count ps + 1))
     → (held (cond b ((l, None) ∷ ps) ((l, x) ∷ set_value t ps None)) ≡ remove_entry r (with_place l.0 x (held ps)))
     × (gap_count (cond b ((l, None) ∷ ps) ((l, x) ∷ set_value t ps None)) ≡ one_if_gap x + gap_count ps + 1)
 taken-head t r l None ps o true e a g rest = absurd (cc)
@@ -124,8 +132,10 @@ held-taken t r (p ∷ ps) o a e = taken-head t r p.0 p.1 ps o (t p.0) refl a.0 e
 
 -- An order changed at its place.
 
-put-head : (t : Label → Bool) (r : Key → Bool) (l : Label) (x : Option Order) (ps : List Place) (o n : Order) (b : Bool) → t l ≡ b → AlikeAt t r l x → cond b (Some x) (lookup t ps) ≡ Some (Some o)
-    → (lookup t ps ≡ Some (Some o) → (held (set_value t ps (Some n)) ≡ set_value r (held ps) n) × (gap_count (set_value t ps (Some n)) ≡ gap_count ps))
+put-head : (t : Label → Bool) (r : Key → Bool) (l : Label) (x : Option Order) (ps : List Place) (o n : Order) (b : Bool) → t l ≡ b
+    → AlikeAt t r l x → cond b (Some x) (lookup t ps) ≡ Some (Some o)
+    → (lookup t ps ≡ Some (Some o) → (held (set_value t ps (Some n)) ≡ set_value r (held ps) n)
+    × (gap_count (set_value t ps (Some n)) ≡ gap_count ps))
     → (held (cond b ((l, Some n) ∷ ps) ((l, x) ∷ set_value t ps (Some n))) ≡ set_value r (with_place l.0 x (held ps)) n)
     × (gap_count (cond b ((l, Some n) ∷ ps) ((l, x) ∷ set_value t ps (Some n))) ≡ one_if_gap x + gap_count ps)
 put-head t r l None ps o n true e a g rest = absurd (cc)
@@ -150,8 +160,11 @@ remove_entry-absent {V} test (x ∷ xs) e =
 set_value-same : (t : Label → Bool) (ps : List Place) (o : Option Order) → lookup t ps ≡ Some o → set_value t ps o ≡ ps
 set_value-same t [] o e = absurd (cc)
 set_value-same t (p ∷ ps) o e =
-    elim (t p.0) as (λ b. cond b (Some p.1) (lookup t ps) ≡ Some o → cond b ((p.0, o) ∷ ps) (p ∷ set_value t ps o) ≡ p ∷ ps)
-    [ true ↦ λ g. let same : o ≡ p.1 = cc in ap (λ (x : Option Order). let q : Place = (p.0, x) in q ∷ ps) same | false ↦ λ g. ap (λ (qs : List Place). p ∷ qs) (set_value-same t ps o g) ] e
+    elim (t p.0) as (λ b. cond b (Some p.1) (lookup t ps) ≡ Some o → cond b ((p.0, o) ∷ ps) (p ∷ set_value t ps o) ≡ p ∷ ps) [
+      | true ↦ λ g. let same : o ≡ p.1 = cc in ap (λ (x : Option Order). let q : Place = (p.0, x) in q ∷ ps) same
+      | false ↦ λ g. ap
+          (λ (qs : List Place). p ∷ qs) (set_value-same t ps o g)
+    ] e
 
 -- The numbers of the places, which stay or become 0.
 
@@ -159,7 +172,8 @@ may_be_gap : (n m : ℕ) (o : Option Order) → IsNumbered n m o → IsNumbered 
 may_be_gap n m None h = h
 may_be_gap n m (Some o) h = λ some. absurd (omega (arith, h, some))
 
-taken-numbered : (b : Bool) (n : ℕ) (p : Place) (ps rest : List Place) → AreNumbered n (p ∷ ps) → AreNumbered (suc n) rest → AreNumbered n (cond b ((p.0, None) ∷ ps) (p ∷ rest))
+taken-numbered : (b : Bool) (n : ℕ) (p : Place) (ps rest : List Place) → AreNumbered n (p ∷ ps) → AreNumbered (suc n) rest
+    → AreNumbered n (cond b ((p.0, None) ∷ ps) (p ∷ rest))
 taken-numbered true n p ps rest h g = (may_be_gap n p.0.1 p.1 h.0, h.1)
 taken-numbered false n p ps rest h g = (h.0, g)
 
@@ -167,13 +181,16 @@ numbered-taken : (t : Label → Bool) (n : ℕ) (ps : List Place) → AreNumbere
 numbered-taken t n [] h = tt
 numbered-taken t n (p ∷ ps) h = taken-numbered (t p.0) n p ps (set_value t ps None) h (numbered-taken t (suc n) ps h.1)
 
-put-numbered : (b : Bool) (n : ℕ) (l : Label) (x : Option Order) (ps rest : List Place) (found : Option (Option Order)) (o w : Order) → cond b (Some x) found ≡ Some (Some o)
-    → IsNumbered n l.1 x → AreNumbered (suc n) ps → (found ≡ Some (Some o) → AreNumbered (suc n) rest) → AreNumbered n (cond b ((l, Some w) ∷ ps) ((l, x) ∷ rest))
+put-numbered : (b : Bool) (n : ℕ) (l : Label) (x : Option Order) (ps rest : List Place) (found : Option (Option Order)) (o w : Order)
+    → cond b (Some x) found ≡ Some (Some o)
+    → IsNumbered n l.1 x → AreNumbered (suc n) ps → (found ≡ Some (Some o) → AreNumbered (suc n) rest)
+    → AreNumbered n (cond b ((l, Some w) ∷ ps) ((l, x) ∷ rest))
 put-numbered true n l None ps rest found o w e h hs g = absurd (cc)
 put-numbered true n l (Some x) ps rest found o w e h hs g = (h, hs)
 put-numbered false n l x ps rest found o w e h hs g = (h, g e)
 
-numbered-put : (t : Label → Bool) (n : ℕ) (ps : List Place) (o w : Order) → lookup t ps ≡ Some (Some o) → AreNumbered n ps → AreNumbered n (set_value t ps (Some w))
+numbered-put : (t : Label → Bool) (n : ℕ) (ps : List Place) (o w : Order) → lookup t ps ≡ Some (Some o) → AreNumbered n ps
+    → AreNumbered n (set_value t ps (Some w))
 numbered-put t n [] o w e h = tt
 numbered-put t n (p ∷ ps) o w e h =
     put-numbered (t p.0) n p.0 p.1 ps (set_value t ps (Some w)) (lookup t ps) o w e h.0 h.1 (λ g. numbered-put t (suc n) ps o w g h.1)
@@ -182,7 +199,8 @@ pub numbered-push : (n : ℕ) (ps : List Place) (l : Label) (o : Order) → l.1 
 numbered-push n [] l o row h = (row, tt)
 numbered-push n (p ∷ ps) l o row h = (h.0, numbered-push (suc n) ps l o row h.1)
 
-filtered-numbered : (n m : ℕ) (l : Label) (o : Option Order) (rest : List Place) → IsNumbered n l.1 o → ((i : ℕ) → AreNumbered i rest) → AreNumbered m (cond (is_some o) ((l, o) ∷ rest) rest)
+filtered-numbered : (n m : ℕ) (l : Label) (o : Option Order) (rest : List Place) → IsNumbered n l.1 o → ((i : ℕ) → AreNumbered i rest)
+    → AreNumbered m (cond (is_some o) ((l, o) ∷ rest) rest)
 filtered-numbered n m l None rest h g = g m
 filtered-numbered n m l (Some o) rest h g = (h, g (suc m))
 
@@ -199,7 +217,8 @@ pub record Took (k : Label) (ps : List Place) (x : Option Order) : Type 0 where
   pub count : gap_count (set_value (same_label k) ps None) ≡ gap_count ps + (if is_some x then 1 else 0)
   pub numbered : AreNumbered 1 (set_value (same_label k) ps None)
 
-pub took : (k : Label) (ps : List Place) (x : Option Order) → k.1 ≡ 0 → AreNumbered 1 ps → IsDistinct same_label (keys_of ps) → Some x ≡ lookup (same_label k) ps → Took k ps x
+pub took : (k : Label) (ps : List Place) (x : Option Order) → k.1 ≡ 0 → AreNumbered 1 ps → IsDistinct same_label (keys_of ps)
+    → Some x ≡ lookup (same_label k) ps → Took k ps x
 took k ps None row h apart e =
     let none : lookup (same_key k.0) (held ps) ≡ None = lookup-held k 1 ps row h apart ∙ ap flat (sym e) in
     let same = set_value-same (same_label k) ps None (sym e) in
@@ -211,10 +230,17 @@ took k ps None row h apart e =
     }
 took k ps (Some o) row h apart e =
     let out = held-taken (same_label k) (same_key k.0) ps o (alike k 1 ps row h) (sym e) in
-    record { value = sym (lookup-held k 1 ps row h apart ∙ ap flat (sym e)); rows = out.0; count = out.1; numbered = numbered-taken (same_label k) 1 ps h }
+    record {
+      value = sym (lookup-held k 1 ps row h apart ∙ ap flat (sym e));
+      rows = out.0;
+      count = out.1;
+      numbered =
+          numbered-taken (same_label k) 1 ps h;
+    }
 
 -- where there is none, or it is a gap, nothing goes and nothing changes
-pub no_row : (k : Label) (ps : List Place) → k.1 ≡ 0 → AreNumbered 1 ps → IsDistinct same_label (keys_of ps) → None ≡ lookup (same_label k) ps → lookup (same_key k.0) (held ps) ≡ None
+pub no_row : (k : Label) (ps : List Place) → k.1 ≡ 0 → AreNumbered 1 ps → IsDistinct same_label (keys_of ps)
+    → None ≡ lookup (same_label k) ps → lookup (same_key k.0) (held ps) ≡ None
 no_row k ps row h apart e = lookup-held k 1 ps row h apart ∙ ap flat (sym e)
 
 pub changed-absent : (k : Key) (f : Order → Order) (rows : List Row) → lookup (same_key k) rows ≡ None → changed k f rows ≡ rows
@@ -229,7 +255,8 @@ pub record Changed (k : Key) (f : Order → Order) (ps qs : List Place) : Type 0
   pub count : gap_count qs ≡ gap_count ps
   pub numbered : AreNumbered 1 qs
 
-pub gap_kept : (k : Label) (ps : List Place) (x : Option Order) (f : Order → Order) → k.1 ≡ 0 → AreNumbered 1 ps → IsDistinct same_label (keys_of ps) → Some x ≡ lookup (same_label k) ps → x ≡ None
+pub gap_kept : (k : Label) (ps : List Place) (x : Option Order) (f : Order → Order) → k.1 ≡ 0 → AreNumbered 1 ps
+    → IsDistinct same_label (keys_of ps) → Some x ≡ lookup (same_label k) ps → x ≡ None
     → Changed k.0 f ps (set_value (same_label k) ps x)
 gap_kept k ps x f row h apart e gap =
     let same = set_value-same (same_label k) ps x (sym e) in
@@ -240,7 +267,8 @@ gap_kept k ps x f row h apart e gap =
       numbered = subst (λ (qs : List Place). AreNumbered 1 qs) (sym same) h;
     }
 
-pub held-changed : (k : Label) (ps : List Place) (x : Option Order) (o n : Order) (f : Order → Order) → k.1 ≡ 0 → AreNumbered 1 ps → IsDistinct same_label (keys_of ps) → Some x ≡ lookup (same_label k) ps → x ≡ Some o → n ≡ f o
+pub held-changed : (k : Label) (ps : List Place) (x : Option Order) (o n : Order) (f : Order → Order) → k.1 ≡ 0 → AreNumbered 1 ps
+    → IsDistinct same_label (keys_of ps) → Some x ≡ lookup (same_label k) ps → x ≡ Some o → n ≡ f o
     → Changed k.0 f ps (set_value (same_label k) ps (Some n))
 held-changed k ps x o n f row h apart e is made =
     let found : lookup (same_label k) ps ≡ Some (Some o) = sym e ∙ ap (λ (y : Option Order). Some y) is in
@@ -258,20 +286,26 @@ with_place-append : (k : Key) (o : Option Order) (rows more : List Row) → with
 with_place-append k None rows more = refl
 with_place-append k (Some o) rows more = refl
 
-pub held-push : (ps : List Place) (l : Label) (o : Order) → (held (ps ++ (l, Some o) ∷ []) ≡ held ps ++ (l.0, o) ∷ []) × (gap_count (ps ++ (l, Some o) ∷ []) ≡ gap_count ps)
+pub held-push : (ps : List Place) (l : Label) (o : Order) → (held (ps ++ (l, Some o) ∷ []) ≡ held ps ++ (l.0, o) ∷ [])
+    × (gap_count (ps ++ (l, Some o) ∷ []) ≡ gap_count ps)
 held-push [] l o = (refl, refl)
 held-push (p ∷ ps) l o =
-    let rest = held-push ps l o in
-    (ap (λ (rs : List Row). with_place p.0.0 p.1 rs) rest.0 ∙ with_place-append p.0.0 p.1 (held ps) ((l.0, o) ∷ []), ap (λ (n : ℕ). one_if_gap p.1 + n) rest.1)
+    let rest = held-push ps l o in (
+      ap (λ (rs : List Row). with_place p.0.0 p.1 rs) rest.0 ∙ with_place-append p.0.0 p.1 (held ps) ((l.0, o) ∷ []),
+      ap (λ (n : ℕ). one_if_gap p.1 + n) rest.1,
+    )
 
 -- Gaps squeezed out.
 
-filtered-head : (l : Label) (o : Option Order) (ps : List Place) → (held (filter (λ (p : Place). is_some p.1) ps) ≡ held ps) × (gap_count (filter (λ (p : Place). is_some p.1) ps) ≡ 0)
-    → (held (filter (λ (p : Place). is_some p.1) ((l, o) ∷ ps)) ≡ with_place l.0 o (held ps)) × (gap_count (filter (λ (p : Place). is_some p.1) ((l, o) ∷ ps)) ≡ 0)
+filtered-head : (l : Label) (o : Option Order) (ps : List Place)
+    → (held (filter (λ (p : Place). is_some p.1) ps) ≡ held ps) × (gap_count (filter (λ (p : Place). is_some p.1) ps) ≡ 0)
+    → (held (filter (λ (p : Place). is_some p.1) ((l, o) ∷ ps)) ≡ with_place l.0 o (held ps))
+    × (gap_count (filter (λ (p : Place). is_some p.1) ((l, o) ∷ ps)) ≡ 0)
 filtered-head l None ps rest = rest
 filtered-head l (Some o) ps rest = (ap (λ (rs : List Row). (l.0, o) ∷ rs) rest.0, omega (arith, rest.1))
 
-pub held-filtered : (ps : List Place) → (held (filter (λ (p : Place). is_some p.1) ps) ≡ held ps) × (gap_count (filter (λ (p : Place). is_some p.1) ps) ≡ 0)
+pub held-filtered : (ps : List Place) → (held (filter (λ (p : Place). is_some p.1) ps) ≡ held ps)
+    × (gap_count (filter (λ (p : Place). is_some p.1) ps) ≡ 0)
 held-filtered [] = (refl, refl)
 held-filtered (p ∷ ps) = filtered-head p.0 p.1 ps (held-filtered ps)
 
@@ -290,7 +324,8 @@ length-held (p ∷ ps) = omega (arith, length-head p.0.0 p.1 (held ps), length-h
 pub some_is : (p q : Place) → Some p ≡ Some q → p ≡ q
 some_is p q e = cc
 
-no_gap-head : (k : Label) (x : Option Order) (ps : List Place) (at : ℕ) (l : Label) (o : Option Order) → one_if_gap x + gap_count ps ≡ 0 → slice_get ((k, x) ∷ ps) at ≡ Some (l, o)
+no_gap-head : (k : Label) (x : Option Order) (ps : List Place) (at : ℕ) (l : Label) (o : Option Order) → one_if_gap x + gap_count ps ≡ 0
+    → slice_get ((k, x) ∷ ps) at ≡ Some (l, o)
     → ((n : ℕ) → gap_count ps ≡ 0 → slice_get ps n ≡ Some (l, o) → (r : Order) × (o ≡ Some r) × (slice_get (held ps) n ≡ Some (l.0, r)))
     → (r : Order) × (o ≡ Some r) × (slice_get (with_place k.0 x (held ps)) at ≡ Some (l.0, r))
 no_gap-head k None ps at l o none e rest = absurd (omega (arith, none))
@@ -299,11 +334,13 @@ no_gap-head k (Some x) ps zero l o none e rest =
     (x, sym (ap (λ (p : Place). p.1) same), ap (λ (p : Place). let r : Row = (p.0.0, x) in Some r) same)
 no_gap-head k (Some x) ps (suc n) l o none e rest = rest n (omega (arith, none)) e
 
-pub no_gap : (ps : List Place) (at : ℕ) (l : Label) (o : Option Order) → gap_count ps ≡ 0 → slice_get ps at ≡ Some (l, o) → (r : Order) × (o ≡ Some r) × (slice_get (held ps) at ≡ Some (l.0, r))
+pub no_gap : (ps : List Place) (at : ℕ) (l : Label) (o : Option Order) → gap_count ps ≡ 0 → slice_get ps at ≡ Some (l, o)
+    → (r : Order) × (o ≡ Some r) × (slice_get (held ps) at ≡ Some (l.0, r))
 no_gap [] at l o none e = absurd (cc)
 no_gap (p ∷ ps) at l o none e = no_gap-head p.0 p.1 ps at l o none e (λ n. no_gap ps n l o)
 
-no_row-head : (k : Label) (x : Option Order) (ps : List Place) (at : ℕ) → one_if_gap x + gap_count ps ≡ 0 → slice_get ((k, x) ∷ ps) at ≡ None
+no_row-head : (k : Label) (x : Option Order) (ps : List Place) (at : ℕ) → one_if_gap x + gap_count ps ≡ 0
+    → slice_get ((k, x) ∷ ps) at ≡ None
     → ((n : ℕ) → gap_count ps ≡ 0 → slice_get ps n ≡ None → slice_get (held ps) n ≡ None) → slice_get (with_place k.0 x (held ps)) at ≡ None
 no_row-head k None ps at none e rest = absurd (omega (arith, none))
 no_row-head k (Some x) ps zero none e rest = absurd (cc)
@@ -317,21 +354,25 @@ some_order : (o r : Order) → Some o ≡ Some r → o ≡ r
 some_order o r e = cc
 
 module _ (ps : List Place) (rows : List Row) (at : ℕ) (view : held ps ≡ rows) (none : gap_count ps ≡ 0) where
-  pub row_at : (k : Label) (l : Key) (x : Option Order) (o n : Order) → ◌≡◌ {A = Option Place} (Some (k, x)) (slice_get ps at) → x ≡ Some o → l ≡ k.0 → n ≡ o → ◌≡◌ {A = Option Row} (Some (l, n)) (slice_get rows at)
+  pub row_at : (k : Label) (l : Key) (x : Option Order) (o n : Order) → ◌≡◌ {A = Option Place} (Some (k, x)) (slice_get ps at) → x ≡ Some o
+      → l ≡ k.0 → n ≡ o → ◌≡◌ {A = Option Row} (Some (l, n)) (slice_get rows at)
   row_at k l x o n e is key order =
       let found = no_gap ps at k x none (sym e) in
       let same : o ≡ found.0 = some_order o found.0 (sym is ∙ found.1) in
-      ap₂ (λ (q : Key) (y : Order). let r : Row = (q, y) in Some r) key (order ∙ same) ∙ sym found.2 ∙ ap (λ (rs : List Row). slice_get rs at) view
+      ap₂ (λ (q : Key) (y : Order). let r : Row = (q, y) in Some r) key (order ∙ same) ∙ sym found.2
+      ∙ ap (λ (rs : List Row). slice_get rs at) view
 
   pub no_gap_at : (k : Label) (x : Option Order) → ◌≡◌ {A = Option Place} (Some (k, x)) (slice_get ps at) → x ≡ None → ⊥
-  no_gap_at k x e is = let found = no_gap ps at k x none (sym e) in let both : ◌≡◌ {A = Option Order} None (Some found.0) = sym is ∙ found.1 in absurd (cc)
+  no_gap_at k x e is = let found = no_gap ps at k x none (sym e) in let both : ◌≡◌ {A = Option Order} None (Some found.0) =
+      sym is ∙ found.1 in absurd (cc)
 
   pub no_row_at : None ≡ slice_get ps at → None ≡ slice_get rows at
   no_row_at e = sym (no_gap-none ps at none (sym e)) ∙ ap (λ (rs : List Row). slice_get rs at) view
 
 -- What is asked of any row.
 
-any-head : (k : Key) (at : Key) (x : Option Order) (rows : List Row) (b : Bool) → b ≡ list_any (names_parent k) rows → (child_at k at.0 x || b) ≡ list_any (names_parent k) (with_place at x rows)
+any-head : (k : Key) (at : Key) (x : Option Order) (rows : List Row) (b : Bool) → b ≡ list_any (names_parent k) rows
+    → (child_at k at.0 x || b) ≡ list_any (names_parent k) (with_place at x rows)
 any-head k at None rows b e = e
 any-head k at (Some o) rows b e = ap (λ (c : Bool). (is_parent k.1 (parent_of o) && same_text k.0 at.0) || c) e
 
@@ -344,13 +385,15 @@ same_pair e f = ap₂ (λ (w n : List ℕ). let k : Key = (w, n) in k) e f
 
 -- Rows that the places hold.
 
-module _ (ps : List Place) (rows : List Row) (k : Label) (l : Key) (view : held ps ≡ rows) (numbered : AreNumbered 1 ps) (apart : IsDistinct same_label (keys_of ps)) (is : k ≡ (l, 0)) where
+module _ (ps : List Place) (rows : List Row) (k : Label) (l : Key) (view : held ps ≡ rows) (numbered : AreNumbered 1 ps)
+    (apart : IsDistinct same_label (keys_of ps)) (is : k ≡ (l, 0)) where
   seen_at : lookup (same_key l) rows ≡ flat (lookup (same_label k) ps)
   seen_at =
       ap₂ (λ (q : Label) (rs : List Row). lookup (same_key q.0) rs) (sym is) (sym view)
       ∙ lookup-held k 1 ps (ap (λ (q : Label). q.1) is) numbered apart
 
-  pub found_at : (x : Option Order) (o n : Order) → Some x ≡ lookup (same_label k) ps → x ≡ Some o → n ≡ o → Some n ≡ lookup (same_key l) rows
+  pub found_at : (x : Option Order) (o n : Order) → Some x ≡ lookup (same_label k) ps → x ≡ Some o → n ≡ o
+      → Some n ≡ lookup (same_key l) rows
   found_at x o n found one here = ap (λ (y : Order). Some y) here ∙ sym one ∙ ap flat found ∙ sym seen_at
 
   pub absent_at : None ≡ lookup (same_label k) ps → None ≡ lookup (same_key l) rows

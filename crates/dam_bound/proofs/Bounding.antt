@@ -1,5 +1,6 @@
 -- The relaxed welfare, period by period.
-use Rattle.std.proofs.Common.{◌≡◌, ℕ, suc, ◌+◌, ◌*◌, ◌≤◌, ℤ, pos, neg_ℤ, ◌+ℤ◌, ◌≤ℤ◌, Bool, Option, Some, None, List, ◌++◌, length, drop, ap, ap₂, ◌∙◌, sym, refl, arith}
+use Rattle.std.proofs.Common.{◌≡◌, ℕ, suc, ◌+◌, ◌*◌, ◌≤◌, ℤ, pos, neg_ℤ, ◌+ℤ◌, ◌≤ℤ◌, Bool, Option, Some, None, List, ◌++◌, length, drop, ap}
+use Rattle.std.proofs.Common.{ap₂, ◌∙◌, sym, refl, arith}
 use Rattle.std.specs.List.{slice_get}
 use Rattle.std.specs.Option.{option_map}
 use Rattle.dam_hour.specs.Best.{greatest_welfare}
@@ -15,8 +16,10 @@ use Rattle.dam_bound.specs.inside.Levels.{greatest_period_bound}
 use Rattle.dam_bound.proofs.Levelling.{drop_at}
 
 -- the welfare of the periods so far, and what is left of them
-pub record IsBoundSoFar (blocks : List Block) (taken : List Bool) (left : List Block) (hours : List (List Step)) (place : ℕ) (total : ℤ) : Type 0 where
-  pub sum : added (Some total) (welfare_from blocks taken (place + 1) (relaxed_hours left (place + 1) (drop place hours))) ≡ welfare_from blocks taken 1 (relaxed_hours left 1 hours)
+pub record IsBoundSoFar (blocks : List Block) (taken : List Bool) (left : List Block) (hours : List (List Step)) (place : ℕ) (total : ℤ)
+    : Type 0 where
+  pub sum : added (Some total) (welfare_from blocks taken (place + 1) (relaxed_hours left (place + 1) (drop place hours)))
+      ≡ welfare_from blocks taken 1 (relaxed_hours left 1 hours)
   pub low : neg_ℤ (pos (place * greatest_period_bound)) ≤ℤ total
   pub high : total ≤ℤ pos (place * greatest_period_bound)
 
@@ -28,24 +31,35 @@ added_assoc : (w v : ℤ) (x : Option ℤ) → added (Some w) (added (Some v) x)
 added_assoc w v None = refl
 added_assoc w v (Some r) = let e : w +ℤ (v +ℤ r) ≡ (w +ℤ v) +ℤ r = omega (arith, ints) in ap (λ (z : ℤ). Some z) e
 
-pub nothing_bound : (blocks : List Block) (taken : List Bool) (left : List Block) (hours : List (List Step)) → IsBoundSoFar blocks taken left hours 0 (pos 0)
-nothing_bound blocks taken left hours = record { sum = added_zero (welfare_from blocks taken 1 (relaxed_hours left 1 hours)); low = omega (arith, ints); high = omega (arith, ints) }
+pub nothing_bound : (blocks : List Block) (taken : List Bool) (left : List Block) (hours : List (List Step))
+    → IsBoundSoFar blocks taken left hours 0 (pos 0)
+nothing_bound blocks taken left hours = record {
+  sum = added_zero (welfare_from blocks taken 1 (relaxed_hours left 1 hours));
+  low =
+      omega (arith, ints);
+  high = omega (arith, ints);
+}
 
 -- the periods from a place on: that one, and the later ones
-from_place : (blocks : List Block) (taken : List Bool) (left : List Block) (hours : List (List Step)) (place : ℕ) (ss : List Step) → slice_get hours place ≡ Some ss
+from_place : (blocks : List Block) (taken : List Bool) (left : List Block) (hours : List (List Step)) (place : ℕ) (ss : List Step)
+    → slice_get hours place ≡ Some ss
     → welfare_from blocks taken (place + 1) (relaxed_hours left (place + 1) (drop place hours))
     ≡ added (period_welfare blocks taken (place + 1) (ss ++ as_steps (place + 1) left))
     (welfare_from blocks taken ((place + 1) + 1) (relaxed_hours left ((place + 1) + 1) (drop (place + 1) hours)))
 from_place blocks taken left hours place ss at =
     let next : suc (place + 1) ≡ (place + 1) + 1 = omega arith in
     ap (λ (hs : List (List Step)). welfare_from blocks taken (place + 1) (relaxed_hours left (place + 1) hs)) (drop_at hours place ss at)
-    ∙ ap (λ (t : ℕ). added (period_welfare blocks taken (place + 1) (ss ++ as_steps (place + 1) left)) (welfare_from blocks taken t (relaxed_hours left t (drop (place + 1) hours)))) next
+    ∙ ap (λ (t : ℕ). added (period_welfare blocks taken (place + 1) (ss ++ as_steps (place + 1) left))
+    (welfare_from blocks taken t (relaxed_hours left t (drop (place + 1) hours)))) next
 
-pub one_bound : (blocks : List Block) (taken : List Bool) (left : List Block) (hours : List (List Step)) (place t : ℕ) (ss : List Step) (w total after : ℤ)
-    → slice_get hours place ≡ Some ss → t ≡ place + 1 → Some w ≡ period_welfare blocks taken t (ss ++ as_steps t left) → IsWithin greatest_period_bound w → after ≡ total +ℤ w
+pub one_bound : (blocks : List Block) (taken : List Bool) (left : List Block) (hours : List (List Step)) (place t : ℕ) (ss : List Step)
+    (w total after : ℤ)
+    → slice_get hours place ≡ Some ss → t ≡ place + 1 → Some w ≡ period_welfare blocks taken t (ss ++ as_steps t left)
+    → IsWithin greatest_period_bound w → after ≡ total +ℤ w
     → IsBoundSoFar blocks taken left hours place total → IsBoundSoFar blocks taken left hours (place + 1) after
 one_bound blocks taken left hours place t ss w total after at period is within e so_far =
-    let here : Some w ≡ period_welfare blocks taken (place + 1) (ss ++ as_steps (place + 1) left) = is ∙ ap (λ (u : ℕ). period_welfare blocks taken u (ss ++ as_steps u left)) period in
+    let here : Some w ≡ period_welfare blocks taken (place + 1) (ss ++ as_steps (place + 1) left) =
+    is ∙ ap (λ (u : ℕ). period_welfare blocks taken u (ss ++ as_steps u left)) period in
     let rest = welfare_from blocks taken ((place + 1) + 1) (relaxed_hours left ((place + 1) + 1) (drop (place + 1) hours)) in
     let sum = so_far.sum in let l = so_far.low in let h = so_far.high in
     let least = within.at_least in let most = within.at_most in
@@ -57,30 +71,37 @@ one_bound blocks taken left hours place t ss w total after at period is within e
     }
 
 -- a period that doesn't balance
-pub none_bound : (blocks : List Block) (taken : List Bool) (left : List Block) (hours : List (List Step)) (place t : ℕ) (ss : List Step) (total : ℤ)
+pub none_bound : (blocks : List Block) (taken : List Bool) (left : List Block) (hours : List (List Step)) (place t : ℕ) (ss : List Step)
+    (total : ℤ)
     → slice_get hours place ≡ Some ss → t ≡ place + 1 → None ≡ period_welfare blocks taken t (ss ++ as_steps t left)
     → IsBoundSoFar blocks taken left hours place total → None ≡ welfare_from blocks taken 1 (relaxed_hours left 1 hours)
 none_bound blocks taken left hours place t ss total at period is so_far =
-    let here : None ≡ period_welfare blocks taken (place + 1) (ss ++ as_steps (place + 1) left) = is ∙ ap (λ (u : ℕ). period_welfare blocks taken u (ss ++ as_steps u left)) period in
+    let here : None ≡ period_welfare blocks taken (place + 1) (ss ++ as_steps (place + 1) left) =
+    is ∙ ap (λ (u : ℕ). period_welfare blocks taken u (ss ++ as_steps u left)) period in
     let rest = welfare_from blocks taken ((place + 1) + 1) (relaxed_hours left ((place + 1) + 1) (drop (place + 1) hours)) in
     ap (λ (x : Option ℤ). added (Some total) (added x rest)) here
     ∙ ap (added (Some total)) (sym (from_place blocks taken left hours place ss at)) ∙ so_far.sum
 
-pub all_bound : (blocks : List Block) (taken : List Bool) (left : List Block) (hours : List (List Step)) (place : ℕ) (total : ℤ) → length hours ≤ place
+pub all_bound : (blocks : List Block) (taken : List Bool) (left : List Block) (hours : List (List Step)) (place : ℕ) (total : ℤ)
+    → length hours ≤ place
     → IsBoundSoFar blocks taken left hours place total → Some total ≡ welfare_from blocks taken 1 (relaxed_hours left 1 hours)
 all_bound blocks taken left hours place total all so_far =
     let zero : total ≡ total +ℤ pos 0 = omega (arith, ints) in
     ap (λ (z : ℤ). Some z) zero
-    ∙ ap (λ (hs : List (List Step)). added (Some total) (welfare_from blocks taken (place + 1) (relaxed_hours left (place + 1) hs))) (sym (drop_all place hours all)) ∙ so_far.sum
+    ∙ ap (λ (hs : List (List Step)). added (Some total) (welfare_from blocks taken (place + 1) (relaxed_hours left (place + 1) hs)))
+    (sym (drop_all place hours all)) ∙ so_far.sum
 
 -- a period whose greatest welfare is known
-pub cleared_period : (blocks : List Block) (taken : List Bool) (t : ℕ) (ss relaxed : List Step) (net g value w : ℤ) → ss ≡ relaxed → net ≡ net_volume blocks taken t
-    → greatest_welfare ss net ≡ Some g → value ≡ block_value blocks taken t → w ≡ g +ℤ value → Some w ≡ period_welfare blocks taken t relaxed
+pub cleared_period : (blocks : List Block) (taken : List Bool) (t : ℕ) (ss relaxed : List Step) (net g value w : ℤ) → ss ≡ relaxed
+    → net ≡ net_volume blocks taken t
+    → greatest_welfare ss net ≡ Some g → value ≡ block_value blocks taken t → w ≡ g +ℤ value
+    → Some w ≡ period_welfare blocks taken t relaxed
 cleared_period blocks taken t ss relaxed net g value w steps net_is great value_is e =
     ap (λ (z : ℤ). Some z) (e ∙ ap (λ (z : ℤ). g +ℤ z) value_is)
     ∙ ap (option_map (λ (z : ℤ). z +ℤ block_value blocks taken t)) (sym great ∙ ap₂ greatest_welfare steps net_is)
 
-pub unbalanced_period : (blocks : List Block) (taken : List Bool) (t : ℕ) (ss relaxed : List Step) (net : ℤ) → ss ≡ relaxed → net ≡ net_volume blocks taken t
+pub unbalanced_period : (blocks : List Block) (taken : List Bool) (t : ℕ) (ss relaxed : List Step) (net : ℤ) → ss ≡ relaxed
+    → net ≡ net_volume blocks taken t
     → greatest_welfare ss net ≡ None → None ≡ period_welfare blocks taken t relaxed
 unbalanced_period blocks taken t ss relaxed net steps net_is none =
     ap (option_map (λ (z : ℤ). z +ℤ block_value blocks taken t)) (sym none ∙ ap₂ greatest_welfare steps net_is)

@@ -1,5 +1,6 @@
 -- The completions of a prefix.
-use Rattle.std.proofs.Common.{◌≡◌, ℕ, suc, ◌+◌, ◌-◌, ◌<◌, ◌≤◌, ◌⊎◌, inl, inr, Bool, true, false, List, [], ◌∷◌, ◌++◌, length, replicate, append_assoc, length-append, ap, ◌∙◌, sym, refl, arith}
+use Rattle.std.proofs.Common.{◌≡◌, ℕ, suc, ◌+◌, ◌-◌, ◌<◌, ◌≤◌, ◌⊎◌, inl, inr, Bool, true, false, List, [], ◌∷◌, ◌++◌, length, replicate}
+use Rattle.std.proofs.Common.{append_assoc, length-append, ap, ◌∙◌, sym, refl, arith}
 use Rattle.std.proofs.lemmas.List.{get_or-drop, length-replicate}
 use Rattle.std.proofs.lemmas.Option.{slice_get_within}
 use Rattle.std.proofs.Math.Seq.{drop-append_seam}
@@ -27,7 +28,12 @@ shortened prefix rest sel c = record { as_long = c.as_long; rest = rest ++ c.res
 
 pub padded_completes : (prefix : List Bool) → length prefix ≤ most_blocks → IsCompletion prefix (padded prefix)
 padded_completes prefix few = record {
-  as_long = omega (arith, few, length-append prefix (replicate (most_blocks - length prefix) false), length-replicate (most_blocks - length prefix) false);
+  as_long = omega (
+    arith,
+    few,
+    length-append prefix (replicate (most_blocks - length prefix) false),
+    length-replicate (most_blocks - length prefix) false,
+  );
   rest = replicate (most_blocks - length prefix) false;
   agrees = refl;
 }
@@ -50,7 +56,8 @@ pub only_padded : (problem : ProblemState) (prefix sel : List Bool) → length p
 only_padded problem prefix sel whole c is =
     let agrees = c.agrees in
     let none = none_accepted c.rest (λ i e.
-    (let allowed = is.each (length prefix + i) (ap (λ (xs : List Bool). accepts xs (length prefix + i)) agrees ∙ behind prefix c.rest i ∙ e) in
+    (let allowed = is.each (length prefix + i) (ap (λ (xs : List Bool). accepts xs (length prefix + i)) agrees ∙ behind prefix c.rest i ∙ e)
+    in
     let inside = slice_get_within problem.blocks (length prefix + i) allowed.block allowed.stands in
     absurd (omega (arith, inside, whole)))) in
     let long = sym c.as_long ∙ ap length agrees ∙ length-append prefix c.rest in

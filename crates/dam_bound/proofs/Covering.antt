@@ -1,5 +1,6 @@
 -- The bound law: what a selection reaches in a period, the relaxed period reaches too.
-use Rattle.std.proofs.Common.{◌≡◌, ℕ, suc, ◌+◌, ℤ, pos, ◌+ℤ◌, ◌≤ℤ◌, Bool, Option, Some, None, List, [], ◌∷◌, ◌++◌, length, drop, ap, ap₂, ◌∙◌, sym, refl, arith}
+use Rattle.std.proofs.Common.{◌≡◌, ℕ, suc, ◌+◌, ℤ, pos, ◌+ℤ◌, ◌≤ℤ◌, Bool, Option, Some, None, List, [], ◌∷◌, ◌++◌, length, drop, ap, ap₂}
+use Rattle.std.proofs.Common.{◌∙◌, sym, refl, arith}
 use Rattle.std.specs.Option.{option_map}
 use Rattle.std.proofs.lemmas.Int.{ints}
 use Rattle.std.proofs.lemmas.List.{append-nil}
@@ -24,14 +25,19 @@ pub record SumLaws : Type 0 where
 -- what the laws of one period and of sums over blocks say
 pub record Laws : Type 0 where
   pub joined : (ss ts : List Step) (xs ys : List ℕ) → IsExecution ss xs → IsExecution ts ys → IsExecution (ss ++ ts) (xs ++ ys)
-  pub parted : (ss ts : List Step) (zs : List ℕ) → IsExecution (ss ++ ts) zs → (xs : List ℕ) × (ys : List ℕ) × (zs ≡ xs ++ ys) × IsExecution ss xs × IsExecution ts ys
+  pub parted : (ss ts : List Step) (zs : List ℕ) → IsExecution (ss ++ ts) zs
+      → (xs : List ℕ) × (ys : List ℕ) × (zs ≡ xs ++ ys) × IsExecution ss xs × IsExecution ts ys
   pub volume : (side : Side) (ss ts : List Step) (xs ys : List ℕ) → IsExecution ss xs
       → executed_volume side (ss ++ ts) (xs ++ ys) ≡ executed_volume side ss xs + executed_volume side ts ys
-  pub welfare : (ss ts : List Step) (xs ys : List ℕ) → IsExecution ss xs → welfare_of (ss ++ ts) (xs ++ ys) ≡ welfare_of ss xs +ℤ welfare_of ts ys
-  pub reached : (ss : List Step) (net w : ℤ) → greatest_welfare ss net ≡ Some w → (xs : List ℕ) × IsExecution ss xs × Balances ss net xs × (welfare_of ss xs ≡ w)
-  pub bound : (ss : List Step) (net w : ℤ) → greatest_welfare ss net ≡ Some w → (xs : List ℕ) → IsExecution ss xs → Balances ss net xs → welfare_of ss xs ≤ℤ w
+  pub welfare : (ss ts : List Step) (xs ys : List ℕ) → IsExecution ss xs
+      → welfare_of (ss ++ ts) (xs ++ ys) ≡ welfare_of ss xs +ℤ welfare_of ts ys
+  pub reached : (ss : List Step) (net w : ℤ) → greatest_welfare ss net ≡ Some w
+      → (xs : List ℕ) × IsExecution ss xs × Balances ss net xs × (welfare_of ss xs ≡ w)
+  pub bound : (ss : List Step) (net w : ℤ) → greatest_welfare ss net ≡ Some w → (xs : List ℕ) → IsExecution ss xs → Balances ss net xs
+      → welfare_of ss xs ≤ℤ w
   pub some : (ss : List Step) (net : ℤ) → IsBalanced ss net → (w : ℤ) × (greatest_welfare ss net ≡ Some w)
-  pub small : (ss : List Step) (xs : List ℕ) → AreInRange ss → IsExecution ss xs → AreSmall (length ss) (executed_volume Buy ss xs) (executed_volume Sell ss xs) (welfare_of ss xs)
+  pub small : (ss : List Step) (xs : List ℕ) → AreInRange ss → IsExecution ss xs
+      → AreSmall (length ss) (executed_volume Buy ss xs) (executed_volume Sell ss xs) (welfare_of ss xs)
   pub sums : SumLaws
 
 -- ---- options
@@ -63,10 +69,12 @@ great_at_least laws ss net xs e b = let some = laws.some ss net (xs, e, b) in (s
 -- an execution of the steps and one of the blocks that stay undecided, which balance where more is decided
 covered : Laws → (t : ℕ) (bs : List Block) (prefix rest : List Bool) (ss : List Step) (xs us : List ℕ)
     → IsExecution ss xs → IsExecution (as_steps t (drop (length rest) (drop (length prefix) bs))) us
-    → (pos (executed_volume Sell ss xs) +ℤ pos (executed_volume Sell (as_steps t (drop (length rest) (drop (length prefix) bs))) us)) +ℤ net_volume bs (prefix ++ rest) t
+    → (pos (executed_volume Sell ss xs) +ℤ pos (executed_volume Sell (as_steps t (drop (length rest) (drop (length prefix) bs))) us))
+    +ℤ net_volume bs (prefix ++ rest) t
     ≡ pos (executed_volume Buy ss xs) +ℤ pos (executed_volume Buy (as_steps t (drop (length rest) (drop (length prefix) bs))) us)
     → (r : ℤ) × (period_welfare bs prefix t (ss ++ as_steps t (drop (length prefix) bs)) ≡ Some r)
-    × (((welfare_of ss xs +ℤ welfare_of (as_steps t (drop (length rest) (drop (length prefix) bs))) us) +ℤ block_value bs (prefix ++ rest) t) ≤ℤ r)
+    × (((welfare_of ss xs +ℤ welfare_of (as_steps t (drop (length rest) (drop (length prefix) bs))) us) +ℤ block_value bs (prefix ++ rest)
+    t) ≤ℤ r)
 covered laws t bs prefix rest ss xs us e f b =
     let undecided = drop (length prefix) bs in
     let s = stand t undecided rest us f in
@@ -85,7 +93,8 @@ covered laws t bs prefix rest ss xs us e f b =
       omega (arith, ints, most, worth, gain, value),
     )
 
-pub drop_more : (bs : List Block) (prefix rest : List Bool) → drop (length (prefix ++ rest)) bs ≡ drop (length rest) (drop (length prefix) bs)
+pub drop_more : (bs : List Block) (prefix rest : List Bool) → drop (length (prefix ++ rest)) bs ≡ drop (length rest)
+    (drop (length prefix) bs)
 drop_more bs [] rest = refl
 drop_more [] (d ∷ prefix) [] = refl
 drop_more [] (d ∷ prefix) (r ∷ rest) = refl
@@ -109,7 +118,8 @@ period_extended laws t bs prefix rest ss w e =
     (found.0, found.1, omega (arith, ints, most, worth, is, sum))
 
 -- no completion reaches more in a period
-period_completed : Laws → (t : ℕ) (bs : List Block) (prefix rest : List Bool) (ss : List Step) (w : ℤ) → period_welfare bs (prefix ++ rest) t ss ≡ Some w
+period_completed : Laws → (t : ℕ) (bs : List Block) (prefix rest : List Bool) (ss : List Step) (w : ℤ)
+    → period_welfare bs (prefix ++ rest) t ss ≡ Some w
     → (r : ℤ) × (period_welfare bs prefix t (ss ++ as_steps t (drop (length prefix) bs)) ≡ Some r) × (w ≤ℤ r)
 period_completed laws t bs prefix rest ss w e =
     let none = idle (as_steps t (drop (length rest) (drop (length prefix) bs))) in
@@ -128,7 +138,8 @@ extended_from : Laws → (t : ℕ) (bs : List Block) (prefix rest : List Bool) (
 extended_from laws t bs prefix rest [] w e = let zero : w ≡ pos 0 = cc in (pos 0, refl, omega (arith, ints, zero))
 extended_from laws t bs prefix rest (ss ∷ hours) w e =
     let left = drop (length rest) (drop (length prefix) bs) in
-    let parts = added_some (period_welfare bs (prefix ++ rest) t (ss ++ as_steps t left)) (welfare_from bs (prefix ++ rest) (suc t) (relaxed_hours left (suc t) hours)) w e in
+    let parts = added_some (period_welfare bs (prefix ++ rest) t (ss ++ as_steps t left))
+    (welfare_from bs (prefix ++ rest) (suc t) (relaxed_hours left (suc t) hours)) w e in
     let here = period_extended laws t bs prefix rest ss parts.0 parts.2 in
     let more = extended_from laws (suc t) bs prefix rest hours parts.1 parts.3 in
     let h = here.2 in let m = more.2 in let sum = parts.4 in
@@ -138,9 +149,11 @@ pub welfare_extended : Laws → (bs : List Block) (prefix rest : List Bool) (hou
     → welfare_from bs (prefix ++ rest) 1 (relaxed_hours (drop (length (prefix ++ rest)) bs) 1 hours) ≡ Some w
     → (r : ℤ) × (welfare_from bs prefix 1 (relaxed_hours (drop (length prefix) bs) 1 hours) ≡ Some r) × (w ≤ℤ r)
 welfare_extended laws bs prefix rest hours w e =
-    extended_from laws 1 bs prefix rest hours w (ap (λ (left : List Block). welfare_from bs (prefix ++ rest) 1 (relaxed_hours left 1 hours)) (sym (drop_more bs prefix rest)) ∙ e)
+    extended_from laws 1 bs prefix rest hours w (ap (λ (left : List Block). welfare_from bs (prefix ++ rest) 1 (relaxed_hours left 1 hours))
+    (sym (drop_more bs prefix rest)) ∙ e)
 
-pub completed_from : Laws → (t : ℕ) (bs : List Block) (prefix rest : List Bool) (hours : List (List Step)) (w : ℤ) → welfare_from bs (prefix ++ rest) t hours ≡ Some w
+pub completed_from : Laws → (t : ℕ) (bs : List Block) (prefix rest : List Bool) (hours : List (List Step)) (w : ℤ)
+    → welfare_from bs (prefix ++ rest) t hours ≡ Some w
     → (r : ℤ) × (welfare_from bs prefix t (relaxed_hours (drop (length prefix) bs) t hours) ≡ Some r) × (w ≤ℤ r)
 completed_from laws t bs prefix rest [] w e = let zero : w ≡ pos 0 = cc in (pos 0, refl, omega (arith, ints, zero))
 completed_from laws t bs prefix rest (ss ∷ hours) w e =
@@ -156,13 +169,16 @@ relaxed_hours-nil t [] = refl
 relaxed_hours-nil t (ss ∷ hours) = ap₂ (λ (x : List Step) (y : List (List Step)). x ∷ y) (append-nil ss) (relaxed_hours-nil (suc t) hours)
 
 -- the same sums over the accepted blocks give the same welfare
-pub same_welfare : (bs : List Block) (xs ys : List Bool) (t : ℕ) (hours : List (List Step)) → ((u : ℕ) → net_volume bs xs u ≡ net_volume bs ys u)
+pub same_welfare : (bs : List Block) (xs ys : List Bool) (t : ℕ) (hours : List (List Step))
+    → ((u : ℕ) → net_volume bs xs u ≡ net_volume bs ys u)
     → ((u : ℕ) → block_value bs xs u ≡ block_value bs ys u) → welfare_from bs xs t hours ≡ welfare_from bs ys t hours
 same_welfare bs xs ys t [] n v = refl
 same_welfare bs xs ys t (ss ∷ hours) n v =
-    ap₂ added (ap₂ (λ (net value : ℤ). option_map (λ w. w +ℤ value) (greatest_welfare ss net)) (n t) (v t)) (same_welfare bs xs ys (suc t) hours n v)
+    ap₂ added (ap₂ (λ (net value : ℤ). option_map (λ w. w +ℤ value) (greatest_welfare ss net)) (n t) (v t))
+    (same_welfare bs xs ys (suc t) hours n v)
 
-nothing_more : SumLaws → (f : BlockTerms → ℤ) (bs : List Block) (prefix rest : List Bool) → drop (length prefix) bs ≡ [] → over_accepted f bs prefix ≡ over_accepted f bs (prefix ++ rest)
+nothing_more : SumLaws → (f : BlockTerms → ℤ) (bs : List Block) (prefix rest : List Bool) → drop (length prefix) bs ≡ []
+    → over_accepted f bs prefix ≡ over_accepted f bs (prefix ++ rest)
 nothing_more sums f bs prefix rest none =
     let parts = sums.parted f bs prefix rest in
     let zero : over_accepted f (drop (length prefix) bs) rest ≡ pos 0 = ap (λ (left : List Block). over_accepted f left rest) none in
@@ -173,11 +189,15 @@ pub decided_welfare : SumLaws → (bs : List Block) (prefix rest : List Bool) (h
 decided_welfare sums bs prefix rest hours none =
     ap (λ (left : List Block). welfare_from bs prefix 1 (relaxed_hours left 1 hours)) none
     ∙ ap (welfare_from bs prefix 1) (relaxed_hours-nil 1 hours)
-    ∙ same_welfare bs prefix (prefix ++ rest) 1 hours (λ u. nothing_more sums (net_volume_of u) bs prefix rest none) (λ u. nothing_more sums (value_of u) bs prefix rest none)
+    ∙ same_welfare bs prefix (prefix ++ rest) 1 hours (λ u. nothing_more sums (net_volume_of u) bs prefix rest none)
+    (λ u. nothing_more sums (value_of u) bs prefix rest none)
 
 -- the decisions and the selection that accepts nothing else
-pub padded_welfare : SumLaws → (bs : List Block) (prefix taken : List Bool) (depth : ℕ) (hours : List (List Step)) → length prefix ≡ depth → taken ≡ padded prefix
-    → welfare_from bs taken 1 (relaxed_hours (drop depth bs) 1 hours) ≡ welfare_from bs prefix 1 (relaxed_hours (drop (length prefix) bs) 1 hours)
+pub padded_welfare : SumLaws → (bs : List Block) (prefix taken : List Bool) (depth : ℕ) (hours : List (List Step)) → length prefix ≡ depth
+    → taken ≡ padded prefix
+    → welfare_from bs taken 1 (relaxed_hours (drop depth bs) 1 hours) ≡ welfare_from bs prefix 1
+    (relaxed_hours (drop (length prefix) bs) 1 hours)
 padded_welfare sums bs prefix taken depth hours long is =
     ap₂ (λ (xs : List Bool) (n : ℕ). welfare_from bs xs 1 (relaxed_hours (drop n bs) 1 hours)) is (sym long)
-    ∙ same_welfare bs (padded prefix) prefix 1 (relaxed_hours (drop (length prefix) bs) 1 hours) (λ u. sums.padded (net_volume_of u) bs prefix) (λ u. sums.padded (value_of u) bs prefix)
+    ∙ same_welfare bs (padded prefix) prefix 1 (relaxed_hours (drop (length prefix) bs) 1 hours)
+    (λ u. sums.padded (net_volume_of u) bs prefix) (λ u. sums.padded (value_of u) bs prefix)

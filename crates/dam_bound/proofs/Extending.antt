@@ -1,5 +1,6 @@
 -- A prefix with one more decision, period by period.
-use Rattle.std.proofs.Common.{◌≡◌, ℕ, zero, suc, ◌+◌, ℤ, pos, neg_ℤ, ◌+ℤ◌, ◌*ℤ◌, Bool, true, false, not, Some, List, [], ◌∷◌, ◌++◌, length, length-append, drop, slice_set, ap, ◌∙◌, sym, subst, refl, arith}
+use Rattle.std.proofs.Common.{◌≡◌, ℕ, zero, suc, ◌+◌, ℤ, pos, neg_ℤ, ◌+ℤ◌, ◌*ℤ◌, Bool, true, false, not, Some, List, [], ◌∷◌, ◌++◌, length}
+use Rattle.std.proofs.Common.{length-append, drop, slice_set, ap, ◌∙◌, sym, subst, refl, arith}
 use Rattle.std.specs.List.{slice_get}
 use Rattle.std.proofs.lemmas.Int.{ints}
 use Rattle.std.proofs.lemmas.List.{length-set}
@@ -30,12 +31,14 @@ pub nothing_over : (f : BlockTerms → ℤ) (bs : List Block) → over_accepted 
 nothing_over f [] = refl
 nothing_over f (b ∷ bs) = refl
 
-one_over : (f : BlockTerms → ℤ) (b : Block) (bs : List Block) (accept : Bool) → over_accepted f (b ∷ bs) (accept ∷ []) ≡ if_accepted accept (f b.order)
+one_over : (f : BlockTerms → ℤ) (b : Block) (bs : List Block) (accept : Bool)
+    → over_accepted f (b ∷ bs) (accept ∷ []) ≡ if_accepted accept (f b.order)
 one_over f b bs true = let none = nothing_over f bs in omega (arith, ints, none)
 one_over f b bs false = nothing_over f bs
 
 pub decided_over : SumLaws → (f : BlockTerms → ℤ) (blocks : List Block) (prefix : List Bool) (accept : Bool) (depth : ℕ) (b : Block)
-    → slice_get blocks depth ≡ Some b → length prefix ≡ depth → over_accepted f blocks (prefix ++ accept ∷ []) ≡ over_accepted f blocks prefix +ℤ if_accepted accept (f b.order)
+    → slice_get blocks depth ≡ Some b → length prefix ≡ depth → over_accepted f blocks
+    (prefix ++ accept ∷ []) ≡ over_accepted f blocks prefix +ℤ if_accepted accept (f b.order)
 decided_over laws f blocks prefix accept depth b at is =
     laws.parted f blocks prefix (accept ∷ [])
     ∙ ap (λ (z : ℤ). over_accepted f blocks prefix +ℤ z)
@@ -80,8 +83,10 @@ pub same_value : (blocks : List Block) (place depth : ℕ) (change : Change) (ac
 same_value blocks place depth change accept before after t b is at none =
     no_change change accept _ _ (value_of t b.order) (is.value t b at) (no_value t b.order none)
 
-pub same_period : (blocks : List Block) (place depth : ℕ) (change : Change) (accept : Bool) (before after : List Bool) (t : ℕ) (b : Block) (ss : List Step)
-    (own : Taken) → IsChange blocks place change accept depth before after → slice_get blocks place ≡ Some b → volume_in b.order.volumes t ≡ 0
+pub same_period : (blocks : List Block) (place depth : ℕ) (change : Change) (accept : Bool) (before after : List Bool) (t : ℕ) (b : Block)
+    (ss : List Step)
+    (own : Taken) → IsChange blocks place change accept depth before after → slice_get blocks place ≡ Some b
+    → volume_in b.order.volumes t ≡ 0
     → IsPeriodOfDay blocks before t (ss ++ as_steps t (drop (length before) blocks)) own
     → IsPeriodOfDay blocks after t (ss ++ as_steps t (drop (length after) blocks)) own
 same_period blocks place depth change accept before after t b ss own is at none period =
@@ -107,15 +112,19 @@ decision laws blocks prefix accept depth is = record {
       ∙ ap (λ (n : ℕ). as_steps t (drop n blocks)) (sym (length-append prefix (accept ∷ []) ∙ ap (λ (n : ℕ). n + 1) is));
 }
 
-turned_over : (f : BlockTerms → ℤ) (blocks : List Block) (prefix : List Bool) (place : ℕ) (accept : Bool) (b : Block) → slice_get blocks place ≡ Some b → slice_get prefix place ≡ Some (not accept)
+turned_over : (f : BlockTerms → ℤ) (blocks : List Block) (prefix : List Bool) (place : ℕ) (accept : Bool) (b : Block)
+    → slice_get blocks place ≡ Some b → slice_get prefix place ≡ Some (not accept)
     → over_accepted f blocks (slice_set prefix place accept) ≡ over_accepted f blocks prefix +ℤ by Turn accept (f b.order)
 turned_over f [] prefix place accept b at is = absurd (cc)
 turned_over f (c ∷ blocks) [] place accept b at is = absurd (cc)
 turned_over f (c ∷ blocks) (true ∷ prefix) zero true b at is = absurd (cc)
-turned_over f (c ∷ blocks) (true ∷ prefix) zero false b at is = let same : c ≡ b = cc in let e = ap (λ (x : Block). f x.order) same in omega (arith, ints, e)
-turned_over f (c ∷ blocks) (false ∷ prefix) zero true b at is = let same : c ≡ b = cc in let e = ap (λ (x : Block). f x.order) same in omega (arith, ints, e)
+turned_over f (c ∷ blocks) (true ∷ prefix) zero false b at is = let same : c ≡ b = cc in let e = ap (λ (x : Block). f x.order) same in
+    omega (arith, ints, e)
+turned_over f (c ∷ blocks) (false ∷ prefix) zero true b at is = let same : c ≡ b = cc in let e = ap (λ (x : Block). f x.order) same in
+    omega (arith, ints, e)
 turned_over f (c ∷ blocks) (false ∷ prefix) zero false b at is = absurd (cc)
-turned_over f (c ∷ blocks) (true ∷ prefix) (suc place) accept b at is = let more = turned_over f blocks prefix place accept b at is in omega (arith, ints, more)
+turned_over f (c ∷ blocks) (true ∷ prefix) (suc place) accept b at is = let more = turned_over f blocks prefix place accept b at is in
+    omega (arith, ints, more)
 turned_over f (c ∷ blocks) (false ∷ prefix) (suc place) accept b at is = turned_over f blocks prefix place accept b at is
 
 pub turning : (blocks : List Block) (prefix : List Bool) (place : ℕ) (accept : Bool) → length prefix ≡ length blocks

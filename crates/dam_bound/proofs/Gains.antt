@@ -1,5 +1,6 @@
 -- What a block gains, pair by pair of its volumes.
-use Rattle.std.proofs.Common.{◌≡◌, ◌≢◌, ℕ, zero, suc, ◌+◌, ◌<◌, ◌≤◌, ℤ, pos, ◌+ℤ◌, ◌-ℤ◌, ◌*ℤ◌, Bool, true, Option, Some, None, List, [], ◌∷◌, length, drop, ap, ap₂, ◌∙◌, sym, subst, refl, arith}
+use Rattle.std.proofs.Common.{◌≡◌, ◌≢◌, ℕ, zero, suc, ◌+◌, ◌<◌, ◌≤◌, ℤ, pos, ◌+ℤ◌, ◌-ℤ◌, ◌*ℤ◌, Bool, true, Option, Some, None, List, []}
+use Rattle.std.proofs.Common.{◌∷◌, length, drop, ap, ap₂, ◌∙◌, sym, subst, refl, arith}
 use Rattle.std.specs.List.{slice_get}
 use Rattle.std.specs.Option.{option_map}
 use Rattle.std.proofs.lemmas.Int.{ints}
@@ -24,7 +25,8 @@ abbrev pub AreEndsUnique : Type 0
 AreEndsUnique = (ss : List Step) (net low high other_low other_high : ℤ) → AreEnds ss net low high → AreEnds ss net other_low other_high
     → (low ≡ other_low) × (high ≡ other_high)
 
-pub price_is : AreEndsUnique → (ss there : List Step) (net here low high price : ℤ) → there ≡ ss → here ≡ net → AreEnds there here low high → IsClearingPrice ss net price
+pub price_is : AreEndsUnique → (ss there : List Step) (net here low high price : ℤ) → there ≡ ss → here ≡ net → AreEnds there here low high
+    → IsClearingPrice ss net price
     → price_between low high ≡ price
 price_is law ss there net here low high price e f ends is =
     let own = subst (λ (hs : List Step). AreEnds hs net low high) e (subst (λ (z : ℤ). AreEnds there z low high) f ends) in
@@ -32,20 +34,26 @@ price_is law ss there net here low high price e f ends is =
     ap₂ price_between same.0 same.1 ∙ sym is.between
 
 -- the price of a period of the day
-pub price_at : (blocks : List Block) (sel : List Bool) (t i : ℕ) (hours : List (List Step)) (prices : List ℤ) (ss : List Step) → ArePrices blocks sel t hours prices → slice_get hours i ≡ Some ss
+pub price_at : (blocks : List Block) (sel : List Bool) (t i : ℕ) (hours : List (List Step)) (prices : List ℤ) (ss : List Step)
+    → ArePrices blocks sel t hours prices → slice_get hours i ≡ Some ss
     → (p : ℤ) × (slice_get prices i ≡ Some p) × IsClearingPrice ss (net_volume blocks sel (t + i)) p
 price_at blocks sel t i [] prices ss are at = absurd (cc)
 price_at blocks sel t i (hour ∷ hours) [] ss are at = absurd are
 price_at blocks sel t zero (hour ∷ hours) (p ∷ prices) ss are at =
     let same : hour ≡ ss = cc in
-    let number : t ≡ t + zero = omega arith in
-    (p, refl, subst (λ (hs : List Step). IsClearingPrice hs (net_volume blocks sel (t + zero)) p) same (subst (λ (n : ℕ). IsClearingPrice hour (net_volume blocks sel n) p) number are.0))
+    let number : t ≡ t + zero = omega arith in (
+      p,
+      refl,
+      subst (λ (hs : List Step). IsClearingPrice hs (net_volume blocks sel (t + zero)) p) same
+          (subst (λ (n : ℕ). IsClearingPrice hour (net_volume blocks sel n) p) number are.0),
+    )
 price_at blocks sel t (suc i) (hour ∷ hours) (p ∷ prices) ss are at =
     let rest = price_at blocks sel (suc t) i hours prices ss are.1 at in
     let number : suc t + i ≡ t + suc i = omega arith in
     (rest.0, rest.1, subst (λ (n : ℕ). IsClearingPrice ss (net_volume blocks sel n) rest.0) number rest.2)
 
-pub as_many_prices : (blocks : List Block) (sel : List Bool) (t : ℕ) (hours : List (List Step)) (prices : List ℤ) → ArePrices blocks sel t hours prices → length prices ≡ length hours
+pub as_many_prices : (blocks : List Block) (sel : List Bool) (t : ℕ) (hours : List (List Step)) (prices : List ℤ)
+    → ArePrices blocks sel t hours prices → length prices ≡ length hours
 as_many_prices blocks sel t [] [] are = refl
 as_many_prices blocks sel t [] (p ∷ prices) are = absurd are
 as_many_prices blocks sel t (ss ∷ hours) [] are = absurd are
@@ -81,14 +89,16 @@ elsewhere o p ps t (x ∷ prices) h =
     (elsewhere o p ps (suc t) prices (λ i l m. h i (omega (arith, l)) (omega (arith, m))))
 
 -- a pair of one of these periods
-pub at_pair : (o : BlockTerms) (p : Pair) (ps : List Pair) (t k : ℕ) (prices : List ℤ) (x : ℤ) → p.0 ≡ t + k → slice_get prices k ≡ Some x → volume_in ps p.0 ≡ 0
+pub at_pair : (o : BlockTerms) (p : Pair) (ps : List Pair) (t k : ℕ) (prices : List ℤ) (x : ℤ) → p.0 ≡ t + k → slice_get prices k ≡ Some x
+    → volume_in ps p.0 ≡ 0
     → surplus_from t prices (with_pairs o (p ∷ ps)) ≡ signed o.side ((o.price -ℤ x) *ℤ pos p.1) +ℤ surplus_from t prices (with_pairs o ps)
 at_pair o p ps t k [] x e at none = absurd (cc)
 at_pair o p ps t zero (y ∷ prices) x e at none =
     let same : y ≡ x = cc in
     let number : p.0 ≡ t = omega (arith, e) in
     let own = signed o.side ((o.price -ℤ x) *ℤ pos p.1) in
-    let nothing = ap (λ (n : ℕ). signed o.side ((o.price -ℤ y) *ℤ pos n)) (ap (volume_in ps) (sym number) ∙ none) ∙ none_at o.side (o.price -ℤ y) in
+    let nothing = ap (λ (n : ℕ). signed o.side ((o.price -ℤ y) *ℤ pos n)) (ap (volume_in ps) (sym number) ∙ none)
+    ∙ none_at o.side (o.price -ℤ y) in
     ap₂ (λ (a b : ℤ). a +ℤ b)
     (ap₂ (λ (z : ℤ) (n : ℕ). signed o.side ((o.price -ℤ z) *ℤ pos n)) same (own_volume p ps t number))
     (elsewhere o p ps (suc t) prices (λ i l m. omega (arith, l, number)))
@@ -98,26 +108,32 @@ at_pair o p ps t (suc k) (y ∷ prices) x e at none =
     ap₂ (λ (a b : ℤ). a +ℤ b)
     (ap (λ (n : ℕ). signed o.side ((o.price -ℤ y) *ℤ pos n)) (other_volume p ps t apart))
     (at_pair o p ps (suc t) k prices x (omega (arith, e)) at none)
-    ∙ put_first (signed o.side ((o.price -ℤ x) *ℤ pos p.1)) (surplus_in t y (with_pairs o ps)) (surplus_from (suc t) prices (with_pairs o ps))
+    ∙ put_first (signed o.side ((o.price -ℤ x) *ℤ pos p.1)) (surplus_in t y (with_pairs o ps))
+    (surplus_from (suc t) prices (with_pairs o ps))
 
 -- ---- the pairs from a place on
-pub surplus_at_place : (o : BlockTerms) (pairs : List Pair) (k place : ℕ) (p : Pair) (prices : List ℤ) (x : ℤ) → is_increasing 0 pairs ≡ true → slice_get pairs k ≡ Some p → p.0 ≡ place + 1
+pub surplus_at_place : (o : BlockTerms) (pairs : List Pair) (k place : ℕ) (p : Pair) (prices : List ℤ) (x : ℤ)
+    → is_increasing 0 pairs ≡ true → slice_get pairs k ≡ Some p → p.0 ≡ place + 1
     → slice_get prices place ≡ Some x
-    → surplus_of prices (with_pairs o (drop k pairs)) ≡ signed o.side ((o.price -ℤ x) *ℤ pos p.1) +ℤ surplus_of prices (with_pairs o (drop (k + 1) pairs))
+    → surplus_of prices (with_pairs o (drop k pairs)) ≡ signed o.side ((o.price -ℤ x) *ℤ pos p.1) +ℤ surplus_of prices
+    (with_pairs o (drop (k + 1) pairs))
 surplus_at_place o pairs k place p prices x rising at number here =
     let step : suc k ≡ k + 1 = omega arith in
     ap (λ (ps : List Pair). surplus_of prices (with_pairs o ps)) (drop_at pairs k p at)
-    ∙ at_pair o p (drop (k + 1) pairs) 1 place prices x (omega (arith, number)) here (ap (λ (n : ℕ). volume_in (drop n pairs) p.0) (sym step) ∙ past_volume 0 pairs k p rising at)
+    ∙ at_pair o p (drop (k + 1) pairs) 1 place prices x (omega (arith, number)) here
+    (ap (λ (n : ℕ). volume_in (drop n pairs) p.0) (sym step) ∙ past_volume 0 pairs k p rising at)
 
 -- a pair past the day
-pub surplus_past : (o : BlockTerms) (pairs : List Pair) (k : ℕ) (p : Pair) (prices : List ℤ) → slice_get pairs k ≡ Some p → length prices < p.0
+pub surplus_past : (o : BlockTerms) (pairs : List Pair) (k : ℕ) (p : Pair) (prices : List ℤ) → slice_get pairs k ≡ Some p
+    → length prices < p.0
     → surplus_of prices (with_pairs o (drop k pairs)) ≡ surplus_of prices (with_pairs o (drop (k + 1) pairs))
 surplus_past o pairs k p prices at past =
     ap (λ (ps : List Pair). surplus_of prices (with_pairs o ps)) (drop_at pairs k p at)
     ∙ elsewhere o p (drop (k + 1) pairs) 1 prices (λ i l m. omega (arith, m, past))
 
 -- ---- sums
-pub gain_more : (total gain own all rest whole after : ℤ) → after ≡ total +ℤ gain → gain ≡ own → all ≡ own +ℤ rest → total +ℤ all ≡ whole → after +ℤ rest ≡ whole
+pub gain_more : (total gain own all rest whole after : ℤ) → after ≡ total +ℤ gain → gain ≡ own → all ≡ own +ℤ rest → total +ℤ all ≡ whole
+    → after +ℤ rest ≡ whole
 gain_more total gain own all rest whole after e f g h = omega (arith, ints, e, f, g, h)
 
 pub gain_whole : (total rest whole : ℤ) → rest ≡ pos 0 → total +ℤ rest ≡ whole → total ≡ whole
@@ -125,7 +141,8 @@ gain_whole total rest whole e f = omega (arith, ints, e, f)
 
 -- ---- where every period balances
 pub record PriceLaws : Type 0 where
-  pub reached : (ss : List Step) (net w : ℤ) → greatest_welfare ss net ≡ Some w → (xs : List ℕ) × IsExecution ss xs × Balances ss net xs × (welfare_of ss xs ≡ w)
+  pub reached : (ss : List Step) (net w : ℤ) → greatest_welfare ss net ≡ Some w
+      → (xs : List ℕ) × IsExecution ss xs × Balances ss net xs × (welfare_of ss xs ≡ w)
   pub within : (ss : List Step) (net : ℤ) (xs : List ℕ) → IsExecution ss xs → Balances ss net xs → IsWithinOffers ss net
   pub ends : (ss : List Step) (net : ℤ) → AreInRange ss → IsWithinOffers ss net → (low : ℤ) × (high : ℤ) × AreEnds ss net low high
 
@@ -139,7 +156,8 @@ mapped f None u e = absurd (cc)
 mapped f (Some g) u e = (g, refl)
 
 -- there are prices
-pub some_prices : PriceLaws → (blocks : List Block) (sel : List Bool) (t : ℕ) (hours : List (List Step)) (w : ℤ) → AreHours hours → welfare_from blocks sel t hours ≡ Some w
+pub some_prices : PriceLaws → (blocks : List Block) (sel : List Bool) (t : ℕ) (hours : List (List Step)) (w : ℤ) → AreHours hours
+    → welfare_from blocks sel t hours ≡ Some w
     → (prices : List ℤ) × ArePrices blocks sel t hours prices
 some_prices laws blocks sel t [] w are e = ([], tt)
 some_prices laws blocks sel t (ss ∷ hours) w are e =

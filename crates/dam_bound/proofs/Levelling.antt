@@ -1,5 +1,6 @@
 -- The levels of a period, block by block.
-use Rattle.std.proofs.Common.{◌≡◌, ℕ, zero, suc, ◌+◌, ◌-◌, ◌<◌, ◌≤◌, ◌==◌, cond, true, false, Some, List, [], ◌∷◌, ◌++◌, length, drop, length-append, ap, ◌∙◌, sym, inl, inr, subst, refl, arith}
+use Rattle.std.proofs.Common.{◌≡◌, ℕ, zero, suc, ◌+◌, ◌-◌, ◌<◌, ◌≤◌, ◌==◌, cond, true, false, Some, List, [], ◌∷◌, ◌++◌, length, drop}
+use Rattle.std.proofs.Common.{length-append, ap, ◌∙◌, sym, inl, inr, subst, refl, arith}
 use Rattle.std.specs.List.{slice_get, remove}
 use Rattle.std.proofs.lemmas.Bool.{cases_lt}
 use Rattle.std.proofs.lemmas.Bool.Decides.{nat_tests}
@@ -39,13 +40,15 @@ no_step t b bs e =
     let none : (volume_in b.order.volumes t == 0) ≡ true = grind (arith, nat_tests) in
     ap (λ (c : _). cond c (as_steps t bs) (step_of t b.order ∷ as_steps t bs)) none
 
-pub some_step : (t : ℕ) (b : Block) (bs : List Block) → 0 < volume_in b.order.volumes t → as_steps t (b ∷ bs) ≡ step_of t b.order ∷ as_steps t bs
+pub some_step : (t : ℕ) (b : Block) (bs : List Block) → 0 < volume_in b.order.volumes t
+    → as_steps t (b ∷ bs) ≡ step_of t b.order ∷ as_steps t bs
 some_step t b bs l =
     let some : (volume_in b.order.volumes t == 0) ≡ false = grind (arith, nat_tests) in
     ap (λ (c : _). cond c (as_steps t bs) (step_of t b.order ∷ as_steps t bs)) some
 
 -- behind the hourly orders stands a block with a volume in the period, and without it the blocks that come after it
-pub level_below : (t : ℕ) (ss : List Step) (blocks : List Block) (count : ℕ) (b : Block) (above : List Step) → slice_get blocks count ≡ Some b
+pub level_below : (t : ℕ) (ss : List Step) (blocks : List Block) (count : ℕ) (b : Block) (above : List Step)
+    → slice_get blocks count ≡ Some b
     → 0 < volume_in b.order.volumes t → above ≡ ss ++ as_steps t (drop count blocks)
     → (length ss < length above) × (remove above (length ss) ≡ ss ++ as_steps t (drop (count + 1) blocks))
 level_below t ss blocks count b above at some is =
@@ -61,13 +64,16 @@ level_below t ss blocks count b above at some is =
     )
 
 -- ---- the levels so far
-pub record AreLevelsSoFar (t : ℕ) (ss : List Step) (blocks : List Block) (count : ℕ) (hours : List (List Step)) (places : List ℕ) : Type 0 where
+pub record AreLevelsSoFar (t : ℕ) (ss : List Step) (blocks : List Block) (count : ℕ) (hours : List (List Step)) (places : List ℕ)
+    : Type 0 where
   pub some : 1 ≤ length hours
   pub long : length places ≡ count + 1
   pub last : slice_get hours (length hours - 1) ≡ Some (ss ++ as_steps t (drop count blocks))
-  pub each : (depth : ℕ) → depth ≤ count → IsAtDepth (record { hours = hours; places = places }) depth (ss ++ as_steps t (drop depth blocks))
+  pub each : (depth : ℕ) → depth ≤ count → IsAtDepth (record { hours = hours; places = places }) depth
+      (ss ++ as_steps t (drop depth blocks))
 
-pub first_level : (t : ℕ) (ss : List Step) (blocks : List Block) (hour : List Step) → hour ≡ ss ++ as_steps t blocks → AreLevelsSoFar t ss blocks 0 (hour ∷ []) (0 ∷ [])
+pub first_level : (t : ℕ) (ss : List Step) (blocks : List Block) (hour : List Step) → hour ≡ ss ++ as_steps t blocks
+    → AreLevelsSoFar t ss blocks 0 (hour ∷ []) (0 ∷ [])
 first_level t ss blocks hour e = record {
   some = omega arith;
   long = refl;
@@ -92,7 +98,12 @@ one_level t ss blocks count hours hours' places place keeps some is last so_far 
       each = λ depth l. elim (cases_lt depth (count + 1)) [
         | inl less ↦
             (let old = so_far.each depth (omega (arith, less)) in
-            record { place = old.place; place_is = kept places place depth old.place old.place_is; hour_is = keeps old.place _ old.hour_is })
+            record {
+              place = old.place;
+              place_is = kept places place depth old.place old.place_is;
+              hour_is =
+                  keeps old.place _ old.hour_is;
+            })
         | inr more ↦
             (let same : depth ≡ count + 1 = omega (arith, l, more) in
             let at : length places ≡ depth = omega (arith, long, same) in
@@ -104,27 +115,34 @@ one_level t ss blocks count hours hours' places place keeps some is last so_far 
       ];
     }
 
-pub new_level : (t : ℕ) (ss : List Step) (blocks : List Block) (count : ℕ) (hours : List (List Step)) (places : List ℕ) (hour : List Step) (place : ℕ)
+pub new_level : (t : ℕ) (ss : List Step) (blocks : List Block) (count : ℕ) (hours : List (List Step)) (places : List ℕ) (hour : List Step)
+    (place : ℕ)
     → hour ≡ ss ++ as_steps t (drop (count + 1) blocks) → place ≡ length (hours ++ hour ∷ []) - 1
     → AreLevelsSoFar t ss blocks count hours places → AreLevelsSoFar t ss blocks (count + 1) (hours ++ hour ∷ []) (places ++ place ∷ [])
 new_level t ss blocks count hours places hour place e is so_far =
     let at : length hours ≡ length (hours ++ hour ∷ []) - 1 = omega (arith, length_one hours hour) in
-    one_level t ss blocks count hours (hours ++ hour ∷ []) places place (λ i h. kept hours hour i h) (omega (arith, length_one hours hour)) is
+    one_level t ss blocks count hours (hours ++ hour ∷ []) places place (λ i h. kept hours hour i h) (omega (arith, length_one hours hour))
+    is
     (ap (slice_get (hours ++ hour ∷ [])) (sym at) ∙ pushed hours hour ∙ ap (λ (h : List Step). Some h) e) so_far
 
-pub same_level : (t : ℕ) (ss : List Step) (blocks : List Block) (count : ℕ) (hours : List (List Step)) (places : List ℕ) (b : Block) (place : ℕ)
+pub same_level : (t : ℕ) (ss : List Step) (blocks : List Block) (count : ℕ) (hours : List (List Step)) (places : List ℕ) (b : Block)
+    (place : ℕ)
     → slice_get blocks count ≡ Some b → volume_in b.order.volumes t ≡ 0 → place ≡ length hours - 1
     → AreLevelsSoFar t ss blocks count hours places → AreLevelsSoFar t ss blocks (count + 1) hours (places ++ place ∷ [])
 same_level t ss blocks count hours places b place at none is so_far =
-    let steps : as_steps t (drop count blocks) ≡ as_steps t (drop (count + 1) blocks) = ap (as_steps t) (drop_at blocks count b at) ∙ no_step t b (drop (count + 1) blocks) none in
-    one_level t ss blocks count hours hours places place (λ i h e. e) so_far.some is (so_far.last ∙ ap (λ (ts : List Step). Some (ss ++ ts)) steps) so_far
+    let steps : as_steps t (drop count blocks) ≡ as_steps t (drop (count + 1) blocks) =
+    ap (as_steps t) (drop_at blocks count b at) ∙ no_step t b (drop (count + 1) blocks) none in
+    one_level t ss blocks count hours hours places place (λ i h e. e) so_far.some is
+    (so_far.last ∙ ap (λ (ts : List Step). Some (ss ++ ts)) steps) so_far
 
 -- every block has its depth
-pub all_levels : (t : ℕ) (ss : List Step) (blocks : List Block) (count : ℕ) (hours : List (List Step)) (places : List ℕ) → length blocks ≤ count
+pub all_levels : (t : ℕ) (ss : List Step) (blocks : List Block) (count : ℕ) (hours : List (List Step)) (places : List ℕ)
+    → length blocks ≤ count
     → AreLevelsSoFar t ss blocks count hours places → AreLevels t ss blocks (record { hours = hours; places = places })
 all_levels t ss blocks count hours places all so_far = λ depth l. so_far.each depth (omega (arith, l, all))
 
-pub last_level : (t : ℕ) (ss : List Step) (blocks : List Block) (count : ℕ) (hours : List (List Step)) (places : List ℕ) → length blocks ≤ count
+pub last_level : (t : ℕ) (ss : List Step) (blocks : List Block) (count : ℕ) (hours : List (List Step)) (places : List ℕ)
+    → length blocks ≤ count
     → AreLevelsSoFar t ss blocks count hours places → last_steps (record { hours = hours; places = places }) ≡ ss
 last_level t ss blocks count hours places all so_far =
     get_or_from_slice_get hours (length hours - 1) (ss ++ as_steps t (drop count blocks)) [] so_far.last

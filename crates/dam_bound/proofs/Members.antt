@@ -1,5 +1,6 @@
 -- The blocks that descend from one, place by place, and the sum of what they gain.
-use Rattle.std.proofs.Common.{◌≡◌, ◌≢◌, ℕ, zero, suc, ◌+◌, ◌<◌, ◌≤◌, ℤ, pos, ◌+ℤ◌, Bool, true, false, Option, Some, List, [], ◌∷◌, length, drop, slice_set, option_map, unwrap_or, ap, ◌∙◌, sym, refl, inl, inr, arith}
+use Rattle.std.proofs.Common.{◌≡◌, ◌≢◌, ℕ, zero, suc, ◌+◌, ◌<◌, ◌≤◌, ℤ, pos, ◌+ℤ◌, Bool, true, false, Option, Some, List, [], ◌∷◌, length}
+use Rattle.std.proofs.Common.{drop, slice_set, option_map, unwrap_or, ap, ◌∙◌, sym, refl, inl, inr, arith}
 use Rattle.std.specs.List.{slice_get}
 use Rattle.std.proofs.lemmas.Int.{ints}
 use Rattle.std.proofs.lemmas.Bool.{cases_eq}
@@ -19,7 +20,8 @@ pub record IsFamilySoFar (blocks : List Block) (place other : ℕ) (family : Lis
   pub rest : (j : ℕ) → other ≤ j → accepts family j ≡ false
   pub none : is_empty ≡ true → (j : ℕ) → j < other → descends blocks place j ≡ false
 
-pub a_descendant : (blocks : List Block) (place other : ℕ) (family : List Bool) (e after : Bool) → other < most_blocks → descends blocks place other ≡ true → after ≡ false
+pub a_descendant : (blocks : List Block) (place other : ℕ) (family : List Bool) (e after : Bool) → other < most_blocks
+    → descends blocks place other ≡ true → after ≡ false
     → IsFamilySoFar blocks place other family e → IsFamilySoFar blocks place (other + 1) (slice_set family other true) after
 a_descendant blocks place other family e after inside is off so_far =
     let long = so_far.long in
@@ -31,7 +33,8 @@ a_descendant blocks place other family e after inside is off so_far =
             ∙ sym (ap (descends blocks place) same ∙ is)
         | inr apart ↦ get_or-set_other family other j true false apart ∙ so_far.so_far j (omega (arith, l, apart))
       ];
-      rest = λ j l. (let apart : j ≢ other = omega (arith, l) in get_or-set_other family other j true false apart ∙ so_far.rest j (omega (arith, l)));
+      rest = λ j l. (let apart : j ≢ other = omega (arith, l) in get_or-set_other family other j true false apart
+          ∙ so_far.rest j (omega (arith, l)));
       none = λ wrong j l. absurd (cc);
     }
 
@@ -62,7 +65,8 @@ first_apart f b bs false sel = omega (arith, ints)
 
 -- a place, and what is left
 from_place : (f : BlockTerms → ℤ) (i : ℕ) (bs : List Block) (b : Block) (sel : List Bool) → slice_get bs i ≡ Some b
-    → over_accepted f (drop i bs) (drop i sel) ≡ if_accepted (accepts sel i) (f b.order) +ℤ over_accepted f (drop (suc i) bs) (drop (suc i) sel)
+    → over_accepted f (drop i bs) (drop i sel) ≡ if_accepted (accepts sel i) (f b.order) +ℤ over_accepted f (drop (suc i) bs)
+    (drop (suc i) sel)
 from_place f i [] b sel e = absurd (cc)
 from_place f zero (c ∷ bs) b [] e = let none = over_accepted-nil f bs in omega (arith, ints, none)
 from_place f (suc i) (c ∷ bs) b [] e =
@@ -80,14 +84,17 @@ stands (b ∷ bs) zero l = (b, refl)
 stands (b ∷ bs) (suc i) l = stands bs i (omega (arith, l))
 
 pub member_more : (prices : List ℤ) (blocks : List Block) (members : List Bool) (place : ℕ) (taken : Bool) (total own after : ℤ)
-    → place < length blocks → accepts members place ≡ taken → own ≡ if_accepted taken (surplus_at blocks prices place) → after ≡ total +ℤ own
+    → place < length blocks → accepts members place ≡ taken → own ≡ if_accepted taken (surplus_at blocks prices place)
+    → after ≡ total +ℤ own
     → total +ℤ over_accepted (surplus_of prices) (drop place blocks) (drop place members) ≡ over_accepted (surplus_of prices) blocks members
-    → after +ℤ over_accepted (surplus_of prices) (drop (place + 1) blocks) (drop (place + 1) members) ≡ over_accepted (surplus_of prices) blocks members
+    → after +ℤ over_accepted (surplus_of prices) (drop (place + 1) blocks) (drop (place + 1) members) ≡ over_accepted (surplus_of prices)
+    blocks members
 member_more prices blocks members place taken total own after inside is e f so_far =
     let found = stands blocks place inside in let b = found.0 in let at = found.1 in
     let step = from_place (surplus_of prices) place blocks b members at in
     let here = ap (λ (c : Bool). if_accepted c (surplus_of prices b.order)) is in
-    let there = ap (λ (o : Option Block). if_accepted taken (unwrap_or (option_map (λ (c : Block). surplus_of prices c.order) o) (pos 0))) at in
+    let there = ap (λ (o : Option Block). if_accepted taken (unwrap_or (option_map (λ (c : Block). surplus_of prices c.order) o) (pos 0)))
+    at in
     let next = ap (λ (n : ℕ). over_accepted (surplus_of prices) (drop n blocks) (drop n members)) (next_place place) in
     omega (arith, ints, step, here, there, next, e, f, so_far)
 
@@ -97,7 +104,8 @@ all_members f blocks members place total whole none e =
     let rest = ap (λ (bs : List Block). over_accepted f bs (drop place members)) none in
     omega (arith, ints, rest, e)
 
-pub no_members : (f : BlockTerms → ℤ) (blocks : List Block) (members : List Bool) → ((i : ℕ) → i < length blocks → accepts members i ≡ false)
+pub no_members : (f : BlockTerms → ℤ) (blocks : List Block) (members : List Bool)
+    → ((i : ℕ) → i < length blocks → accepts members i ≡ false)
     → over_accepted f blocks members ≡ pos 0
 no_members f [] members h = refl
 no_members f (b ∷ bs) [] h = refl

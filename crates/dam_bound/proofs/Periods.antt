@@ -1,5 +1,6 @@
 -- The levels of the day, period by period.
-use Rattle.std.proofs.Common.{◌≡◌, ℕ, zero, suc, ◌+◌, ◌<◌, ◌≤◌, ◌⊎◌, inl, inr, true, Some, Result, Ok, Err, IfOk, List, [], ◌∷◌, ◌++◌, length, map, length-append, ap, ap₂, ◌∙◌, sym, subst, refl, arith}
+use Rattle.std.proofs.Common.{◌≡◌, ℕ, zero, suc, ◌+◌, ◌<◌, ◌≤◌, ◌⊎◌, inl, inr, true, Some, Result, Ok, Err, IfOk, List, [], ◌∷◌, ◌++◌}
+use Rattle.std.proofs.Common.{length, map, length-append, ap, ap₂, ◌∙◌, sym, subst, refl, arith}
 use Rattle.std.specs.List.{slice_get}
 use Rattle.std.specs.Option.{option_map}
 use Rattle.std.proofs.lemmas.Bool.Decides.{nat_tests}
@@ -12,14 +13,16 @@ use Rattle.dam_blocks.specs.Problem.{ProblemState, IsProblem, AreBlocks, hourly_
 use Rattle.dam_bound.specs.inside.Levels.{LevelsState, AreLevels, AreLevelsAt, last_steps, AreDayLevels}
 
 -- an element of a list with one more at its end
-pub of_pushed : {X : Type 0} (xs : List X) (y : X) (i : ℕ) (x : X) → slice_get (xs ++ y ∷ []) i ≡ Some x → (slice_get xs i ≡ Some x) ⊎ ((i ≡ length xs) × (y ≡ x))
+pub of_pushed : {X : Type 0} (xs : List X) (y : X) (i : ℕ) (x : X) → slice_get (xs ++ y ∷ []) i ≡ Some x
+    → (slice_get xs i ≡ Some x) ⊎ ((i ≡ length xs) × (y ≡ x))
 of_pushed [] y zero x e = inr (refl, cc)
 of_pushed [] y (suc i) x e = absurd (cc)
 of_pushed (z ∷ xs) y zero x e = inl e
 of_pushed (z ∷ xs) y (suc i) x e = elim (of_pushed xs y i x e) [ inl old ↦ inl old | inr new ↦ inr (ap suc new.0, new.1) ]
 
 -- no period has more steps than the day has hourly orders
-pub few_in_period : (hours : List (List Step)) (i most : ℕ) (ss : List Step) → hourly_orders hours ≤ most → slice_get hours i ≡ Some ss → length ss ≤ most
+pub few_in_period : (hours : List (List Step)) (i most : ℕ) (ss : List Step) → hourly_orders hours ≤ most → slice_get hours i ≡ Some ss
+    → length ss ≤ most
 few_in_period [] i most ss few e = absurd (cc)
 few_in_period (hour ∷ hours) zero most ss few e = let same : hour ≡ ss = cc in omega (arith, few, ap length same)
 few_in_period (hour ∷ hours) (suc i) most ss few e = few_in_period hours i most ss (omega (arith, few)) e
@@ -27,7 +30,8 @@ few_in_period (hour ∷ hours) (suc i) most ss few e = few_in_period hours i mos
 -- the levels that are made of the steps of the period at a place
 pub made_at : {E : Type 0} (hours : List (List Step)) (blocks bs : List Block) (place t : ℕ) (ss : List Step) (made : Result LevelsState E)
     → slice_get hours place ≡ Some ss → t ≡ place + 1 → bs ≡ blocks
-    → IfOk made (λ levels. AreLevels t ss bs levels) → IfOk made (λ levels. last_steps levels ≡ ss) → IfOk made (AreLevelsAt hours blocks place)
+    → IfOk made (λ levels. AreLevels t ss bs levels) → IfOk made (λ levels. last_steps levels ≡ ss)
+    → IfOk made (AreLevelsAt hours blocks place)
 made_at hours blocks bs place t ss (Ok levels) at period same are last = record {
   last = at ∙ ap (λ (hs : List Step). Some hs) (sym last);
   each = subst (λ (hs : List Step). AreLevels (place + 1) hs blocks levels) (sym last)
@@ -44,7 +48,8 @@ pub no_period : (blocks : List Block) (hours : List (List Step)) → AreDaySoFar
 no_period blocks hours = record { long = refl; each = λ i levels e. absurd (cc) }
 
 pub one_period : (blocks : List Block) (hours : List (List Step)) (count : ℕ) (periods : List LevelsState) (levels : LevelsState)
-    → AreLevelsAt hours blocks count levels → AreDaySoFar blocks hours count periods → AreDaySoFar blocks hours (count + 1) (periods ++ levels ∷ [])
+    → AreLevelsAt hours blocks count levels → AreDaySoFar blocks hours count periods
+    → AreDaySoFar blocks hours (count + 1) (periods ++ levels ∷ [])
 one_period blocks hours count periods levels at so_far =
     let long = so_far.long in
     record {
@@ -72,7 +77,8 @@ some_same x y e = cc
 
 -- the last steps of each period are its own
 steps_of_each : (periods : List LevelsState) (hours : List (List Step)) → length periods ≡ length hours
-    → ((i : ℕ) (levels : LevelsState) → slice_get periods i ≡ Some levels → slice_get hours i ≡ Some (last_steps levels)) → map last_steps periods ≡ hours
+    → ((i : ℕ) (levels : LevelsState) → slice_get periods i ≡ Some levels → slice_get hours i ≡ Some (last_steps levels))
+    → map last_steps periods ≡ hours
 steps_of_each [] [] long each = refl
 steps_of_each [] (hour ∷ hours) long each = absurd (omega (arith, long))
 steps_of_each (levels ∷ periods) [] long each = absurd (omega (arith, long))
@@ -82,14 +88,16 @@ steps_of_each (levels ∷ periods) (hour ∷ hours) long each =
 
 pub all_hours : (problem : ProblemState) (count : ℕ) (periods : List LevelsState) → count ≡ length problem.hours
     → AreDaySoFar problem.blocks problem.hours count periods → map last_steps periods ≡ problem.hours
-all_hours problem count periods all so_far = steps_of_each periods problem.hours (so_far.long ∙ all) (λ i levels e. (so_far.each i levels e).last)
+all_hours problem count periods all so_far = steps_of_each periods problem.hours (so_far.long ∙ all)
+    (λ i levels e. (so_far.each i levels e).last)
 
 pub all_blocks : (problem : ProblemState) (count : ℕ) (periods : List LevelsState) → IsProblem problem → count ≡ length problem.hours
     → AreDaySoFar problem.blocks problem.hours count periods → AreBlocks (length periods) problem.blocks
 all_blocks problem count periods is all so_far = subst (λ (n : ℕ). AreBlocks n problem.blocks) (sym (so_far.long ∙ all)) is.blocks
 
 -- the steps of a period of the day
-pub hour_of : (periods : List LevelsState) (i : ℕ) (levels : LevelsState) → slice_get periods i ≡ Some levels → slice_get (map last_steps periods) i ≡ Some (last_steps levels)
+pub hour_of : (periods : List LevelsState) (i : ℕ) (levels : LevelsState) → slice_get periods i ≡ Some levels
+    → slice_get (map last_steps periods) i ≡ Some (last_steps levels)
 hour_of periods i levels e = slice_get-map last_steps periods i ∙ ap (option_map last_steps) e
 
 -- a list has an element at each of its places

@@ -1,5 +1,6 @@
 -- The slots in which the periods stand, block by block.
-use Rattle.std.proofs.Common.{◌≡◌, ◌≢◌, ℕ, zero, suc, ◌+◌, ◌*◌, ◌<◌, ◌≤◌, Some, List, length, drop, get_or, slice_set, inl, inr, ap, ◌∙◌, sym, refl, arith}
+use Rattle.std.proofs.Common.{◌≡◌, ◌≢◌, ℕ, zero, suc, ◌+◌, ◌*◌, ◌<◌, ◌≤◌, Some, List, length, drop, get_or, slice_set, inl, inr, ap, ◌∙◌}
+use Rattle.std.proofs.Common.{sym, refl, arith}
 use Rattle.std.specs.List.{slice_get}
 use Rattle.std.proofs.lemmas.Bool.{cases_lt}
 use Rattle.std.proofs.lemmas.List.{length-set, get_or-set_same, get_or-set_other, get_or_default, drop_all}
@@ -30,7 +31,8 @@ first_more at places inside so_far = record {
   ];
 }
 
-pub all_first : (count : ℕ) (places : List ℕ) (blocks : List Block) → last_period ≤ count → AreFirstSoFar count places → ArePlaces blocks 0 places
+pub all_first : (count : ℕ) (places : List ℕ) (blocks : List Block) → last_period ≤ count → AreFirstSoFar count places
+    → ArePlaces blocks 0 places
 all_first count places blocks all so_far = record {
   long = so_far.long;
   each = λ i d l. so_far.each i d (omega (arith, l, all)) ∙ sym (slot_first blocks i);
@@ -72,7 +74,8 @@ written_more row j at to pairs p before places volumes pair number inside is so_
         → get_or (slice_set places at to) i d ≡ row + i
     other i d l some none apart =
         let away : p.0 ≢ i + 1 = omega (arith, number, apart) in
-        let rest = ap (λ (v : List Pair). volume_in v (i + 1)) (drop_at pairs j p pair) ∙ other_volume p (drop (j + 1) pairs) (i + 1) away in
+        let rest = ap (λ (v : List Pair). volume_in v (i + 1)) (drop_at pairs j p pair)
+        ∙ other_volume p (drop (j + 1) pairs) (i + 1) away in
         get_or-set_other places at i to d apart ∙ so_far.written i d l some (rest ∙ none)
 
     apart : (i : ℕ) → volume_in pairs (i + 1) ≡ 0 → i ≢ at
@@ -81,8 +84,10 @@ written_more row j at to pairs p before places volumes pair number inside is so_
         (λ same. absurd (let there = ap (λ (n : ℕ). volume_in pairs (n + 1)) same ∙ ap (volume_in pairs) (sym number) in
         omega (arith, own, some, none, there)))
 
-pub all_written : (row j k : ℕ) (b : Block) (blocks : List Block) (before places : List ℕ) → slice_get blocks k ≡ Some b → row ≡ (k + 1) * last_period
-    → length b.order.volumes ≤ j → AreWrittenSoFar row b.order.volumes j before places → ArePlaces blocks k before → ArePlaces blocks (k + 1) places
+pub all_written : (row j k : ℕ) (b : Block) (blocks : List Block) (before places : List ℕ) → slice_get blocks k ≡ Some b
+    → row ≡ (k + 1) * last_period
+    → length b.order.volumes ≤ j → AreWrittenSoFar row b.order.volumes j before places → ArePlaces blocks k before
+    → ArePlaces blocks (k + 1) places
 all_written row j k b blocks before places at own all so_far are = record {
   long = so_far.long;
   each = λ i d l. each i d l (volume_in b.order.volumes (i + 1)) refl;

@@ -1,5 +1,6 @@
 -- The blocks as steps are in range, and no more than the blocks; and how large a relaxed welfare is.
-use Rattle.std.proofs.Common.{◌≡◌, ℕ, suc, ◌+◌, ◌*◌, ◌≤◌, ◌==◌, cond, ℤ, pos, Bool, true, false, Some, List, [], ◌∷◌, ◌++◌, length, drop, length-append, ap, ◌∙◌, refl, arith}
+use Rattle.std.proofs.Common.{◌≡◌, ℕ, suc, ◌+◌, ◌*◌, ◌≤◌, ◌==◌, cond, ℤ, pos, Bool, true, false, Some, List, [], ◌∷◌, ◌++◌, length, drop}
+use Rattle.std.proofs.Common.{length-append, ap, ◌∙◌, refl, arith}
 use Rattle.std.proofs.lemmas.Int.{ints}
 use Rattle.std.proofs.lemmas.Bool.Decides.{nat_tests}
 use Rattle.dam_book.specs.Book.{is_day}
@@ -28,7 +29,8 @@ pub steps_in_range : (periods t : ℕ) (bs : List Block) → AreBlocks periods b
 steps_in_range periods t [] are = tt
 steps_in_range periods t (b ∷ bs) are =
     let rest = steps_in_range periods t bs are.1 in
-    elim (volume_in b.order.volumes t == 0) as (λ c. (volume_in b.order.volumes t == 0) ≡ c → AreInRange (cond c (as_steps t bs) (step_of t b.order ∷ as_steps t bs))) [
+    elim (volume_in b.order.volumes t == 0) as (λ c. (volume_in b.order.volumes t == 0) ≡ c
+    → AreInRange (cond c (as_steps t bs) (step_of t b.order ∷ as_steps t bs))) [
       | true ↦ λ e. rest
       | false ↦ λ e.
           (let some : 1 ≤ volume_in b.order.volumes t = grind (arith, nat_tests) in
@@ -51,7 +53,8 @@ both_in_range (x ∷ ss) ts r s = (r.0, r.1, both_in_range ss ts r.2 s)
 -- ---- the welfare
 -- the decided blocks stand as steps too, so that there is one step for each hourly order and each block
 period_size : Laws → (periods t : ℕ) (bs : List Block) (prefix : List Bool) (ss : List Step) (u : ℤ) → AreBlocks periods bs → AreInRange ss
-    → period_welfare bs prefix t (ss ++ as_steps t (drop (length prefix) bs)) ≡ Some u → IsWithin ((length ss + length bs) * greatest_value) u
+    → period_welfare bs prefix t (ss ++ as_steps t (drop (length prefix) bs)) ≡ Some u
+    → IsWithin ((length ss + length bs) * greatest_value) u
 period_size laws periods t bs prefix ss u are range e =
     let left = as_steps t (drop (length prefix) bs) in
     let parts = raised_some (greatest_welfare (ss ++ left) (net_volume bs prefix t)) (block_value bs prefix t) u e in
@@ -60,20 +63,28 @@ period_size laws periods t bs prefix ss u are range e =
     let worth = ap (welfare_of (ss ++ left)) apart.2 ∙ laws.welfare ss left apart.0 apart.1 apart.3 in
     let s = stand t bs prefix apart.1 apart.4 in
     let ts = as_steps t bs in
-    let within = laws.small (ss ++ ts) (apart.0 ++ s.volumes) (both_in_range ss ts range (steps_in_range periods t bs are)) (laws.joined ss ts apart.0 s.volumes apart.3 s.execution) in
+    let within = laws.small (ss ++ ts) (apart.0 ++ s.volumes) (both_in_range ss ts range (steps_in_range periods t bs are))
+    (laws.joined ss ts apart.0 s.volumes apart.3 s.execution) in
     let all = laws.welfare ss ts apart.0 s.volumes apart.3 in
     let l = within.welfare_at_least in let h = within.welfare_at_most in
     let long = length-append ss ts in let few = few_steps t bs in
     let own = s.welfare in let is = best.3 in let sum = parts.2 in
-    record { at_least = omega (arith, ints, l, all, worth, own, is, sum, long, few); at_most = omega (arith, ints, h, all, worth, own, is, sum, long, few) }
+    record {
+      at_least = omega (arith, ints, l, all, worth, own, is, sum, long, few);
+      at_most =
+          omega (arith, ints, h, all, worth, own, is, sum, long, few);
+    }
 
-periods_size : Laws → (periods t : ℕ) (bs : List Block) (prefix : List Bool) (hours : List (List Step)) (w : ℤ) → AreBlocks periods bs → length bs ≤ most_blocks → AreHours hours
-    → welfare_from bs prefix t (relaxed_hours (drop (length prefix) bs) t hours) ≡ Some w → IsWithin (hourly_orders hours * greatest_value + length hours * (most_blocks * greatest_value)) w
+periods_size : Laws → (periods t : ℕ) (bs : List Block) (prefix : List Bool) (hours : List (List Step)) (w : ℤ) → AreBlocks periods bs
+    → length bs ≤ most_blocks → AreHours hours
+    → welfare_from bs prefix t (relaxed_hours (drop (length prefix) bs) t hours) ≡ Some w
+    → IsWithin (hourly_orders hours * greatest_value + length hours * (most_blocks * greatest_value)) w
 periods_size laws periods t bs prefix [] w are few ranges e =
     let zero : pos 0 ≡ w = cc in record { at_least = omega (arith, ints, zero); at_most = omega (arith, ints, zero) }
 periods_size laws periods t bs prefix (ss ∷ hours) w are few ranges e =
     let left = drop (length prefix) bs in
-    let parts = added_some (period_welfare bs prefix t (ss ++ as_steps t left)) (welfare_from bs prefix (suc t) (relaxed_hours left (suc t) hours)) w e in
+    let parts = added_some (period_welfare bs prefix t (ss ++ as_steps t left))
+    (welfare_from bs prefix (suc t) (relaxed_hours left (suc t) hours)) w e in
     let here = period_size laws periods t bs prefix ss parts.0 are ranges.0 parts.2 in
     let rest = periods_size laws periods (suc t) bs prefix hours parts.1 are few ranges.1 parts.3 in
     let a = here.at_least in let b = rest.at_least in let c = here.at_most in let d = rest.at_most in let sum = parts.4 in
@@ -82,7 +93,8 @@ periods_size laws periods t bs prefix (ss ∷ hours) w are few ranges e =
 pub day_small : (n : ℕ) → is_day n ≡ true → n ≤ last_period
 day_small n e = grind (arith, nat_tests)
 
-pub relaxed_size : Laws → (problem : ProblemState) (prefix : List Bool) (w : ℤ) → IsProblem problem → relaxed_welfare problem prefix ≡ Some w → IsWithin greatest_selection_welfare w
+pub relaxed_size : Laws → (problem : ProblemState) (prefix : List Bool) (w : ℤ) → IsProblem problem
+    → relaxed_welfare problem prefix ≡ Some w → IsWithin greatest_selection_welfare w
 relaxed_size laws problem prefix w is e =
     let size = periods_size laws (length problem.hours) 1 problem.blocks prefix problem.hours w is.blocks is.few_blocks is.hours e in
     let l = size.at_least in let h = size.at_most in let hourly = is.few_hourly in let day = day_small (length problem.hours) is.day in

@@ -12,7 +12,8 @@ use Rattle.dam_blocks.specs.Selection.{over_accepted, value_of, block_value}
 use Rattle.dam_blocks.specs.Magnitude.{IsWithin}
 use Rattle.dam_blocks.proofs.Magnitudes.{value_within}
 
-over_within : (f : BlockTerms → ℤ) (most periods : ℕ) → ((o : BlockTerms) → IsBlockOrder o → IsWithin most (f o)) → (bs : List Block) (sel : List Bool) → AreBlocks periods bs
+over_within : (f : BlockTerms → ℤ) (most periods : ℕ) → ((o : BlockTerms) → IsBlockOrder o → IsWithin most (f o))
+    → (bs : List Block) (sel : List Bool) → AreBlocks periods bs
     → IsWithin (length bs * most) (over_accepted f bs sel)
 over_within f most periods each [] sel are = record { at_least = omega (arith, ints); at_most = omega (arith, ints) }
 over_within f most periods each (b ∷ bs) [] are = record { at_least = omega (arith, ints); at_most = omega (arith, ints) }
@@ -24,7 +25,8 @@ over_within f most periods each (b ∷ bs) (false ∷ sel) are =
     let rest = over_within f most periods each bs sel are.1 in let l = rest.at_least in let h = rest.at_most in
     record { at_least = omega (arith, ints, l); at_most = omega (arith, ints, h) }
 
-pub value_small : (periods t : ℕ) (bs : List Block) (sel : List Bool) → AreBlocks periods bs → length bs ≤ most_blocks → IsWithin (most_blocks * greatest_value) (block_value bs sel t)
+pub value_small : (periods t : ℕ) (bs : List Block) (sel : List Bool) → AreBlocks periods bs → length bs ≤ most_blocks
+    → IsWithin (most_blocks * greatest_value) (block_value bs sel t)
 value_small periods t bs sel are few =
     let w = over_within (value_of t) greatest_value periods (value_within t) bs sel are in let l = w.at_least in let h = w.at_most in
     record { at_least = omega (arith, ints, l, few); at_most = omega (arith, ints, h, few) }

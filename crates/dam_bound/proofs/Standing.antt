@@ -1,5 +1,6 @@
 -- Blocks as steps: an execution in which each block stands as it is decided.
-use Rattle.std.proofs.Common.{◌≡◌, ℕ, ◌==◌, cond, ℤ, pos, neg_ℤ, ◌+ℤ◌, ◌*ℤ◌, Bool, true, false, List, [], ◌∷◌, length, drop, ap, ◌∙◌, refl, arith}
+use Rattle.std.proofs.Common.{◌≡◌, ℕ, ◌==◌, cond, ℤ, pos, neg_ℤ, ◌+ℤ◌, ◌*ℤ◌, Bool, true, false, List, [], ◌∷◌, length, drop, ap, ◌∙◌, refl}
+use Rattle.std.proofs.Common.{arith}
 use Rattle.std.proofs.lemmas.Int.{ints}
 use Rattle.std.proofs.lemmas.Bool.Decides.{nat_tests}
 use Rattle.dam_book.specs.Terms.{BlockTerms}
@@ -51,10 +52,18 @@ stand_more : (t : ℕ) (ts : List Step) (b : Block) (bs : List Block) (a : Bool)
     → Stands t (cond c ts (step_of t b.order ∷ ts)) (b ∷ bs) (a ∷ prefix) left us
 stand_more t ts b bs true prefix left us s true e =
     let none : volume_in b.order.volumes t ≡ 0 = grind (arith, nat_tests) in
-    let net : net_volume_of t b.order ≡ pos 0 = ap (λ (v : ℕ). neg_ℤ (signed b.order.side (pos v))) none ∙ ap neg_ℤ (signed_zero b.order.side (pos 0) refl) in
-    let value : value_of t b.order ≡ pos 0 = ap (λ (v : ℕ). signed b.order.side (b.order.price *ℤ pos v)) none ∙ nothing_worth b.order.side b.order.price in
+    let net : net_volume_of t b.order ≡ pos 0 = ap (λ (v : ℕ). neg_ℤ (signed b.order.side (pos v))) none
+    ∙ ap neg_ℤ (signed_zero b.order.side (pos 0) refl) in
+    let value : value_of t b.order ≡ pos 0 = ap (λ (v : ℕ). signed b.order.side (b.order.price *ℤ pos v)) none
+    ∙ nothing_worth b.order.side b.order.price in
     let balance = s.balance in let welfare = s.welfare in
-    record { volumes = s.volumes; execution = s.execution; balance = omega (arith, ints, balance, net); welfare = omega (arith, ints, welfare, value) }
+    record {
+      volumes = s.volumes;
+      execution = s.execution;
+      balance = omega (arith, ints, balance, net);
+      welfare =
+          omega (arith, ints, welfare, value);
+    }
 stand_more t ts b bs false prefix left us s true e =
     record { volumes = s.volumes; execution = s.execution; balance = s.balance; welfare = s.welfare }
 stand_more t ts b bs true prefix left us s false e =
@@ -87,7 +96,8 @@ stand t bs [] us e =
     record { volumes = us; execution = e; balance = omega (arith, ints, net); welfare = omega (arith, ints, value) }
 stand t [] (d ∷ prefix) us e = record { volumes = []; execution = tt; balance = refl; welfare = refl }
 stand t (b ∷ bs) (d ∷ prefix) us e =
-    stand_more t (as_steps t bs) b bs d prefix (as_steps t (drop (length prefix) bs)) us (stand t bs prefix us e) (volume_in b.order.volumes t == 0) refl
+    stand_more t (as_steps t bs) b bs d prefix (as_steps t (drop (length prefix) bs)) us (stand t bs prefix us e)
+    (volume_in b.order.volumes t == 0) refl
 
 -- ---- steps of which none is executed
 pub record Idle (ts : List Step) : Type 0 where

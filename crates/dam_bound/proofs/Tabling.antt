@@ -1,9 +1,11 @@
 -- The stacks and the touches, block by block.
-use Rattle.std.proofs.Common.{◌≡◌, ◌≢◌, ℕ, zero, suc, ◌+◌, ◌-◌, ◌*◌, ◌<◌, ◌≤◌, true, false, Some, List, [], ◌∷◌, ◌++◌, length, length-append, drop, get_or, slice_set, inl, inr, ap, ◌∙◌, sym, subst, refl, arith}
+use Rattle.std.proofs.Common.{◌≡◌, ◌≢◌, ℕ, zero, suc, ◌+◌, ◌-◌, ◌*◌, ◌<◌, ◌≤◌, true, false, Some, List, [], ◌∷◌, ◌++◌, length}
+use Rattle.std.proofs.Common.{length-append, drop, get_or, slice_set, inl, inr, ap, ◌∙◌, sym, subst, refl, arith}
 use Rattle.std.specs.List.{slice_get}
 use Rattle.std.proofs.lemmas.Bool.{cases_lt}
 use Rattle.std.proofs.lemmas.Bool.Decides.{nat_tests}
-use Rattle.std.proofs.lemmas.List.{length-set, get_or-set_same, get_or-set_other, get_or_append_left, get_or_push, drop_all, append-nil, append_assoc, map-append}
+use Rattle.std.proofs.lemmas.List.{length-set, get_or-set_same, get_or-set_other, get_or_append_left, get_or_push, drop_all, append-nil}
+use Rattle.std.proofs.lemmas.List.{append_assoc, map-append}
 use Rattle.std.specs.Prelude.{IsPermutation}
 use Rattle.std.proofs.lemmas.List.Sorted.{All-permutation, IsPermutation-map}
 use Rattle.std.proofs.lemmas.Option.{slice_get_within, slice_get-get_or, get_or_from_slice_get}
@@ -126,7 +128,8 @@ own_left pairs j p at some =
     let v = ap (λ (v : List Pair). volume_in v p.0) (drop_at pairs j p at) ∙ own_volume p (drop (j + 1) pairs) p.0 refl in omega
     (arith, v, some)
 
-pub spans_more : (hours : List (List Step)) (blocks : List Block) (old new : List Row) (k j place : ℕ) (pairs : List Pair) (p : Pair) (spans spans' : List Span)
+pub spans_more : (hours : List (List Step)) (blocks : List Block) (old new : List Row) (k j place : ℕ) (pairs : List Pair) (p : Pair)
+    (spans spans' : List Span)
     (span : Span) → is_increasing 0 pairs ≡ true → slice_get pairs j ≡ Some p → p.0 ≡ place + 1 → place < length hours → Keeps old new
     → ((ss : List Step) → slice_get hours place ≡ Some ss → IsStackAt new span (ss ++ as_steps p.0 (drop (k + 1) blocks)))
     → spans' ≡ slice_set spans place span → AreSpansSoFar hours blocks old k (drop j pairs) spans
@@ -204,7 +207,8 @@ no_touch hours blocks rows k b = record { pairs_are = refl; each = λ j touch e.
 is_pair : (p : Pair) (m n : ℕ) → p.0 ≡ m → p.1 ≡ n → p ≡ (m, n)
 is_pair p m n e f = ap (λ (x : ℕ). (x, p.1)) e ∙ ap (λ (y : ℕ). (m, y)) f
 
-pub touch_more : (hours : List (List Step)) (blocks : List Block) (old new : List Row) (k : ℕ) (b : Block) (j : ℕ) (p : Pair) (touches touches' : List Touch)
+pub touch_more : (hours : List (List Step)) (blocks : List Block) (old new : List Row) (k : ℕ) (b : Block) (j : ℕ) (p : Pair)
+    (touches touches' : List Touch)
     (touch : Touch) → Keeps old new → slice_get b.order.volumes j ≡ Some p → IsTouch hours blocks new k b p
     touch → touches' ≡ touches ++ touch ∷ []
     → AreTouchesSoFar hours blocks old k b j touches → AreTouchesSoFar hours blocks new k b (j + 1) touches'
@@ -226,12 +230,14 @@ touch_more hours blocks old new k b j p touches touches' touch keeps at is same 
     })
 
 -- all touches, in any order
-pub whole_lot : (hours : List (List Step)) (blocks : List Block) (rows : List Row) (k : ℕ) (b : Block) (count : ℕ) (touches : List Touch) (lot : LotState)
+pub whole_lot : (hours : List (List Step)) (blocks : List Block) (rows : List Row) (k : ℕ) (b : Block) (count : ℕ) (touches : List Touch)
+    (lot : LotState)
     → lot.side ≡ b.order.side → IsPermutation touches lot.touches
     → length b.order.volumes ≤ count → AreTouchesSoFar hours blocks rows k b count touches → IsLot hours blocks rows k b lot
 whole_lot hours blocks rows k b count touches lot side same all so_far =
     let pairs : pairs_of touches ≡ b.order.volumes =
-    sym (append-nil (pairs_of touches)) ∙ ap (λ (ps : List Pair). pairs_of touches ++ ps) (sym (drop_all count b.order.volumes all)) ∙ so_far.pairs_are in
+    sym (append-nil (pairs_of touches)) ∙ ap (λ (ps : List Pair). pairs_of touches ++ ps) (sym (drop_all count b.order.volumes all))
+    ∙ so_far.pairs_are in
     let each = All-permutation (λ (x : Touch). IsTouch hours blocks rows k b (pair_of x) x) touches lot.touches same
     (λ j d inside. so_far.each j (get_or touches j d) (slice_get-get_or touches j d inside)) in
     record {
@@ -245,7 +251,8 @@ whole_lot hours blocks rows k b count touches lot side same all so_far =
     }
 
 -- ---- the lots so far
-pub lot_more : (hours : List (List Step)) (blocks : List Block) (old new : List Row) (k : ℕ) (b : Block) (lots lots' : List LotState) (lot : LotState)
+pub lot_more : (hours : List (List Step)) (blocks : List Block) (old new : List Row) (k : ℕ) (b : Block) (lots lots' : List LotState)
+    (lot : LotState)
     → Keeps old new → slice_get blocks k ≡ Some b → IsLot hours blocks new k b lot → lots' ≡ lots ++ lot ∷ []
     → AreLots hours blocks old k lots → AreLots hours blocks new (k + 1) lots'
 lot_more hours blocks old new k b lots lots' lot keeps at is same so_far =
@@ -271,7 +278,8 @@ abbrev pub AreFirstSpans : List (List Step) → List Block → List Row → ℕ 
 AreFirstSpans hours blocks rows count spans = (i : ℕ) (ss : List Step) (d : Span) → i < count → slice_get hours i ≡ Some ss
     → IsStackAt rows (get_or spans i d) (ss ++ as_steps (i + 1) (drop 0 blocks))
 
-pub span_pushed : (hours : List (List Step)) (blocks : List Block) (old new : List Row) (count : ℕ) (spans spans' : List Span) (span : Span) (own : List Step)
+pub span_pushed : (hours : List (List Step)) (blocks : List Block) (old new : List Row) (count : ℕ) (spans spans' : List Span) (span : Span)
+    (own : List Step)
     → Keeps old new → length spans ≡ count → slice_get hours count ≡ Some own
     → IsStackAt new span (own ++ as_steps (count + 1) (drop 0 blocks))
     → spans' ≡ spans ++ span ∷ [] → AreFirstSpans hours blocks old count spans → AreFirstSpans hours blocks new (count + 1) spans'
@@ -339,11 +347,13 @@ next_touch hours blocks rows k j b p spans at are pair so_far =
           (subst (λ (ts : List Step). IsStackAt rows (get_or spans (p.0 - 1) d) ts) next.0 here));
     }
 
-pub is_touch : (hours : List (List Step)) (blocks : List Block) (old new : List Row) (k row : ℕ) (b : Block) (p : Pair) (spans : List Span) (places : List ℕ)
+pub is_touch : (hours : List (List Step)) (blocks : List Block) (old new : List Row) (k row : ℕ) (b : Block) (p : Pair) (spans : List Span)
+    (places : List ℕ)
     (touch : Touch) → (n : IsNext hours blocks old k b p spans) → length spans ≡ length hours → touch.at < last_period
     → ArePlaces blocks k places → row ≡ (k + 1) * last_period → touch.at + 1 ≡ p.0
     → ((d : ℕ) → touch.from ≡ get_or places (p.0 - 1) d) → touch.to + 1 ≡ row + p.0
-    → IsCutOff new (record { side = b.order.side; price = b.order.price; qty = p.1 }) (n.steps ++ as_steps p.0 (drop (k + 1) blocks)) touch.cut
+    → IsCutOff new (record { side = b.order.side; price = b.order.price; qty = p.1 }) (n.steps ++ as_steps p.0 (drop (k + 1) blocks))
+    touch.cut
     → IsTouch hours blocks new k b p touch
 is_touch hours blocks old new k row b p spans places touch n long few are own at from to cut =
     let inside = n.inside in
@@ -367,9 +377,11 @@ is_touch hours blocks old new k row b p spans places touch n long few are own at
     some_is x y e = cc
 
 -- the stack that the period goes on with
-pub next_span : (hours : List (List Step)) (blocks : List Block) (old new : List Row) (k : ℕ) (b : Block) (p : Pair) (spans : List Span) (touch : Touch)
+pub next_span : (hours : List (List Step)) (blocks : List Block) (old new : List Row) (k : ℕ) (b : Block) (p : Pair) (spans : List Span)
+    (touch : Touch)
     → (n : IsNext hours blocks old k b p spans)
-    → IsCutOff new (record { side = b.order.side; price = b.order.price; qty = p.1 }) (n.steps ++ as_steps p.0 (drop (k + 1) blocks)) touch.cut
+    → IsCutOff new (record { side = b.order.side; price = b.order.price; qty = p.1 }) (n.steps ++ as_steps p.0 (drop (k + 1) blocks))
+    touch.cut
     → (ss : List Step) → slice_get hours (p.0 - 1) ≡ Some ss → IsStackAt new touch.cut.span (ss ++ as_steps p.0 (drop (k + 1) blocks))
 next_span hours blocks old new k b p spans touch n cut ss there =
     subst (λ (hs : List Step). IsStackAt new touch.cut.span (hs ++ as_steps p.0 (drop (k + 1) blocks)))
@@ -382,7 +394,8 @@ next_span hours blocks old new k b p spans touch n cut ss there =
 pub no_step_left : (blocks : List Block) (count t : ℕ) (ss : List Step) → length blocks ≤ count → ss ++ as_steps t (drop count blocks) ≡ ss
 no_step_left blocks count t ss all = ap (λ (bs : List Block). ss ++ as_steps t bs) (drop_all count blocks all) ∙ append-nil ss
 
-pub end_of : (hours : List (List Step)) (blocks : List Block) (rows : List Row) (ends : List Span) (lots : List LotState) (i : ℕ) (ss : List Step) (d : Span)
+pub end_of : (hours : List (List Step)) (blocks : List Block) (rows : List Row) (ends : List Span) (lots : List LotState) (i : ℕ)
+    (ss : List Step) (d : Span)
     → AreTables hours blocks rows ends lots → slice_get hours i ≡ Some ss → IsStackAt rows (get_or ends i d) ss
 end_of hours blocks rows ends lots i ss d are there =
     subst (IsStackAt rows (get_or ends i d)) (no_step_left blocks (length blocks) (i + 1) ss (omega arith)) (are.ends_are.each i ss d there)

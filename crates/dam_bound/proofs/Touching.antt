@@ -1,5 +1,6 @@
 -- A change in one of the block's periods.
-use Rattle.std.proofs.Common.{◌≡◌, ℕ, ◌+◌, ◌*◌, ◌<◌, ◌≤◌, Bool, true, false, ℤ, pos, ◌+ℤ◌, ◌*ℤ◌, neg_ℤ, Option, Some, None, MatchOption, List, ◌∷◌, ◌++◌, length, drop, get_or, slice_set, ap, ◌∙◌, sym, subst, refl, arith}
+use Rattle.std.proofs.Common.{◌≡◌, ℕ, ◌+◌, ◌*◌, ◌<◌, ◌≤◌, Bool, true, false, ℤ, pos, ◌+ℤ◌, ◌*ℤ◌, neg_ℤ, Option, Some, None, MatchOption}
+use Rattle.std.proofs.Common.{List, ◌∷◌, ◌++◌, length, drop, get_or, slice_set, ap, ◌∙◌, sym, subst, refl, arith}
 use Rattle.std.specs.List.{slice_get}
 use Rattle.std.proofs.lemmas.List.{drop_all, append-nil}
 use Rattle.std.proofs.lemmas.Option.{slice_get_within, slice_get_read, slice_get-get_or, slice_get-map}
@@ -74,7 +75,8 @@ value_decided side true price q = refl
 value_decided side false price q = refl
 
 pub decided_own : (rows : List Row) (end : Span) (touch : Touch) (own : Taken) (m : Move) → IsMove rows end touch Decide own m
-    → IsTakenAt (m.steps ++ step_of m.period m.block.order ∷ as_steps m.period (drop (m.place + 1) m.blocks)) (net_volume m.blocks m.before m.period) own
+    → IsTakenAt (m.steps ++ step_of m.period m.block.order ∷ as_steps m.period (drop (m.place + 1) m.blocks))
+    (net_volume m.blocks m.before m.period) own
 decided_own rows end touch own m is =
     subst (λ (ss : List Step). IsTakenAt ss (net_volume m.blocks m.before m.period) own) (decided_before rows end touch own m is) is.own_is
 
@@ -170,7 +172,8 @@ pub record Touched (problem : ProblemState) (rows : List Row) (ends : List Span)
   }
   pub is_move : (d : Taken) (e : Span) → IsMove rows (get_or ends touch.at e) touch change (get_or periods touch.at d) move
 
-pub touched : (problem : ProblemState) (rows : List Row) (ends : List Span) (lots : List LotState) (lot : LotState) (place depth : ℕ) (change : Change) (accept : Bool)
+pub touched : (problem : ProblemState) (rows : List Row) (ends : List Span) (lots : List LotState) (lot : LotState) (place depth : ℕ)
+    (change : Change) (accept : Bool)
     (before after : List Bool) (b : Block) (day : Day) (periods : List Taken) (j : ℕ) (touch : Touch) → AreTables problem.hours
     problem.blocks rows ends lots
     → slice_get problem.blocks place ≡ Some b → slice_get lots place ≡ Some lot → slice_get lot.touches j ≡ Some touch
@@ -235,12 +238,23 @@ lot_at problem rows ends lots lot place b are at read =
 
 -- the touch at the place of a list of touches
 abbrev pub no_touch_there : Touch
-no_touch_there = record { at = 0; from = 0; to = 0; cut = record { volume = 0; height = 0; span = record { first = 0; steps = 0; units = 0 } } }
+no_touch_there = record {
+  at = 0;
+  from = 0;
+  to = 0;
+  cut = record {
+    volume = 0;
+    height = 0;
+    span =
+        record { first = 0; steps = 0; units = 0 };
+  };
+}
 
 abbrev pub nothing_taken : Taken
 nothing_taken = record { units = 0; height = 0; held = 0; free = 0; near = 0; cost = 0 }
 
-pub touched_now : (problem : ProblemState) (rows : List Row) (ends : List Span) (lots : List LotState) (lot : LotState) (touches : List Touch) (place depth : ℕ)
+pub touched_now : (problem : ProblemState) (rows : List Row) (ends : List Span) (lots : List LotState) (lot : LotState)
+    (touches : List Touch) (place depth : ℕ)
     (change : Change) (accept : Bool) (before after : List Bool) (b : Block) (day : Day) (periods : List Taken) (j : ℕ)
     → AreTables problem.hours problem.blocks rows ends lots
     → slice_get problem.blocks place ≡ Some b → lot ≡ get_or lots place lot → touches ≡ lot.touches → j < length touches
@@ -257,7 +271,8 @@ touched_now problem rows ends lots lot touches place depth change accept before 
     (subst (λ (ts : List Touch). AreStill (drop j (pairs_of ts)) day.periods periods) same still))
 
 -- whether the supply is left with what the block asks for
-pub serves : (problem : ProblemState) (rows : List Row) (ends : List Span) (lots : List LotState) (lot : LotState) (place depth : ℕ) (change : Change) (accept : Bool)
+pub serves : (problem : ProblemState) (rows : List Row) (ends : List Span) (lots : List LotState) (lot : LotState) (place depth : ℕ)
+    (change : Change) (accept : Bool)
     (before after : List Bool) (b : Block) (periods : List Taken) (j : ℕ) (pairs : List Pair) (touch : Touch) (side : Side) (served : Bool)
     → AreTables problem.hours problem.blocks rows ends lots → slice_get problem.blocks place ≡ Some b → lot ≡ get_or lots place lot
     → served ≡ falls side accept
@@ -268,22 +283,27 @@ serves problem rows ends lots lot place depth change accept before after b perio
     ∙ ap (λ (m : Move). falls m.block.order.side m.accept) (sym t.move_is)
 
 -- the move at the stack that was read
-pub is_move_at : (problem : ProblemState) (rows : List Row) (ends : List Span) (place depth : ℕ) (change : Change) (accept : Bool) (before after : List Bool) (b : Block)
-    (periods : List Taken) (j : ℕ) (pairs : List Pair) (touch : Touch) (end : Span) → (t : Touched problem rows ends place depth change accept before after b
+pub is_move_at : (problem : ProblemState) (rows : List Row) (ends : List Span) (place depth : ℕ) (change : Change) (accept : Bool)
+    (before after : List Bool) (b : Block)
+    (periods : List Taken) (j : ℕ) (pairs : List Pair) (touch : Touch) (end : Span)
+    → (t : Touched problem rows ends place depth change accept before after b
     periods j pairs touch)
     → end ≡ get_or ends touch.at end → IsMove rows end touch change (get_or periods touch.at nothing_taken) t.move
 is_move_at problem rows ends place depth change accept before after b periods j pairs touch end t read =
     subst (λ (s : Span). IsMove rows s touch change (get_or periods touch.at nothing_taken) t.move) (sym read) (t.is_move nothing_taken end)
 
 -- one touch more
-pub touch_changed : (problem : ProblemState) (rows : List Row) (ends : List Span) (place depth : ℕ) (change : Change) (accept : Bool) (before after : List Bool) (b : Block)
+pub touch_changed : (problem : ProblemState) (rows : List Row) (ends : List Span) (place depth : ℕ) (change : Change) (accept : Bool)
+    (before after : List Bool) (b : Block)
     (periods : List Taken) (j : ℕ) (pairs : List Pair) (touch : Touch) (own next : Taken) (total gained : ℤ) (e : Span)
     → (t : Touched problem rows ends place depth change accept before after b periods j pairs touch) → touch.at < length periods
-    → IsMoved (steps_before t.move) (net_volume t.move.blocks t.move.before t.move.period) (steps_after t.move) (net_volume t.move.blocks t.move.after t.move.period)
+    → IsMoved (steps_before t.move) (net_volume t.move.blocks t.move.before t.move.period) (steps_after t.move)
+    (net_volume t.move.blocks t.move.after t.move.period)
     (by change t.move.accept (value_of t.move.period t.move.block.order)) next gained
     → IsChangedSoFar problem.blocks problem.hours (drop j pairs) before after periods total
     → IsChangedSoFar problem.blocks problem.hours (drop (j + 1) pairs) before after (slice_set periods touch.at next) (total +ℤ gained)
-touch_changed problem rows ends place depth change accept before after b periods j pairs touch own next total gained e t inside moved so_far =
+touch_changed problem rows ends place depth change accept before after b periods j pairs touch own next total gained e t inside moved so_far
+    =
     let m : Move = record {
       steps = t.steps;
       period = t.pair.0;
@@ -306,7 +326,8 @@ touch_changed problem rows ends place depth change accept before after b periods
     t.number t.there inside found.taken_at (ap (λ (z : ℤ). total +ℤ z) part) so_far
 
 -- a period that doesn't balance after the change
-pub touch_unbalanced : (problem : ProblemState) (rows : List Row) (ends : List Span) (place depth : ℕ) (change : Change) (accept : Bool) (before after : List Bool)
+pub touch_unbalanced : (problem : ProblemState) (rows : List Row) (ends : List Span) (place depth : ℕ) (change : Change) (accept : Bool)
+    (before after : List Bool)
     (b : Block) (periods : List Taken) (j : ℕ) (pairs : List Pair) (touch : Touch) → WelfareLaw
     → (t : Touched problem rows ends place depth change accept before after b periods j pairs touch)
     → IsUnbalanced (steps_after t.move) (net_volume t.move.blocks t.move.after t.move.period) → relaxed_welfare problem after ≡ None

@@ -1,5 +1,6 @@
 -- The volumes of a block, pair by pair.
-use Rattle.std.proofs.Common.{◌≡◌, ◌≢◌, ℕ, zero, suc, ◌+◌, ◌<◌, ◌≤◌, ◌==◌, ◌⊎◌, Bool, true, false, cond, Some, List, [], ◌∷◌, drop, get_or, inl, inr, ap, ◌∙◌, sym, subst, refl, arith}
+use Rattle.std.proofs.Common.{◌≡◌, ◌≢◌, ℕ, zero, suc, ◌+◌, ◌<◌, ◌≤◌, ◌==◌, ◌⊎◌, Bool, true, false, cond, Some, List, [], ◌∷◌, drop, get_or}
+use Rattle.std.proofs.Common.{inl, inr, ap, ◌∙◌, sym, subst, refl, arith}
 use Rattle.std.specs.List.{slice_get, sum_by, All}
 use Rattle.std.specs.Prelude.{IsPermutation}
 use Rattle.std.proofs.lemmas.List.Sorted.{sum_by-IsPermutation, All-permutation}
@@ -48,20 +49,25 @@ none_above low t (p ∷ ps) e l =
 
 pub pair_above : (low : ℕ) (ps : List Pair) (k : ℕ) (p : Pair) → is_increasing low ps ≡ true → slice_get ps k ≡ Some p → low < p.0
 pair_above low [] k p e at = absurd (cc)
-pair_above low (q ∷ ps) zero p e at = let same : q ≡ p = cc in let n = ap (λ (x : Pair). x.0) same in omega (arith, first_above low q ps e, n)
-pair_above low (q ∷ ps) (suc k) p e at = let less = first_above low q ps e in let more = pair_above q.0 ps k p (rest_above low q ps e) at in omega (arith, less, more)
+pair_above low (q ∷ ps) zero p e at = let same : q ≡ p = cc in let n = ap (λ (x : Pair). x.0) same in
+    omega (arith, first_above low q ps e, n)
+pair_above low (q ∷ ps) (suc k) p e at = let less = first_above low q ps e in let more = pair_above q.0 ps k p (rest_above low q ps e) at in
+    omega (arith, less, more)
 
 -- the volume of a pair is that of its period
-pub volume_at : (low : ℕ) (ps : List Pair) (k : ℕ) (p : Pair) → is_increasing low ps ≡ true → slice_get ps k ≡ Some p → volume_in ps p.0 ≡ p.1
+pub volume_at : (low : ℕ) (ps : List Pair) (k : ℕ) (p : Pair) → is_increasing low ps ≡ true → slice_get ps k ≡ Some p
+    → volume_in ps p.0 ≡ p.1
 volume_at low [] k p e at = absurd (cc)
-volume_at low (q ∷ ps) zero p e at = let same : q ≡ p = cc in own_volume q ps p.0 (ap (λ (x : Pair). x.0) same) ∙ ap (λ (x : Pair). x.1) same
+volume_at low (q ∷ ps) zero p e at = let same : q ≡ p = cc in
+    own_volume q ps p.0 (ap (λ (x : Pair). x.0) same) ∙ ap (λ (x : Pair). x.1) same
 volume_at low (q ∷ ps) (suc k) p e at =
     let above = pair_above q.0 ps k p (rest_above low q ps e) at in
     let apart : q.0 ≢ p.0 = omega (arith, above) in
     other_volume q ps p.0 apart ∙ volume_at q.0 ps k p (rest_above low q ps e) at
 
 -- no later pair has the period
-pub past_volume : (low : ℕ) (ps : List Pair) (k : ℕ) (p : Pair) → is_increasing low ps ≡ true → slice_get ps k ≡ Some p → volume_in (drop (suc k) ps) p.0 ≡ 0
+pub past_volume : (low : ℕ) (ps : List Pair) (k : ℕ) (p : Pair) → is_increasing low ps ≡ true → slice_get ps k ≡ Some p
+    → volume_in (drop (suc k) ps) p.0 ≡ 0
 past_volume low [] k p e at = absurd (cc)
 past_volume low (q ∷ ps) zero p e at =
     let same : q ≡ p = cc in

@@ -1,5 +1,6 @@
 -- A decision in the slots, touch by touch.
-use Rattle.std.proofs.Common.{◌≡◌, ◌≢◌, ℕ, ◌+◌, ◌*◌, ◌<◌, ◌≤◌, ℤ, Bool, Option, Some, None, MatchOption, List, [], length, drop, get_or, slice_set, inl, inr, ap, ◌∙◌, sym, subst, refl, arith}
+use Rattle.std.proofs.Common.{◌≡◌, ◌≢◌, ℕ, ◌+◌, ◌*◌, ◌<◌, ◌≤◌, ℤ, Bool, Option, Some, None, MatchOption, List, [], length, drop, get_or}
+use Rattle.std.proofs.Common.{slice_set, inl, inr, ap, ◌∙◌, sym, subst, refl, arith}
 use Rattle.std.specs.List.{slice_get}
 use Rattle.std.proofs.lemmas.Bool.{cases_lt}
 use Rattle.std.proofs.lemmas.List.{length-set, get_or-set_same, get_or-set_other}
@@ -54,7 +55,8 @@ undecided problem place before after b pairs trail total at depth volumes is so_
 }
 
 -- the slot that a touch reads holds its period before the decision
-pub own_read : (problem : ProblemState) (rows : List Row) (ends : List Span) (place j : ℕ) (accept : Bool) (before after : List Bool) (b : Block)
+pub own_read : (problem : ProblemState) (rows : List Row) (ends : List Span) (place j : ℕ) (accept : Bool) (before after : List Bool)
+    (b : Block)
     (pairs : List Pair) (touch : Touch) (trail : Trail) (slots periods : List Taken) (total : ℤ) (d : Taken)
     → length problem.hours ≤ last_period → length before ≡ place → (is : IsDayIn problem before trail total)
     → ((i : ℕ) (e : Taken) → i < (place + 1) * last_period → get_or slots i e ≡ get_or trail.slots i e)
@@ -71,7 +73,8 @@ own_read problem rows ends place j accept before after b pairs touch trail slots
     ∙ sym (own_still pairs j touch.at t.pair is.day.periods periods d t.pair_is t.some t.number still)
 
 -- the move at the stack and at the slot that were read
-pub is_move_read : (problem : ProblemState) (rows : List Row) (ends : List Span) (place j : ℕ) (accept : Bool) (before after : List Bool) (b : Block)
+pub is_move_read : (problem : ProblemState) (rows : List Row) (ends : List Span) (place j : ℕ) (accept : Bool) (before after : List Bool)
+    (b : Block)
     (pairs : List Pair) (touch : Touch) (trail : Trail) (slots periods : List Taken) (total : ℤ) (end : Span)
     → length problem.hours ≤ last_period → length before ≡ place → (is : IsDayIn problem before trail total)
     → ((i : ℕ) (e : Taken) → i < (place + 1) * last_period → get_or slots i e ≡ get_or trail.slots i e)
@@ -80,11 +83,13 @@ pub is_move_read : (problem : ProblemState) (rows : List Row) (ends : List Span)
     → end ≡ get_or ends touch.at end → IsMove rows end touch Decide (get_or slots touch.from nothing_taken) t.move
 is_move_read problem rows ends place j accept before after b pairs touch trail slots periods total end few depth is below still t read =
     subst (λ (own : Taken). IsMove rows end touch Decide own t.move)
-    (sym (own_read problem rows ends place j accept before after b pairs touch trail slots periods total nothing_taken few depth is below still t))
+    (sym (own_read problem rows ends place j accept before after b pairs touch trail slots periods total nothing_taken few depth is below
+    still t))
     (is_move_at problem rows ends place (place + 1) Decide accept before after b periods j pairs touch end t read)
 
 -- both slots of a touch are there
-pub from_within : (problem : ProblemState) (rows : List Row) (ends : List Span) (place depth j : ℕ) (accept : Bool) (before after : List Bool) (b : Block)
+pub from_within : (problem : ProblemState) (rows : List Row) (ends : List Span) (place depth j : ℕ) (accept : Bool)
+    (before after : List Bool) (b : Block)
     (pairs : List Pair) (touch : Touch) (periods : List Taken) → length problem.hours ≤ last_period → place < most_blocks
     → Touched problem rows ends place depth Decide accept before after b periods j pairs touch → touch.from < slot_count
 from_within problem rows ends place depth j accept before after b pairs touch periods few many t =
@@ -92,7 +97,8 @@ from_within problem rows ends place depth j accept before after b pairs touch pe
     let low = slot_below problem.blocks touch.at place (omega (arith, inside, few)) in
     omega (arith, low, many, from)
 
-pub to_within : (problem : ProblemState) (rows : List Row) (ends : List Span) (place depth j : ℕ) (accept : Bool) (before after : List Bool) (b : Block)
+pub to_within : (problem : ProblemState) (rows : List Row) (ends : List Span) (place depth j : ℕ) (accept : Bool) (before after : List Bool)
+    (b : Block)
     (pairs : List Pair) (touch : Touch) (periods : List Taken) → length problem.hours ≤ last_period → place < most_blocks
     → Touched problem rows ends place depth Decide accept before after b periods j pairs touch → touch.to < slot_count
 to_within problem rows ends place depth j accept before after b pairs touch periods few many t =
@@ -104,7 +110,8 @@ pub below_more : (place to i : ℕ) (slots : List Taken) (next d : Taken) → (p
 below_more place to i slots next d high low = get_or-set_other slots to i next d (omega (arith, high, low))
 
 -- one touch more
-pub decided_more : (problem : ProblemState) (rows : List Row) (ends : List Span) (place j : ℕ) (accept : Bool) (before after : List Bool) (b : Block)
+pub decided_more : (problem : ProblemState) (rows : List Row) (ends : List Span) (place j : ℕ) (accept : Bool) (before after : List Bool)
+    (b : Block)
     (pairs : List Pair) (touch : Touch) (first slots : List Taken) (total after_total : ℤ) (next : Taken)
     → length problem.hours ≤ last_period → length slots ≡ slot_count → place < most_blocks → slice_get problem.blocks place ≡ Some b
     → (so_far : IsDecidedSoFar problem.blocks problem.hours place (drop j pairs) before after first slots total)
@@ -112,22 +119,24 @@ pub decided_more : (problem : ProblemState) (rows : List Row) (ends : List Span)
     → AreStill (drop (j + 1) pairs) first (slice_set so_far.periods touch.at next)
     → IsChangedSoFar problem.blocks problem.hours (drop (j + 1) pairs) before after (slice_set so_far.periods touch.at next) after_total
     → IsDecidedSoFar problem.blocks problem.hours place (drop (j + 1) pairs) before after first (slice_set slots touch.to next) after_total
-decided_more problem rows ends place j accept before after b pairs touch first slots total after_total next few room many at so_far t still changed = record {
-  periods = slice_set so_far.periods touch.at next;
-  long = length-set so_far.periods touch.at next ∙ so_far.long;
-  still = still;
-  so_far = changed;
-  stands = λ i d inside none. elim (cases_lt i touch.at) [
-    | inl less ↦ elsewhere i d inside none (omega (arith, less))
-    | inr more ↦ elim (cases_lt touch.at i) [
-      | inl less ↦ elsewhere i d inside none (omega (arith, less))
-      | inr same ↦ here i d (omega (arith, more, same))
-    ]
-  ];
-}
+decided_more problem rows ends place j accept before after b pairs touch first slots total after_total next few room many at so_far t still
+    changed = record {
+      periods = slice_set so_far.periods touch.at next;
+      long = length-set so_far.periods touch.at next ∙ so_far.long;
+      still = still;
+      so_far = changed;
+      stands = λ i d inside none. elim (cases_lt i touch.at) [
+        | inl less ↦ elsewhere i d inside none (omega (arith, less))
+        | inr more ↦ elim (cases_lt touch.at i) [
+          | inl less ↦ elsewhere i d inside none (omega (arith, less))
+          | inr same ↦ here i d (omega (arith, more, same))
+        ]
+      ];
+    }
   where
     elsewhere : (i : ℕ) (d : Taken) → i < length problem.hours → volume_in (drop (j + 1) pairs) (i + 1) ≡ 0 → i ≢ touch.at
-        → get_or (slice_set so_far.periods touch.at next) i d ≡ get_or (slice_set slots touch.to next) (slot_at problem.blocks i (place + 1)) d
+        → get_or (slice_set so_far.periods touch.at next) i d ≡ get_or (slice_set slots touch.to next)
+        (slot_at problem.blocks i (place + 1)) d
     elsewhere i d inside none apart =
         let number = t.number in
         let other : t.pair.0 ≢ i + 1 = omega (arith, number, apart) in
@@ -140,7 +149,8 @@ decided_more problem rows ends place j accept before after b pairs touch first s
         ∙ sym (get_or-set_other slots touch.to (slot_at problem.blocks i (place + 1)) next d (omega (arith, clear, to)))
 
     here : (i : ℕ) (d : Taken) → i ≡ touch.at
-        → get_or (slice_set so_far.periods touch.at next) i d ≡ get_or (slice_set slots touch.to next) (slot_at problem.blocks i (place + 1)) d
+        → get_or (slice_set so_far.periods touch.at next) i d ≡ get_or (slice_set slots touch.to next)
+        (slot_at problem.blocks i (place + 1)) d
     here i d same =
         let inside = t.inside in let long = so_far.long in let to = t.to_is in
         let move = t.is_move nothing_taken no_span in
@@ -153,7 +163,8 @@ decided_more problem rows ends place j accept before after b pairs touch first s
         (to ∙ sym stands ∙ ap (λ (n : ℕ). slot_at problem.blocks n (place + 1)) (sym same))
 
 -- all touches
-pub all_decided : (problem : ProblemState) (place : ℕ) (before after : List Bool) (rest : List Pair) (first : List Taken) (trail : Trail) (total : ℤ)
+pub all_decided : (problem : ProblemState) (place : ℕ) (before after : List Bool) (rest : List Pair) (first : List Taken) (trail : Trail)
+    (total : ℤ)
     → length trail.slots ≡ slot_count → length after ≡ place + 1 → rest ≡ []
     → IsDecidedSoFar problem.blocks problem.hours place rest before after first trail.slots total → IsDayIn problem after trail total
 all_decided problem place before after rest first trail total room depth all so_far = record {
@@ -167,8 +178,10 @@ all_decided problem place before after rest first trail total room depth all so_
 }
 
 -- ---- the decision on the next block
-pub extended : (result : Option ℤ) (p q : ProblemState) (least : ℕ) (before after : List Bool) (trail : Trail) → p ≡ q → NeverRises p.blocks before after
-    → MatchOption result (IsGivenUp p least before after) (IsDayIn p after trail) → MatchOption result (IsUnder q after least) (IsDayIn q after trail)
+pub extended : (result : Option ℤ) (p q : ProblemState) (least : ℕ) (before after : List Bool) (trail : Trail) → p ≡ q
+    → NeverRises p.blocks before after
+    → MatchOption result (IsGivenUp p least before after) (IsDayIn p after trail)
+    → MatchOption result (IsUnder q after least) (IsDayIn q after trail)
 extended (Some total) p q least before after trail e never m = subst (λ (r : ProblemState). IsDayIn r after trail total) e m
 extended None p q least before after trail e never m = subst (λ (r : ProblemState). IsUnder r after least) e (elim m [
   | inl none ↦ (λ w is. absurd (some_none (relaxed_welfare p after) w none is))

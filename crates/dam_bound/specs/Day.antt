@@ -18,7 +18,8 @@ IsPeriodOfDay blocks prefix t ss own = IsTakenAt ss (net_volume blocks prefix t)
 pub record IsDay (problem : ProblemState) (prefix : List Bool) (day : Day) : Type 0 where
   pub long : length day.periods ≡ last_period
   pub each : (i : ℕ) (ss : List Step) (d : Taken) → slice_get problem.hours i ≡ Some ss
-      → IsPeriodOfDay problem.blocks prefix (i + 1) (ss ++ as_steps (i + 1) (drop (length prefix) problem.blocks)) (slice_index_or day.periods i d)
+      → IsPeriodOfDay problem.blocks prefix (i + 1) (ss ++ as_steps (i + 1) (drop (length prefix) problem.blocks))
+      (slice_index_or day.periods i d)
   pub total_is : Some day.total ≡ relaxed_welfare problem prefix
 
 -- the prefix has no relaxed welfare, or one that is less than the value

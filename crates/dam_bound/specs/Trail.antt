@@ -1,5 +1,6 @@
 -- The days of a walk, in slots: what a decision writes is read by the prefixes that extend it alone.
-use Rattle.std.specs.Prelude.{◌≡◌, ℕ, zero, suc, ◌+◌, ◌*◌, ◌<◌, ◌≤◌, ◌==◌, if◌then◌else◌, Bool, ℤ, Option, Some, None, List, length, slice_get, slice_index_or}
+use Rattle.std.specs.Prelude.{◌≡◌, ℕ, zero, suc, ◌+◌, ◌*◌, ◌<◌, ◌≤◌, ◌==◌, if◌then◌else◌, Bool, ℤ, Option, Some, None, List, length}
+use Rattle.std.specs.Prelude.{slice_get, slice_index_or}
 use Rattle.dam_book.specs.Limits.{last_period, most_blocks}
 use Rattle.dam_stack.specs.declared.taken.Taken.{Taken}
 use Rattle.dam_blocks.specs.declared.problem.Block.{Block}

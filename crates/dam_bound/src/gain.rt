@@ -32,7 +32,8 @@ fn gain_in<A: Allocator>(
     order: &BlockOrder,
     qty: Qty,
 ) -> i64
-    requires { (ss : List Step) × (net : ℤ) × IsStackAt stacks.now end ss × IsTakenAt ss net own }
+    requires { (ss : List Step) × (net : ℤ)
+        × IsStackAt stacks.now end ss × IsTakenAt ss net own }
     ensures value { (ss : List Step) (net price : ℤ) → IsStackAt stacks.now end ss
         → IsTakenAt ss net own → IsClearingPrice ss net price
         → result ≡ signed order.now.side ((order.now.price -ℤ price) *ℤ pos qty) }

@@ -4,12 +4,14 @@ use Rattle.dam_book.specs.Book.{run, commands_of}
 use Rattle.dam_book.specs.declared.command.Command.{Command}
 use Rattle.dam_book.specs.declared.command.Entry.{Entry}
 use Rattle.dam_gate.specs.Day.{AreTaken, IsDayFault, IsDayRun}
-use Rattle.dam_gate.specs.declared.day.DayFault.TheVariants.{TooManyCommands as ManyCommands, CloseGiven as CloseAt, TooManyParticipants as ManyAt, NotSettled}
+use Rattle.dam_gate.specs.declared.day.DayFault.TheVariants.{TooManyCommands as ManyCommands, CloseGiven as CloseAt}
+use Rattle.dam_gate.specs.declared.day.DayFault.TheVariants.{TooManyParticipants as ManyAt, NotSettled}
 use Rattle.dam_plan.specs.Plan.{PlanTerms}
 use Rattle.dam_results.specs.Written.{journal_text}
 use Rattle.dam_results.specs.Clearing.{IsResultsText}
 use Rattle.dam_engines.specs.declared.fault.RunFault.{RunFault}
-use Rattle.dam_engines.specs.declared.fault.RunFault.TheVariants.{TooManyCommands, CloseGiven, TooManyParticipants, Mismatch, Unfinished, Memory}
+use Rattle.dam_engines.specs.declared.fault.RunFault.TheVariants.{TooManyCommands, CloseGiven, TooManyParticipants, Mismatch, Unfinished}
+use Rattle.dam_engines.specs.declared.fault.RunFault.TheVariants.{Memory}
 use Rattle.dam_engines.specs.Clear.{IsCutShort}
 
 -- the written journal, the line `results`, and this text of results

@@ -6,11 +6,13 @@ use Rattle.dam_results.specs.declared.journal.JournalFault.TheVariants.{Memory a
 use Rattle.dam_blocks.specs.declared.problem.ProblemFault.{ProblemFault}
 use Rattle.dam_blocks.specs.declared.problem.ProblemFault.TheVariants.{StillOpen as OpenBook, Memory as MemoryOfProblem}
 use Rattle.dam_gate.specs.declared.settlement.Mismatch.{Mismatch as Unmatched}
-use Rattle.dam_gate.specs.declared.settlement.Mismatch.TheVariants.{StillOpen as OpenGate, Missing, Doubled, Differs, Extra, Memory as MemoryOfSettlement}
+use Rattle.dam_gate.specs.declared.settlement.Mismatch.TheVariants.{StillOpen as OpenGate, Missing, Doubled, Differs, Extra}
+use Rattle.dam_gate.specs.declared.settlement.Mismatch.TheVariants.{Memory as MemoryOfSettlement}
 use Rattle.dam_search.specs.declared.fault.SearchFault.{SearchFault}
 use Rattle.dam_search.specs.declared.fault.SearchFault.TheVariants.{Memory as MemoryOfSearch, Collected as IsFaulty, Unfinished as IsCut}
 use Rattle.dam_engines.specs.declared.fault.RunFault.{RunFault}
-use Rattle.dam_engines.specs.declared.fault.RunFault.TheVariants.{Read, Input, TooManyCommands, CloseGiven, TooManyParticipants, StillOpen, Mismatch, Unfinished, Collected, Memory, Write}
+use Rattle.dam_engines.specs.declared.fault.RunFault.TheVariants.{Read, Input, TooManyCommands, CloseGiven, TooManyParticipants, StillOpen}
+use Rattle.dam_engines.specs.declared.fault.RunFault.TheVariants.{Mismatch, Unfinished, Collected, Memory, Write}
 
 -- what is printed of a fault of the input
 abbrev pub input_text : JournalFault → List ℕ
@@ -40,7 +42,8 @@ fault_text (CloseGiven at) = codes "input: CloseGiven in record " ++ decimal at
 fault_text (TooManyParticipants at) = codes "input: TooManyParticipants in record " ++ decimal at
 fault_text StillOpen = codes "input: StillOpen"
 fault_text (Mismatch why) = mismatch_text why
-fault_text (Unfinished piece visited) = codes "unfinished: piece " ++ (decimal piece ++ (codes " after " ++ (decimal visited ++ codes " nodes")))
+fault_text (Unfinished piece visited) = codes "unfinished: piece " ++
+    (decimal piece ++ (codes " after " ++ (decimal visited ++ codes " nodes")))
 fault_text (Collected piece) = codes "mismatch: Collected " ++ decimal piece
 fault_text Memory = codes "memory"
 fault_text (Write written) = codes "device: write after " ++ (decimal written ++ codes " bytes")

@@ -141,7 +141,8 @@ fn settled_day<H: Threads + Wait + Sync, U: Turnstile + Sync>(
     ensures journal { IfOk result IsJournal }
     ensures day { IfOk result (λ settled. IsDayRun periods commands.now settled.entries) }
     ensures taken { OnOk result (AreTaken commands.now) }
-    ensures fault { (plan : PlanTerms) → IfErr result (IsCommandsFault plan periods commands.now) }
+    ensures fault { (plan : PlanTerms)
+        → IfErr result (IsCommandsFault plan periods commands.now) }
 {
     let door = Door {
         turnstile: entrance,

@@ -233,7 +233,8 @@ extra-decided periods least es fs extra rs legal is some tally =
     let own = subst (IsLeastExtra (length es) rs) some tally.extra_is in
     record {
       wrong = (none_above 1 least (empty_book periods) es legal (omega (arith, own.0)), own.1);
-      least = λ m below. all_numbers periods m es rs legal (none-decided periods es fs extra rs legal is tally) (λ above. own.2 m above below);
+      least = λ m below. all_numbers periods m es rs legal (none-decided periods es fs extra rs legal is tally)
+          (λ above. own.2 m above below);
     }
 
 -- what is received as it should be has no fault

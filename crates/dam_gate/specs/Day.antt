@@ -1,5 +1,6 @@
 -- A day of given commands: participants enter theirs at the same time, and then the operator closes.
-use Rattle.std.specs.Prelude.{◌≡◌, ◌≢◌, ℕ, ◌+◌, ◌<◌, ◌≤◌, Bool, if◌then◌else◌, List, [], ◌∷◌, ◌++◌, length, map, take, slice_get, Option, None, Some}
+use Rattle.std.specs.Prelude.{◌≡◌, ◌≢◌, ℕ, ◌+◌, ◌<◌, ◌≤◌, Bool, if◌then◌else◌, List, [], ◌∷◌, ◌++◌, length, map, take, slice_get, Option}
+use Rattle.std.specs.Prelude.{None, Some}
 use Rattle.std.specs.List.{filter, list_any}
 use Rattle.dam_book.specs.Limits.{most_entries}
 use Rattle.dam_book.specs.Name.{same_text}

@@ -3,7 +3,7 @@ ghost use Rattle.std.specs.Prelude.{◌≡◌};
 
 use dam_book::{Command, DayLength, Name, Participant, Seed};
 use dam_gate::{
-    Account, Gate, GateFault, Journal, Keeper, MOST_PASSES, Mismatch, GateName, Opening, Pass,
+    Account, Gate, GateFault, GateName, Journal, Keeper, MOST_PASSES, Mismatch, Opening, Pass,
     PassFault, Settled, settle,
 };
 use std::alloc::{AllocError, Global};

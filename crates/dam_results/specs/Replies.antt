@@ -4,7 +4,8 @@ use Rattle.std.specs.List.{flat_map}
 use Rattle.dam_book.specs.declared.command.Reply.{Reply}
 use Rattle.dam_book.specs.declared.command.Reply.TheVariants.{Done, Refused}
 use Rattle.dam_book.specs.declared.command.Reason.{Reason}
-use Rattle.dam_book.specs.declared.command.Reason.TheVariants.{Closed, PeriodOutOfDay, NameTaken, UnknownOrder, WrongShape, UnknownParent, ParentNotBlock, HourlyFull, BlocksFull, HasChildren}
+use Rattle.dam_book.specs.declared.command.Reason.TheVariants.{Closed, PeriodOutOfDay, NameTaken, UnknownOrder, WrongShape, UnknownParent}
+use Rattle.dam_book.specs.declared.command.Reason.TheVariants.{ParentNotBlock, HourlyFull, BlocksFull, HasChildren}
 use Rattle.dam_book.specs.declared.command.Command.{Command}
 use Rattle.dam_book.specs.declared.command.Entry.{Entry}
 use Rattle.dam_book.specs.Book.{entries_of}

@@ -1,5 +1,6 @@
 -- What becomes of a day where one block is decided, or decided the other way.
-use Rattle.std.specs.Prelude.{◌≡◌, ◌⊎◌, ℕ, ◌+◌, Bool, true, false, ℤ, pos, neg_ℤ, ◌<◌, ◌+ℤ◌, ◌≤ℤ◌, Some, None, List, ◌++◌, length, drop, slice_get}
+use Rattle.std.specs.Prelude.{◌≡◌, ◌⊎◌, ℕ, ◌+◌, Bool, true, false, ℤ, pos, neg_ℤ, ◌<◌, ◌+ℤ◌, ◌≤ℤ◌, Some, None, List, ◌++◌, length, drop}
+use Rattle.std.specs.Prelude.{slice_get}
 use Rattle.dam_hour.specs.declared.step.Step.{Step}
 use Rattle.dam_stack.specs.declared.row.Row.{Row}
 use Rattle.dam_stack.specs.declared.stacks.Span.{Span}
@@ -28,22 +29,27 @@ IsBefore Decide place depth decided count = (decided ≡ place) × (depth ≡ pl
 IsBefore Turn place depth decided count = (decided ≡ count) × (depth ≡ count)
 
 -- the decisions after it differ from those before by the block at the place alone, and so many blocks are decided by them
-pub record IsChange (blocks : List Block) (place : ℕ) (change : Change) (accept : Bool) (depth : ℕ) (before after : List Bool) : Type 0 where
+pub record IsChange (blocks : List Block) (place : ℕ) (change : Change) (accept : Bool) (depth : ℕ) (before after : List Bool)
+    : Type 0 where
   pub kind : IsBefore change place depth (length before) (length blocks)
   pub long : length after ≡ depth
-  pub net : (t : ℕ) (b : Block) → slice_get blocks place ≡ Some b → net_volume blocks after t ≡ net_volume blocks before t +ℤ by change accept (net_volume_of t b.order)
-  pub value : (t : ℕ) (b : Block) → slice_get blocks place ≡ Some b → block_value blocks after t ≡ block_value blocks before t +ℤ by change accept (value_of t b.order)
+  pub net : (t : ℕ) (b : Block) → slice_get blocks place ≡ Some b
+      → net_volume blocks after t ≡ net_volume blocks before t +ℤ by change accept (net_volume_of t b.order)
+  pub value : (t : ℕ) (b : Block) → slice_get blocks place ≡ Some b
+      → block_value blocks after t ≡ block_value blocks before t +ℤ by change accept (value_of t b.order)
   pub steps : (t : ℕ) (b : Block) → slice_get blocks place ≡ Some b → volume_in b.order.volumes t ≡ 0
       → as_steps t (drop (length before) blocks) ≡ as_steps t (drop (length after) blocks)
 
 -- no period has more relaxed welfare after than before
 abbrev pub NeverRises : List Block → List Bool → List Bool → Type 0
-NeverRises blocks before after = (t : ℕ) (ss : List Step) (w : ℤ) → period_welfare blocks after t (ss ++ as_steps t (drop (length after) blocks)) ≡ Some w
+NeverRises blocks before after = (t : ℕ) (ss : List Step) (w : ℤ)
+    → period_welfare blocks after t (ss ++ as_steps t (drop (length after) blocks)) ≡ Some w
     → (r : ℤ) × (period_welfare blocks before t (ss ++ as_steps t (drop (length before) blocks)) ≡ Some r) × (w ≤ℤ r)
 
 -- some period doesn't balance; or the relaxed welfare is under what is asked for, provided that no period's rises
 abbrev pub IsGivenUp : ProblemState → ℕ → List Bool → List Bool → Type 0
-IsGivenUp problem least before after = (relaxed_welfare problem after ≡ None) ⊎ (NeverRises problem.blocks before after → IsUnder problem after least)
+IsGivenUp problem least before after = (relaxed_welfare problem after ≡ None)
+    ⊎ (NeverRises problem.blocks before after → IsUnder problem after least)
 
 -- ---- one of the block's periods
 -- what is changed: these steps of the period, this block and its decision, and the decisions before and after

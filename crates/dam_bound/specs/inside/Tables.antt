@@ -27,7 +27,8 @@ abbrev pub pairs_of : List Touch → List Pair
 pairs_of touches = map pair_of touches
 
 -- the block at the place in one of its periods: it stands as a step after the hourly orders, and the cut leads to the later blocks
-pub record IsTouch (hours : List (List Step)) (blocks : List Block) (rows : List Row) (place : ℕ) (b : Block) (p : Pair) (touch : Touch) : Type 0 where
+pub record IsTouch (hours : List (List Step)) (blocks : List Block) (rows : List Row) (place : ℕ) (b : Block) (p : Pair) (touch : Touch)
+    : Type 0 where
   pub at_is : p.0 ≡ touch.at + 1
   pub volume_is : p.1 ≡ touch.cut.volume
   pub inside : touch.at < length hours
@@ -54,10 +55,12 @@ pub record IsLot (hours : List (List Step)) (blocks : List Block) (rows : List R
 -- the lots of the first blocks
 pub record AreLots (hours : List (List Step)) (blocks : List Block) (rows : List Row) (count : ℕ) (lots : List LotState) : Type 0 where
   pub as_many : length lots ≡ count
-  pub each : (k : ℕ) (b : Block) (lot : LotState) → slice_get blocks k ≡ Some b → slice_get lots k ≡ Some lot → IsLot hours blocks rows k b lot
+  pub each : (k : ℕ) (b : Block) (lot : LotState) → slice_get blocks k ≡ Some b → slice_get lots k ≡ Some lot
+      → IsLot hours blocks rows k b lot
 
 -- the stacks with every block decided, and the lots of all blocks
-pub record AreTables (hours : List (List Step)) (blocks : List Block) (rows : List Row) (ends : List Span) (lots : List LotState) : Type 0 where
+pub record AreTables (hours : List (List Step)) (blocks : List Block) (rows : List Row) (ends : List Span) (lots : List LotState)
+    : Type 0 where
   pub few_periods : length hours ≤ last_period
   pub few_blocks : length blocks ≤ most_blocks
   pub blocks_are : AreBlocks (length hours) blocks

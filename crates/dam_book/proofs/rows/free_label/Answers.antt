@@ -12,4 +12,5 @@ returns-then-gaps-eq0-clause-absent g c =
 
 pub fill_gap-requires-clause-gap : goal.fill_gap-requires-clause-gap
 fill_gap-requires-clause-gap g c =
-    gap_found c.args.row.now c.args.places.now.entries c.in-Some.place c.in-Some.field-0-1.now c.in-Some.field-0-2.now c.requires.unfilled c.requires.numbered c.requires.apart c.requires.free c.in-Some.ensures.key c.in-Some.ensures.value c.in-Some.ensures.entry
+    gap_found c.args.row.now c.args.places.now.entries c.in-Some.place c.in-Some.field-0-1.now c.in-Some.field-0-2.now c.requires.unfilled
+    c.requires.numbered c.requires.apart c.requires.free c.in-Some.ensures.key c.in-Some.ensures.value c.in-Some.ensures.entry

@@ -11,7 +11,8 @@ use Rattle.dam_bound.proofs.Volumes.{volume_ordered}
 use Rattle.dam_bound.proofs.Periods.{one_at}
 use Rattle.dam_bound.proofs.Sizes.{added_up}
 use Rattle.dam_bound.proofs.Deciding.{IsChangedSoFar, nothing_changed, all_changed, total_within, still_own}
-use Rattle.dam_bound.proofs.Touching.{no_touch_there, nothing_taken, lot_at, touched_now, serves, is_move_at, touch_changed, touch_unbalanced}
+use Rattle.dam_bound.proofs.Touching.{no_touch_there, nothing_taken, lot_at, touched_now, serves, is_move_at, touch_changed}
+use Rattle.dam_bound.proofs.Touching.{touch_unbalanced}
 use Rattle.dam_bound.proofs.day.turn_block.Goals as goal
 
 pub index-lot-requires : goal.index-lot-requires
@@ -24,7 +25,8 @@ loop-touch-init g c = record {
   long = c.requires.6.long;
   so_far = λ problem before after b are at is of. (
     λ i d some. refl,
-    nothing_changed problem c.args.place (length problem.blocks) Turn c.args.accept before after b c.args.day.now (pairs_of c.touches-touch-items.result.now) at
+    nothing_changed problem c.args.place (length problem.blocks) Turn c.args.accept before after b c.args.day.now
+        (pairs_of c.touches-touch-items.result.now) at
         (λ t. (let lot = lot_at problem c.args.tables.now.stacks c.args.tables.now.ends.items c.args.tables.now.lots.items
         c.index-lot.result.now c.args.place b are at c.index-lot.ensures in
         ap (λ (ts : List Touch). volume_in (pairs_of ts) t) c.touches-touch-items.ensures
@@ -41,7 +43,8 @@ bounds-day-at g c =
     let touch = get_or c.touches-touch-items.result.now c.loop-touch.touch-index no_touch_there in
     let pairs = pairs_of c.touches-touch-items.result.now in
     let t = touched_now c.requires.0 c.args.tables.now.stacks c.args.tables.now.ends.items c.args.tables.now.lots.items
-    c.index-lot.result.now c.touches-touch-items.result.now c.args.place (length c.requires.0.blocks) Turn c.args.accept c.requires.1 c.requires.2
+    c.index-lot.result.now c.touches-touch-items.result.now c.args.place (length c.requires.0.blocks)
+    Turn c.args.accept c.requires.1 c.requires.2
     block.0
     c.args.day.now c.loop-touch.day.periods c.loop-touch.touch-index c.requires.3 block.1 c.index-lot.ensures c.touches-touch-items.ensures
     c.loop-touch-test.true c.requires.5 c.requires.6 so_far.0 in
@@ -56,7 +59,8 @@ bounds-day-at-in-loop-touch g c =
     let touch = get_or c.touches-touch-items.result.now c.loop-touch.touch-index no_touch_there in
     let pairs = pairs_of c.touches-touch-items.result.now in
     let t = touched_now c.requires.0 c.args.tables.now.stacks c.args.tables.now.ends.items c.args.tables.now.lots.items
-    c.index-lot.result.now c.touches-touch-items.result.now c.args.place (length c.requires.0.blocks) Turn c.args.accept c.requires.1 c.requires.2
+    c.index-lot.result.now c.touches-touch-items.result.now c.args.place (length c.requires.0.blocks)
+    Turn c.args.accept c.requires.1 c.requires.2
     block.0
     c.args.day.now c.loop-touch.day.periods c.loop-touch.touch-index c.requires.3 block.1 c.index-lot.ensures c.touches-touch-items.ensures
     c.loop-touch-test.true c.requires.5 c.requires.6 so_far.0 in
@@ -71,7 +75,8 @@ index-requires g c =
     let touch = get_or c.touches-touch-items.result.now c.loop-touch.touch-index no_touch_there in
     let pairs = pairs_of c.touches-touch-items.result.now in
     let t = touched_now c.requires.0 c.args.tables.now.stacks c.args.tables.now.ends.items c.args.tables.now.lots.items
-    c.index-lot.result.now c.touches-touch-items.result.now c.args.place (length c.requires.0.blocks) Turn c.args.accept c.requires.1 c.requires.2
+    c.index-lot.result.now c.touches-touch-items.result.now c.args.place (length c.requires.0.blocks)
+    Turn c.args.accept c.requires.1 c.requires.2
     block.0
     c.args.day.now c.loop-touch.day.periods c.loop-touch.touch-index c.requires.3 block.1 c.index-lot.ensures c.touches-touch-items.ensures
     c.loop-touch-test.true c.requires.5 c.requires.6 so_far.0 in
@@ -86,13 +91,16 @@ moved-next-requires g c =
     let touch = get_or c.touches-touch-items.result.now c.loop-touch.touch-index no_touch_there in
     let pairs = pairs_of c.touches-touch-items.result.now in
     let t = touched_now c.requires.0 c.args.tables.now.stacks c.args.tables.now.ends.items c.args.tables.now.lots.items
-    c.index-lot.result.now c.touches-touch-items.result.now c.args.place (length c.requires.0.blocks) Turn c.args.accept c.requires.1 c.requires.2
+    c.index-lot.result.now c.touches-touch-items.result.now c.args.place (length c.requires.0.blocks)
+    Turn c.args.accept c.requires.1 c.requires.2
     block.0
     c.args.day.now c.loop-touch.day.periods c.loop-touch.touch-index c.requires.3 block.1 c.index-lot.ensures c.touches-touch-items.ensures
     c.loop-touch-test.true c.requires.5 c.requires.6 so_far.0 in (
       t.move,
-      is_move_at c.requires.0 c.args.tables.now.stacks c.args.tables.now.ends.items c.args.place (length c.requires.0.blocks) Turn c.args.accept
-          c.requires.1 c.requires.2 block.0 c.loop-touch.day.periods c.loop-touch.touch-index pairs touch c.index.result.now t c.index.ensures,
+      is_move_at c.requires.0 c.args.tables.now.stacks c.args.tables.now.ends.items c.args.place (length c.requires.0.blocks)
+          Turn c.args.accept
+          c.requires.1 c.requires.2 block.0 c.loop-touch.day.periods c.loop-touch.touch-index pairs touch c.index.result.now t
+          c.index.ensures,
     )
 
 pub returns-in_default : goal.returns-in_default
@@ -105,13 +113,16 @@ returns-in_default g c problem before after are inside is of =
     c.touches-touch-items.result.now c.args.place (length problem.blocks) Turn c.args.accept before after block.0
     c.args.day.now c.loop-touch.day.periods c.loop-touch.touch-index are block.1 c.index-lot.ensures c.touches-touch-items.ensures
     c.loop-touch-test.true is of so_far.0 in
-    let move = is_move_at problem c.args.tables.now.stacks c.args.tables.now.ends.items c.args.place (length problem.blocks) Turn c.args.accept
+    let move = is_move_at problem c.args.tables.now.stacks c.args.tables.now.ends.items c.args.place (length problem.blocks)
+    Turn c.args.accept
     before after block.0 c.loop-touch.day.periods c.loop-touch.touch-index pairs touch
     c.index.result.now t c.index.ensures in
     let served = serves problem c.args.tables.now.stacks c.args.tables.now.ends.items c.args.tables.now.lots.items c.index-lot.result.now
-    c.args.place (length problem.blocks) Turn c.args.accept before after block.0 c.loop-touch.day.periods c.loop-touch.touch-index pairs touch
+    c.args.place (length problem.blocks) Turn c.args.accept before after block.0 c.loop-touch.day.periods c.loop-touch.touch-index pairs
+    touch
     c.side.result c.is_served-is_served.result are block.1 c.index-lot.ensures c.is_served-is_served.ensures c.side.ensures t in
-    (touch_unbalanced problem c.args.tables.now.stacks c.args.tables.now.ends.items c.args.place (length problem.blocks) Turn c.args.accept before
+    (touch_unbalanced problem c.args.tables.now.stacks c.args.tables.now.ends.items c.args.place (length problem.blocks)
+    Turn c.args.accept before
     after block.0 c.loop-touch.day.periods c.loop-touch.touch-index pairs touch
     (λ ss net none. (c.welfare.ensures.none ss net).1 none) t (c.in_default.ensures t.move move served))
 
@@ -123,7 +134,8 @@ overflow_add-day g c =
     let touch = get_or c.touches-touch-items.result.now c.loop-touch.touch-index no_touch_there in
     let pairs = pairs_of c.touches-touch-items.result.now in
     let t = touched_now c.requires.0 c.args.tables.now.stacks c.args.tables.now.ends.items c.args.tables.now.lots.items
-    c.index-lot.result.now c.touches-touch-items.result.now c.args.place (length c.requires.0.blocks) Turn c.args.accept c.requires.1 c.requires.2
+    c.index-lot.result.now c.touches-touch-items.result.now c.args.place (length c.requires.0.blocks)
+    Turn c.args.accept c.requires.1 c.requires.2
     block.0
     c.args.day.now c.loop-touch.day.periods c.loop-touch.touch-index c.requires.3 block.1 c.index-lot.ensures c.touches-touch-items.ensures
     c.loop-touch-test.true c.requires.5 c.requires.6 so_far.0 in
@@ -131,7 +143,8 @@ overflow_add-day g c =
     c.args.accept c.requires.1 c.requires.2 block.0 c.loop-touch.day.periods c.loop-touch.touch-index pairs touch
     c.index.result.now t c.index.ensures in
     let served = serves c.requires.0 c.args.tables.now.stacks c.args.tables.now.ends.items c.args.tables.now.lots.items
-    c.index-lot.result.now c.args.place (length c.requires.0.blocks) Turn c.args.accept c.requires.1 c.requires.2 block.0 c.loop-touch.day.periods
+    c.index-lot.result.now c.args.place (length c.requires.0.blocks)
+    Turn c.args.accept c.requires.1 c.requires.2 block.0 c.loop-touch.day.periods
     c.loop-touch.touch-index pairs touch
     c.side.result c.is_served-is_served.result c.requires.3 block.1 c.index-lot.ensures c.is_served-is_served.ensures c.side.ensures t in
     let m = c.in-Some.ensures t.move move served in
@@ -154,7 +167,8 @@ loop-touch-preserved g c = record {
       c.index-lot.result.now c.touches-touch-items.result.now c.args.place (length problem.blocks) Turn c.args.accept before after b
       c.args.day.now c.loop-touch.day.periods c.loop-touch.touch-index are at c.index-lot.ensures c.touches-touch-items.ensures
       c.loop-touch-test.true is of so_far.0 in
-      let move = is_move_at problem c.args.tables.now.stacks c.args.tables.now.ends.items c.args.place (length problem.blocks) Turn c.args.accept
+      let move = is_move_at problem c.args.tables.now.stacks c.args.tables.now.ends.items c.args.place (length problem.blocks)
+      Turn c.args.accept
       before after b c.loop-touch.day.periods c.loop-touch.touch-index pairs touch
       c.index.result.now t c.index.ensures in
       let served = serves problem c.args.tables.now.stacks c.args.tables.now.ends.items c.args.tables.now.lots.items

@@ -15,10 +15,14 @@ returns-in-Some g c prefix prices long day are =
     let place = c.requires.place in let many = c.requires.families.as_many in
     let least = c.surplus_of-own.ensures.size.at_least in let most = c.surplus_of-own.ensures.size.at_most in
     let own = c.surplus_of-own.ensures.value prefix prices long day are in
-    let kept = slice_get_read c.args.families.now (length c.args.families.now) c.args.place c.index-families-place.result refl (omega (arith, place, many)) c.index-families-place.is in
-    let family = subst (IsFamily c.args.blocks.now c.args.place) c.in-Some.is (c.requires.families.each c.args.place c.index-families-place.result kept) in
-    let others = c.surplus_of_family.ensures.value prefix (accepted_descendants c.args.blocks.now c.args.selection c.args.place) prices long day are
-    (λ i l. c.descendants.ensures c.args.blocks.now c.args.selection c.args.place i ∙ ap (λ (b : Bool). accepts c.args.selection i && b) (sym (family i l))) in
+    let kept = slice_get_read c.args.families.now (length c.args.families.now) c.args.place c.index-families-place.result refl
+    (omega (arith, place, many)) c.index-families-place.is in
+    let family = subst (IsFamily c.args.blocks.now c.args.place) c.in-Some.is
+    (c.requires.families.each c.args.place c.index-families-place.result kept) in
+    let others = c.surplus_of_family.ensures.value prefix (accepted_descendants c.args.blocks.now c.args.selection c.args.place)
+    prices long day are
+    (λ i l. c.descendants.ensures c.args.blocks.now c.args.selection c.args.place i
+    ∙ ap (λ (b : Bool). accepts c.args.selection i && b) (sym (family i l))) in
     let low = c.surplus_of_family.ensures.size.at_least in let high = c.surplus_of_family.ensures.size.at_most in
     omega (arith, ints, own, others, least, most, low, high)
 
@@ -27,8 +31,10 @@ returns-in-None g c prefix prices long day are =
     let place = c.requires.place in let many = c.requires.families.as_many in
     let least = c.surplus_of-own.ensures.size.at_least in let most = c.surplus_of-own.ensures.size.at_most in
     let own = c.surplus_of-own.ensures.value prefix prices long day are in
-    let kept = slice_get_read c.args.families.now (length c.args.families.now) c.args.place c.index-families-place.result refl (omega (arith, place, many)) c.index-families-place.is in
-    let family = subst (IsFamily c.args.blocks.now c.args.place) c.in-None.is (c.requires.families.each c.args.place c.index-families-place.result kept) in
+    let kept = slice_get_read c.args.families.now (length c.args.families.now) c.args.place c.index-families-place.result refl
+    (omega (arith, place, many)) c.index-families-place.is in
+    let family = subst (IsFamily c.args.blocks.now c.args.place) c.in-None.is
+    (c.requires.families.each c.args.place c.index-families-place.result kept) in
     let others = no_members (surplus_of prices) c.args.blocks.now (accepted_descendants c.args.blocks.now c.args.selection c.args.place)
     (λ i l. c.descendants.ensures c.args.blocks.now c.args.selection c.args.place i ∙ and_right _ _ (family i l)) in
     omega (arith, ints, own, others, least, most)

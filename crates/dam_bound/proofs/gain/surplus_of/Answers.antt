@@ -15,7 +15,8 @@ use Rattle.dam_bound.proofs.Tabling.{end_of}
 use Rattle.dam_bound.proofs.Touching.{nothing_taken}
 use Rattle.dam_stack.specs.declared.stacks.Span.{Span}
 use Rattle.dam_stack.specs.Rows.{IsStackAt}
-use Rattle.dam_bound.proofs.Gains.{with_pairs, price_at, as_many_prices, without_pairs, surplus_at_place, surplus_past, gain_more, gain_whole}
+use Rattle.dam_bound.proofs.Gains.{with_pairs, price_at, as_many_prices, without_pairs, surplus_at_place, surplus_past, gain_more}
+use Rattle.dam_bound.proofs.Gains.{gain_whole}
 use Rattle.dam_bound.proofs.gain.surplus_of.Goals as goal
 
 pub loop-period-preserved-then-at-periods : goal.loop-period-preserved-then-at-periods

@@ -11,8 +11,10 @@ abbrev pub invariant-loop-place : goal.invariant-loop-place
 invariant-loop-place g l = record {
   low : neg_ℤ (pos (l.place * greatest_surplus)) ≤ℤ l.total;
   high : l.total ≤ℤ pos (l.place * greatest_surplus);
-  so_far : (prefix members : List Bool) (prices : List ℤ) → length prefix ≡ length l.blocks → IsDay (problem_kept l.periods l.blocks) prefix l.day
+  so_far : (prefix members : List Bool) (prices : List ℤ) → length prefix ≡ length l.blocks
+      → IsDay (problem_kept l.periods l.blocks) prefix l.day
       → ArePrices l.blocks (padded prefix) 1 (map last_steps l.periods) prices
       → ((i : ℕ) → i < length l.blocks → accepts members i ≡ (accepts l.selection i && accepts l.family i))
-      → l.total +ℤ over_accepted (surplus_of prices) (drop l.place l.blocks) (drop l.place members) ≡ over_accepted (surplus_of prices) l.blocks members;
+      → l.total +ℤ over_accepted (surplus_of prices) (drop l.place l.blocks) (drop l.place members) ≡ over_accepted (surplus_of prices)
+      l.blocks members;
 }

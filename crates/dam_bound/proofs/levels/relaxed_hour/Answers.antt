@@ -8,4 +8,11 @@ pub build-requires : goal.build-requires
 build-requires g c =
     let steps = c.requires.steps in let blocks = c.requires.blocks in
     let is = ap length (c.deref.ensures.value ∙ c.in_ok-relaxed.ensures) in
-    omega (arith, steps, blocks, is, length-append c.args.steps.now (as_steps c.args.period c.args.blocks.now), few_steps c.args.period c.args.blocks.now)
+    omega (
+      arith,
+      steps,
+      blocks,
+      is,
+      length-append c.args.steps.now (as_steps c.args.period c.args.blocks.now),
+      few_steps c.args.period c.args.blocks.now,
+    )

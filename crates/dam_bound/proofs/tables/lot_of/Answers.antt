@@ -4,7 +4,8 @@ use Rattle.std.specs.List.{slice_get}
 use Rattle.std.proofs.lemmas.Option.{slice_get_read}
 use Rattle.dam_book.specs.Volumes.{Pair}
 use Rattle.dam_bound.specs.Relaxed.{as_steps}
-use Rattle.dam_bound.proofs.Tabling.{no_span, AreTouchesSoFar, keeps_none, keeps_on, spans_begun, spans_more, spans_ended, no_touch, touch_more, whole_lot, next_touch, is_touch, next_span}
+use Rattle.dam_bound.proofs.Tabling.{no_span, AreTouchesSoFar, keeps_none, keeps_on, spans_begun, spans_more, spans_ended, no_touch}
+use Rattle.dam_bound.proofs.Tabling.{touch_more, whole_lot, next_touch, is_touch, next_span}
 use Rattle.dam_bound.proofs.tables.lot_of.Goals as goal
 
 pub loop-period-init : goal.loop-period-init
@@ -22,7 +23,8 @@ touch_of-requires-clause-inside g c =
     let pairs = c.pairs-pairs.ensures.value ∙ c.volumes.ensures in
     let read = slice_get_read _ _ c.loop-period.period-index _ (search rules) c.loop-period-test.true c.loop-period-item.is in
     let pair = ap (λ (ps : List Pair). slice_get ps c.loop-period.period-index) (sym pairs) ∙ read in
-    let so_far = c.loop-period.invariant.so_far c.requires.day.0 c.requires.day.1 c.requires.day.2 c.requires.day.3 c.requires.day.4 c.requires.day.5 in
+    let so_far = c.loop-period.invariant.so_far c.requires.day.0 c.requires.day.1 c.requires.day.2 c.requires.day.3 c.requires.day.4
+    c.requires.day.5 in
     (next_touch c.requires.day.0 c.requires.day.1 c.loop-period.stacks c.requires.day.2 c.loop-period.period-index c.args.block.now
     c.loop-period-item.result c.loop-period.spans.items
     c.requires.day.3 c.requires.day.4 pair so_far.0).inside
@@ -32,8 +34,10 @@ touch_of-requires-clause-stack g c =
     let pairs = c.pairs-pairs.ensures.value ∙ c.volumes.ensures in
     let read = slice_get_read _ _ c.loop-period.period-index _ (search rules) c.loop-period-test.true c.loop-period-item.is in
     let pair = ap (λ (ps : List Pair). slice_get ps c.loop-period.period-index) (sym pairs) ∙ read in
-    let so_far = c.loop-period.invariant.so_far c.requires.day.0 c.requires.day.1 c.requires.day.2 c.requires.day.3 c.requires.day.4 c.requires.day.5 in
-    let next = next_touch c.requires.day.0 c.requires.day.1 c.loop-period.stacks c.requires.day.2 c.loop-period.period-index c.args.block.now
+    let so_far = c.loop-period.invariant.so_far c.requires.day.0 c.requires.day.1 c.requires.day.2 c.requires.day.3 c.requires.day.4
+    c.requires.day.5 in
+    let next = next_touch c.requires.day.0 c.requires.day.1 c.loop-period.stacks c.requires.day.2 c.loop-period.period-index
+    c.args.block.now
     c.loop-period-item.result
     c.loop-period.spans.items c.requires.day.3 c.requires.day.4 pair so_far.0 in
     (next.steps, as_steps c.loop-period-item.result.0 (drop (c.requires.day.2 + 1) c.requires.day.1), no_span, next.stack no_span)
@@ -85,7 +89,8 @@ returns-clause-lot g c hours blocks k at are spans places own =
     let past = c.loop-period-test.false in let most = c.loop-period.auto.period-index-end in
     whole_lot hours blocks c.loop-period.stacks k c.args.block.now
     c.loop-period.period-index c.loop-period.touches.items (record { side = c.side.result; touches = c.by_stake.result.items })
-    c.side.ensures c.by_stake.ensures (omega (arith, long, past)) ((c.loop-period.invariant.so_far hours blocks k at are spans).1 places own)
+    c.side.ensures c.by_stake.ensures (omega (arith, long, past))
+    ((c.loop-period.invariant.so_far hours blocks k at are spans).1 places own)
 
 pub returns-clause-spans : goal.returns-clause-spans
 returns-clause-spans g c hours blocks k at are spans =

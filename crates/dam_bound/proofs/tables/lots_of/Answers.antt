@@ -9,14 +9,16 @@ pub loop-block-preserved : goal.loop-block-preserved
 loop-block-preserved g c =
     let at = slice_get_read _ _ c.loop-block.block-index _ (search rules) c.loop-block-test.true c.block-item.is in
     record {
-      places = c.write_places.ensures c.args.blocks.now c.loop-block.block-index at c.loop-block.invariant.row c.loop-block.invariant.places;
+      places = c.write_places.ensures c.args.blocks.now c.loop-block.block-index at c.loop-block.invariant.row
+          c.loop-block.invariant.places;
       row = let row = c.loop-block.invariant.row in omega (arith, row);
       so_far = λ hours are spans.
           (let so_far = c.loop-block.invariant.so_far hours are spans in (
             c.in_ok-lot.ensures.spans hours c.args.blocks.now c.loop-block.block-index at are so_far.0,
             lot_more hours c.args.blocks.now c.loop-block.stacks c.lot_of.new.stacks c.loop-block.block-index c.block-item.result
                 c.loop-block.lots.items c.push.new.self.items _
-                c.lot_of.ensures.kept at (c.in_ok-lot.ensures.lot hours c.args.blocks.now c.loop-block.block-index at are so_far.0 c.loop-block.invariant.places c.loop-block.invariant.row)
+                c.lot_of.ensures.kept at (c.in_ok-lot.ensures.lot hours c.args.blocks.now c.loop-block.block-index at are so_far.0
+                c.loop-block.invariant.places c.loop-block.invariant.row)
                 c.in_ok-push.ensures.items so_far.1,
           ));
     }

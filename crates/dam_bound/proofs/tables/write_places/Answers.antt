@@ -13,7 +13,8 @@ loop-period-preserved c =
     let pair = ap (λ (ps : List Pair). slice_get ps c.loop-period.period-index) (sym pairs) ∙ read in
     let number = c.get.ensures.value in let range = c.get.ensures.range in let first = range.at_least in let last = range.at_most in
     let from = c.from-at.ensures in
-    written_more c.args.row c.loop-period.period-index _ _ c.args.block.now.order.volumes c.loop-period-item.result c.args.places.now c.loop-period.places
+    written_more c.args.row c.loop-period.period-index _ _ c.args.block.now.order.volumes c.loop-period-item.result c.args.places.now
+    c.loop-period.places
     (subst IsVolumes c.volumes.ensures c.pairs-period-items.ensures.valid) pair
     (omega (arith, number, first, from)) (omega (arith, number, first, last, from)) (omega arith) c.loop-period.invariant
 

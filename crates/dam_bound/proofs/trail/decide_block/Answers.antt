@@ -1,5 +1,6 @@
 -- A touch more, and all of them.
-use Rattle.std.proofs.Common.{inl, ◌≡◌, ℕ, ◌+◌, ◌*◌, ◌<◌, ◌≤◌, ℤ, ◌+ℤ◌, List, length, drop, get_or, slice_set, ap, ◌∙◌, sym, subst, refl, rules, arith}
+use Rattle.std.proofs.Common.{inl, ◌≡◌, ℕ, ◌+◌, ◌*◌, ◌<◌, ◌≤◌, ℤ, ◌+ℤ◌, List, length, drop, get_or, slice_set, ap, ◌∙◌, sym, subst, refl}
+use Rattle.std.proofs.Common.{rules, arith}
 use Rattle.std.proofs.lemmas.Int.{ints, to_z-of_z}
 use Rattle.std.proofs.lemmas.List.{length-set, length-map, drop_all}
 use mir.Syntax.{w64}
@@ -38,8 +39,10 @@ loop-touch-init g c = record {
       let volumes = λ (t : ℕ). ap (λ (ts : List Touch). volume_in (pairs_of ts) t) c.touches-touch-items.ensures
       ∙ volume_ordered t b.order.volumes (pairs_of c.index-lot.result.now.touches)
       (block_at (length problem.hours) problem.blocks c.args.place b are.blocks_are at).order.volumes.increasing lot.1.pairs_are in
-      subst (IsDecidedSoFar problem.blocks problem.hours c.args.place (drop 0 (pairs_of c.touches-touch-items.result.now)) before after of.day.periods c.args.trail.now.slots) e
-      (undecided problem c.args.place before after b (pairs_of c.touches-touch-items.result.now) c.args.trail.now total at is.kind.0 volumes of
+      subst (IsDecidedSoFar problem.blocks problem.hours c.args.place (drop 0 (pairs_of c.touches-touch-items.result.now))
+      before after of.day.periods c.args.trail.now.slots) e
+      (undecided problem c.args.place before after b (pairs_of c.touches-touch-items.result.now)
+      c.args.trail.now total at is.kind.0 volumes of
       (nothing_changed problem c.args.place (c.args.place + 1) Decide c.args.accept before after b of.day
       (pairs_of c.touches-touch-items.result.now) at volumes is of.day_is)));
 }
@@ -50,7 +53,8 @@ offset_bounds-trail-touch g c =
     let block = one_at r.0.blocks c.args.place r.4 in
     let so_far = c.loop-touch.invariant.so_far r.0 r.1 r.2 block.0 r.3 block.1 r.5 c.args.total (same c.args.total (search rules)) r.6 in
     let touches = c.touches-touch-items.result.now in let touch = get_or touches at no_touch_there in
-    let t = touched_now r.0 c.args.tables.now.stacks c.args.tables.now.ends.items c.args.tables.now.lots.items c.index-lot.result.now touches
+    let t = touched_now r.0 c.args.tables.now.stacks c.args.tables.now.ends.items c.args.tables.now.lots.items c.index-lot.result.now
+    touches
     c.args.place (c.args.place + 1) Decide c.args.accept r.1 r.2 block.0 r.6.day so_far.periods at r.3 block.1 c.index-lot.ensures
     c.touches-touch-items.ensures c.loop-touch-test.true r.5 r.6.day_is so_far.still in
     let few = r.3.few_periods in
@@ -66,7 +70,8 @@ bounds-trail-touch g c =
     let block = one_at r.0.blocks c.args.place r.4 in
     let so_far = c.loop-touch.invariant.so_far r.0 r.1 r.2 block.0 r.3 block.1 r.5 c.args.total (same c.args.total (search rules)) r.6 in
     let touches = c.touches-touch-items.result.now in let touch = get_or touches at no_touch_there in
-    let t = touched_now r.0 c.args.tables.now.stacks c.args.tables.now.ends.items c.args.tables.now.lots.items c.index-lot.result.now touches
+    let t = touched_now r.0 c.args.tables.now.stacks c.args.tables.now.ends.items c.args.tables.now.lots.items c.index-lot.result.now
+    touches
     c.args.place (c.args.place + 1) Decide c.args.accept r.1 r.2 block.0 r.6.day so_far.periods at r.3 block.1 c.index-lot.ensures
     c.touches-touch-items.ensures c.loop-touch-test.true r.5 r.6.day_is so_far.still in
     let few = r.3.few_periods in
@@ -80,7 +85,8 @@ offset_bounds-trail-touch-in-loop-touch g c =
     let block = one_at r.0.blocks c.args.place r.4 in
     let so_far = c.loop-touch.invariant.so_far r.0 r.1 r.2 block.0 r.3 block.1 r.5 c.args.total (same c.args.total (search rules)) r.6 in
     let touches = c.touches-touch-items.result.now in let touch = get_or touches at no_touch_there in
-    let t = touched_now r.0 c.args.tables.now.stacks c.args.tables.now.ends.items c.args.tables.now.lots.items c.index-lot.result.now touches
+    let t = touched_now r.0 c.args.tables.now.stacks c.args.tables.now.ends.items c.args.tables.now.lots.items c.index-lot.result.now
+    touches
     c.args.place (c.args.place + 1) Decide c.args.accept r.1 r.2 block.0 r.6.day so_far.periods at r.3 block.1 c.index-lot.ensures
     c.touches-touch-items.ensures c.loop-touch-test.true r.5 r.6.day_is so_far.still in
     let few = r.3.few_periods in
@@ -96,7 +102,8 @@ bounds-trail-touch-in-loop-touch g c =
     let block = one_at r.0.blocks c.args.place r.4 in
     let so_far = c.loop-touch.invariant.so_far r.0 r.1 r.2 block.0 r.3 block.1 r.5 c.args.total (same c.args.total (search rules)) r.6 in
     let touches = c.touches-touch-items.result.now in let touch = get_or touches at no_touch_there in
-    let t = touched_now r.0 c.args.tables.now.stacks c.args.tables.now.ends.items c.args.tables.now.lots.items c.index-lot.result.now touches
+    let t = touched_now r.0 c.args.tables.now.stacks c.args.tables.now.ends.items c.args.tables.now.lots.items c.index-lot.result.now
+    touches
     c.args.place (c.args.place + 1) Decide c.args.accept r.1 r.2 block.0 r.6.day so_far.periods at r.3 block.1 c.index-lot.ensures
     c.touches-touch-items.ensures c.loop-touch-test.true r.5 r.6.day_is so_far.still in
     let few = r.3.few_periods in
@@ -110,7 +117,8 @@ index-requires g c =
     let block = one_at r.0.blocks c.args.place r.4 in
     let so_far = c.loop-touch.invariant.so_far r.0 r.1 r.2 block.0 r.3 block.1 r.5 c.args.total (same c.args.total (search rules)) r.6 in
     let touches = c.touches-touch-items.result.now in let touch = get_or touches at no_touch_there in
-    let t = touched_now r.0 c.args.tables.now.stacks c.args.tables.now.ends.items c.args.tables.now.lots.items c.index-lot.result.now touches
+    let t = touched_now r.0 c.args.tables.now.stacks c.args.tables.now.ends.items c.args.tables.now.lots.items c.index-lot.result.now
+    touches
     c.args.place (c.args.place + 1) Decide c.args.accept r.1 r.2 block.0 r.6.day so_far.periods at r.3 block.1 c.index-lot.ensures
     c.touches-touch-items.ensures c.loop-touch-test.true r.5 r.6.day_is so_far.still in
     let few = r.3.few_periods in
@@ -124,14 +132,16 @@ moved-next-requires g c =
     let block = one_at r.0.blocks c.args.place r.4 in
     let so_far = c.loop-touch.invariant.so_far r.0 r.1 r.2 block.0 r.3 block.1 r.5 c.args.total (same c.args.total (search rules)) r.6 in
     let touches = c.touches-touch-items.result.now in let touch = get_or touches at no_touch_there in
-    let t = touched_now r.0 c.args.tables.now.stacks c.args.tables.now.ends.items c.args.tables.now.lots.items c.index-lot.result.now touches
+    let t = touched_now r.0 c.args.tables.now.stacks c.args.tables.now.ends.items c.args.tables.now.lots.items c.index-lot.result.now
+    touches
     c.args.place (c.args.place + 1) Decide c.args.accept r.1 r.2 block.0 r.6.day so_far.periods at r.3 block.1 c.index-lot.ensures
     c.touches-touch-items.ensures c.loop-touch-test.true r.5 r.6.day_is so_far.still in
     let few = r.3.few_periods in
     let many : c.args.place < most_blocks = (let blocks = r.3.few_blocks in let inside = r.4 in omega (arith, blocks, inside)) in (
       t.move,
       is_move_read r.0 c.args.tables.now.stacks c.args.tables.now.ends.items c.args.place at c.args.accept r.1 r.2 block.0
-          (pairs_of touches) touch c.args.trail.now c.loop-touch.trail.slots so_far.periods c.args.total c.index.result.now few r.5.kind.0 r.6
+          (pairs_of touches) touch c.args.trail.now c.loop-touch.trail.slots so_far.periods c.args.total c.index.result.now few r.5.kind.0
+          r.6
           c.loop-touch.invariant.below so_far.still t c.index.ensures,
     )
 
@@ -139,9 +149,11 @@ pub returns-in_default-clause-day : goal.returns-in_default-clause-day
 returns-in_default-clause-day g c problem before after are inside is of =
     let block = one_at problem.blocks c.args.place inside in
     let at = c.loop-touch.touch-index in
-    let so_far = c.loop-touch.invariant.so_far problem before after block.0 are block.1 is c.args.total (same c.args.total (search rules)) of in
+    let so_far = c.loop-touch.invariant.so_far problem before after block.0 are block.1 is c.args.total (same c.args.total (search rules))
+    of in
     let touches = c.touches-touch-items.result.now in let pairs = pairs_of touches in let touch = get_or touches at no_touch_there in
-    let t = touched_now problem c.args.tables.now.stacks c.args.tables.now.ends.items c.args.tables.now.lots.items c.index-lot.result.now touches
+    let t = touched_now problem c.args.tables.now.stacks c.args.tables.now.ends.items c.args.tables.now.lots.items c.index-lot.result.now
+    touches
     c.args.place (c.args.place + 1) Decide c.args.accept before after block.0 of.day so_far.periods at are block.1 c.index-lot.ensures
     c.touches-touch-items.ensures c.loop-touch-test.true is of.day_is so_far.still in
     let move = is_move_read problem c.args.tables.now.stacks c.args.tables.now.ends.items c.args.place at c.args.accept before after block.0
@@ -156,13 +168,16 @@ returns-in_default-clause-day g c problem before after are inside is of =
 
 pub overflow_add-left : goal.overflow_add-left
 overflow_add-left g c =
-    let problem = c.requires.0 in let before = c.requires.1 in let after = c.requires.2 in let are = c.requires.3 in let inside = c.requires.4 in
+    let problem = c.requires.0 in let before = c.requires.1 in let after = c.requires.2 in let are = c.requires.3 in let inside =
+    c.requires.4 in
     let is = c.requires.5 in let of = c.requires.6 in
     let block = one_at problem.blocks c.args.place inside in
     let at = c.loop-touch.touch-index in
-    let so_far = c.loop-touch.invariant.so_far problem before after block.0 are block.1 is c.args.total (same c.args.total (search rules)) of in
+    let so_far = c.loop-touch.invariant.so_far problem before after block.0 are block.1 is c.args.total (same c.args.total (search rules))
+    of in
     let touches = c.touches-touch-items.result.now in let pairs = pairs_of touches in let touch = get_or touches at no_touch_there in
-    let t = touched_now problem c.args.tables.now.stacks c.args.tables.now.ends.items c.args.tables.now.lots.items c.index-lot.result.now touches
+    let t = touched_now problem c.args.tables.now.stacks c.args.tables.now.ends.items c.args.tables.now.lots.items c.index-lot.result.now
+    touches
     c.args.place (c.args.place + 1) Decide c.args.accept before after block.0 of.day so_far.periods at are block.1 c.index-lot.ensures
     c.touches-touch-items.ensures c.loop-touch-test.true is of.day_is so_far.still in
     let move = is_move_read problem c.args.tables.now.stacks c.args.tables.now.ends.items c.args.place at c.args.accept before after block.0
@@ -179,7 +194,8 @@ overflow_add-left g c =
     (omega (arith, ints, low, high, least, most)) in
     let in_day = t.inside in let few = are.few_periods in let long = so_far.long in
     let changed = touch_changed problem c.args.tables.now.stacks c.args.tables.now.ends.items c.args.place (c.args.place + 1) Decide
-    c.args.accept before after block.0 so_far.periods at pairs touch nothing_taken c.in-Some.next (to_z w64 c.loop-touch.left-bits) c.in-Some.gained
+    c.args.accept before after block.0 so_far.periods at pairs touch nothing_taken c.in-Some.next (to_z w64 c.loop-touch.left-bits)
+    c.in-Some.gained
     c.index.result.now t (omega (arith, in_day, few, long)) m so_far.so_far in
     sum.0
 
@@ -189,7 +205,8 @@ loop-touch-preserved g c =
     let block = one_at r.0.blocks c.args.place r.4 in
     let so_far = c.loop-touch.invariant.so_far r.0 r.1 r.2 block.0 r.3 block.1 r.5 c.args.total (same c.args.total (search rules)) r.6 in
     let touches = c.touches-touch-items.result.now in let touch = get_or touches at no_touch_there in
-    let t = touched_now r.0 c.args.tables.now.stacks c.args.tables.now.ends.items c.args.tables.now.lots.items c.index-lot.result.now touches
+    let t = touched_now r.0 c.args.tables.now.stacks c.args.tables.now.ends.items c.args.tables.now.lots.items c.index-lot.result.now
+    touches
     c.args.place (c.args.place + 1) Decide c.args.accept r.1 r.2 block.0 r.6.day so_far.periods at r.3 block.1 c.index-lot.ensures
     c.touches-touch-items.ensures c.loop-touch-test.true r.5 r.6.day_is so_far.still in
     let few = r.3.few_periods in
@@ -197,18 +214,21 @@ loop-touch-preserved g c =
     let high : (c.args.place + 1) * last_period ≤ touch.to = (let to = t.to_is in omega (arith, to)) in
     record {
       room = length-set c.loop-touch.trail.slots touch.to c.in-Some.next ∙ c.loop-touch.invariant.room;
-      below = λ i d l. below_more c.args.place touch.to i c.loop-touch.trail.slots c.in-Some.next d high l ∙ c.loop-touch.invariant.below i d l;
+      below = λ i d l. below_more c.args.place touch.to i c.loop-touch.trail.slots c.in-Some.next d high l
+          ∙ c.loop-touch.invariant.below i d l;
       so_far = λ problem before after b are here is total e of.
           (let at = c.loop-touch.touch-index in
           let so_far = c.loop-touch.invariant.so_far problem before after b are here is total e of in
           let touches = c.touches-touch-items.result.now in let pairs = pairs_of touches in let touch = get_or touches at no_touch_there in
-          let t = touched_now problem c.args.tables.now.stacks c.args.tables.now.ends.items c.args.tables.now.lots.items c.index-lot.result.now touches
+          let t = touched_now problem c.args.tables.now.stacks c.args.tables.now.ends.items c.args.tables.now.lots.items
+          c.index-lot.result.now touches
           c.args.place (c.args.place + 1) Decide c.args.accept before after b of.day so_far.periods at are here c.index-lot.ensures
           c.touches-touch-items.ensures c.loop-touch-test.true is of.day_is so_far.still in
           let move = is_move_read problem c.args.tables.now.stacks c.args.tables.now.ends.items c.args.place at c.args.accept before after b
           pairs touch c.args.trail.now c.loop-touch.trail.slots so_far.periods total c.index.result.now are.few_periods is.kind.0 of
           c.loop-touch.invariant.below so_far.still t c.index.ensures in
-          let served = serves problem c.args.tables.now.stacks c.args.tables.now.ends.items c.args.tables.now.lots.items c.index-lot.result.now
+          let served = serves problem c.args.tables.now.stacks c.args.tables.now.ends.items c.args.tables.now.lots.items
+          c.index-lot.result.now
           c.args.place (c.args.place + 1) Decide c.args.accept before after b so_far.periods at pairs touch
           c.side.result c.is_served-is_served.result are here c.index-lot.ensures c.is_served-is_served.ensures c.side.ensures t in
           let m = c.in-Some.ensures t.move move served in
@@ -219,14 +239,17 @@ loop-touch-preserved g c =
           (omega (arith, ints, low, high, least, most)) in
           let in_day = t.inside in let few = are.few_periods in let long = so_far.long in
           let changed = touch_changed problem c.args.tables.now.stacks c.args.tables.now.ends.items c.args.place (c.args.place + 1) Decide
-          c.args.accept before after b so_far.periods at pairs touch nothing_taken c.in-Some.next (to_z w64 c.loop-touch.left-bits) c.in-Some.gained
+          c.args.accept before after b so_far.periods at pairs touch nothing_taken c.in-Some.next (to_z w64 c.loop-touch.left-bits)
+          c.in-Some.gained
           c.index.result.now t (omega (arith, in_day, few, long)) m so_far.so_far in
           let blocks = are.few_blocks in let place = slice_get_within problem.blocks c.args.place b here in
-          decided_more problem c.args.tables.now.stacks c.args.tables.now.ends.items c.args.place at c.args.accept before after b pairs touch
+          decided_more problem c.args.tables.now.stacks c.args.tables.now.ends.items c.args.place at c.args.accept before after b pairs
+          touch
           of.day.periods c.loop-touch.trail.slots (to_z w64 c.loop-touch.left-bits) _ c.in-Some.next few c.loop-touch.invariant.room
           (omega (arith, blocks, place)) here so_far t
           (still_own pairs at touch.at t.pair of.day.periods so_far.periods c.in-Some.next t.past t.pair_is t.some t.number so_far.still)
-          (subst (IsChangedSoFar problem.blocks problem.hours (drop (at + 1) pairs) before after (slice_set so_far.periods touch.at c.in-Some.next))
+          (subst (IsChangedSoFar problem.blocks problem.hours (drop (at + 1) pairs) before after
+          (slice_set so_far.periods touch.at c.in-Some.next))
           (sym sum.1) changed));
     }
 
@@ -234,9 +257,11 @@ pub returns-then-is_under-clause-day : goal.returns-then-is_under-clause-day
 returns-then-is_under-clause-day g c problem before after are inside is of =
     let block = one_at problem.blocks c.args.place inside in
     let at = c.loop-touch.touch-index in
-    let so_far = c.loop-touch.invariant.so_far problem before after block.0 are block.1 is c.args.total (same c.args.total (search rules)) of in
+    let so_far = c.loop-touch.invariant.so_far problem before after block.0 are block.1 is c.args.total (same c.args.total (search rules))
+    of in
     let touches = c.touches-touch-items.result.now in let pairs = pairs_of touches in let touch = get_or touches at no_touch_there in
-    let t = touched_now problem c.args.tables.now.stacks c.args.tables.now.ends.items c.args.tables.now.lots.items c.index-lot.result.now touches
+    let t = touched_now problem c.args.tables.now.stacks c.args.tables.now.ends.items c.args.tables.now.lots.items c.index-lot.result.now
+    touches
     c.args.place (c.args.place + 1) Decide c.args.accept before after block.0 of.day so_far.periods at are block.1 c.index-lot.ensures
     c.touches-touch-items.ensures c.loop-touch-test.true is of.day_is so_far.still in
     let move = is_move_read problem c.args.tables.now.stacks c.args.tables.now.ends.items c.args.place at c.args.accept before after block.0
@@ -253,9 +278,11 @@ returns-then-is_under-clause-day g c problem before after are inside is of =
     (omega (arith, ints, low, high, least, most)) in
     let in_day = t.inside in let few = are.few_periods in let long = so_far.long in
     let changed = touch_changed problem c.args.tables.now.stacks c.args.tables.now.ends.items c.args.place (c.args.place + 1) Decide
-    c.args.accept before after block.0 so_far.periods at pairs touch nothing_taken c.in-Some.next (to_z w64 c.loop-touch.left-bits) c.in-Some.gained
+    c.args.accept before after block.0 so_far.periods at pairs touch nothing_taken c.in-Some.next (to_z w64 c.loop-touch.left-bits)
+    c.in-Some.gained
     c.index.result.now t (omega (arith, in_day, few, long)) m so_far.so_far in
-    under problem c.args.least before after ((to_z w64 c.loop-touch.left-bits) +ℤ c.in-Some.gained) _ c.floor_of-floor.result _ c.is_under.result
+    under problem c.args.least before after ((to_z w64 c.loop-touch.left-bits) +ℤ c.in-Some.gained)
+    _ c.floor_of-floor.result _ c.is_under.result
     sum.1
     (let from = c.floor_of-floor.ensures.at_least in let to = c.floor_of-floor.ensures.at_most in
     to_z-of_z w64 c.floor_of-floor.result (omega (arith, ints, from, to)))
@@ -274,7 +301,8 @@ returns-then-is_under-clause-below g c i d l =
     let block = one_at r.0.blocks c.args.place r.4 in
     let so_far = c.loop-touch.invariant.so_far r.0 r.1 r.2 block.0 r.3 block.1 r.5 c.args.total (same c.args.total (search rules)) r.6 in
     let touches = c.touches-touch-items.result.now in let touch = get_or touches at no_touch_there in
-    let t = touched_now r.0 c.args.tables.now.stacks c.args.tables.now.ends.items c.args.tables.now.lots.items c.index-lot.result.now touches
+    let t = touched_now r.0 c.args.tables.now.stacks c.args.tables.now.ends.items c.args.tables.now.lots.items c.index-lot.result.now
+    touches
     c.args.place (c.args.place + 1) Decide c.args.accept r.1 r.2 block.0 r.6.day so_far.periods at r.3 block.1 c.index-lot.ensures
     c.touches-touch-items.ensures c.loop-touch-test.true r.5 r.6.day_is so_far.still in
     let few = r.3.few_periods in
@@ -285,7 +313,8 @@ returns-then-is_under-clause-below g c i d l =
 pub returns-clause-day : goal.returns-clause-day
 returns-clause-day g c problem before after are inside is of =
     let block = one_at problem.blocks c.args.place inside in let at = c.loop-touch.touch-index in
-    let so_far = c.loop-touch.invariant.so_far problem before after block.0 are block.1 is c.args.total (same c.args.total (search rules)) of in
+    let so_far = c.loop-touch.invariant.so_far problem before after block.0 are block.1 is c.args.total (same c.args.total (search rules))
+    of in
     let pairs = pairs_of c.touches-touch-items.result.now in
     let many = length-map c.touches-touch-items.result.now pair_of in let past = c.loop-touch-test.false in
     all_decided problem c.args.place before after (drop at pairs) of.day.periods c.loop-touch.trail (to_z w64 c.loop-touch.left-bits)

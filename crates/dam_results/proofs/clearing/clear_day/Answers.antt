@@ -7,7 +7,8 @@ use Rattle.dam_results.proofs.clearing.clear_day.Goals as goal
 pub clear_period-requires : goal.clear_period-requires
 clear_period-requires g c =
     balanced_in c.args.problem.now c.args.best.selection _ c.loop-place.place _ c.requires
-    (let count = c.periods.ensures.value in let got = c.get.ensures.value in let word = c.from-count.ensures in let less = c.loop-place-test.true in omega (arith, count, got, word, less)) c.at-period.ensures
+    (let count = c.periods.ensures.value in let got = c.get.ensures.value in let word = c.from-count.ensures in let less =
+    c.loop-place-test.true in omega (arith, count, got, word, less)) c.at-period.ensures
 
 pub loop-place-preserved : goal.loop-place-preserved
 loop-place-preserved g c =

@@ -1,5 +1,6 @@
 -- Texts of different numbers differ, and a day's number of periods is small.
-use Rattle.std.proofs.Common.{◌≡◌, ◌≤◌, ◌<◌, ◌^◌, ¬, ℕ, List, Option, None, Some, MatchOption, SomeIff, true, decimal, arith, sym, subst, ◌∙◌}
+use Rattle.std.proofs.Common.{◌≡◌, ◌≤◌, ◌<◌, ◌^◌, ¬, ℕ, List, Option, None, Some, MatchOption, SomeIff, true, decimal, arith, sym, subst}
+use Rattle.std.proofs.Common.{◌∙◌}
 use Rattle.std.proofs.lemmas.Fmt.{decimal_injective}
 use Rattle.dam_book.specs.Book.{is_day}
 use Rattle.dam_book.specs.Limits.{last_period}

@@ -9,4 +9,5 @@ use Rattle.dam_results.proofs.writer.put_day.Goals as goal
 pub returns-clause-line : goal.returns-clause-line
 returns-clause-line c =
     let number : c.as_bytes-periods.result.now ≡ decimal c.args.periods = cc in
-    wrote_line c.args.out.now c.put_row.new.out c.put_row.result (day_row c.args.periods) (day_fields c.args.periods c.get.ensures.day) (rw number at c.put_row.ensures)
+    wrote_line c.args.out.now c.put_row.new.out c.put_row.result (day_row c.args.periods) (day_fields c.args.periods c.get.ensures.day)
+    (rw number at c.put_row.ensures)

@@ -8,7 +8,8 @@ use Rattle.dam_book.proofs.rows.Rows.try_copy.Goals as goal
 
 pub invariant_of-result : goal.invariant_of-result
 invariant_of-result g c =
-    let same = entries_from_clone _ _ (λ k l h. h) (λ v w h. search rules) c.self.inside.places.entries c.in_ok-clone.field-0.entries c.in_ok-clone.ensures.cases in (
+    let same = entries_from_clone _ _ (λ k l h. h) (λ v w h. search rules)
+    c.self.inside.places.entries c.in_ok-clone.field-0.entries c.in_ok-clone.ensures.cases in (
       c.self.invariant.0 ∙ ap (λ (ps : List Place). gap_count ps) (sym same),
       subst (λ (ps : List Place). AreNumbered 1 ps) (sym same) c.self.invariant.1,
       subst (λ (ps : List Place). IsDistinct same_label (keys_of ps)) (sym same) c.self.invariant.2,
@@ -16,5 +17,6 @@ invariant_of-result g c =
 
 pub returns : goal.returns
 returns g c =
-    let same = entries_from_clone _ _ (λ k l h. h) (λ v w h. search rules) c.self.inside.places.entries c.in_ok-clone.field-0.entries c.in_ok-clone.ensures.cases in
+    let same = entries_from_clone _ _ (λ k l h. h) (λ v w h. search rules)
+    c.self.inside.places.entries c.in_ok-clone.field-0.entries c.in_ok-clone.ensures.cases in
     ap (λ (ps : List Place). held ps) same ∙ c.self.view_is
