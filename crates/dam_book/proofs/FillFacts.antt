@@ -76,7 +76,7 @@ slice_get-push [] x i q e = absurd (cc)
 slice_get-push (p ∷ ps) x zero q e = e
 slice_get-push (p ∷ ps) x (suc i) q e = slice_get-push ps x i q e
 
--- what the list of places is, where the gap at place i has another label
+-- what the list of places is, if the gap at place i has another label
 pub record Filled (n : ℕ) (ps qs : List Place) : Type 0 where
   pub rows : held qs ≡ held ps
   pub count : gap_count qs ≡ gap_count ps

@@ -1,4 +1,4 @@
--- The rows that stand among places, as orders come, change and go.
+-- The rows of a list of places, as orders come, change and go.
 use Rattle.std.proofs.Common.{◌≡◌, ℕ, ◌+◌, zero, suc, Bool, true, false, cond, ◌&&◌, ◌||◌, List, [], ◌∷◌, ◌++◌, Option, Some, None, is_some}
 use Rattle.std.proofs.Common.{if◌then◌else◌, filter, slice_get, length, refl, sym, ap, ap₂, ◌∙◌, subst, arith, nat_eq}
 use Rattle.std.specs.Prelude.{⊤}
@@ -58,7 +58,7 @@ pub none_head : {V : Type 0} (b : Bool) (v : V) (o : Option V) → cond b (Some 
 none_head true v o e = absurd (cc)
 none_head false v o e = (refl, e)
 
--- what a place holds, where there is one
+-- what a place holds, if there is one
 abbrev pub flat : Option (Option Order) → Option Order
 flat None = None
 flat (Some o) = o
@@ -150,7 +150,7 @@ held-put : (t : Label → Bool) (r : Key → Bool) (ps : List Place) (o n : Orde
 held-put t r [] o n a e = absurd (cc)
 held-put t r (p ∷ ps) o n a e = put-head t r p.0 p.1 ps o n (t p.0) refl a.0 e (held-put t r ps o n a.1)
 
--- nothing goes, or changes, where nothing is found
+-- nothing goes, or changes, if nothing is found
 pub remove_entry-absent : {V : Type 0} (test : Key → Bool) (es : List (Key × V)) → lookup test es ≡ None → remove_entry test es ≡ es
 remove_entry-absent test [] e = refl
 remove_entry-absent {V} test (x ∷ xs) e =
@@ -210,7 +210,7 @@ numbered-filtered n m [] h = tt
 numbered-filtered n m (p ∷ ps) h =
     filtered-numbered n m p.0 p.1 (filter (λ (q : Place). is_some q.1) ps) h.0 (λ i. numbered-filtered (suc n) i ps h.1)
 
--- what is taken out of the place at a key, where there is such a place
+-- what is taken out of the place at a key, if there is such a place
 pub record Took (k : Label) (ps : List Place) (x : Option Order) : Type 0 where
   pub value : x ≡ lookup (same_key k.0) (held ps)
   pub rows : held (set_value (same_label k) ps None) ≡ remove_entry (same_key k.0) (held ps)
@@ -238,7 +238,7 @@ took k ps (Some o) row h apart e =
           numbered-taken (same_label k) 1 ps h;
     }
 
--- where there is none, or it is a gap, nothing goes and nothing changes
+-- if there is none, or it is a gap, nothing goes and nothing changes
 pub no_row : (k : Label) (ps : List Place) → k.1 ≡ 0 → AreNumbered 1 ps → IsDistinct same_label (keys_of ps)
     → None ≡ lookup (same_label k) ps → lookup (same_key k.0) (held ps) ≡ None
 no_row k ps row h apart e = lookup-held k 1 ps row h apart ∙ ap flat (sym e)
@@ -309,7 +309,7 @@ pub held-filtered : (ps : List Place) → (held (filter (λ (p : Place). is_some
 held-filtered [] = (refl, refl)
 held-filtered (p ∷ ps) = filtered-head p.0 p.1 ps (held-filtered ps)
 
--- How many stand.
+-- How many rows there are.
 
 length-head : (k : Key) (o : Option Order) (rows : List Row) → length (with_place k o rows) + one_if_gap o ≡ suc (length rows)
 length-head k None rows = omega arith

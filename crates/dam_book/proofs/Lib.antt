@@ -1,3 +1,4 @@
+-- The modules of lemmas, each after those that it uses.
 pub mod Keys
 pub mod Histories
 pub mod Equality

@@ -20,8 +20,8 @@ use std::alloc::{AllocError, Allocator};
 use std::hash::{Hash, Hasher};
 use std::marker::Model;
 
-// What the map finds a place by: the key of its row, or a filler's. The number is 0 for a row, and for a filler that of its place,
-// counted from 1. So no two fillers are alike.
+// What the map finds a place by: the key of its row, or a filler's. The number is 0 for a row, and for a filler that of
+// its place, counted from 1. So no two fillers are alike.
 #[derive(Debug, Drop)]
 struct Label {
     who: Participant,
@@ -95,8 +95,8 @@ const HASHED: usize = 24;
 // `None` at a gap.
 type Places<A> = IndexMap<Label, Option<BoxedOrder<A>>, Seed, A>;
 
-// Rows in an order that stays, each under a key of its own. A row that is taken out leaves a gap in its place, so that no other
-// moves; once there are more gaps than rows they are squeezed out.
+// Rows in an order that stays, each under a key of its own. A row that is taken out leaves a gap in its place, so that
+// no other moves; once there are more gaps than rows they are squeezed out.
 //
 // A contract sees the rows.
 #[derive(Debug, Drop)]
@@ -132,8 +132,8 @@ fn row_label(who: &Participant, name: &Name) -> Label
     }
 }
 
-// Takes the label of a row from the gap at this place, which gets a filler's: the last place in the map takes the place of the
-// one that is removed, and so no other moves. An `Err` leaves the places.
+// Takes the label of a row from the gap at this place, which gets a filler's: the last place in the map takes the place
+// of the one that is removed, and so no other moves. An `Err` leaves the places.
 fn fill_gap<A: Allocator>(
     places: &mut Places<A>,
     place: usize,
@@ -148,8 +148,7 @@ fn fill_gap<A: Allocator>(
     ensures absent { OnOk result (lookup (same_label row.now) places.new.entries ≡ None) }
     ensures apart { IsDistinct same_label (keys_of places.new.entries) }
 {
-    // for the proof: there is a number after the place's
-    let _len = places.len();
+    let _len = places.len(); // for the proof: there is a number after the place's
     let filler = Label {
         who: row.who.copy(),
         name: row.name.copy(),
@@ -301,7 +300,7 @@ impl<A: Allocator + Copy> Rows<A> {
         any_child(&self.places, who, name)
     }
 
-    // The row at a place, counted from 0 without the gaps: one step where there is no gap.
+    // The row at a place, counted from 0 without the gaps: one step if there is no gap.
     pub(crate) fn row(&self, place: usize) -> Option<(Participant, Name, &Order)>
         ensures { option_map (λ r. ((r.0, r.1), r.2.now)) result ≡ slice_get self.now place }
     {

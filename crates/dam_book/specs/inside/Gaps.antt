@@ -1,4 +1,4 @@
--- A list of places, each with an order or with none: a gap, where an order was taken out.
+-- A list of places, each with an order or with none: a gap, from which an order was taken out.
 use Rattle.std.specs.Prelude.{◌≡◌, ◌<◌, ℕ, suc, ◌+◌, ◌-◌, Bool, false, ◌&&◌, nat_eq, List, [], ◌∷◌, ◌++◌, length, replicate, Option, Some}
 use Rattle.std.specs.Prelude.{None, ⊤}
 use Rattle.dam_book.specs.Limits.{longest_name, longest_participant}
@@ -14,7 +14,7 @@ Label = Key × ℕ
 abbrev pub same_label : Label → Label → Bool
 same_label l m = same_key l.0 m.0 && nat_eq l.1 m.1
 
--- the text, and a 0 in each place behind it
+-- the text, and a 0 in each place after it
 abbrev pub padded : ℕ → List ℕ → List ℕ
 padded places text = text ++ replicate (places - length text) 0
 
@@ -30,7 +30,7 @@ abbrev pub with_place : Key → Option Order → List Row → List Row
 with_place k None rows = rows
 with_place k (Some o) rows = (k, o) ∷ rows
 
--- the rows that stand, in their order
+-- the rows of the places that have one, in their order
 abbrev pub held : List Place → List Row
 held [] = []
 held (p ∷ ps) = with_place p.0.0 p.1 (held ps)
