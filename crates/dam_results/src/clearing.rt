@@ -43,10 +43,7 @@ fn clear_period<A: Allocator, B: Allocator>(
     let _few = hour.len(); // for the proof: a period has few orders
     let blocks = problem.blocks();
     let net = net_volume(blocks, selection, period);
-    let Some(cleared) = hour.clear(net) else {
-        unreachable!();
-    };
-    let Some(executed) = hour.execution(alloc, net)? else {
+    let Some((cleared, executed)) = hour.clear_and_execute(alloc, net)? else {
         unreachable!();
     };
     let result = PeriodResult {
