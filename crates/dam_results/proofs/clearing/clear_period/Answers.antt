@@ -14,9 +14,10 @@ returns g c =
     (λ (bs : List Block). bought_volume bs c.args.selection c.args.period) c.blocks-blocks.ensures.value in
     let least = c.net_volume-net.ensures.valid.at_least in
     let most = c.net_volume-net.ensures.valid.at_most in
-    let at = c.in-Some.ensures.0 in
+    let found = rw c.in-Some.is at c.in_ok-cleared.ensures in
+    let at = found.0 in
     period_cleared c.args.problem.now c.args.selection c.args.period c.in-Some.cleared.bought c.in-Some.cleared.sold c.bought_volume.result
     c.unwrap-hour.result.now _
     c.in-Some.cleared.low c.in-Some.cleared.high c.in-Some.cleared.price c.in-Some.cleared.welfare c.in-Some.executed.items
-    (search rules) (omega (arith, ints, net, least, most)) at.ends at.price_is at.totals c.in-Some.ensures.1
+    (search rules) (omega (arith, ints, net, least, most)) at.ends at.price_is at.totals found.1
     bought
