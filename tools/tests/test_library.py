@@ -1,4 +1,4 @@
-"""The page on the libraries: that what it quotes of its programs stands there."""
+"""The page on the libraries: that what it quotes of its programs stands there; and the numbers of the library for C that copy others."""
 
 import re
 import unittest
@@ -32,6 +32,17 @@ class Library(unittest.TestCase):
         header = (TOP / "library" / "dam.h").read_text()
         newest = re.search(r"^## (\S+)", (TOP / "CHANGELOG.md").read_text(), re.MULTILINE)[1]
         self.assertIn(f'#define DAM_VERSION "{newest}"', header)
+
+    def test_the_most_nodes_are_those_of_a_plan(self):
+        number = r"([\d_]+)"
+        sources = {
+            "crates/dam_plan/src/plan.rt": rf"^pub const MOST_NODES: u32 = {number};$",
+            "library/dam.h": rf"^#define DAM_MOST_NODES UINT32_C\({number}\)$",
+            "tools/dam_tools/__init__.py": rf"^MOST_NODES, MOST_ANSWER = {number}, ",
+        }
+        found = {path: re.findall(line, (TOP / path).read_text(), re.MULTILINE) for path, line in sources.items()}
+        plan = int(found["crates/dam_plan/src/plan.rt"][0])
+        self.assertEqual({path: [int(text) for text in texts] for path, texts in found.items()}, dict.fromkeys(sources, [plan]))
 
     def test_texts_are_the_line_of_the_crate_and_what_it_prints(self):
         line = next(line for line in (TOP / "crates.txt").read_text().splitlines() if line.startswith("dam_example:"))
