@@ -20,9 +20,15 @@
  *
  * `length` is the length of the whole answer in bytes; no zero byte follows it.
  *
+ * Stack: 512 KiB are enough for a call. Memory: a call takes a few tens of MB at most, by malloc, and gives all of it back. A program that
+ * is linked with the static library, and defines rattle_alloc, rattle_realloc and rattle_dealloc, gives it memory of its own instead
+ * (tests/library/refusals.c).
+ *
  * What a caller owes, since no proof can see it: `text` and `secret` point to as many bytes that may be read as their lengths say, and
  * `buffer` to as many that may be written; none of these is NULL, even if its length is 0; the buffer overlaps neither of the others; and
  * no other thread writes to any of them during the call.
+ *
+ * There is no call for `dam day`. docs/LIBRARY.md has examples in C, Python and Rust.
  *
  * The library is for Linux on x86-64. `struct dam_answer` has 16 bytes: the status at 0, the length at 8. The others are undefined.
  */
@@ -39,7 +45,7 @@ extern "C" {
 /* The calls, the struct and the statuses change only with the first of these numbers. */
 #define DAM_VERSION "1.0.0"
 
-/* Enough nodes for every book. */
+/* Enough nodes for every book. Any limit from the number of nodes that a book may need on covers it, so 0xFFFFFFFF is always enough. */
 #define DAM_MOST_NODES UINT32_C(67108864)
 
 /* No answer is longer. */
@@ -50,10 +56,16 @@ struct dam_answer {
     size_t length;
 };
 
-/* What `dam replay` prints: the order book's reply to each command. */
+/* What `dam replay` prints: the order book's reply to each command, with the reason if it refuses one.
+ *
+ * Use dam_replay_seeded and dam_clear_seeded below, unless you trust everyone who chose a name in the journal. */
 struct dam_answer dam_replay(const uint8_t *text, size_t text_length, uint8_t *buffer, size_t buffer_length);
 
-/* What `dam clear` prints: the price and volume of each period, and the result of each order.
+/* What `dam clear` prints: the price and volume of each period, and the result of each order. It passes over commands that
+ * the book refused: an order that the book refused has no line; dam_replay says why.
+ *
+ * Prices are in whole cents per MWh, volumes in whole tenths of a MW, the welfare and surpluses in cents per MWh times tenths of a MW
+ * (docs/FORMATS.md; docs/TABLES.md for EUR and MW).
  *
  * The calling thread searches alone and can't be stopped; `nodes` is the only limit on its time. The search ends with status 3 if it
  * would visit more nodes. Any number will do: 0 ends the search of each closed book, and from DAM_MOST_NODES on no search is ended. A
