@@ -4,8 +4,9 @@ compared with a plain twin of the walk, and with HiGHS, which finds the same sel
 
 A plan is a number of workers and a cut; `2 3` is the default. The twin keeps its days in slots of the same form and goes through a
 block's periods in the same order; links and groups are sets of bits in the twin, and lists of places in `dam`. HiGHS is asked only for
-the greatest welfare, and not for the tie rule, for which every node of `ties` has to be visited. A run ends after 60 s, and HiGHS after 20 s, or after the
-seconds of LIMIT and HIGHS_LIMIT in the environment."""
+the greatest welfare, and not for the tie rule, for which every node of `ties` has to be visited. A run ends after 60 s, and HiGHS after
+20 s, or after the seconds of LIMIT and HIGHS_LIMIT in the environment. A piece begins with slots that are filled once, 80 kB: where a
+walk ends after some hundred nodes, as that of `links`, this is most of what eight pieces cost."""
 
 # families.py [ORDERS [FAMILY..]]: only with this number of orders, and only these families. `bench/run families` builds what it needs.
 

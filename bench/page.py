@@ -17,7 +17,6 @@ HEAD = """# Measured figures
 `bench/run` writes this page. It has a section for each part of the bench, with the figures of the part's last run, and the day, commit
 and machine of that run. A figure is the median of several runs; runs that are compared take turns. If a figure compares two things, the
 details have the figure of each. The load says how busy the machine was before: on a busy machine a figure says little.
-Sections marked 'before 2026-11-25' were carried over from earlier runs, and name no commit.
 """
 
 

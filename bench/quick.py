@@ -6,7 +6,9 @@ The baseline is a plain Rust program with std only: a hash map, and a list of or
 participant and one `Mutex`; it settles and prints the day, and clears nothing. A day of `dam` holds each command as it was read and as a
 receipt, both packed, and whole in the journal. The input is freed before the commands are entered, and the room for journal and receipts is
 made once. A settlement is compared with a plain pass that compares each receipt with its entry. An hour finds the end of the best execution
-by one bisection over the buys' own limits, with one over the sells inside, and then both ends of the price by two look-ups among the sells."""
+by one bisection over the buys' own limits, with one over the sells inside, and then both ends of the price by two look-ups among the sells.
+The levels keep an hour for each depth and period, since a bound is read off them; in memory that is fresh, its pages cost more than the
+work."""
 
 import statistics
 import sys
