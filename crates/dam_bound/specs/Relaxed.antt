@@ -18,14 +18,14 @@ as_steps t [] = []
 as_steps t (b ∷ bs) =
     if volume_in b.order.volumes t == 0 then as_steps t bs else step_of t b.order ∷ as_steps t bs
 
--- the steps of each period from t on, and behind them the blocks as steps of that period
+-- the steps of each period from t on, and after them the blocks as steps of that period
 abbrev pub relaxed_hours : List Block → ℕ → List (List Step) → List (List Step)
 relaxed_hours undecided t [] = []
 relaxed_hours undecided t (ss ∷ hours) =
     (ss ++ as_steps t undecided) ∷ relaxed_hours undecided (suc t) hours
 
 -- the welfare of the prefix where each undecided block stands as a step of its own in each of its
--- periods; None where some period so relaxed has no execution that balances
+-- periods; None if some period so relaxed has no execution that balances
 abbrev pub relaxed_welfare : ProblemState → List Bool → Option ℤ
 relaxed_welfare problem prefix =
     welfare_from problem.blocks prefix 1
@@ -40,7 +40,7 @@ abbrev pub reaches : Option ℤ → ℕ → Bool
 reaches None value = false
 reaches (Some w) value = int_le (pos value) w
 
--- among a prefix that leaves so many blocks undecided and all prefixes that extend it, the number of
+-- among a prefix that leaves that many blocks undecided and all prefixes that extend it, the number of
 -- those that leave some block undecided and whose relaxed welfare reaches the value
 abbrev pub live_count : ProblemState → ℕ → List Bool → ℕ → ℕ
 live_count problem value prefix zero = 0

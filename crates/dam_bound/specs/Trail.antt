@@ -19,7 +19,7 @@ abbrev pub slot_after : Option Block → ℕ → ℕ → ℕ → ℕ
 slot_after None i k before = before
 slot_after (Some b) i k before = if volume_in b.order.volumes (i + 1) == 0 then before else suc k * last_period + i
 
--- the slot in which the period at the place stands once so many blocks are decided
+-- the slot in which the period at the place stands once that many blocks are decided
 unfoldable pub slot_at : List Block → ℕ → ℕ → ℕ
 slot_at blocks i zero = i
 slot_at blocks i (suc k) = slot_after (slice_get blocks k) i k (slot_at blocks i k)

@@ -25,7 +25,7 @@ use std::alloc::Allocator;
 
 /// A day: what a prefix makes of each period, and its relaxed welfare.
 ///
-/// A walk keeps its days in the slots of a trail; one of them is read out where every block is decided.
+/// A walk keeps its days in the slots of a trail; one of them is read out if every block is decided.
 #[derive(Clone, Copy)]
 pub struct Day {
     /// What is taken of each period's supply.
@@ -48,7 +48,7 @@ impl Day {
 }
 
 /// Copies the first `count` periods of a day, and its total, into another: all that counts on a delivery
-/// day of so many periods.
+/// day of that length.
 pub(crate) fn copy_periods(from: &Day, to: &mut Day, count: usize)
     requires { count ≤ last_period }
     ensures periods { (i : ℕ) (own : Taken) → i < count

@@ -7,7 +7,7 @@ ghost use Rattle.dam_bound.specs.inside.Families.{IsFamily, AreFamilies};
 use dam_blocks::{Block, Selection, descends};
 use std::alloc::{AllocError, Allocator};
 
-/// The blocks that descend from the one at a place; nothing where none does.
+/// The blocks that descend from the one at a place; nothing if none does.
 fn family_of(blocks: &[Block], place: usize) -> Option<Selection>
     requires { length blocks.now ≤ most_blocks }
     ensures { IsFamily blocks.now place result }

@@ -13,7 +13,7 @@ ghost use Rattle.dam_bound.specs.Prefix.{IsCompletion};
 ghost use Rattle.dam_bound.specs.Relaxed.{relaxed_welfare};
 
 /// The bound law: no completion of a prefix, admissible or not, has a welfare above the relaxed
-/// welfare of the prefix; and where there is no relaxed welfare, no completion balances every
+/// welfare of the prefix; and if there is no relaxed welfare, no completion balances every
 /// period.
 pub fn bound()
     ensures most { (problem : ProblemState) (prefix sel : List Bool) (w : ℤ)
@@ -28,7 +28,7 @@ pub fn bound()
     dam_blocks::laws::sums();
 }
 
-/// A prefix that extends another has no greater relaxed welfare; and where the shorter one has
+/// A prefix that extends another has no greater relaxed welfare; and if the shorter one has
 /// none, the longer has none.
 pub fn extension()
     ensures most { (problem : ProblemState) (prefix rest : List Bool) (w : ℤ)
@@ -54,7 +54,7 @@ pub fn decided()
 }
 
 /// The completions of a prefix are those of its two extensions by the next block. The prefix with
-/// no other block accepted is one of them; and where every block is decided, they are the only one
+/// no other block accepted is one of them; and if every block is decided, they are the only one
 /// that can be admissible.
 pub fn completions()
     ensures extended { (prefix sel : List Bool) → length prefix < most_blocks

@@ -12,7 +12,7 @@ use dam_hour::{Hour, Step};
 use std::alloc::{AllocError, Allocator};
 use std::marker::Model;
 
-/// The block as a step of the period, where it has a volume there.
+/// The block as a step of the period, if it has a volume there.
 fn step_in(order: &BlockOrder, period: Period) -> Option<Step>
     ensures { MatchOption result (volume_in order.now.volumes period ≡ 0)
         (λ step. (1 ≤ volume_in order.now.volumes period) × (step ≡ step_of period order.now)) }
@@ -25,7 +25,7 @@ fn step_in(order: &BlockOrder, period: Period) -> Option<Step>
     })
 }
 
-/// The steps, and behind them the blocks as steps of the period.
+/// The steps, and after them the blocks as steps of the period.
 fn relaxed_steps<A: Allocator>(
     alloc: A,
     steps: &[Step],

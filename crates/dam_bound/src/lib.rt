@@ -10,12 +10,12 @@
 //! with the day of the prefix that decides nothing (`begin`), and makes that of a prefix with one more
 //! decision (`extend`): the same welfare, with only the periods of the last block changed, and no further
 //! than until it is seen to be less than what is asked for. Of a prefix that decides every block the day is
-//! read out (`day_at`) as a [`Day`]: `turn` makes that with one decision turned round, and `gain` tells
+//! read out (`day_at`) as a [`Day`]: `turn` makes that with one decision reversed, and `gain` says
 //! what an accepted block gains with its accepted descendants.
 //!
 //! What these words mean stands in `specs/`: prefixes and their completions, the relaxed welfare,
 //! the live count. A contract sees a [`Relaxed`] as the problem that it was built of, without its
-//! rows. Only tested is that memory isn't said to have run out where it hasn't.
+//! rows. Only tested is that memory isn't said to have run out if it hasn't.
 //!
 //! The crate knows nothing of exclusive groups, nor of which selections are admissible or eligible; of links
 //! it knows just who descends from whom.

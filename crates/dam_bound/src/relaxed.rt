@@ -118,7 +118,7 @@ impl<A: Allocator + Copy> Relaxed<A> {
 }
 
 /// The greatest welfare of a period at a depth, with what the accepted blocks are worth there;
-/// `None` where no execution balances.
+/// `None` if no execution balances.
 fn period_bound<A: Allocator>(
     levels: &Levels<A>,
     blocks: &[Block],
@@ -146,8 +146,8 @@ impl<A: Allocator> Relaxed<A> {
     /// It is the welfare of the prefix where each undecided block may be executed in part, in each
     /// of its periods apart from the others: the sum over the periods of the greatest welfare with
     /// the undecided blocks as orders, and the accepted buy blocks' limit times volume less the
-    /// accepted sell blocks'. It may be below 0. `None` exactly where some period so relaxed has no
-    /// execution that balances. Nothing is promised where `taken` has a block past the decided
+    /// accepted sell blocks'. It may be below 0. `None` exactly if some period so relaxed has no
+    /// execution that balances. Nothing is promised if `taken` has a block past the decided
     /// ones. Takes no memory.
     pub fn bound(&self, taken: Selection, depth: usize) -> Option<i64>
         requires { depth ≤ length self.now.blocks }
@@ -174,7 +174,7 @@ impl<A: Allocator> Relaxed<A> {
     }
 
     /// Extends the day of a prefix by the decision on the block at the depth, and returns its relaxed
-    /// welfare; `None` where the extension has no bound or one under `least`. The days of the prefix and of
+    /// welfare; `None` if the extension has no bound or one under `least`. The days of the prefix and of
     /// shorter ones stay, so that the other decision can be made afterwards.
     ///
     /// That there is a relaxed welfare doesn't say that it reaches `least`. Only the periods in which
@@ -204,7 +204,7 @@ impl<A: Allocator> Relaxed<A> {
         decide_block(&self.tables, trail, depth, accept, total, least)
     }
 
-    /// The day of a prefix that decides every block, where it is in the slots with this relaxed welfare.
+    /// The day of a prefix that decides every block, if it is in the slots with this relaxed welfare.
     /// Takes no memory.
     pub fn day_at(&self, trail: &Trail, total: i64) -> Day
         ensures { (prefix : List Bool) → length prefix ≡ length self.now.blocks
@@ -223,7 +223,7 @@ impl<A: Allocator> Relaxed<A> {
     }
 
     /// Turns the decision on the block at the place round into this one, on a day on which every block
-    /// is decided; whether it did. `false` where some period doesn't balance with the new decision;
+    /// is decided; whether it did. `false` if some period doesn't balance with the new decision;
     /// nothing is then promised of the day.
     ///
     /// Only the periods in which the block has a volume are changed. Takes no memory.
@@ -241,7 +241,7 @@ impl<A: Allocator> Relaxed<A> {
 
     /// What the block at a place gains at the prices of a day on which every block is decided, with
     /// those blocks of the selection that descend from it; in cents per MWh times tenths of a MW, and
-    /// below 0 where they lose together. The selection is the day's.
+    /// below 0 if they lose together. The selection is the day's.
     ///
     /// Only the prices of these blocks' own periods are asked for, each from a row near the last unit
     /// that the day takes. Takes no memory.

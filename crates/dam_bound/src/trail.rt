@@ -23,7 +23,7 @@ const SLOTS: usize = (MOST_BLOCKS + 1) * MOST_PERIODS;
 
 /// The days of the prefixes on a walk's way, from the one that decides nothing to the one that it is at.
 ///
-/// What a decision makes of a period is written to a slot of its own, and read where a later block has a
+/// What a decision makes of a period is written to a slot of its own, and read if a later block has a
 /// volume in the period; so the days of the shorter prefixes stay, and the other decision on the same block
 /// begins from the same day.
 #[derive(Drop)]
@@ -69,7 +69,7 @@ fn is_under(total: i64, floor: i64) -> bool
     total < floor
 }
 
-/// Decides the block at the place in each of its periods; the new total, or `None` where some period
+/// Decides the block at the place in each of its periods; the new total, or `None` if some period
 /// doesn't balance or the total is at some time under `least`.
 ///
 /// The slots below the block's row stay as they are.
@@ -126,7 +126,7 @@ pub(crate) fn decide_block<A: Allocator>(
     Some(left)
 }
 
-/// The day that stands in the slots, where the period at each place stands in the slot of the list.
+/// The day that stands in the slots, in which the period at each place stands in the slot of the list.
 pub(crate) fn day_of(trail: &Trail, places: &[u32], count: usize, total: i64) -> Day
     requires count { count ≤ last_period }
     requires places { (i d : ℕ) → i < count → slice_index_or places.now i d < slot_count }

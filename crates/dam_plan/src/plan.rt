@@ -39,7 +39,7 @@ impl Model for Plan {
 }
 
 impl Plan {
-    /// The plan of these numbers, or `None` where one is outside its limits: 1 to `MOST_WORKERS`, 0
+    /// The plan of these numbers, or `None` if one is outside its limits: 1 to `MOST_WORKERS`, 0
     /// to `MOST_CUT` and 1 to `MOST_NODES`.
     pub fn new(workers: u8, cut: u8, nodes: u32) -> Option<Plan>
         ensures { SomeIff result
@@ -66,7 +66,7 @@ impl Plan {
         self.workers
     }
 
-    /// How many of the first blocks the cutting decides, where there are so many.
+    /// How many of the first blocks the cutting decides, if there are that many.
     pub fn cut(self) -> u8
         ensures value { result ≡ self.cut }
         ensures valid { IsPlan self }

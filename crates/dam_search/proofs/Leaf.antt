@@ -1,4 +1,4 @@
--- The verdict on a selection, told by the day of its decisions.
+-- The verdict on a selection, by the day of its decisions.
 use Rattle.std.proofs.Common.{◌≡◌, inr, ◌↔◌, MatchOption, ℕ, ℤ, pos, ◌<ℤ◌, Bool, true, false, Option, Some, None, List, ◌∙◌, ap, sym, subst}
 use Rattle.std.proofs.lemmas.Int.{to_z-of_z}
 use mir.Syntax.{w64}
@@ -41,7 +41,7 @@ pub welfare_is_told : (problem relaxed : ProblemState) (prefix sel : List Bool) 
 welfare_is_told problem relaxed prefix sel trail total same is decided =
     welfare_is_total problem relaxed prefix sel is.day same is.day_is decided ∙ ap (λ (z : ℤ). Some z) is.total_is
 
--- what is told of a prefix, or what else is known
+-- what is known of a prefix, or what else is known
 pub if_told : (told : Option ℤ) (total : ℤ) (problem : ProblemState) (prefix : List Bool) (trail : Trail) (low : ℕ) → told ≡ Some total
     → MatchOption told (IsUnder problem prefix low) (IsDayIn problem prefix trail) → IsDayIn problem prefix trail total
 if_told (Some own) total problem prefix trail low e m =
@@ -69,12 +69,12 @@ under_read problem relaxed prefix sel read w same under decided known =
 pub same_welfare : (x : Option ℤ) (v w : ℤ) → x ≡ Some v → x ≡ Some w → v ≡ w
 same_welfare x v w e f = let both : Some v ≡ Some w = sym e ∙ f in cc
 
--- a loss is told of no eligible selection
+-- no eligible selection has a loss
 pub losing : (problem : ProblemState) (prefix : List Bool) (loss : Bool) (w : ℤ) → loss ≡ true → TellsLoss problem prefix loss
     → IsEligible problem (padded prefix) w → ⊥
 losing problem prefix loss w e tells is = let none : loss ≡ false = (tells is.prices is.are_prices).1 is.no_loss in absurd (cc)
 
--- where none is told, the selection is eligible
+-- if there is none, the selection is eligible
 pub not_losing : (problem : ProblemState) (prefix : List Bool) (loss : Bool) (w : ℤ) → loss ≡ false → TellsLoss problem prefix loss
     → IsCompletion prefix (padded prefix)
     → IsAdmissible problem.blocks (padded prefix) → selection_welfare problem (padded prefix) ≡ Some w

@@ -1,4 +1,4 @@
--- What becomes of a day where one block is decided, or decided the other way.
+-- What becomes of a day if one block is decided, or decided the other way.
 use Rattle.std.specs.Prelude.{◌≡◌, ◌⊎◌, ℕ, ◌+◌, Bool, true, false, ℤ, pos, neg_ℤ, ◌<◌, ◌+ℤ◌, ◌≤ℤ◌, Some, None, List, ◌++◌, length, drop}
 use Rattle.std.specs.Prelude.{slice_get}
 use Rattle.dam_hour.specs.declared.step.Step.{Step}
@@ -28,7 +28,7 @@ abbrev pub IsBefore : Change → ℕ → ℕ → ℕ → ℕ → Type 0
 IsBefore Decide place depth decided count = (decided ≡ place) × (depth ≡ place + 1)
 IsBefore Turn place depth decided count = (decided ≡ count) × (depth ≡ count)
 
--- the decisions after it differ from those before by the block at the place alone, and so many blocks are decided by them
+-- the decisions after it differ from those before by the block at the place alone, and that many blocks are decided by them
 pub record IsChange (blocks : List Block) (place : ℕ) (change : Change) (accept : Bool) (depth : ℕ) (before after : List Bool)
     : Type 0 where
   pub kind : IsBefore change place depth (length before) (length blocks)

@@ -4,7 +4,7 @@ use Rattle.dam_blocks.specs.declared.problem.Block.{Block}
 use Rattle.dam_blocks.specs.Selection.{accepts}
 use Rattle.dam_blocks.specs.Family.{descends}
 
--- the blocks that descend from the one at the place; None where none does
+-- the blocks that descend from the one at the place; None if none does
 abbrev pub IsFamily : List Block → ℕ → Option (List Bool) → Type 0
 IsFamily blocks i None = (j : ℕ) → j < length blocks → descends blocks i j ≡ false
 IsFamily blocks i (Some family) =

@@ -19,7 +19,7 @@ pub record IsAtDepth (levels : LevelsState) (depth : ℕ) (ss : List Step) : Typ
   pub place_is : slice_get levels.places depth ≡ Some place
   pub hour_is : slice_get levels.hours place ≡ Some ss
 
--- at each depth the steps, and behind them the blocks that it leaves undecided
+-- at each depth the steps, and after them the blocks that it leaves undecided
 abbrev pub AreLevels : ℕ → List Step → List Block → LevelsState → Type 0
 AreLevels t ss blocks levels =
     (depth : ℕ) → depth ≤ length blocks → IsAtDepth levels depth (ss ++ as_steps t (drop depth blocks))

@@ -13,7 +13,7 @@ use Rattle.dam_bound.specs.Relaxed.{step_of, as_steps}
 use Rattle.dam_bound.specs.Trail.{slot_at}
 use Rattle.dam_bound.specs.declared.tables.Touch.{Touch}
 
--- for each period the stack of its hourly orders, and after them of the blocks that so many decisions leave undecided
+-- for each period the stack of its hourly orders, and after them of the blocks that as many decisions leave undecided
 pub record AreSpans (hours : List (List Step)) (blocks : List Block) (rows : List Row) (depth : ℕ) (spans : List Span) : Type 0 where
   pub as_many : length spans ≡ length hours
   pub each : (i : ℕ) (ss : List Step) (d : Span) → slice_get hours i ≡ Some ss
@@ -37,7 +37,7 @@ pub record IsTouch (hours : List (List Step)) (blocks : List Block) (rows : List
   pub cut_is : (ss : List Step) → slice_get hours touch.at ≡ Some ss
       → IsCutOff rows (step_of p.0 b.order) (ss ++ as_steps p.0 (drop (place + 1) blocks)) touch.cut
 
--- the slot in which each period stands once so many blocks are decided
+-- the slot in which each period stands once that many blocks are decided
 pub record ArePlaces (blocks : List Block) (depth : ℕ) (places : List ℕ) : Type 0 where
   pub long : length places ≡ last_period
   pub each : (i d : ℕ) → i < last_period → slice_index_or places i d ≡ slot_at blocks i depth
