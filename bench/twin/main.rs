@@ -6,7 +6,7 @@
 //! A period's hourly orders and undecided blocks make one stack of supply by rising price: the sells, and for each buy the supply of
 //! what isn't served of it. If x units, all buys less the net volume, are taken from the bottom, the welfare is the value of all buys
 //! less the cost of these units. The state of a period is the units taken, their cost, and what is known of the units at the price of the
-//! last one. A decision that can be told from that looks no row up.
+//! last one. A decision that is clear from that looks no row up.
 //!
 //! The states are in slots, a row of them for the root and one for each block. A decision writes the slots of its own block and reads
 //! those of earlier ones, so nothing is copied and nothing undone. A block's periods are gone through in the order of what a decision may

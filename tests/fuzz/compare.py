@@ -63,7 +63,7 @@ def contents(file):
 
 
 def wait_for(ran, seconds):
-    """Waits until a process has ended, for at most so many seconds."""
+    """Waits until a process has ended, for at most this number of seconds."""
     process = os.pidfd_open(ran.pid)
     try:
         poll = select.poll()

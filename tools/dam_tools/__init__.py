@@ -31,7 +31,7 @@ __all__ = ["Day", "Fault", "Journal", "TABLES", "clear", "frame", "journal_of_or
 TABLES = tuple(tables.TABLES)
 # Where the program is built, in the tree that this module is part of.
 BUILT = Path(__file__).resolve().parents[2] / "crates" / "dam_cli" / "out" / "dam_cli"
-# And where the library for C is, if library/build has made it.
+# And the path of the library for C, if library/build has made it.
 LIBRARY = Path(__file__).resolve().parents[2] / "library" / "out" / "libdam.so"
 MOST_NODES, MOST_ANSWER = 67_108_864, 300_000  # of library/dam.h
 

@@ -34,7 +34,7 @@ class Found(NamedTuple):
 
 class Lint:
     """Gathers the faults of a text that should be a journal for a command of the program. If `periods` are given, the text may lack
-    the day, which has so many."""
+    the day, which has that number of periods."""
 
     def __init__(self, data, command, periods=None):
         self.command, self.periods = command, periods

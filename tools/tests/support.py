@@ -61,7 +61,7 @@ def day_of(data, text):
 
 
 def results_of(data, accepted):
-    """The results of a journal where these places are accepted."""
+    """The results of a journal if these places are accepted."""
     day = problem(data)
     return results.results_text(day, accepted, selection.outcome(day, accepted)).encode()
 

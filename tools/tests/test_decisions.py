@@ -261,7 +261,7 @@ class Random(unittest.TestCase):
         return not plain.losers(family, surpluses), sum(surpluses[place] for place in family), -len(family)
 
     def told(self, decision, more, losers, place):
-        """What is told of the welfare and of who would lose; nothing is told of a block that would lose by itself, whose family
+        """What is said of the welfare and of who would lose; nothing is said of a block that would lose by itself, whose family
         can't be worth more."""
         found = WORTH.search(decision.why)
         if found is None:

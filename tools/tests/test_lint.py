@@ -1,4 +1,4 @@
-"""The lint: each fault by hand, and that it tells of one exactly if the program's format or book has one."""
+"""The lint: each fault by hand, and that it reports one exactly if the program's format or book has one."""
 
 import random
 import unittest
@@ -19,7 +19,7 @@ def told(data, command="clear"):
 
 class Hand(unittest.TestCase):
     def check(self, data, *wanted, command="clear"):
-        """Each fault that is told begins and ends in a way."""
+        """Each fault that is reported begins and ends in one way."""
         found = told(data, command)
         self.assertEqual(len(found), len(wanted), found)
         for line, (begin, part) in zip(found, wanted):
@@ -148,7 +148,7 @@ class Hand(unittest.TestCase):
         )
 
     def test_one_fault_is_not_told_of_as_many(self):
-        # The order is taken for what it was meant to be, so that the cancel finds it; of one that can't be read nothing is told.
+        # The order is taken for what it was meant to be, so that the cancel finds it; of one that can't be read nothing is reported.
         cancel = GOOD.replace(b"close", b"cancel,NORD,WIND-8,,,,,,\nclose")
         self.check(cancel.replace(b"NORD,WIND-8,hour", b"nord,WIND-8,hour"), ("line 2, participant", "write NORD"))
         self.check(cancel.replace(b"8:450", b"x"), ("line 2, volumes", "'x' should be period:volume"))

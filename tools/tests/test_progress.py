@@ -1,4 +1,4 @@
-"""How far a long run is, told at a terminal alone; and the end of its time."""
+"""How far a long run is, shown at a terminal alone; and the end of its time."""
 
 import io
 import threading
