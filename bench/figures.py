@@ -13,8 +13,9 @@ DAM = "../crates/dam_cli/out/dam_cli"
 MEASURES = "out/measures"
 BASELINE = "out/baseline"
 TWIN = "out/twin"
-# A program that was built before, which takes turns with `dam`; none if it isn't named.
+# Programs that were built before a change, which take turns with `dam` and with the measures; none if they aren't named.
 BEFORE = os.environ.get("BEFORE")
+BEFORE_MEASURES = os.environ.get("BEFORE_MEASURES")
 PART = os.path.basename(sys.argv[0]).partition(".")[0]
 FIGURES = f"out/{PART}.tsv"
 TIME = "/usr/bin/time"

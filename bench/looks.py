@@ -3,21 +3,31 @@
 call costs with 100, 1,000 and 4,000 orders held; and the time and memory of a day of 9,999 commands.
 
 The plain program looks at a version through a lock-free pointer, and copies its book in every call. A day's memory may be 4 times that
-of a gate whose looks took its lock."""
+of a gate whose looks took its lock. If a program of the measures from before a change is named, it takes turns with today's. A tenth is
+noise: a look while no other thread is at work, and a call with 4,000 orders held, may take that much more than in the program before."""
 
 import statistics
 
-from figures import DAM, MEASURES, at_most, by_turns, line, peak, ratio, seconds, write
+from figures import BEFORE_MEASURES, DAM, MEASURES, at_most, by_turns, line, peak, ratio, seconds, write
 
 PLAIN = "out/looks"
 DAY = "out/day.csv"
 LOOKS, CALLS = 1_000_000, 2_000
 # The peak memory of a day in MiB when looks took the gate's lock, and no version was kept.
 LOCKED = 11.1
+# What a figure may be as a multiple of the one before a change, since both vary from run to run.
+NOISE = 1.1
 
 
 def laps(runs, name, repeats):
     return [one.lap(name) / repeats for one in runs]
+
+
+def compare_with_before(what, words, repeats, book, most=None):
+    """Compares what the measures take with what those from before a change take, if these are named."""
+    if BEFORE_MEASURES:
+        runs = by_turns({"one": [MEASURES, *words], "before": [BEFORE_MEASURES, *words]}, book)
+        ratio(what, laps(runs["one"], words[0], repeats), laps(runs["before"], words[0], repeats), most)
 
 
 def looks():
@@ -27,6 +37,8 @@ def looks():
         runs = by_turns({"one": [MEASURES, *words], "other": [PLAIN, *words]}, "out/hourly.csv", most=9)
         ones, others = laps(runs["one"], "looks", LOOKS), laps(runs["other"], "looks", LOOKS)
         ratio(f"a look compared with a plain one, while {others_at_work} threads call and look", ones, others, 3)
+        what = f"a look compared with the program before, while {others_at_work} threads call and look"
+        compare_with_before(what, words, LOOKS, "out/hourly.csv", most=None if others_at_work else NOISE)
         if none is None:
             none = ones
         else:
@@ -45,6 +57,8 @@ def calls():
             at_most(what, one, 150e-6, detail=detail)
         else:
             line(what, seconds(one), detail=detail)
+        what = f"a call compared with the program before, {orders:,} orders held"
+        compare_with_before(what, ["calls", str(CALLS)], CALLS, book, most=NOISE if orders == 4_000 else None)
 
 
 def day():
