@@ -36,8 +36,8 @@ abbrev pub units_up_to : ℕ → List Step → ℕ
 units_up_to h steps = total_of (λ step. if_any (suc h - height_of step.price) step.qty) steps
 
 -- what the steps under the height gain at it as supply
-abbrev pub gain_at : ℕ → List Step → ℕ
-gain_at h steps = total_of (λ step. (h - height_of step.price) * step.qty) steps
+abbrev pub gain_under : ℕ → List Step → ℕ
+gain_under h steps = total_of (λ step. (h - height_of step.price) * step.qty) steps
 
 -- a row for each step, with what stands before it, and a last one
 abbrev pub rows_from : ℕ → ℕ → List Step → List Row
