@@ -1,5 +1,5 @@
--- Where every accepted block with its accepted descendants gains, all accepted blocks together do: each stands in the
--- family of just one that has no parent.
+-- If every accepted block gains with its accepted descendants, all accepted blocks gain together: each stands in the
+-- family of just one block without a parent.
 use Rattle.std.proofs.Common.{◌≡◌, ℕ, zero, suc, ◌+◌, ◌<◌, ◌≤◌, ◌==◌, ℤ, pos, ◌+ℤ◌, ◌≤ℤ◌, Bool, true, false, ◌&&◌, ◌||◌, Option, Some, None}
 use Rattle.std.proofs.Common.{List, [], ◌∷◌, length, get_or, cond, nat_lt, lt-ltb, le-ltb, ap, ap₂, ◌∙◌, sym, subst, refl, inl, inr, arith}
 use Rattle.std.specs.List.{slice_get}

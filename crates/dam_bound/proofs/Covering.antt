@@ -66,7 +66,7 @@ great_at_least : Laws → (ss : List Step) (net : ℤ) (xs : List ℕ) → IsExe
     → (g : ℤ) × (greatest_welfare ss net ≡ Some g) × (welfare_of ss xs ≤ℤ g)
 great_at_least laws ss net xs e b = let some = laws.some ss net (xs, e, b) in (some.0, some.1, laws.bound ss net some.0 some.1 xs e b)
 
--- an execution of the steps and one of the blocks that stay undecided, which balance where more is decided
+-- an execution of the steps and one of the blocks that stay undecided, which balance if more is decided
 covered : Laws → (t : ℕ) (bs : List Block) (prefix rest : List Bool) (ss : List Step) (xs us : List ℕ)
     → IsExecution ss xs → IsExecution (as_steps t (drop (length rest) (drop (length prefix) bs))) us
     → (pos (executed_volume Sell ss xs) +ℤ pos (executed_volume Sell (as_steps t (drop (length rest) (drop (length prefix) bs))) us))

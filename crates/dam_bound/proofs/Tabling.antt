@@ -98,7 +98,7 @@ next_step blocks k j b p ss at pair rising some =
     )
 
 -- ---- the stacks in the middle of a block
--- a period in which the block has a volume left has its stack before the block is decided, and any other the one after it
+-- a period in which the block has a volume left has the stack before the decision on it, and any other the one after it
 pub record AreSpansSoFar (hours : List (List Step)) (blocks : List Block) (rows : List Row) (k : ℕ) (left : List Pair)
     (spans : List Span) : Type 0 where
   pub as_many : length spans ≡ length hours

@@ -36,7 +36,7 @@ use Rattle.dam_bound.proofs.Tabling.{block_at, end_of}
 use Rattle.dam_bound.proofs.Volumes.{past_ordered, ordered_volume}
 use Rattle.dam_bound.proofs.Worth.{no_welfare}
 
--- where nothing balances there is no greatest welfare
+-- if nothing balances, there is no greatest welfare
 abbrev pub WelfareLaw : Type 0
 WelfareLaw = (ss : List Step) (net : ℤ) → IsUnbalanced ss net → greatest_welfare ss net ≡ None
 

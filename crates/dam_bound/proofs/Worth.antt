@@ -57,7 +57,7 @@ part_is blocks hours prefix i t ss own at e p =
     (worth_is blocks prefix t (ss ++ as_steps t (drop (length prefix) blocks)) own p)
 
 -- ---- a sum over the periods
--- f of each of so many numbers from t on, added up
+-- f of each of n numbers from t on, added up
 abbrev pub sum_from : (ℕ → ℤ) → ℕ → ℕ → ℤ
 sum_from f t zero = pos 0
 sum_from f t (suc n) = f t +ℤ sum_from f (suc t) n

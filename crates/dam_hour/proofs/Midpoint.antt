@@ -1,4 +1,4 @@
--- The period's price lies between the ends, and which of its three cases applies.
+-- That the period's price lies between the ends, and which of its three cases applies.
 use Rattle.std.proofs.Common.{◌≡◌, ◌≢◌, ℤ, pos, negsuc, ◌+ℤ◌, ◌≤ℤ◌, ◌<ℤ◌, Bool, true, false, refl, arith}
 use Rattle.std.specs.Prelude.{int_lt, ◌&&◌, if◌then◌else◌}
 use Rattle.std.specs.Int.{int_div_euclid}

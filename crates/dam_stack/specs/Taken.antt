@@ -1,6 +1,5 @@
 -- What is taken of a period's supply from the bottom, and what becomes of it if one of the steps is decided: accepted
--- whole or rejected, it is a
--- step no more.
+-- whole or rejected, it is no step any more.
 use Rattle.std.specs.Prelude.{◌≡◌, ℕ, ◌+◌, ◌*◌, ◌^◌, ◌≤◌, Bool, true, false, not, ℤ, pos, neg_ℤ, ◌+ℤ◌, ◌-ℤ◌, ◌*ℤ◌, ◌≤ℤ◌, Some, List}
 use Rattle.dam_book.specs.Price.{IsPrice}
 use Rattle.dam_book.specs.Quantity.{IsQuantity}
