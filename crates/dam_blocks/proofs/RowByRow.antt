@@ -129,11 +129,15 @@ steps_other t front k o apart =
     ∙ ap (λ (ss : List Step). steps_in t front ++ ss) (no_step (o.period == t) (hourly_step o) (apart_test o.period t apart))
     ∙ append-nil (steps_in t front)
 
+-- the steps of a period, and those of the later ones
+abbrev with_hour : List Step → List (List Step) → List (List Step)
+with_hour ss hours = ss ∷ hours
+
 hours_later : (t n : ℕ) (front : List Row) (k : Key) (o : HourTerms) → o.period < t
     → hours_from t n (front ++ (k, Hour o) ∷ []) ≡ hours_from t n front
 hours_later t zero front k o l = refl
 hours_later t (suc n) front k o l =
-    ap₂ (λ (ss : List Step) (hours : List (List Step)). ss ∷ hours)
+    ap₂ with_hour
     (steps_other t front k o (λ e. omega (arith, e, l))) (hours_later (suc t) n front k o (omega (arith, l)))
 
 hours_more : (t n i : ℕ) (front : List Row) (k : Key) (o : HourTerms) → i + t ≡ o.period
@@ -141,11 +145,11 @@ hours_more : (t n i : ℕ) (front : List Row) (k : Key) (o : HourTerms) → i + 
 hours_more t zero i front k o e = refl
 hours_more t (suc n) zero front k o e =
     let own : o.period ≡ t = omega (arith, e) in
-    ap₂ (λ (ss : List Step) (hours : List (List Step)). ss ∷ hours)
+    ap₂ with_hour
     (steps_own t front k o own ∙ ap (λ (m : ℕ). steps_in m front ++ hourly_step o ∷ []) (sym own))
     (hours_later (suc t) n front k o (omega (arith, own)))
 hours_more t (suc n) (suc i) front k o e =
-    ap₂ (λ (ss : List Step) (hours : List (List Step)). ss ∷ hours)
+    ap₂ with_hour
     (steps_other t front k o (λ same. omega (arith, e, same))) (hours_more (suc t) n i front k o (omega (arith, e)))
 
 -- a block joins none
@@ -153,7 +157,7 @@ hours_kept : (t n : ℕ) (front : List Row) (k : Key) (o : BlockTerms)
     → hours_from t n (front ++ (k, BlockVariant o) ∷ []) ≡ hours_from t n front
 hours_kept t zero front k o = refl
 hours_kept t (suc n) front k o =
-    ap₂ (λ (ss : List Step) (hours : List (List Step)). ss ∷ hours)
+    ap₂ with_hour
     (steps-append t front ((k, BlockVariant o) ∷ []) ∙ append-nil (steps_in t front)) (hours_kept (suc t) n front k o)
 
 -- an hourly order has its place among those of its period
