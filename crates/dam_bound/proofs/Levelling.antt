@@ -23,6 +23,10 @@ pushed : {X : Type 0} (xs : List X) (y : X) → slice_get (xs ++ y ∷ []) (leng
 pushed [] y = refl
 pushed (x ∷ xs) y = pushed xs y
 
+-- the steps of a period, and after them the blocks from a place on as steps
+abbrev pub relaxed_at : List Step → ℕ → List Block → ℕ → List Step
+relaxed_at ss t blocks k = ss ++ as_steps t (drop k blocks)
+
 length_one : {X : Type 0} (xs : List X) (y : X) → length (xs ++ y ∷ []) ≡ length xs + 1
 length_one xs y = length-append xs (y ∷ [])
 
