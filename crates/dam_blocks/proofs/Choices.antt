@@ -95,7 +95,8 @@ padded_choice n sel few long only =
     let is : choice n found.0 ≡ take n sel = subst (λ (m : ℕ). choice m found.0 ≡ take n sel) front found.2 in
     let back = none_accepted (drop n sel) (λ i e. (let at = only (n + i) (sym (get_or-drop n sel i false) ∙ e) in
     absurd (omega (arith, at)))) in
-    let left : length (drop n sel) ≡ most_blocks - length (choice n found.0) = omega (arith, length-drop n sel, length-choice n found.0) in (
+    let left : length (drop n sel) ≡ most_blocks - length (choice n found.0) =
+    omega (arith, length-drop n sel, length-choice n found.0) in (
       found.0,
       subst (λ (m : ℕ). found.0 < 2 ^ m) front found.1,
       ap₂ (λ (x y : List Bool). x ++ y) is (ap (λ (m : ℕ). replicate m false) (sym left) ∙ sym back) ∙ take-append-drop n sel,

@@ -1,4 +1,5 @@
--- In a problem each child has one parent, which stands before it, so a chain of parents is never longer than the list of blocks.
+-- In a problem each child has one parent, which stands before it, so that a chain of parents is never longer than the
+-- list of blocks.
 use Rattle.std.proofs.Common.{◌≡◌, ℕ, zero, suc, ◌↔◌, ◌<◌, ◌==◌, Bool, true, false, ◌||◌, Option, Some, None, List, length, get_or, ap, ◌∙◌}
 use Rattle.std.proofs.Common.{sym, refl, inl, inr, arith}
 use Rattle.std.specs.Cmp.Lexicographic.{bytes_decides}

@@ -1,5 +1,5 @@
--- Where every accepted block with its accepted descendants gains, all accepted blocks together do: each stands in the
--- family of just one that has no parent.
+-- If every accepted block gains with its accepted descendants, all accepted blocks gain together: each stands in the
+-- family of just one block without a parent.
 use Rattle.std.proofs.Common.{◌≡◌, ℕ, zero, suc, ◌+◌, ◌<◌, ◌≤◌, ◌==◌, ℤ, pos, ◌+ℤ◌, ◌≤ℤ◌, Bool, true, false, ◌&&◌, ◌||◌, Option, Some, None}
 use Rattle.std.proofs.Common.{List, [], ◌∷◌, length, get_or, cond, nat_lt, lt-ltb, le-ltb, ap, ap₂, ◌∙◌, sym, subst, refl, inl, inr, arith}
 use Rattle.std.specs.List.{slice_get}
@@ -112,12 +112,13 @@ by_place : (f : BlockTerms → ℤ) (n : ℕ) (root : ℕ → ℕ) (bs : List Bl
 by_place f n root [] t sel h = sum_below-zero n
 by_place f n root (b ∷ bs) t [] h = sum_below-zero n
 by_place f n root (b ∷ bs) t (true ∷ sel) h =
+    let family : ℕ → List Bool = λ r. accepted_where (λ j. root j == r) (suc t) sel in
     let apart = sum_below-same n
-    (λ r. over_accepted f (b ∷ bs) ((root t == r) ∷ accepted_where (λ j. root j == r) (suc t) sel))
-    (λ r. where_true (root t == r) (f b.order) +ℤ over_accepted f bs (accepted_where (λ j. root j == r) (suc t) sel))
-    (λ r. first_apart f b bs (root t == r) (accepted_where (λ j. root j == r) (suc t) sel)) in
+    (λ r. over_accepted f (b ∷ bs) ((root t == r) ∷ family r))
+    (λ r. where_true (root t == r) (f b.order) +ℤ over_accepted f bs (family r))
+    (λ r. first_apart f b bs (root t == r) (family r)) in
     let both = sum_below-plus n (λ r. where_true (root t == r) (f b.order))
-    (λ r. over_accepted f bs (accepted_where (λ j. root j == r) (suc t) sel)) in
+    (λ r. over_accepted f bs (family r)) in
     let here = at_just_one n (root t) (f b.order) (subst (λ (m : ℕ). root m < n) (first_place t) (h 0 refl)) in
     let rest = by_place f n root bs (suc t) sel (λ i e. subst (λ (m : ℕ). root m < n) (next_place t i) (h (suc i) e)) in
     omega (arith, ints, apart, both, here, rest)

@@ -22,6 +22,11 @@ use Rattle.dam_blocks.specs.declared.problem.Block.{Block}
 use Rattle.dam_blocks.specs.declared.problem.ProblemRow.{ProblemRow}
 use Rattle.dam_blocks.specs.Problem.{ProblemState, step_in, steps_in, hours_from, block_under, blocks_in, place_after, rows_after}
 use Rattle.dam_blocks.specs.Problem.{problem_of, hourly_orders, AreHours, AreBlocks, HasParentBefore, StandsAt, IsProblem}
+use Rattle.dam_blocks.specs.inside.Making.{hourly_step}
+
+-- the block of a row
+abbrev block_of : Key → BlockTerms → Block
+block_of k o = record { who = k.0; name = k.1; order = o }
 
 -- ---- the hours
 pub length-hours_from : (t n : ℕ) (rows : List Row) → length (hours_from t n rows) ≡ n
@@ -38,7 +43,7 @@ hour_stands t (suc n) (suc i) rows l =
 in_range_option : (t : ℕ) (o : Order) (ss : List Step) → IsOrder o → AreInRange ss → AreInRange (cons_option (step_in t o) ss)
 in_range_option t (Hour o) ss is are =
     elim (o.period == t) as (λ b. AreInRange
-    (cons_option (cond b (Some (record { side = o.side; price = o.price; qty = o.qty })) None) ss)) [
+    (cons_option (cond b (Some (hourly_step o)) None) ss)) [
       | true ↦
           (is.price, is.qty, are)
       | false ↦ are
@@ -70,12 +75,12 @@ one_if b = cond b 1 0
 
 steps_apart : (t : ℕ) (k : Key) (o : HourTerms) (rs : List Row) → (o.period == t) ≡ false
     → length (steps_in t ((k, Hour o) ∷ rs)) ≡ length (steps_in t rs)
-steps_apart t k o rs e = let l = length_step (o.period == t) (record { side = o.side; price = o.price; qty = o.qty }) (steps_in t rs) in
+steps_apart t k o rs e = let l = length_step (o.period == t) (hourly_step o) (steps_in t rs) in
     let c = ap one_if e in omega (arith, l, c)
 
 steps_same : (t : ℕ) (k : Key) (o : HourTerms) (rs : List Row) → (o.period == t) ≡ true
     → length (steps_in t ((k, Hour o) ∷ rs)) ≡ 1 + length (steps_in t rs)
-steps_same t k o rs e = let l = length_step (o.period == t) (record { side = o.side; price = o.price; qty = o.qty }) (steps_in t rs) in
+steps_same t k o rs e = let l = length_step (o.period == t) (hourly_step o) (steps_in t rs) in
     let c = ap one_if e in omega (arith, l, c)
 
 apart_test : (m n : ℕ) → m < n → (m == n) ≡ false
@@ -188,8 +193,8 @@ apart_option k (Hour o) rs none apart = apart
 apart_option k (BlockVariant o) rs none apart = λ i j a b at_i at_j who name. cases k o rs none apart i j a b at_i at_j who name
   where
     cases : (k : Key) (o : BlockTerms) (rs : List Row) → lookup (same_key k) rs ≡ None → AreApart (blocks_in rs) → (i j : ℕ) (a b : Block)
-        → slice_get (record { who = k.0; name = k.1; order = o } ∷ blocks_in rs) i ≡ Some a
-        → slice_get (record { who = k.0; name = k.1; order = o } ∷ blocks_in rs) j ≡ Some b
+        → slice_get (block_of k o ∷ blocks_in rs) i ≡ Some a
+        → slice_get (block_of k o ∷ blocks_in rs) j ≡ Some b
         → a.who ≡ b.who → a.name ≡ b.name → i ≡ j
     cases k o rs none apart zero zero a b at_i at_j who name = refl
     cases k o rs none apart zero (suc j) a b at_i at_j who name =
@@ -256,7 +261,7 @@ blocks-append front rs = filter_map-append (λ (r : Row). block_under r.0.0 r.0.
 
 parent_before : (front : List Row) (k : Key) (o : BlockTerms) (rest : List Row) (name : List ℕ)
     → has_parent_in front (k, BlockVariant o) ≡ true → o.parent ≡ Some name
-    → HasParentBefore (blocks_in (front ++ rest)) (length (blocks_in front)) (record { who = k.0; name = k.1; order = o })
+    → HasParentBefore (blocks_in (front ++ rest)) (length (blocks_in front)) (block_of k o)
 parent_before front k o rest name has parent =
     let passes : not (is_found is_block (lookup (same_key (k.0, name)) front)) ≡ false =
     sym (ap (λ (p : Option (List ℕ)). parent_passes (λ q. not (is_found is_block q)) front k.0 p) parent)
@@ -296,7 +301,7 @@ parents_before front (r ∷ rs) i b name linked at parent =
         (subst (λ (ps : List Row). HasParentBefore (blocks_in ps) (length (blocks_in (front ++ (k, Hour o) ∷ [])) + i) b)
         (append_assoc front ((k, Hour o) ∷ []) rs) (rest i at))
     by_order front k (BlockVariant o) rs zero b name has at parent rest =
-        let is : record { who = k.0; name = k.1; order = o } ≡ b = same_some (record { who = k.0; name = k.1; order = o }) b at in
+        let is : block_of k o ≡ b = same_some (block_of k o) b at in
         let own : o.parent ≡ Some name = ap (λ (c : Block). c.order.parent) is ∙ parent in
         let here : length (blocks_in front) ≡ length (blocks_in front) + 0 = omega arith in
         subst (λ (n : ℕ). HasParentBefore (blocks_in (front ++ (k, BlockVariant o) ∷ rs)) n b) here
@@ -307,7 +312,7 @@ parents_before front (r ∷ rs) i b name linked at parent =
         omega (
           arith,
           ap (λ (bs : List Block). length bs) (blocks-append front ((k, BlockVariant o) ∷ [])),
-          length-append (blocks_in front) (record { who = k.0; name = k.1; order = o } ∷ []),
+          length-append (blocks_in front) (block_of k o ∷ []),
         ) in
         subst (λ (n : ℕ). HasParentBefore (blocks_in (front ++ (k, BlockVariant o) ∷ rs)) n b) longer
         (subst (λ (ps : List Row). HasParentBefore (blocks_in ps) (length (blocks_in (front ++ (k, BlockVariant o) ∷ [])) + i) b)
@@ -338,9 +343,9 @@ row_stands n front k (Hour o) rs is =
     ∙ length-append (steps_in o.period front) (steps_in o.period ((k, Hour o) ∷ rs)) in
     (steps_in o.period rows, stands, least, omega (arith, longer, all))
 row_stands n front k (BlockVariant o) rs is = (
-  record { who = k.0; name = k.1; order = o },
+  block_of k o,
   ap (λ (bs : List Block). slice_get bs (length (blocks_in front))) (blocks-append front ((k, BlockVariant o) ∷ rs))
-      ∙ get_seam (blocks_in front) (blocks_in rs) (record { who = k.0; name = k.1; order = o }),
+      ∙ get_seam (blocks_in front) (blocks_in rs) (block_of k o),
   refl,
   refl,
 )

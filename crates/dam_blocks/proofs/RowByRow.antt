@@ -19,7 +19,7 @@ use Rattle.dam_blocks.specs.declared.problem.Block.{Block}
 use Rattle.dam_blocks.specs.declared.problem.Place.TheVariants.{Hour as AtHour, Block as AtBlock}
 use Rattle.dam_blocks.specs.declared.problem.ProblemRow.{ProblemRow}
 use Rattle.dam_blocks.specs.Problem.{step_in, steps_in, hours_from, block_under, blocks_in, place_after, rows_after, hourly_orders}
-use Rattle.dam_blocks.specs.inside.Making.{step_of, with_step}
+use Rattle.dam_blocks.specs.inside.Making.{hourly_step, with_step}
 use Rattle.dam_blocks.proofs.FromBook.{hour_stands, few_hours}
 
 drop_at : {X : Type 0} (xs : List X) (i : ℕ) (x : X) → slice_get xs i ≡ Some x → drop i xs ≡ x ∷ drop (i + 1) xs
@@ -117,35 +117,39 @@ no_step false s e = refl
 
 -- an hourly order joins the orders of its period, and no other
 steps_own : (t : ℕ) (front : List Row) (k : Key) (o : HourTerms) → o.period ≡ t
-    → steps_in t (front ++ (k, Hour o) ∷ []) ≡ steps_in t front ++ step_of o ∷ []
+    → steps_in t (front ++ (k, Hour o) ∷ []) ≡ steps_in t front ++ hourly_step o ∷ []
 steps_own t front k o e =
     steps-append t front ((k, Hour o) ∷ [])
-    ∙ ap (λ (ss : List Step). steps_in t front ++ ss) (one_step (o.period == t) (step_of o) (same_test o.period t e))
+    ∙ ap (λ (ss : List Step). steps_in t front ++ ss) (one_step (o.period == t) (hourly_step o) (same_test o.period t e))
 
 steps_other : (t : ℕ) (front : List Row) (k : Key) (o : HourTerms) → (o.period ≡ t → ⊥)
     → steps_in t (front ++ (k, Hour o) ∷ []) ≡ steps_in t front
 steps_other t front k o apart =
     steps-append t front ((k, Hour o) ∷ [])
-    ∙ ap (λ (ss : List Step). steps_in t front ++ ss) (no_step (o.period == t) (step_of o) (apart_test o.period t apart))
+    ∙ ap (λ (ss : List Step). steps_in t front ++ ss) (no_step (o.period == t) (hourly_step o) (apart_test o.period t apart))
     ∙ append-nil (steps_in t front)
+
+-- the steps of a period, and those of the later ones
+abbrev with_hour : List Step → List (List Step) → List (List Step)
+with_hour ss hours = ss ∷ hours
 
 hours_later : (t n : ℕ) (front : List Row) (k : Key) (o : HourTerms) → o.period < t
     → hours_from t n (front ++ (k, Hour o) ∷ []) ≡ hours_from t n front
 hours_later t zero front k o l = refl
 hours_later t (suc n) front k o l =
-    ap₂ (λ (ss : List Step) (hours : List (List Step)). ss ∷ hours)
+    ap₂ with_hour
     (steps_other t front k o (λ e. omega (arith, e, l))) (hours_later (suc t) n front k o (omega (arith, l)))
 
 hours_more : (t n i : ℕ) (front : List Row) (k : Key) (o : HourTerms) → i + t ≡ o.period
-    → hours_from t n (front ++ (k, Hour o) ∷ []) ≡ set (hours_from t n front) i (steps_in o.period front ++ step_of o ∷ [])
+    → hours_from t n (front ++ (k, Hour o) ∷ []) ≡ set (hours_from t n front) i (steps_in o.period front ++ hourly_step o ∷ [])
 hours_more t zero i front k o e = refl
 hours_more t (suc n) zero front k o e =
     let own : o.period ≡ t = omega (arith, e) in
-    ap₂ (λ (ss : List Step) (hours : List (List Step)). ss ∷ hours)
-    (steps_own t front k o own ∙ ap (λ (m : ℕ). steps_in m front ++ step_of o ∷ []) (sym own))
+    ap₂ with_hour
+    (steps_own t front k o own ∙ ap (λ (m : ℕ). steps_in m front ++ hourly_step o ∷ []) (sym own))
     (hours_later (suc t) n front k o (omega (arith, own)))
 hours_more t (suc n) (suc i) front k o e =
-    ap₂ (λ (ss : List Step) (hours : List (List Step)). ss ∷ hours)
+    ap₂ with_hour
     (steps_other t front k o (λ same. omega (arith, e, same))) (hours_more (suc t) n i front k o (omega (arith, e)))
 
 -- a block joins none
@@ -153,7 +157,7 @@ hours_kept : (t n : ℕ) (front : List Row) (k : Key) (o : BlockTerms)
     → hours_from t n (front ++ (k, BlockVariant o) ∷ []) ≡ hours_from t n front
 hours_kept t zero front k o = refl
 hours_kept t (suc n) front k o =
-    ap₂ (λ (ss : List Step) (hours : List (List Step)). ss ∷ hours)
+    ap₂ with_hour
     (steps-append t front ((k, BlockVariant o) ∷ []) ∙ append-nil (steps_in t front)) (hours_kept (suc t) n front k o)
 
 -- an hourly order has its place among those of its period
@@ -175,7 +179,7 @@ hour_placed all place k o rows rows' hours hours' blocks blocks' n q at least mo
       sum = rows_more all place (k, Hour o) rows rows' q at
           (is ∙ ap (λ (m : ℕ). record { who = k.0; name = k.1; at = AtHour o.period m }) (count ∙ ap length own)) pushed so_far.sum;
       hours_are = grown
-          ∙ ap₂ (λ (hs : List (List Step)) (ss : List Step). set hs (o.period - 1) (ss ++ step_of o ∷ [])) so_far.hours_are own
+          ∙ ap₂ (λ (hs : List (List Step)) (ss : List Step). set hs (o.period - 1) (ss ++ hourly_step o ∷ [])) so_far.hours_are own
           ∙ sym (hours_more 1 last_period (o.period - 1) front k o index)
           ∙ ap (λ (rs : List Row). hours_from 1 last_period rs) (sym (take_at all place (k, Hour o) at));
       block_count = kept ∙ so_far.block_count ∙ sym (blocks_kept all place k o at);
@@ -233,7 +237,7 @@ one_of_hours (hour ∷ hours) (suc i) ss e = let rest = one_of_hours hours i ss 
 
 -- an order as a step, read part by part
 pub same_step : (o : HourTerms) (side : Side) (price : ℤ) (qty : ℕ) (ss ss' : List Step) → side ≡ o.side → price ≡ o.price → qty ≡ o.qty
-    → ss' ≡ ss ++ record { side = side; price = price; qty = qty } ∷ [] → ss' ≡ ss ++ step_of o ∷ []
+    → ss' ≡ ss ++ record { side = side; price = price; qty = qty } ∷ [] → ss' ≡ ss ++ hourly_step o ∷ []
 same_step o side price qty ss ss' e f g pushed =
     pushed
     ∙ ap (λ (s : Side). ss ++ record { side = s; price = price; qty = qty } ∷ []) e
@@ -243,12 +247,12 @@ same_step o side price qty ss ss' e f g pushed =
 -- one list is longer, among all
 pub list_grown : {X : Type 0} (f : X → List Step) (lists : List X) (own grown : X) (m : ℕ) (o : HourTerms) → m ≡ o.period
     → m - 1 < length lists
-    → own ≡ get_or lists (m - 1) own → f grown ≡ f own ++ step_of o ∷ [] → map f (set lists (m - 1) grown) ≡ with_step (map f lists) o
+    → own ≡ get_or lists (m - 1) own → f grown ≡ f own ++ hourly_step o ∷ [] → map f (set lists (m - 1) grown) ≡ with_step (map f lists) o
 list_grown f lists own grown m o index there is more =
     map-set f lists (m - 1) grown
     ∙ ap (λ (ss : List Step). set (map f lists) (m - 1) ss)
-    (more ∙ ap (λ (ss : List Step). ss ++ step_of o ∷ []) (ap f is ∙ sym (get_or-map f lists (m - 1) own [] there)))
-    ∙ ap (λ (n : ℕ). set (map f lists) (n - 1) (get_or (map f lists) (n - 1) [] ++ step_of o ∷ [])) index
+    (more ∙ ap (λ (ss : List Step). ss ++ hourly_step o ∷ []) (ap f is ∙ sym (get_or-map f lists (m - 1) own [] there)))
+    ∙ ap (λ (n : ℕ). set (map f lists) (n - 1) (get_or (map f lists) (n - 1) [] ++ hourly_step o ∷ [])) index
 
 map_at : {X : Type 0} (f : X → List Step) (xs : List X) (i : ℕ) (x : X) → slice_get xs i ≡ Some x → slice_get (map f xs) i ≡ Some (f x)
 map_at f [] i x e = absurd (cc)

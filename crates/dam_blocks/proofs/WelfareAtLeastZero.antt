@@ -11,7 +11,7 @@ use Rattle.std.proofs.lemmas.Int.{ints}
 use Rattle.dam_hour.specs.declared.step.Step.{Step}
 use Rattle.dam_hour.specs.Execution.{IsExecution, Balances}
 use Rattle.dam_hour.specs.Price.{Supports, IsSupporting, AreEnds, price_between}
-use Rattle.dam_hour.specs.Best.{welfare_of, surplus_at, greatest_welfare}
+use Rattle.dam_hour.specs.Best.{welfare_of, execution_surplus, greatest_welfare}
 use Rattle.dam_blocks.specs.declared.problem.Block.{Block}
 use Rattle.dam_book.specs.Name.{same_text}
 use Rattle.dam_book.specs.Order.{is_parent}
@@ -28,8 +28,8 @@ pub record PriceLaws : Type 0 where
   pub supports : (ss : List Step) (net low high p : ℤ) → AreEnds ss net low high → IsSupporting ss net p ↔ ((low ≤ℤ p) × (p ≤ℤ high))
   pub bound : (ss : List Step) (net w : ℤ) → greatest_welfare ss net ≡ Some w → (xs : List ℕ) → IsExecution ss xs → Balances ss net xs
       → welfare_of ss xs ≤ℤ w
-  pub welfare : (p net : ℤ) (ss : List Step) (xs : List ℕ) → Balances ss net xs → welfare_of ss xs ≡ surplus_at p ss xs +ℤ p *ℤ net
-  pub at_least_zero : (p : ℤ) (ss : List Step) (xs : List ℕ) → IsExecution ss xs → Supports p ss xs → pos 0 ≤ℤ surplus_at p ss xs
+  pub welfare : (p net : ℤ) (ss : List Step) (xs : List ℕ) → Balances ss net xs → welfare_of ss xs ≡ execution_surplus p ss xs +ℤ p *ℤ net
+  pub at_least_zero : (p : ℤ) (ss : List Step) (xs : List ℕ) → IsExecution ss xs → Supports p ss xs → pos 0 ≤ℤ execution_surplus p ss xs
 
 -- at its price a period is worth at least what its net volume is
 hour_at_least : PriceLaws → (ss : List Step) (net p w : ℤ) → IsClearingPrice ss net p → greatest_welfare ss net ≡ Some w → (p *ℤ net) ≤ℤ w

@@ -51,7 +51,7 @@ pub fn eligible_welfare()
     dam_hour::laws::surplus();
 }
 
-/// The verdict on an eligible selection is that it is, with its welfare, of which there is one; and a
+/// The verdict on an eligible selection is that it is eligible, with its welfare, which is unique; and a
 /// selection with another verdict isn't eligible.
 pub fn verdict()
     ensures eligible { (problem : ProblemState) (selection : List Bool) (verdict : Verdict)

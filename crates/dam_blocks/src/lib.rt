@@ -16,8 +16,8 @@
 //!
 //! A contract sees a problem as the steps of each period, the blocks and the rows, a selection as the
 //! list of its acceptances, and a block as its names and terms. What these words mean stands in
-//! `specs/`. Only tested is what the faults say, and that memory isn't said to have run out if it
-//! hasn't.
+//! `specs/`. Tests alone show what the faults say, and that a call reports out of memory only if
+//! memory was refused.
 //!
 //! The crate knows nothing of how a result is looked for without trying every selection, nor of texts.
 #![tactic(auto)]

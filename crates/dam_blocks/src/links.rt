@@ -18,8 +18,8 @@ fn are_of_one_group(first: &Block, second: &Block) -> bool
     }
 }
 
-/// Whether a block lets another be accepted: if it is accepted itself, it isn't of its group, and else it
-/// isn't its parent.
+/// Whether a block lets another be accepted: if it is accepted itself, the two aren't of one group; else it
+/// isn't the other's parent.
 pub(crate) fn permits(other: &Block, is_accepted: bool, block: &Block) -> bool
     ensures { IsTrue result ↔ Permits other.now is_accepted block.now }
 {
@@ -30,11 +30,12 @@ pub(crate) fn permits(other: &Block, is_accepted: bool, block: &Block) -> bool
     }
 }
 
-/// Whether the place, which the selection accepts, is a block's that it accepts the parent of, and no
-/// other block of its group. A selection is admissible if each of its places is allowed.
+/// Whether a place that the selection accepts is allowed: a block stands there, its parent is accepted if it
+/// has one, and no other block of its group is accepted. A selection is admissible if each place that it
+/// accepts is allowed.
 ///
-/// It looks only at the parent and the others of the group, by their places: a search asks it at most of its
-/// nodes.
+/// It looks only at the parent and the others of the group, by their places, since a search calls it at the
+/// majority of its nodes.
 pub fn is_allowed<A: Allocator>(problem: &Problem<A>, selection: Selection, place: usize) -> bool
     requires { accepts selection place ≡ true }
     ensures { IsTrue result ↔ IsAllowed problem.now.blocks selection place }

@@ -3,6 +3,7 @@ ghost use Rattle.std.specs.Option.{option_copied};
 ghost use Rattle.dam_book.specs.Terms.{IsBlockOrder};
 ghost use Rattle.dam_book.specs.Volumes.{have_beyond};
 ghost use Rattle.dam_hour.specs.Execution.{IsHour};
+ghost use Rattle.dam_blocks.specs.declared.problem.ProblemFault.TheVariants.{Memory};
 ghost use Rattle.dam_blocks.specs.Problem.{IsProblem, problem_of};
 ghost use Rattle.dam_blocks.specs.inside.Hindrances.{AreHindrances};
 
@@ -82,10 +83,7 @@ pub enum ProblemFault {
 }
 
 impl From<AllocError> for ProblemFault {
-    ghost use Rattle.std.specs.Prelude.{◌≡◌};
-    ghost use Rattle.dam_blocks.specs.declared.problem.ProblemFault.TheVariants.{Memory};
-
-    ghost from_gives = { λ _ e. e ≡ Memory };
+    ghost from_gives = { λ _ fault. fault ≡ Memory };
 
     fn from(_error: AllocError) -> ProblemFault {
         ProblemFault::Memory

@@ -2,7 +2,7 @@ ghost use Rattle.std.specs.Prelude.{◌≡◌, ◌⊎◌, ℤ, pos, MatchBool};
 ghost use Rattle.dam_blocks.specs.Selection.{empty_selection};
 ghost use Rattle.dam_blocks.specs.Eligible.{IsEligible};
 ghost use Rattle.dam_blocks.specs.Result.{accepts_first, RanksAbove, RanksAtOrBelow, IsResult};
-ghost use Rattle.dam_blocks.specs.inside.Better.{IsNoBetter};
+ghost use Rattle.dam_blocks.specs.inside.Better.{RanksNoHigher};
 
 use crate::laws;
 use crate::problem::Problem;
@@ -54,8 +54,8 @@ pub fn best_of_none<A: Allocator>(problem: &Problem<A>) -> Best
 /// The one of the two that ranks above the other.
 fn higher(first: &Best, second: &Best) -> Best
     ensures either { (result ≡ first.now) ⊎ (result ≡ second.now) }
-    ensures first { IsNoBetter first.now result }
-    ensures second { IsNoBetter second.now result }
+    ensures first { RanksNoHigher first.now result }
+    ensures second { RanksNoHigher second.now result }
 {
     if ranks_above(*first, *second) {
         *first
@@ -68,7 +68,7 @@ fn higher(first: &Best, second: &Best) -> Best
 fn better<A: Allocator>(problem: &Problem<A>, best: Best, selection: Selection) -> Best
     requires { IsEligible problem.now best.selection (pos best.welfare) }
     ensures eligible { IsEligible problem.now result.selection (pos result.welfare) }
-    ensures kept { IsNoBetter best result }
+    ensures kept { RanksNoHigher best result }
     ensures tried { (v : ℤ) → IsEligible problem.now selection v
         → RanksAtOrBelow v selection (pos result.welfare) result.selection }
 {

@@ -40,12 +40,16 @@ nothing_bound blocks taken left hours = record {
   high = omega (arith, ints);
 }
 
+-- the periods after a place, with the blocks that are left as steps
+abbrev later_hours : List Block → ℕ → List (List Step) → List (List Step)
+later_hours left place hours = relaxed_hours left ((place + 1) + 1) (drop (place + 1) hours)
+
 -- the periods from a place on: that one, and the later ones
 from_place : (blocks : List Block) (taken : List Bool) (left : List Block) (hours : List (List Step)) (place : ℕ) (ss : List Step)
     → slice_get hours place ≡ Some ss
     → welfare_from blocks taken (place + 1) (relaxed_hours left (place + 1) (drop place hours))
     ≡ added (period_welfare blocks taken (place + 1) (ss ++ as_steps (place + 1) left))
-    (welfare_from blocks taken ((place + 1) + 1) (relaxed_hours left ((place + 1) + 1) (drop (place + 1) hours)))
+    (welfare_from blocks taken ((place + 1) + 1) (later_hours left place hours))
 from_place blocks taken left hours place ss at =
     let next : suc (place + 1) ≡ (place + 1) + 1 = omega arith in
     ap (λ (hs : List (List Step)). welfare_from blocks taken (place + 1) (relaxed_hours left (place + 1) hs)) (drop_at hours place ss at)
@@ -60,7 +64,7 @@ pub one_bound : (blocks : List Block) (taken : List Bool) (left : List Block) (h
 one_bound blocks taken left hours place t ss w total after at period is within e so_far =
     let here : Some w ≡ period_welfare blocks taken (place + 1) (ss ++ as_steps (place + 1) left) =
     is ∙ ap (λ (u : ℕ). period_welfare blocks taken u (ss ++ as_steps u left)) period in
-    let rest = welfare_from blocks taken ((place + 1) + 1) (relaxed_hours left ((place + 1) + 1) (drop (place + 1) hours)) in
+    let rest = welfare_from blocks taken ((place + 1) + 1) (later_hours left place hours) in
     let sum = so_far.sum in let l = so_far.low in let h = so_far.high in
     let least = within.at_least in let most = within.at_most in
     record {
@@ -78,7 +82,7 @@ pub none_bound : (blocks : List Block) (taken : List Bool) (left : List Block) (
 none_bound blocks taken left hours place t ss total at period is so_far =
     let here : None ≡ period_welfare blocks taken (place + 1) (ss ++ as_steps (place + 1) left) =
     is ∙ ap (λ (u : ℕ). period_welfare blocks taken u (ss ++ as_steps u left)) period in
-    let rest = welfare_from blocks taken ((place + 1) + 1) (relaxed_hours left ((place + 1) + 1) (drop (place + 1) hours)) in
+    let rest = welfare_from blocks taken ((place + 1) + 1) (later_hours left place hours) in
     ap (λ (x : Option ℤ). added (Some total) (added x rest)) here
     ∙ ap (added (Some total)) (sym (from_place blocks taken left hours place ss at)) ∙ so_far.sum
 

@@ -14,6 +14,7 @@ use Rattle.dam_book.specs.Terms.{BlockTerms}
 use Rattle.dam_blocks.specs.Selection.{padded, over_accepted, net_volume_of, value_of, net_volume, block_value}
 use Rattle.dam_blocks.specs.Eligible.{added, period_welfare, welfare_from}
 use Rattle.dam_bound.specs.Relaxed.{as_steps, relaxed_hours}
+use Rattle.dam_bound.proofs.Levelling.{relaxed_at}
 use Rattle.dam_bound.proofs.Standing.{stand, idle}
 
 -- what the laws of sums over blocks say
@@ -66,15 +67,22 @@ great_at_least : Laws → (ss : List Step) (net : ℤ) (xs : List ℕ) → IsExe
     → (g : ℤ) × (greatest_welfare ss net ≡ Some g) × (welfare_of ss xs ≤ℤ g)
 great_at_least laws ss net xs e b = let some = laws.some ss net (xs, e, b) in (some.0, some.1, laws.bound ss net some.0 some.1 xs e b)
 
--- an execution of the steps and one of the blocks that stay undecided, which balance where more is decided
+-- the blocks that stay undecided after the prefix and the rest
+abbrev left_after : List Block → List Bool → List Bool → List Block
+left_after bs prefix rest = drop (length rest) (drop (length prefix) bs)
+
+-- these as steps of the period
+abbrev left_steps : ℕ → List Block → List Bool → List Bool → List Step
+left_steps t bs prefix rest = as_steps t (left_after bs prefix rest)
+
+-- an execution of the steps and one of the blocks that stay undecided, which balance if more is decided
 covered : Laws → (t : ℕ) (bs : List Block) (prefix rest : List Bool) (ss : List Step) (xs us : List ℕ)
-    → IsExecution ss xs → IsExecution (as_steps t (drop (length rest) (drop (length prefix) bs))) us
-    → (pos (executed_volume Sell ss xs) +ℤ pos (executed_volume Sell (as_steps t (drop (length rest) (drop (length prefix) bs))) us))
+    → IsExecution ss xs → IsExecution (left_steps t bs prefix rest) us
+    → (pos (executed_volume Sell ss xs) +ℤ pos (executed_volume Sell (left_steps t bs prefix rest) us))
     +ℤ net_volume bs (prefix ++ rest) t
-    ≡ pos (executed_volume Buy ss xs) +ℤ pos (executed_volume Buy (as_steps t (drop (length rest) (drop (length prefix) bs))) us)
-    → (r : ℤ) × (period_welfare bs prefix t (ss ++ as_steps t (drop (length prefix) bs)) ≡ Some r)
-    × (((welfare_of ss xs +ℤ welfare_of (as_steps t (drop (length rest) (drop (length prefix) bs))) us) +ℤ block_value bs (prefix ++ rest)
-    t) ≤ℤ r)
+    ≡ pos (executed_volume Buy ss xs) +ℤ pos (executed_volume Buy (left_steps t bs prefix rest) us)
+    → (r : ℤ) × (period_welfare bs prefix t (relaxed_at ss t bs (length prefix)) ≡ Some r)
+    × (((welfare_of ss xs +ℤ welfare_of (left_steps t bs prefix rest) us) +ℤ block_value bs (prefix ++ rest) t) ≤ℤ r)
 covered laws t bs prefix rest ss xs us e f b =
     let undecided = drop (length prefix) bs in
     let s = stand t undecided rest us f in
@@ -93,8 +101,7 @@ covered laws t bs prefix rest ss xs us e f b =
       omega (arith, ints, most, worth, gain, value),
     )
 
-pub drop_more : (bs : List Block) (prefix rest : List Bool) → drop (length (prefix ++ rest)) bs ≡ drop (length rest)
-    (drop (length prefix) bs)
+pub drop_more : (bs : List Block) (prefix rest : List Bool) → drop (length (prefix ++ rest)) bs ≡ left_after bs prefix rest
 drop_more bs [] rest = refl
 drop_more [] (d ∷ prefix) [] = refl
 drop_more [] (d ∷ prefix) (r ∷ rest) = refl
@@ -102,10 +109,10 @@ drop_more (b ∷ bs) (d ∷ prefix) rest = drop_more bs prefix rest
 
 -- deciding more raises no period
 pub period_extended : Laws → (t : ℕ) (bs : List Block) (prefix rest : List Bool) (ss : List Step) (w : ℤ)
-    → period_welfare bs (prefix ++ rest) t (ss ++ as_steps t (drop (length rest) (drop (length prefix) bs))) ≡ Some w
-    → (r : ℤ) × (period_welfare bs prefix t (ss ++ as_steps t (drop (length prefix) bs)) ≡ Some r) × (w ≤ℤ r)
+    → period_welfare bs (prefix ++ rest) t (ss ++ as_steps t (left_after bs prefix rest)) ≡ Some w
+    → (r : ℤ) × (period_welfare bs prefix t (relaxed_at ss t bs (length prefix)) ≡ Some r) × (w ≤ℤ r)
 period_extended laws t bs prefix rest ss w e =
-    let ts = as_steps t (drop (length rest) (drop (length prefix) bs)) in
+    let ts = left_steps t bs prefix rest in
     let parts = raised_some (greatest_welfare (ss ++ ts) (net_volume bs (prefix ++ rest) t)) (block_value bs (prefix ++ rest) t) w e in
     let best = laws.reached (ss ++ ts) (net_volume bs (prefix ++ rest) t) parts.0 parts.1 in
     let apart = laws.parted ss ts best.0 best.1 in
@@ -120,9 +127,9 @@ period_extended laws t bs prefix rest ss w e =
 -- no completion reaches more in a period
 period_completed : Laws → (t : ℕ) (bs : List Block) (prefix rest : List Bool) (ss : List Step) (w : ℤ)
     → period_welfare bs (prefix ++ rest) t ss ≡ Some w
-    → (r : ℤ) × (period_welfare bs prefix t (ss ++ as_steps t (drop (length prefix) bs)) ≡ Some r) × (w ≤ℤ r)
+    → (r : ℤ) × (period_welfare bs prefix t (relaxed_at ss t bs (length prefix)) ≡ Some r) × (w ≤ℤ r)
 period_completed laws t bs prefix rest ss w e =
-    let none = idle (as_steps t (drop (length rest) (drop (length prefix) bs))) in
+    let none = idle (left_steps t bs prefix rest) in
     let parts = raised_some (greatest_welfare ss (net_volume bs (prefix ++ rest) t)) (block_value bs (prefix ++ rest) t) w e in
     let best = laws.reached ss (net_volume bs (prefix ++ rest) t) parts.0 parts.1 in
     let balance = best.2 in let is = best.3 in let sum = parts.2 in
@@ -133,11 +140,11 @@ period_completed laws t bs prefix rest ss w e =
 
 -- ---- the day
 extended_from : Laws → (t : ℕ) (bs : List Block) (prefix rest : List Bool) (hours : List (List Step)) (w : ℤ)
-    → welfare_from bs (prefix ++ rest) t (relaxed_hours (drop (length rest) (drop (length prefix) bs)) t hours) ≡ Some w
+    → welfare_from bs (prefix ++ rest) t (relaxed_hours (left_after bs prefix rest) t hours) ≡ Some w
     → (r : ℤ) × (welfare_from bs prefix t (relaxed_hours (drop (length prefix) bs) t hours) ≡ Some r) × (w ≤ℤ r)
 extended_from laws t bs prefix rest [] w e = let zero : w ≡ pos 0 = cc in (pos 0, refl, omega (arith, ints, zero))
 extended_from laws t bs prefix rest (ss ∷ hours) w e =
-    let left = drop (length rest) (drop (length prefix) bs) in
+    let left = left_after bs prefix rest in
     let parts = added_some (period_welfare bs (prefix ++ rest) t (ss ++ as_steps t left))
     (welfare_from bs (prefix ++ rest) (suc t) (relaxed_hours left (suc t) hours)) w e in
     let here = period_extended laws t bs prefix rest ss parts.0 parts.2 in

@@ -28,7 +28,7 @@ use Rattle.dam_bound.specs.inside.Change.{IsChange, NeverRises, IsGivenUp}
 use Rattle.dam_bound.specs.inside.Levels.{greatest_period_bound}
 use Rattle.dam_bound.proofs.Covering.{Laws, period_extended, drop_more}
 use Rattle.dam_bound.proofs.Extending.{same_net, same_period, same_value}
-use Rattle.dam_bound.proofs.Levelling.{drop_at}
+use Rattle.dam_bound.proofs.Levelling.{relaxed_at, drop_at}
 use Rattle.dam_bound.proofs.Periods.{one_at}
 use Rattle.dam_bound.proofs.Sizes.{value_small}
 use Rattle.dam_bound.proofs.Volumes.{own_volume, other_volume}
@@ -75,7 +75,7 @@ same_part blocks hours place depth change accept before after t b is at none =
 pub record IsChangedSoFar (blocks : List Block) (hours : List (List Step)) (pairs : List Pair) (before after : List Bool)
     (periods : List Taken) (total : ℤ) : Type 0 where
   pub each : (i : ℕ) (ss : List Step) (d : Taken) → slice_get hours i ≡ Some ss → volume_in pairs (i + 1) ≡ 0
-      → IsPeriodOfDay blocks after (i + 1) (ss ++ as_steps (i + 1) (drop (length after) blocks)) (get_or periods i d)
+      → IsPeriodOfDay blocks after (i + 1) (relaxed_at ss (i + 1) blocks (length after)) (get_or periods i d)
   pub sum : total ≡ sum_from (part_by blocks hours before after pairs) 1 (length hours)
 
 some_is : (x y : ℤ) → Some x ≡ Some y → x ≡ y
@@ -89,10 +89,10 @@ total_is problem prefix day of =
     (of.total_is ∙ sym (sum_is_welfare (part problem.blocks problem.hours prefix) problem.blocks (drop (length prefix) problem.blocks)
     prefix 1 problem.hours
     (λ i ss at. (let number : 1 + i ≡ i + 1 = omega arith in
-    let own = subst (λ (t : ℕ). IsPeriodOfDay problem.blocks prefix t (ss ++ as_steps t (drop (length prefix) problem.blocks))
+    let own = subst (λ (t : ℕ). IsPeriodOfDay problem.blocks prefix t (relaxed_at ss t problem.blocks (length prefix))
     (get_or day.periods i no_units)) (sym number) (of.each i ss no_units at) in
     ap (λ (z : ℤ). Some z) (part_is problem.blocks problem.hours prefix i (1 + i) ss (get_or day.periods i no_units) at number own)
-    ∙ worth_is problem.blocks prefix (1 + i) (ss ++ as_steps (1 + i) (drop (length prefix) problem.blocks)) (get_or day.periods i no_units)
+    ∙ worth_is problem.blocks prefix (1 + i) (relaxed_at ss (1 + i) problem.blocks (length prefix)) (get_or day.periods i no_units)
     own))))
   where
     no_units : Taken
@@ -131,7 +131,7 @@ pub period_changed : (blocks : List Block) (hours : List (List Step)) (pairs : L
     (ss : List Step) (own : Taken) (total next : ℤ)
     → volume_in (drop (k + 1) pairs) p.0 ≡ 0 → slice_get pairs k ≡ Some p → 1 ≤ p.1 → p.0 ≡ place + 1 → slice_get hours place ≡ Some ss
     → place < length periods
-    → IsPeriodOfDay blocks after p.0 (ss ++ as_steps p.0 (drop (length after) blocks)) own
+    → IsPeriodOfDay blocks after p.0 (relaxed_at ss p.0 blocks (length after)) own
     → next ≡ total +ℤ (part blocks hours after p.0 -ℤ part blocks hours before p.0)
     → IsChangedSoFar blocks hours (drop k pairs) before after periods total
     → IsChangedSoFar blocks hours (drop (k + 1) pairs) before after (slice_set periods place own) next
@@ -144,10 +144,10 @@ period_changed blocks hours pairs k place p before after periods ss own total ne
           (let equal : i ≡ place = omega (arith, more, same) in
           let steps = own_steps i other there equal in
           let next : p.0 ≡ i + 1 = omega (arith, number, equal) in
-          subst (λ (o : Taken). IsPeriodOfDay blocks after (i + 1) (other ++ as_steps (i + 1) (drop (length after) blocks)) o)
+          subst (λ (o : Taken). IsPeriodOfDay blocks after (i + 1) (relaxed_at other (i + 1) blocks (length after)) o)
           (sym (ap (λ (n : ℕ). get_or (slice_set periods place own) n d) equal ∙ get_or-set_same periods place own d inside))
-          (subst (λ (n : ℕ). IsPeriodOfDay blocks after n (other ++ as_steps n (drop (length after) blocks)) own) next
-          (subst (λ (hs : List Step). IsPeriodOfDay blocks after p.0 (hs ++ as_steps p.0 (drop (length after) blocks)) own) (sym steps)
+          (subst (λ (n : ℕ). IsPeriodOfDay blocks after n (relaxed_at other n blocks (length after)) own) next
+          (subst (λ (hs : List Step). IsPeriodOfDay blocks after p.0 (relaxed_at hs p.0 blocks (length after)) own) (sym steps)
           is)))
     ]
   ];
@@ -167,10 +167,10 @@ period_changed blocks hours pairs k place p before after periods ss own total ne
   where
     elsewhere : (i : ℕ) (other : List Step) (d : Taken) → slice_get hours i ≡ Some other → volume_in (drop (k + 1) pairs) (i + 1) ≡ 0
         → i ≢ place → p.0 ≢ i + 1
-        → IsPeriodOfDay blocks after (i + 1) (other ++ as_steps (i + 1) (drop (length after) blocks))
+        → IsPeriodOfDay blocks after (i + 1) (relaxed_at other (i + 1) blocks (length after))
         (get_or (slice_set periods place own) i d)
     elsewhere i other d there none apart apart' =
-        subst (λ (o : Taken). IsPeriodOfDay blocks after (i + 1) (other ++ as_steps (i + 1) (drop (length after) blocks)) o)
+        subst (λ (o : Taken). IsPeriodOfDay blocks after (i + 1) (relaxed_at other (i + 1) blocks (length after)) o)
         (sym (get_or-set_other periods place i own d apart)) (so_far.each i other d there (rest_at pairs k (i + 1) p at apart' ∙ none))
 
     own_steps : (i : ℕ) (xs : List Step) → slice_get hours i ≡ Some xs → i ≡ place → xs ≡ ss
@@ -179,8 +179,8 @@ period_changed blocks hours pairs k place p before after periods ss own total ne
 -- what is taken in a period, and what the period is worth, after a change
 pub moved_part : (blocks : List Block) (hours : List (List Step)) (before after : List Bool) (i t : ℕ) (ss : List Step) (own next : Taken)
     (value change : ℤ)
-    → slice_get hours i ≡ Some ss → t ≡ i + 1 → IsPeriodOfDay blocks before t (ss ++ as_steps t (drop (length before) blocks)) own
-    → IsMoved (ss ++ as_steps t (drop (length before) blocks)) (net_volume blocks before t) (ss ++ as_steps t (drop (length after) blocks))
+    → slice_get hours i ≡ Some ss → t ≡ i + 1 → IsPeriodOfDay blocks before t (relaxed_at ss t blocks (length before)) own
+    → IsMoved (relaxed_at ss t blocks (length before)) (net_volume blocks before t) (relaxed_at ss t blocks (length after))
     (net_volume blocks after t) value next change
     → block_value blocks after t ≡ block_value blocks before t +ℤ value
     → change ≡ part blocks hours after t -ℤ part blocks hours before t
@@ -203,12 +203,12 @@ all_changed problem before after rest day long all so_far = record {
       after 1 problem.hours
       (λ i ss at. (let number : 1 + i ≡ i + 1 = omega arith in
       let none = ap (λ (v : List Pair). volume_in v (1 + i)) all in
-      let own = subst (λ (t : ℕ). IsPeriodOfDay problem.blocks after t (ss ++ as_steps t (drop (length after) problem.blocks))
+      let own = subst (λ (t : ℕ). IsPeriodOfDay problem.blocks after t (relaxed_at ss t problem.blocks (length after))
       (get_or day.periods i no_units)) (sym number)
       (so_far.each i ss no_units at (ap (λ (v : List Pair). volume_in v (i + 1)) all)) in
       ap (λ (z : ℤ). Some z) (part_after problem.blocks problem.hours before after rest (1 + i) none
       ∙ part_is problem.blocks problem.hours after i (1 + i) ss (get_or day.periods i no_units) at number own)
-      ∙ worth_is problem.blocks after (1 + i) (ss ++ as_steps (1 + i) (drop (length after) problem.blocks)) (get_or day.periods i no_units)
+      ∙ worth_is problem.blocks after (1 + i) (relaxed_at ss (1 + i) problem.blocks (length after)) (get_or day.periods i no_units)
       own));
 }
   where
@@ -223,7 +223,7 @@ AreStill pairs before periods = (i : ℕ) (d : Taken) → 0 < volume_in pairs (i
 part_within : (count i t : ℕ) (blocks : List Block) (hours : List (List Step)) (prefix : List Bool) (ss : List Step) (own : Taken)
     → AreBlocks count blocks
     → length blocks ≤ most_blocks → slice_get hours i ≡ Some ss → t ≡ i + 1
-    → IsPeriodOfDay blocks prefix t (ss ++ as_steps t (drop (length prefix) blocks)) own
+    → IsPeriodOfDay blocks prefix t (relaxed_at ss t blocks (length prefix)) own
     → IsWithin greatest_period_bound (part blocks hours prefix t)
 part_within count i t blocks hours prefix ss own are few at e is =
     let w = value_small count t blocks prefix are few in
@@ -231,12 +231,12 @@ part_within count i t blocks hours prefix ss own are few at e is =
     let a = w.at_least in let b = w.at_most in let c = is.small.at_least in let h = is.small.at_most in let short = is.small.few in
     record { at_least = omega (arith, ints, a, c, same, short); at_most = omega (arith, ints, b, h, same, short) }
 
-pub total_within : (problem : ProblemState) (pairs : List Pair) (before after : List Bool) (day : Day) (periods : List Taken) (total : ℤ)
+pub total_within : {problem : ProblemState} {pairs : List Pair} {before after : List Bool} {day : Day} {periods : List Taken} {total : ℤ}
     (count : ℕ)
     → AreBlocks count problem.blocks → length problem.blocks ≤ most_blocks → length problem.hours ≤ last_period
     → IsDay problem before day → IsChangedSoFar problem.blocks problem.hours pairs before after periods total
     → IsWithin (last_period * greatest_period_bound) total
-total_within problem pairs before after day periods total count are few short is so_far =
+total_within {problem} {pairs} {before} {after} {day} {periods} {total} count are few short is so_far =
     let w = sum_within (part_by problem.blocks problem.hours before after pairs) 1 (length problem.hours) greatest_period_bound
     (λ u l m. each u (u - 1) (omega (arith, l)) (omega (arith, l, m)) (volume_in pairs u) refl) in
     let a = w.at_least in let b = w.at_most in let sum = so_far.sum in
@@ -251,14 +251,14 @@ total_within problem pairs before after day periods total count are few short is
         let hour = one_at problem.hours i l in
         subst (IsWithin greatest_period_bound) (sym (part_after problem.blocks problem.hours before after pairs u e))
         (part_within count i u problem.blocks problem.hours after hour.0 (get_or periods i no_units) are few hour.1 number
-        (subst (λ (t : ℕ). IsPeriodOfDay problem.blocks after t (hour.0 ++ as_steps t (drop (length after) problem.blocks))
+        (subst (λ (t : ℕ). IsPeriodOfDay problem.blocks after t (relaxed_at hour.0 t problem.blocks (length after))
         (get_or periods i no_units)) (sym number)
         (so_far.each i hour.0 no_units hour.1 (ap (volume_in pairs) (sym number) ∙ e))))
     each u i number l (suc n) e =
         let hour = one_at problem.hours i l in
         subst (IsWithin greatest_period_bound) (sym (part_before problem.blocks problem.hours before after pairs u (omega (arith, e))))
         (part_within count i u problem.blocks problem.hours before hour.0 (get_or day.periods i no_units) are few hour.1 number
-        (subst (λ (t : ℕ). IsPeriodOfDay problem.blocks before t (hour.0 ++ as_steps t (drop (length before) problem.blocks))
+        (subst (λ (t : ℕ). IsPeriodOfDay problem.blocks before t (relaxed_at hour.0 t problem.blocks (length before))
         (get_or day.periods i no_units)) (sym number)
         (is.each i hour.0 no_units hour.1)))
 
@@ -273,7 +273,7 @@ total_at_least problem pairs before after periods total w so_far never e =
     let sum = so_far.sum in omega (arith, ints, h, sum)
   where
     each : (i : ℕ) (ss : List Step) (u : ℤ) → slice_get problem.hours i ≡ Some ss → (n : ℕ) → volume_in pairs (1 + i) ≡ n
-        → period_welfare problem.blocks after (1 + i) (ss ++ as_steps (1 + i) (drop (length after) problem.blocks)) ≡ Some u
+        → period_welfare problem.blocks after (1 + i) (relaxed_at ss (1 + i) problem.blocks (length after)) ≡ Some u
         → u ≤ℤ part_by problem.blocks problem.hours before after pairs (1 + i)
     each i ss u at zero e welfare =
         let number : 1 + i ≡ i + 1 = omega arith in

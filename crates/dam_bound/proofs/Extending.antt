@@ -21,7 +21,7 @@ use Rattle.dam_bound.specs.inside.Change.{by, IsChange}
 use Rattle.dam_bound.proofs.Covering.{SumLaws}
 use Rattle.dam_bound.proofs.Levelling.{drop_at, no_step}
 
--- the number, where the block is accepted, and else 0
+-- the number if the block is accepted, else 0
 abbrev pub if_accepted : Bool → ℤ → ℤ
 if_accepted true z = z
 if_accepted false z = pos 0

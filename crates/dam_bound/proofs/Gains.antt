@@ -139,7 +139,7 @@ gain_more total gain own all rest whole after e f g h = omega (arith, ints, e, f
 pub gain_whole : (total rest whole : ℤ) → rest ≡ pos 0 → total +ℤ rest ≡ whole → total ≡ whole
 gain_whole total rest whole e f = omega (arith, ints, e, f)
 
--- ---- where every period balances
+-- ---- if every period balances
 pub record PriceLaws : Type 0 where
   pub reached : (ss : List Step) (net w : ℤ) → greatest_welfare ss net ≡ Some w
       → (xs : List ℕ) × IsExecution ss xs × Balances ss net xs × (welfare_of ss xs ≡ w)

@@ -23,10 +23,14 @@ pushed : {X : Type 0} (xs : List X) (y : X) → slice_get (xs ++ y ∷ []) (leng
 pushed [] y = refl
 pushed (x ∷ xs) y = pushed xs y
 
+-- the steps of a period, and after them the blocks from a place on as steps
+abbrev pub relaxed_at : List Step → ℕ → List Block → ℕ → List Step
+relaxed_at ss t blocks k = ss ++ as_steps t (drop k blocks)
+
 length_one : {X : Type 0} (xs : List X) (y : X) → length (xs ++ y ∷ []) ≡ length xs + 1
 length_one xs y = length-append xs (y ∷ [])
 
--- ---- the blocks behind a place
+-- ---- the blocks from a place on
 drop_next : {X : Type 0} (xs : List X) (i : ℕ) (x : X) → slice_get xs i ≡ Some x → drop i xs ≡ x ∷ drop (suc i) xs
 drop_next [] i x e = absurd (cc)
 drop_next (y ∷ xs) zero x e = let same : y ≡ x = cc in ap (λ (z : _). z ∷ xs) same
@@ -46,7 +50,7 @@ some_step t b bs l =
     let some : (volume_in b.order.volumes t == 0) ≡ false = grind (arith, nat_tests) in
     ap (λ (c : _). cond c (as_steps t bs) (step_of t b.order ∷ as_steps t bs)) some
 
--- behind the hourly orders stands a block with a volume in the period, and without it the blocks that come after it
+-- a block with a volume in the period stands right after the hourly orders, and without it the later blocks do
 pub level_below : (t : ℕ) (ss : List Step) (blocks : List Block) (count : ℕ) (b : Block) (above : List Step)
     → slice_get blocks count ≡ Some b
     → 0 < volume_in b.order.volumes t → above ≡ ss ++ as_steps t (drop count blocks)

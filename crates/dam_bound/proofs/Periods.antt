@@ -62,7 +62,7 @@ one_period blocks hours count periods levels at so_far =
       ];
     }
 
--- a day has so many periods at most
+-- a day has at most the periods of the longest one
 short_day : (periods : ℕ) → is_day periods ≡ true → periods ≤ last_period
 short_day periods day = grind (arith, nat_tests)
 

@@ -41,7 +41,8 @@ pub few_steps : (t : ℕ) (bs : List Block) → length (as_steps t bs) ≤ lengt
 few_steps t [] = omega arith
 few_steps t (b ∷ bs) =
     let rest = few_steps t bs in
-    elim (volume_in b.order.volumes t == 0) as (λ c. length (cond c (as_steps t bs) (step_of t b.order ∷ as_steps t bs)) ≤ suc (length bs)) [
+    elim (volume_in b.order.volumes t == 0) as (λ c.
+    length (cond c (as_steps t bs) (step_of t b.order ∷ as_steps t bs)) ≤ suc (length bs)) [
       | true ↦ omega (arith, rest)
       | false ↦ omega (arith, rest)
     ]

@@ -39,7 +39,8 @@ nothing_worth : (side : Side) (p : ℤ) → signed side (p *ℤ pos 0) ≡ pos 0
 nothing_worth side p = signed_zero side (p *ℤ pos 0) (times_zero p)
 
 -- ---- the blocks
--- volumes of the steps ts, which are bs as steps: those of the blocks that are decided, as they are, and the given ones of the others
+-- volumes of the steps ts, which are bs as steps: those of the decided blocks as they are decided, and the given ones
+-- of the others
 pub record Stands (t : ℕ) (ts : List Step) (bs : List Block) (prefix : List Bool) (left : List Step) (us : List ℕ) : Type 0 where
   pub volumes : List ℕ
   pub execution : IsExecution ts volumes

@@ -24,7 +24,7 @@ use Rattle.dam_bound.specs.declared.tables.Touch.{Touch}
 use Rattle.dam_bound.specs.Relaxed.{step_of, as_steps}
 use Rattle.dam_bound.specs.inside.Tables.{LotState, ArePlaces, AreSpans, pair_of, pairs_of, IsTouch, IsLot, AreLots, AreTables}
 use Rattle.dam_bound.proofs.Extending.{same_steps}
-use Rattle.dam_bound.proofs.Levelling.{drop_at, some_step}
+use Rattle.dam_bound.proofs.Levelling.{relaxed_at, drop_at, some_step}
 use Rattle.dam_bound.proofs.Periods.{of_pushed, one_at}
 use Rattle.dam_bound.proofs.Volumes.{own_volume, other_volume, pair_above, volume_at, past_volume, pair_quantity}
 
@@ -58,7 +58,7 @@ touch_kept hours blocks old new k b p touch keeps t = record {
   inside = t.inside;
   from_is = t.from_is;
   to_is = t.to_is;
-  cut_is = λ ss at. cut_kept old new (step_of p.0 b.order) (ss ++ as_steps p.0 (drop (k + 1) blocks)) touch.cut keeps (t.cut_is ss at);
+  cut_is = λ ss at. cut_kept old new (step_of p.0 b.order) (relaxed_at ss p.0 blocks (k + 1)) touch.cut keeps (t.cut_is ss at);
 }
 
 lot_kept : (hours : List (List Step)) (blocks : List Block) (old new : List Row) (k : ℕ) (b : Block) (lot : LotState) → Keeps old new
@@ -84,28 +84,32 @@ within_day periods (q ∷ ps) zero p none at =
 within_day periods (q ∷ ps) (suc j) p none at =
     let rest : have_beyond periods ps ≡ false = grind (arith, nat_tests) in within_day periods ps j p rest at
 
+-- the block's step in the period of a pair
+abbrev pair_step : Block → Pair → Step
+pair_step b p = record { side = b.order.side; price = b.order.price; qty = p.1 }
+
 -- the block's step in the period of a pair stands after the hourly orders
 pub next_step : (blocks : List Block) (k j : ℕ) (b : Block) (p : Pair) (ss : List Step) → slice_get blocks k ≡ Some b
     → slice_get b.order.volumes j ≡ Some p
     → is_increasing 0 b.order.volumes ≡ true → 1 ≤ p.1
-    → (ss ++ as_steps p.0 (drop k blocks) ≡ ss ++ step_of p.0 b.order ∷ as_steps p.0 (drop (k + 1) blocks))
-    × (record { side = b.order.side; price = b.order.price; qty = p.1 } ≡ step_of p.0 b.order)
+    → (relaxed_at ss p.0 blocks k ≡ ss ++ step_of p.0 b.order ∷ as_steps p.0 (drop (k + 1) blocks))
+    × (pair_step b p ≡ step_of p.0 b.order)
 next_step blocks k j b p ss at pair rising some =
     let volume = volume_at 0 b.order.volumes j p rising pair in (
       ap (λ (bs : List Block). ss ++ as_steps p.0 bs) (drop_at blocks k b at)
           ∙ ap (λ (ts : List Step). ss ++ ts) (some_step p.0 b (drop (k + 1) blocks) (omega (arith, volume, some))),
-      ap (λ (n : ℕ). record { side = b.order.side; price = b.order.price; qty = n }) (sym volume),
+      ap (λ (n : ℕ). pair_step b (p.0, n)) (sym volume),
     )
 
 -- ---- the stacks in the middle of a block
--- a period in which the block has a volume left has its stack before the block is decided, and any other the one after it
+-- a period in which the block has a volume left has the stack before the decision on it, and any other the one after it
 pub record AreSpansSoFar (hours : List (List Step)) (blocks : List Block) (rows : List Row) (k : ℕ) (left : List Pair)
     (spans : List Span) : Type 0 where
   pub as_many : length spans ≡ length hours
   pub undecided : (i : ℕ) (ss : List Step) (d : Span) → slice_get hours i ≡ Some ss → 0 < volume_in left (i + 1)
-      → IsStackAt rows (get_or spans i d) (ss ++ as_steps (i + 1) (drop k blocks))
+      → IsStackAt rows (get_or spans i d) (relaxed_at ss (i + 1) blocks k)
   pub decided : (i : ℕ) (ss : List Step) (d : Span) → slice_get hours i ≡ Some ss → volume_in left (i + 1) ≡ 0
-      → IsStackAt rows (get_or spans i d) (ss ++ as_steps (i + 1) (drop (k + 1) blocks))
+      → IsStackAt rows (get_or spans i d) (relaxed_at ss (i + 1) blocks (k + 1))
 
 pub spans_begun : (hours : List (List Step)) (blocks : List Block) (rows : List Row) (k : ℕ) (b : Block) (spans : List Span)
     → slice_get blocks k ≡ Some b
@@ -131,7 +135,7 @@ own_left pairs j p at some =
 pub spans_more : (hours : List (List Step)) (blocks : List Block) (old new : List Row) (k j place : ℕ) (pairs : List Pair) (p : Pair)
     (spans spans' : List Span)
     (span : Span) → is_increasing 0 pairs ≡ true → slice_get pairs j ≡ Some p → p.0 ≡ place + 1 → place < length hours → Keeps old new
-    → ((ss : List Step) → slice_get hours place ≡ Some ss → IsStackAt new span (ss ++ as_steps p.0 (drop (k + 1) blocks)))
+    → ((ss : List Step) → slice_get hours place ≡ Some ss → IsStackAt new span (relaxed_at ss p.0 blocks (k + 1)))
     → spans' ≡ slice_set spans place span → AreSpansSoFar hours blocks old k (drop j pairs) spans
     → AreSpansSoFar hours blocks new k (drop (j + 1) pairs) spans'
 spans_more hours blocks old new k j place pairs p spans spans' span rising at number inside keeps is same so_far =
@@ -157,8 +161,8 @@ spans_more hours blocks old new k j place pairs p spans spans' span rising at nu
               let own = is ss (subst (λ (n : ℕ). slice_get hours n ≡ Some ss) equal there) in
               let here = ap (λ (n : ℕ). get_or (slice_set spans place span) n d) equal
               ∙ get_or-set_same spans place span d (let long = so_far.as_many in omega (arith, long, inside)) in
-              subst (λ (s : Span). IsStackAt new s (ss ++ as_steps (i + 1) (drop (k + 1) blocks))) (sym here)
-              (subst (λ (n : ℕ). IsStackAt new span (ss ++ as_steps n (drop (k + 1) blocks))) t own))
+              subst (λ (s : Span). IsStackAt new s (relaxed_at ss (i + 1) blocks (k + 1))) (sym here)
+              (subst (λ (n : ℕ). IsStackAt new span (relaxed_at ss n blocks (k + 1))) t own))
         ]
       ];
     })
@@ -170,20 +174,20 @@ spans_more hours blocks old new k j place pairs p spans spans' span rising at nu
 
     other_undecided : (i : ℕ) (ss : List Step) (d : Span) → slice_get hours i ≡ Some ss → 0 < volume_in (drop (j + 1) pairs) (i + 1)
         → i ≢ place → p.0 ≢ i + 1
-        → IsStackAt new (get_or (slice_set spans place span) i d) (ss ++ as_steps (i + 1) (drop k blocks))
+        → IsStackAt new (get_or (slice_set spans place span) i d) (relaxed_at ss (i + 1) blocks k)
     other_undecided i ss d there some apart apart' =
         let rest = rest_volume pairs j (i + 1) p at apart' in
-        subst (λ (s : Span). IsStackAt new s (ss ++ as_steps (i + 1) (drop k blocks))) (sym (get_or-set_other spans place i span d apart))
-        (stack_kept old new (get_or spans i d) (ss ++ as_steps (i + 1) (drop k blocks)) keeps
+        subst (λ (s : Span). IsStackAt new s (relaxed_at ss (i + 1) blocks k)) (sym (get_or-set_other spans place i span d apart))
+        (stack_kept old new (get_or spans i d) (relaxed_at ss (i + 1) blocks k) keeps
         (so_far.undecided i ss d there (omega (arith, rest, some))))
 
     other_decided : (i : ℕ) (ss : List Step) (d : Span) → slice_get hours i ≡ Some ss → volume_in (drop (j + 1) pairs) (i + 1) ≡ 0
         → i ≢ place → p.0 ≢ i + 1
-        → IsStackAt new (get_or (slice_set spans place span) i d) (ss ++ as_steps (i + 1) (drop (k + 1) blocks))
+        → IsStackAt new (get_or (slice_set spans place span) i d) (relaxed_at ss (i + 1) blocks (k + 1))
     other_decided i ss d there none apart apart' =
-        subst (λ (s : Span). IsStackAt new s (ss ++ as_steps (i + 1) (drop (k + 1) blocks)))
+        subst (λ (s : Span). IsStackAt new s (relaxed_at ss (i + 1) blocks (k + 1)))
         (sym (get_or-set_other spans place i span d apart))
-        (stack_kept old new (get_or spans i d) (ss ++ as_steps (i + 1) (drop (k + 1) blocks)) keeps
+        (stack_kept old new (get_or spans i d) (relaxed_at ss (i + 1) blocks (k + 1)) keeps
         (so_far.decided i ss d there (rest_volume pairs j (i + 1) p at apart' ∙ none)))
 
 pub spans_ended : (hours : List (List Step)) (blocks : List Block) (rows : List Row) (k j : ℕ) (pairs : List Pair) (spans : List Span)
@@ -276,26 +280,26 @@ lot_more hours blocks old new k b lots lots' lot keeps at is same so_far =
 -- those of the periods so far
 abbrev pub AreFirstSpans : List (List Step) → List Block → List Row → ℕ → List Span → Type 0
 AreFirstSpans hours blocks rows count spans = (i : ℕ) (ss : List Step) (d : Span) → i < count → slice_get hours i ≡ Some ss
-    → IsStackAt rows (get_or spans i d) (ss ++ as_steps (i + 1) (drop 0 blocks))
+    → IsStackAt rows (get_or spans i d) (relaxed_at ss (i + 1) blocks 0)
 
 pub span_pushed : (hours : List (List Step)) (blocks : List Block) (old new : List Row) (count : ℕ) (spans spans' : List Span) (span : Span)
     (own : List Step)
     → Keeps old new → length spans ≡ count → slice_get hours count ≡ Some own
-    → IsStackAt new span (own ++ as_steps (count + 1) (drop 0 blocks))
+    → IsStackAt new span (relaxed_at own (count + 1) blocks 0)
     → spans' ≡ spans ++ span ∷ [] → AreFirstSpans hours blocks old count spans → AreFirstSpans hours blocks new (count + 1) spans'
 span_pushed hours blocks old new count spans spans' span own keeps long at is same so_far i ss d l there =
-    subst (λ (xs : List Span). IsStackAt new (get_or xs i d) (ss ++ as_steps (i + 1) (drop 0 blocks))) (sym same) (elim (cases_lt i count) [
+    subst (λ (xs : List Span). IsStackAt new (get_or xs i d) (relaxed_at ss (i + 1) blocks 0)) (sym same) (elim (cases_lt i count) [
       | inl less ↦
-          subst (λ (s : Span). IsStackAt new s (ss ++ as_steps (i + 1) (drop 0 blocks)))
+          subst (λ (s : Span). IsStackAt new s (relaxed_at ss (i + 1) blocks 0))
           (sym (get_or_append_left spans (span ∷ []) d i (omega (arith, less, long))))
-          (stack_kept old new (get_or spans i d) (ss ++ as_steps (i + 1) (drop 0 blocks)) keeps (so_far i ss d less there))
+          (stack_kept old new (get_or spans i d) (relaxed_at ss (i + 1) blocks 0) keeps (so_far i ss d less there))
       | inr more ↦
           (let here : i ≡ count = omega (arith, l, more) in
           let steps : own ≡ ss = some_is own ss (sym at ∙ subst (λ (n : ℕ). slice_get hours n ≡ Some ss) here there) in
           let back : count ≡ i = omega (arith, here) in
-          subst (λ (s : Span). IsStackAt new s (ss ++ as_steps (i + 1) (drop 0 blocks))) (sym (get_or_push spans span d i (long ∙ back)))
-          (subst (λ (n : ℕ). IsStackAt new span (ss ++ as_steps (n + 1) (drop 0 blocks))) back
-          (subst (λ (hs : List Step). IsStackAt new span (hs ++ as_steps (count + 1) (drop 0 blocks))) steps is)))
+          subst (λ (s : Span). IsStackAt new s (relaxed_at ss (i + 1) blocks 0)) (sym (get_or_push spans span d i (long ∙ back)))
+          (subst (λ (n : ℕ). IsStackAt new span (relaxed_at ss (n + 1) blocks 0)) back
+          (subst (λ (hs : List Step). IsStackAt new span (relaxed_at hs (count + 1) blocks 0)) steps is)))
     ])
   where
     some_is : (x y : List Step) → Some x ≡ Some y → x ≡ y
@@ -311,9 +315,9 @@ pub record IsNext (hours : List (List Step)) (blocks : List Block) (rows : List 
   pub rising : is_increasing 0 b.order.volumes ≡ true
   pub steps : List Step
   pub there : slice_get hours (p.0 - 1) ≡ Some steps
-  pub same : record { side = b.order.side; price = b.order.price; qty = p.1 } ≡ step_of p.0 b.order
+  pub same : pair_step b p ≡ step_of p.0 b.order
   pub stack : (d : Span) → IsStackAt rows (get_or spans (p.0 - 1) d)
-      (steps ++ record { side = b.order.side; price = b.order.price; qty = p.1 } ∷ as_steps p.0 (drop (k + 1) blocks))
+      (steps ++ pair_step b p ∷ as_steps p.0 (drop (k + 1) blocks))
 
 pub next_touch : (hours : List (List Step)) (blocks : List Block) (rows : List Row) (k j : ℕ) (b : Block) (p : Pair) (spans : List Span)
     → slice_get blocks k ≡ Some b
@@ -342,7 +346,7 @@ next_touch hours blocks rows k j b p spans at are pair so_far =
           (let left = own_left b.order.volumes j p pair some in
           let own = so_far.undecided (p.0 - 1) hour.0 d hour.1
           (subst (λ (t : ℕ). 0 < volume_in (drop j b.order.volumes) t) (sym number) left) in
-          let here = subst (λ (t : ℕ). IsStackAt rows (get_or spans (p.0 - 1) d) (hour.0 ++ as_steps t (drop k blocks))) number own in
+          let here = subst (λ (t : ℕ). IsStackAt rows (get_or spans (p.0 - 1) d) (relaxed_at hour.0 t blocks k)) number own in
           subst (λ (s : Step). IsStackAt rows (get_or spans (p.0 - 1) d) (hour.0 ++ s ∷ as_steps p.0 (drop (k + 1) blocks))) (sym next.1)
           (subst (λ (ts : List Step). IsStackAt rows (get_or spans (p.0 - 1) d) ts) next.0 here));
     }
@@ -352,7 +356,7 @@ pub is_touch : (hours : List (List Step)) (blocks : List Block) (old new : List 
     (touch : Touch) → (n : IsNext hours blocks old k b p spans) → length spans ≡ length hours → touch.at < last_period
     → ArePlaces blocks k places → row ≡ (k + 1) * last_period → touch.at + 1 ≡ p.0
     → ((d : ℕ) → touch.from ≡ get_or places (p.0 - 1) d) → touch.to + 1 ≡ row + p.0
-    → IsCutOff new (record { side = b.order.side; price = b.order.price; qty = p.1 }) (n.steps ++ as_steps p.0 (drop (k + 1) blocks))
+    → IsCutOff new (pair_step b p) (relaxed_at n.steps p.0 blocks (k + 1))
     touch.cut
     → IsTouch hours blocks new k b p touch
 is_touch hours blocks old new k row b p spans places touch n long few are own at from to cut =
@@ -368,9 +372,9 @@ is_touch hours blocks old new k row b p spans places touch n long few are own at
       to_is = omega (arith, to, at, own);
       cut_is = λ ss there.
           (let steps : n.steps ≡ ss = some_is n.steps ss (sym n.there ∙ subst (λ (i : ℕ). slice_get hours i ≡ Some ss) place there) in
-          subst (λ (s : Step). IsCutOff new s (ss ++ as_steps p.0 (drop (k + 1) blocks)) touch.cut) n.same
-          (subst (λ (hs : List Step). IsCutOff new (record { side = b.order.side; price = b.order.price; qty = p.1 })
-          (hs ++ as_steps p.0 (drop (k + 1) blocks)) touch.cut) steps cut));
+          subst (λ (s : Step). IsCutOff new s (relaxed_at ss p.0 blocks (k + 1)) touch.cut) n.same
+          (subst (λ (hs : List Step). IsCutOff new (pair_step b p)
+          (relaxed_at hs p.0 blocks (k + 1)) touch.cut) steps cut));
     }
   where
     some_is : (x y : List Step) → Some x ≡ Some y → x ≡ y
@@ -380,18 +384,18 @@ is_touch hours blocks old new k row b p spans places touch n long few are own at
 pub next_span : (hours : List (List Step)) (blocks : List Block) (old new : List Row) (k : ℕ) (b : Block) (p : Pair) (spans : List Span)
     (touch : Touch)
     → (n : IsNext hours blocks old k b p spans)
-    → IsCutOff new (record { side = b.order.side; price = b.order.price; qty = p.1 }) (n.steps ++ as_steps p.0 (drop (k + 1) blocks))
+    → IsCutOff new (pair_step b p) (relaxed_at n.steps p.0 blocks (k + 1))
     touch.cut
-    → (ss : List Step) → slice_get hours (p.0 - 1) ≡ Some ss → IsStackAt new touch.cut.span (ss ++ as_steps p.0 (drop (k + 1) blocks))
+    → (ss : List Step) → slice_get hours (p.0 - 1) ≡ Some ss → IsStackAt new touch.cut.span (relaxed_at ss p.0 blocks (k + 1))
 next_span hours blocks old new k b p spans touch n cut ss there =
-    subst (λ (hs : List Step). IsStackAt new touch.cut.span (hs ++ as_steps p.0 (drop (k + 1) blocks)))
+    subst (λ (hs : List Step). IsStackAt new touch.cut.span (relaxed_at hs p.0 blocks (k + 1)))
     (some_is n.steps ss (sym n.there ∙ there)) cut.stack
   where
     some_is : (x y : List Step) → Some x ≡ Some y → x ≡ y
     some_is x y e = cc
 
 -- ---- every block decided
-pub no_step_left : (blocks : List Block) (count t : ℕ) (ss : List Step) → length blocks ≤ count → ss ++ as_steps t (drop count blocks) ≡ ss
+pub no_step_left : (blocks : List Block) (count t : ℕ) (ss : List Step) → length blocks ≤ count → relaxed_at ss t blocks count ≡ ss
 no_step_left blocks count t ss all = ap (λ (bs : List Block). ss ++ as_steps t bs) (drop_all count blocks all) ∙ append-nil ss
 
 pub end_of : (hours : List (List Step)) (blocks : List Block) (rows : List Row) (ends : List Span) (lots : List LotState) (i : ℕ)

@@ -30,13 +30,13 @@ use Rattle.dam_bound.specs.inside.Tables.{LotState, pair_of, pairs_of, IsLot, Ar
 use Rattle.dam_bound.proofs.Bounding.{unbalanced_period}
 use Rattle.dam_bound.proofs.Days.{own_period}
 use Rattle.dam_bound.proofs.Deciding.{IsChangedSoFar, AreStill, own_still, moved_part, period_changed}
-use Rattle.dam_bound.proofs.Levelling.{drop_at, some_step}
+use Rattle.dam_bound.proofs.Levelling.{relaxed_at, drop_at, some_step}
 use Rattle.dam_bound.proofs.Periods.{one_at}
 use Rattle.dam_bound.proofs.Tabling.{block_at, end_of}
 use Rattle.dam_bound.proofs.Volumes.{past_ordered, ordered_volume}
 use Rattle.dam_bound.proofs.Worth.{no_welfare}
 
--- where nothing balances there is no greatest welfare
+-- if nothing balances, there is no greatest welfare
 abbrev pub WelfareLaw : Type 0
 WelfareLaw = (ss : List Step) (net : ℤ) → IsUnbalanced ss net → greatest_welfare ss net ≡ None
 
@@ -53,17 +53,27 @@ renamed answer xs xs' ys ys' net net' next next' value value' a b c d e m =
     (subst (λ (v : ℤ). MatchOption answer (IsUnbalanced ys next) (λ d. IsMoved xs net ys next v d.0 d.1)) e m))))
 
 -- ---- a block that is decided
+-- the block's volume in the period of a move, and the net volume of the period before the move and after it
+abbrev pub move_volume : Move → ℕ
+move_volume m = volume_in m.block.order.volumes m.period
+
+abbrev pub net_before : Move → ℤ
+net_before m = net_volume m.blocks m.before m.period
+
+abbrev pub net_after : Move → ℤ
+net_after m = net_volume m.blocks m.after m.period
+
 decided_before : (rows : List Row) (end : Span) (touch : Touch) (own : Taken) (m : Move) → IsMove rows end touch Decide own m
     → steps_before m ≡ m.steps ++ step_of m.period m.block.order ∷ as_steps m.period (drop (m.place + 1) m.blocks)
 decided_before rows end touch own m is =
-    ap (λ (n : ℕ). m.steps ++ as_steps m.period (drop n m.blocks)) is.change_is.kind.0
+    ap (λ (n : ℕ). relaxed_at m.steps m.period m.blocks n) is.change_is.kind.0
     ∙ ap (λ (bs : List Block). m.steps ++ as_steps m.period bs) (drop_at m.blocks m.place m.block is.block_is)
     ∙ ap (λ (ts : List Step). m.steps ++ ts) (some_step m.period m.block (drop (m.place + 1) m.blocks) is.some)
 
 decided_after : (rows : List Row) (end : Span) (touch : Touch) (own : Taken) (m : Move) → IsMove rows end touch Decide own m
-    → m.steps ++ as_steps m.period (drop (m.place + 1) m.blocks) ≡ steps_after m
+    → relaxed_at m.steps m.period m.blocks (m.place + 1) ≡ steps_after m
 decided_after rows end touch own m is =
-    ap (λ (n : ℕ). m.steps ++ as_steps m.period (drop n m.blocks)) (sym (is.change_is.long ∙ is.change_is.kind.1))
+    ap (λ (n : ℕ). relaxed_at m.steps m.period m.blocks n) (sym (is.change_is.long ∙ is.change_is.kind.1))
 
 net_decided : (side : Side) (accept : Bool) (q : ℕ) → net_by side accept q ≡ by Decide accept (neg_ℤ (signed side (pos q)))
 net_decided side true q = refl
@@ -76,36 +86,34 @@ value_decided side false price q = refl
 
 pub decided_own : (rows : List Row) (end : Span) (touch : Touch) (own : Taken) (m : Move) → IsMove rows end touch Decide own m
     → IsTakenAt (m.steps ++ step_of m.period m.block.order ∷ as_steps m.period (drop (m.place + 1) m.blocks))
-    (net_volume m.blocks m.before m.period) own
+    (net_before m) own
 decided_own rows end touch own m is =
-    subst (λ (ss : List Step). IsTakenAt ss (net_volume m.blocks m.before m.period) own) (decided_before rows end touch own m is) is.own_is
+    subst (λ (ss : List Step). IsTakenAt ss (net_before m) own) (decided_before rows end touch own m is) is.own_is
 
 pub decided_move : (rows : List Row) (end : Span) (touch : Touch) (own : Taken) (m : Move) (answer : Option (Taken × ℤ))
     → IsMove rows end touch Decide own m
     → MatchOption answer
-    (IsUnbalanced (m.steps ++ as_steps m.period (drop (m.place + 1) m.blocks))
-    (net_volume m.blocks m.before m.period +ℤ net_by m.block.order.side m.accept (volume_in m.block.order.volumes m.period)))
+    (IsUnbalanced (relaxed_at m.steps m.period m.blocks (m.place + 1))
+    (net_before m +ℤ net_by m.block.order.side m.accept (move_volume m)))
     (λ d. IsMoved (m.steps ++ step_of m.period m.block.order ∷ as_steps m.period (drop (m.place + 1) m.blocks))
-    (net_volume m.blocks m.before m.period)
-    (m.steps ++ as_steps m.period (drop (m.place + 1) m.blocks))
-    (net_volume m.blocks m.before m.period +ℤ net_by m.block.order.side m.accept (volume_in m.block.order.volumes m.period))
-    (value_by m.block.order.side m.accept m.block.order.price (volume_in m.block.order.volumes m.period)) d.0 d.1)
-    → MatchOption answer (IsUnbalanced (steps_after m) (net_volume m.blocks m.after m.period))
-    (λ d. IsMoved (steps_before m) (net_volume m.blocks m.before m.period) (steps_after m) (net_volume m.blocks m.after m.period)
+    (net_before m) (relaxed_at m.steps m.period m.blocks (m.place + 1))
+    (net_before m +ℤ net_by m.block.order.side m.accept (move_volume m))
+    (value_by m.block.order.side m.accept m.block.order.price (move_volume m)) d.0 d.1)
+    → MatchOption answer (IsUnbalanced (steps_after m) (net_after m))
+    (λ d. IsMoved (steps_before m) (net_before m) (steps_after m) (net_after m)
     (by Decide m.accept (value_of m.period m.block.order)) d.0 d.1)
 decided_move rows end touch own m answer is found =
-    renamed answer _ (steps_before m) _ (steps_after m) (net_volume m.blocks m.before m.period) (net_volume m.blocks m.before m.period) _
-    (net_volume m.blocks m.after m.period) _ (by Decide m.accept (value_of m.period m.block.order))
+    renamed answer _ (steps_before m) _ (steps_after m) (net_before m) (net_before m) _ (net_after m) _
+    (by Decide m.accept (value_of m.period m.block.order))
     (sym (decided_before rows end touch own m is)) refl
     (decided_after rows end touch own m is)
-    (ap (λ (z : ℤ). net_volume m.blocks m.before m.period +ℤ z)
-    (net_decided m.block.order.side m.accept (volume_in m.block.order.volumes m.period))
+    (ap (λ (z : ℤ). net_before m +ℤ z) (net_decided m.block.order.side m.accept (move_volume m))
     ∙ sym (is.change_is.net m.period m.block is.block_is))
-    (value_decided m.block.order.side m.accept m.block.order.price (volume_in m.block.order.volumes m.period)) found
+    (value_decided m.block.order.side m.accept m.block.order.price (move_volume m)) found
 
 -- ---- a decision turned round
 turned_steps : (m : Move) (prefix : List Bool) → length prefix ≡ length m.blocks
-    → m.steps ≡ m.steps ++ as_steps m.period (drop (length prefix) m.blocks)
+    → m.steps ≡ relaxed_at m.steps m.period m.blocks (length prefix)
 turned_steps m prefix all =
     sym (ap (λ (bs : List Block). m.steps ++ as_steps m.period bs) (drop_all (length prefix) m.blocks (omega (arith, all))) ∙ append-nil
     m.steps)
@@ -115,31 +123,27 @@ net_turned true z = refl
 net_turned false z = refl
 
 pub turned_own : (rows : List Row) (end : Span) (touch : Touch) (own : Taken) (m : Move) → IsMove rows end touch Turn own m
-    → IsTakenAt m.steps (net_volume m.blocks m.before m.period) own
+    → IsTakenAt m.steps (net_before m) own
 turned_own rows end touch own m is =
-    subst (λ (ss : List Step). IsTakenAt ss (net_volume m.blocks m.before m.period) own) (sym (turned_steps m m.before is.change_is.kind.0))
+    subst (λ (ss : List Step). IsTakenAt ss (net_before m) own) (sym (turned_steps m m.before is.change_is.kind.0))
     is.own_is
 
 pub turned_move : (rows : List Row) (end : Span) (touch : Touch) (own : Taken) (m : Move) (answer : Option (Taken × ℤ))
     → IsMove rows end touch Turn own m
     → MatchOption answer
-    (IsUnbalanced m.steps
-    (net_volume m.blocks m.before m.period +ℤ turned_by m.accept
-    (neg_ℤ (signed m.block.order.side (pos (volume_in m.block.order.volumes m.period))))))
-    (λ d. IsMoved m.steps (net_volume m.blocks m.before m.period) m.steps
-    (net_volume m.blocks m.before m.period +ℤ turned_by m.accept
-    (neg_ℤ (signed m.block.order.side (pos (volume_in m.block.order.volumes m.period)))))
-    (turned_by m.accept (signed m.block.order.side (m.block.order.price *ℤ pos (volume_in m.block.order.volumes m.period)))) d.0 d.1)
-    → MatchOption answer (IsUnbalanced (steps_after m) (net_volume m.blocks m.after m.period))
-    (λ d. IsMoved (steps_before m) (net_volume m.blocks m.before m.period) (steps_after m) (net_volume m.blocks m.after m.period)
+    (IsUnbalanced m.steps (net_before m +ℤ turned_by m.accept (neg_ℤ (signed m.block.order.side (pos (move_volume m))))))
+    (λ d. IsMoved m.steps (net_before m) m.steps
+    (net_before m +ℤ turned_by m.accept (neg_ℤ (signed m.block.order.side (pos (move_volume m)))))
+    (turned_by m.accept (signed m.block.order.side (m.block.order.price *ℤ pos (move_volume m)))) d.0 d.1)
+    → MatchOption answer (IsUnbalanced (steps_after m) (net_after m))
+    (λ d. IsMoved (steps_before m) (net_before m) (steps_after m) (net_after m)
     (by Turn m.accept (value_of m.period m.block.order)) d.0 d.1)
 turned_move rows end touch own m answer is found =
-    renamed answer m.steps (steps_before m) m.steps (steps_after m) (net_volume m.blocks m.before m.period)
-    (net_volume m.blocks m.before m.period) _
-    (net_volume m.blocks m.after m.period) _ (by Turn m.accept (value_of m.period m.block.order))
+    renamed answer m.steps (steps_before m) m.steps (steps_after m) (net_before m) (net_before m) _ (net_after m) _
+    (by Turn m.accept (value_of m.period m.block.order))
     (turned_steps m m.before is.change_is.kind.0) refl
     (turned_steps m m.after (is.change_is.long ∙ is.change_is.kind.1))
-    (ap (λ (z : ℤ). net_volume m.blocks m.before m.period +ℤ z) (net_turned m.accept (net_volume_of m.period m.block.order))
+    (ap (λ (z : ℤ). net_before m +ℤ z) (net_turned m.accept (net_volume_of m.period m.block.order))
     ∙ sym (is.change_is.net m.period m.block is.block_is))
     (net_turned m.accept (value_of m.period m.block.order)) found
 
@@ -253,15 +257,16 @@ no_touch_there = record {
 abbrev pub nothing_taken : Taken
 nothing_taken = record { units = 0; height = 0; held = 0; free = 0; near = 0; cost = 0 }
 
-pub touched_now : (problem : ProblemState) (rows : List Row) (ends : List Span) (lots : List LotState) (lot : LotState)
-    (touches : List Touch) (place depth : ℕ)
-    (change : Change) (accept : Bool) (before after : List Bool) (b : Block) (day : Day) (periods : List Taken) (j : ℕ)
+pub touched_now : {problem : ProblemState} {rows : List Row} {ends : List Span} {lots : List LotState} {lot : LotState}
+    {touches : List Touch} {place depth : ℕ} {change : Change} {accept : Bool} {before after : List Bool} {b : Block} {day : Day}
+    {periods : List Taken} {j : ℕ}
     → AreTables problem.hours problem.blocks rows ends lots
     → slice_get problem.blocks place ≡ Some b → lot ≡ get_or lots place lot → touches ≡ lot.touches → j < length touches
     → IsChange problem.blocks place change accept depth before after → IsDay problem before day
     → AreStill (drop j (pairs_of touches)) day.periods periods
     → Touched problem rows ends place depth change accept before after b periods j (pairs_of touches) (get_or touches j no_touch_there)
-touched_now problem rows ends lots lot touches place depth change accept before after b day periods j are at read same inside is of still =
+touched_now {problem} {rows} {ends} {lots} {lot} {touches} {place} {depth} {change} {accept} {before} {after} {b} {day} {periods} {j} are
+    at read same inside is of still =
     subst (λ (ts : List Touch). Touched problem rows ends place depth change accept before after b periods j (pairs_of ts)
     (get_or touches j no_touch_there)) (sym same)
     (touched problem rows ends lots lot place depth change accept before after b day periods j (get_or touches j no_touch_there) are at
@@ -271,39 +276,38 @@ touched_now problem rows ends lots lot touches place depth change accept before 
     (subst (λ (ts : List Touch). AreStill (drop j (pairs_of ts)) day.periods periods) same still))
 
 -- whether the supply is left with what the block asks for
-pub serves : (problem : ProblemState) (rows : List Row) (ends : List Span) (lots : List LotState) (lot : LotState) (place depth : ℕ)
-    (change : Change) (accept : Bool)
-    (before after : List Bool) (b : Block) (periods : List Taken) (j : ℕ) (pairs : List Pair) (touch : Touch) (side : Side) (served : Bool)
+pub serves : {problem : ProblemState} {rows : List Row} {ends : List Span} {lots : List LotState} {lot : LotState} {place depth : ℕ}
+    {change : Change} {accept : Bool} {before after : List Bool} {b : Block} {periods : List Taken} {j : ℕ} {pairs : List Pair}
+    {touch : Touch} {side : Side} {served : Bool}
     → AreTables problem.hours problem.blocks rows ends lots → slice_get problem.blocks place ≡ Some b → lot ≡ get_or lots place lot
     → served ≡ falls side accept
     → side ≡ lot.side → (t : Touched problem rows ends place depth change accept before after b periods j pairs touch)
     → served ≡ falls t.move.block.order.side t.move.accept
-serves problem rows ends lots lot place depth change accept before after b periods j pairs touch side served are at read e f t =
+serves {problem} {rows} {ends} {lots} {lot} {place} {depth} {change} {accept} {before} {after} {b} {periods} {j} {pairs} {touch} {side}
+    {served} are at read e f t =
     e ∙ ap (λ (s : Side). falls s accept) (f ∙ (lot_at problem rows ends lots lot place b are at read).1.side_is)
     ∙ ap (λ (m : Move). falls m.block.order.side m.accept) (sym t.move_is)
 
 -- the move at the stack that was read
-pub is_move_at : (problem : ProblemState) (rows : List Row) (ends : List Span) (place depth : ℕ) (change : Change) (accept : Bool)
-    (before after : List Bool) (b : Block)
-    (periods : List Taken) (j : ℕ) (pairs : List Pair) (touch : Touch) (end : Span)
+pub is_move_at : {problem : ProblemState} {rows : List Row} {ends : List Span} {place depth : ℕ} {change : Change} {accept : Bool}
+    {before after : List Bool} {b : Block} {periods : List Taken} {j : ℕ} {pairs : List Pair} {touch : Touch} {end : Span}
     → (t : Touched problem rows ends place depth change accept before after b
     periods j pairs touch)
     → end ≡ get_or ends touch.at end → IsMove rows end touch change (get_or periods touch.at nothing_taken) t.move
-is_move_at problem rows ends place depth change accept before after b periods j pairs touch end t read =
+is_move_at {problem} {rows} {ends} {place} {depth} {change} {accept} {before} {after} {b} {periods} {j} {pairs} {touch} {end} t read =
     subst (λ (s : Span). IsMove rows s touch change (get_or periods touch.at nothing_taken) t.move) (sym read) (t.is_move nothing_taken end)
 
 -- one touch more
-pub touch_changed : (problem : ProblemState) (rows : List Row) (ends : List Span) (place depth : ℕ) (change : Change) (accept : Bool)
-    (before after : List Bool) (b : Block)
-    (periods : List Taken) (j : ℕ) (pairs : List Pair) (touch : Touch) (own next : Taken) (total gained : ℤ) (e : Span)
+pub touch_changed : {problem : ProblemState} {rows : List Row} {ends : List Span} {place depth : ℕ} {change : Change} {accept : Bool}
+    {before after : List Bool} {b : Block} {periods : List Taken} {j : ℕ} {pairs : List Pair} {touch : Touch} {next : Taken}
+    {total gained : ℤ} (own : Taken) (e : Span)
     → (t : Touched problem rows ends place depth change accept before after b periods j pairs touch) → touch.at < length periods
-    → IsMoved (steps_before t.move) (net_volume t.move.blocks t.move.before t.move.period) (steps_after t.move)
-    (net_volume t.move.blocks t.move.after t.move.period)
+    → IsMoved (steps_before t.move) (net_before t.move) (steps_after t.move) (net_after t.move)
     (by change t.move.accept (value_of t.move.period t.move.block.order)) next gained
     → IsChangedSoFar problem.blocks problem.hours (drop j pairs) before after periods total
     → IsChangedSoFar problem.blocks problem.hours (drop (j + 1) pairs) before after (slice_set periods touch.at next) (total +ℤ gained)
-touch_changed problem rows ends place depth change accept before after b periods j pairs touch own next total gained e t inside moved so_far
-    =
+touch_changed {problem} {rows} {ends} {place} {depth} {change} {accept} {before} {after} {b} {periods} {j} {pairs} {touch} {next} {total}
+    {gained} own e t inside moved so_far =
     let m : Move = record {
       steps = t.steps;
       period = t.pair.0;
@@ -315,8 +319,7 @@ touch_changed problem rows ends place depth change accept before after b periods
       before = before;
       after = after;
     } in
-    let found = subst (λ (n : Move). IsMoved (steps_before n) (net_volume n.blocks n.before n.period) (steps_after n)
-    (net_volume n.blocks n.after n.period)
+    let found = subst (λ (n : Move). IsMoved (steps_before n) (net_before n) (steps_after n) (net_after n)
     (by change n.accept (value_of n.period n.block.order)) next gained) t.move_is moved in
     let now = subst (IsMove rows (get_or ends touch.at e) touch change (get_or periods touch.at own)) t.move_is (t.is_move own e) in
     let part = moved_part problem.blocks problem.hours before after touch.at t.pair.0 t.steps (get_or periods touch.at own) next
@@ -326,14 +329,13 @@ touch_changed problem rows ends place depth change accept before after b periods
     t.number t.there inside found.taken_at (ap (λ (z : ℤ). total +ℤ z) part) so_far
 
 -- a period that doesn't balance after the change
-pub touch_unbalanced : (problem : ProblemState) (rows : List Row) (ends : List Span) (place depth : ℕ) (change : Change) (accept : Bool)
-    (before after : List Bool)
-    (b : Block) (periods : List Taken) (j : ℕ) (pairs : List Pair) (touch : Touch) → WelfareLaw
+pub touch_unbalanced : {problem : ProblemState} {rows : List Row} {ends : List Span} {place depth : ℕ} {change : Change} {accept : Bool}
+    {before after : List Bool} {b : Block} {periods : List Taken} {j : ℕ} {pairs : List Pair} {touch : Touch} → WelfareLaw
     → (t : Touched problem rows ends place depth change accept before after b periods j pairs touch)
-    → IsUnbalanced (steps_after t.move) (net_volume t.move.blocks t.move.after t.move.period) → relaxed_welfare problem after ≡ None
-touch_unbalanced problem rows ends place depth change accept before after b periods j pairs touch law t none =
-    let unbalanced = subst (λ (n : Move). IsUnbalanced (steps_after n) (net_volume n.blocks n.after n.period)) t.move_is none in
+    → IsUnbalanced (steps_after t.move) (net_after t.move) → relaxed_welfare problem after ≡ None
+touch_unbalanced {problem} {rows} {ends} {place} {depth} {change} {accept} {before} {after} {b} {periods} {j} {pairs} {touch} law t none =
+    let unbalanced = subst (λ (n : Move). IsUnbalanced (steps_after n) (net_after n)) t.move_is none in
     no_welfare problem.blocks (drop (length after) problem.blocks) after problem.hours touch.at t.pair.0 t.steps t.there t.number
-    (sym (unbalanced_period problem.blocks after t.pair.0 (t.steps ++ as_steps t.pair.0 (drop (length after) problem.blocks))
-    (t.steps ++ as_steps t.pair.0 (drop (length after) problem.blocks)) (net_volume problem.blocks after t.pair.0) refl refl
-    (law (t.steps ++ as_steps t.pair.0 (drop (length after) problem.blocks)) (net_volume problem.blocks after t.pair.0) unbalanced)))
+    (sym (unbalanced_period problem.blocks after t.pair.0 (relaxed_at t.steps t.pair.0 problem.blocks (length after))
+    (relaxed_at t.steps t.pair.0 problem.blocks (length after)) (net_volume problem.blocks after t.pair.0) refl refl
+    (law (relaxed_at t.steps t.pair.0 problem.blocks (length after)) (net_volume problem.blocks after t.pair.0) unbalanced)))

@@ -39,7 +39,7 @@ first_above low p ps e = grind (arith, nat_tests)
 rest_above : (low : ℕ) (p : Pair) (ps : List Pair) → is_increasing low (p ∷ ps) ≡ true → is_increasing p.0 ps ≡ true
 rest_above low p ps e = grind (arith, nat_tests)
 
--- no volume where no pair is above
+-- no volume if no pair is above
 pub none_above : (low t : ℕ) (ps : List Pair) → is_increasing low ps ≡ true → t ≤ low → volume_in ps t ≡ 0
 none_above low t [] e l = refl
 none_above low t (p ∷ ps) e l =

@@ -55,15 +55,15 @@ undecided problem place before after b pairs trail total at depth volumes is so_
 }
 
 -- the slot that a touch reads holds its period before the decision
-pub own_read : (problem : ProblemState) (rows : List Row) (ends : List Span) (place j : ℕ) (accept : Bool) (before after : List Bool)
-    (b : Block)
-    (pairs : List Pair) (touch : Touch) (trail : Trail) (slots periods : List Taken) (total : ℤ) (d : Taken)
+pub own_read : {problem : ProblemState} {rows : List Row} {ends : List Span} {place j : ℕ} {accept : Bool} {before after : List Bool}
+    {b : Block} {pairs : List Pair} {touch : Touch} {trail : Trail} {periods : List Taken} {total : ℤ} (slots : List Taken) (d : Taken)
     → length problem.hours ≤ last_period → length before ≡ place → (is : IsDayIn problem before trail total)
     → ((i : ℕ) (e : Taken) → i < (place + 1) * last_period → get_or slots i e ≡ get_or trail.slots i e)
     → AreStill (drop j pairs) is.day.periods periods
     → Touched problem rows ends place (place + 1) Decide accept before after b periods j pairs touch
     → get_or slots touch.from d ≡ get_or periods touch.at d
-own_read problem rows ends place j accept before after b pairs touch trail slots periods total d few depth is below still t =
+own_read {problem} {rows} {ends} {place} {j} {accept} {before} {after} {b} {pairs} {touch} {trail} {periods} {total} slots d few depth
+    is below still t =
     let inside = t.inside in
     let low = slot_below problem.blocks touch.at place (omega (arith, inside, few)) in
     ap (λ (n : ℕ). get_or slots n d) t.from_is
@@ -73,36 +73,35 @@ own_read problem rows ends place j accept before after b pairs touch trail slots
     ∙ sym (own_still pairs j touch.at t.pair is.day.periods periods d t.pair_is t.some t.number still)
 
 -- the move at the stack and at the slot that were read
-pub is_move_read : (problem : ProblemState) (rows : List Row) (ends : List Span) (place j : ℕ) (accept : Bool) (before after : List Bool)
-    (b : Block)
-    (pairs : List Pair) (touch : Touch) (trail : Trail) (slots periods : List Taken) (total : ℤ) (end : Span)
+pub is_move_read : {problem : ProblemState} {rows : List Row} {ends : List Span} {place j : ℕ} {accept : Bool} {before after : List Bool}
+    {b : Block} {pairs : List Pair} {touch : Touch} {trail : Trail} {periods : List Taken} {total : ℤ} {end : Span} (slots : List Taken)
     → length problem.hours ≤ last_period → length before ≡ place → (is : IsDayIn problem before trail total)
     → ((i : ℕ) (e : Taken) → i < (place + 1) * last_period → get_or slots i e ≡ get_or trail.slots i e)
     → AreStill (drop j pairs) is.day.periods periods
     → (t : Touched problem rows ends place (place + 1) Decide accept before after b periods j pairs touch)
     → end ≡ get_or ends touch.at end → IsMove rows end touch Decide (get_or slots touch.from nothing_taken) t.move
-is_move_read problem rows ends place j accept before after b pairs touch trail slots periods total end few depth is below still t read =
+is_move_read {problem} {rows} {ends} {place} {j} {accept} {before} {after} {b} {pairs} {touch} {trail} {periods} {total} {end} slots few
+    depth is below still t read =
     subst (λ (own : Taken). IsMove rows end touch Decide own t.move)
-    (sym (own_read problem rows ends place j accept before after b pairs touch trail slots periods total nothing_taken few depth is below
-    still t))
-    (is_move_at problem rows ends place (place + 1) Decide accept before after b periods j pairs touch end t read)
+    (sym (own_read slots nothing_taken few depth is below still t))
+    (is_move_at t read)
 
 -- both slots of a touch are there
-pub from_within : (problem : ProblemState) (rows : List Row) (ends : List Span) (place depth j : ℕ) (accept : Bool)
-    (before after : List Bool) (b : Block)
-    (pairs : List Pair) (touch : Touch) (periods : List Taken) → length problem.hours ≤ last_period → place < most_blocks
+pub from_within : {problem : ProblemState} {rows : List Row} {ends : List Span} {place depth j : ℕ} {accept : Bool}
+    {before after : List Bool} {b : Block} {pairs : List Pair} {touch : Touch} {periods : List Taken} → length problem.hours ≤ last_period
+    → length problem.blocks ≤ most_blocks → place < length problem.blocks
     → Touched problem rows ends place depth Decide accept before after b periods j pairs touch → touch.from < slot_count
-from_within problem rows ends place depth j accept before after b pairs touch periods few many t =
+from_within {problem} {rows} {ends} {place} {depth} {j} {accept} {before} {after} {b} {pairs} {touch} {periods} few blocks many t =
     let inside = t.inside in let from = t.from_is in
     let low = slot_below problem.blocks touch.at place (omega (arith, inside, few)) in
-    omega (arith, low, many, from)
+    omega (arith, low, blocks, many, from)
 
-pub to_within : (problem : ProblemState) (rows : List Row) (ends : List Span) (place depth j : ℕ) (accept : Bool) (before after : List Bool)
-    (b : Block)
-    (pairs : List Pair) (touch : Touch) (periods : List Taken) → length problem.hours ≤ last_period → place < most_blocks
+pub to_within : {problem : ProblemState} {rows : List Row} {ends : List Span} {place depth j : ℕ} {accept : Bool}
+    {before after : List Bool} {b : Block} {pairs : List Pair} {touch : Touch} {periods : List Taken} → length problem.hours ≤ last_period
+    → length problem.blocks ≤ most_blocks → place < length problem.blocks
     → Touched problem rows ends place depth Decide accept before after b periods j pairs touch → touch.to < slot_count
-to_within problem rows ends place depth j accept before after b pairs touch periods few many t =
-    let inside = t.inside in let to = t.to_is in omega (arith, inside, few, many, to)
+to_within {problem} {rows} {ends} {place} {depth} {j} {accept} {before} {after} {b} {pairs} {touch} {periods} few blocks many t =
+    let inside = t.inside in let to = t.to_is in omega (arith, inside, few, blocks, many, to)
 
 -- one touch more leaves what is below the block's row
 pub below_more : (place to i : ℕ) (slots : List Taken) (next d : Taken) → (place + 1) * last_period ≤ to → i < (place + 1) * last_period
@@ -110,17 +109,16 @@ pub below_more : (place to i : ℕ) (slots : List Taken) (next d : Taken) → (p
 below_more place to i slots next d high low = get_or-set_other slots to i next d (omega (arith, high, low))
 
 -- one touch more
-pub decided_more : (problem : ProblemState) (rows : List Row) (ends : List Span) (place j : ℕ) (accept : Bool) (before after : List Bool)
-    (b : Block)
-    (pairs : List Pair) (touch : Touch) (first slots : List Taken) (total after_total : ℤ) (next : Taken)
+pub decided_more : {problem : ProblemState} {rows : List Row} {ends : List Span} {place j : ℕ} {accept : Bool} {before after : List Bool}
+    {b : Block} {pairs : List Pair} {touch : Touch} {first slots : List Taken} {total after_total : ℤ} (next : Taken)
     → length problem.hours ≤ last_period → length slots ≡ slot_count → place < most_blocks → slice_get problem.blocks place ≡ Some b
     → (so_far : IsDecidedSoFar problem.blocks problem.hours place (drop j pairs) before after first slots total)
     → Touched problem rows ends place (place + 1) Decide accept before after b so_far.periods j pairs touch
     → AreStill (drop (j + 1) pairs) first (slice_set so_far.periods touch.at next)
     → IsChangedSoFar problem.blocks problem.hours (drop (j + 1) pairs) before after (slice_set so_far.periods touch.at next) after_total
     → IsDecidedSoFar problem.blocks problem.hours place (drop (j + 1) pairs) before after first (slice_set slots touch.to next) after_total
-decided_more problem rows ends place j accept before after b pairs touch first slots total after_total next few room many at so_far t still
-    changed = record {
+decided_more {problem} {rows} {ends} {place} {j} {accept} {before} {after} {b} {pairs} {touch} {first} {slots} {total} {after_total}
+    next few room many at so_far t still changed = record {
       periods = slice_set so_far.periods touch.at next;
       long = length-set so_far.periods touch.at next ∙ so_far.long;
       still = still;

@@ -15,6 +15,7 @@ use Rattle.dam_bound.specs.Relaxed.{as_steps, relaxed_hours}
 use Rattle.dam_bound.specs.Day.{IsPeriodOfDay}
 use Rattle.dam_bound.proofs.Bounding.{cleared_period}
 use Rattle.dam_bound.proofs.Covering.{added_some}
+use Rattle.dam_bound.proofs.Levelling.{relaxed_at}
 
 -- ---- what a period is worth
 -- the welfare, if there is one
@@ -30,15 +31,15 @@ part blocks hours prefix t = worth (period_welfare blocks prefix t (get_or hours
 steps_at : (blocks : List Block) (hours : List (List Step)) (prefix : List Bool) (i t : ℕ) (ss : List Step) → slice_get hours i ≡ Some ss
     → t ≡ i + 1
     → period_welfare blocks prefix t (get_or hours (t - 1) [] ++ as_steps t (drop (length prefix) blocks))
-    ≡ period_welfare blocks prefix t (ss ++ as_steps t (drop (length prefix) blocks))
+    ≡ period_welfare blocks prefix t (relaxed_at ss t blocks (length prefix))
 steps_at blocks hours prefix i t ss at e =
     let place : t - 1 ≡ i = omega (arith, e) in
-    ap (λ (hs : List Step). period_welfare blocks prefix t (hs ++ as_steps t (drop (length prefix) blocks)))
+    ap (λ (hs : List Step). period_welfare blocks prefix t (relaxed_at hs t blocks (length prefix)))
     (ap (λ (n : ℕ). get_or hours n []) place ∙ get_or_from_slice_get hours i ss [] at)
 
 pub part_some : (blocks : List Block) (hours : List (List Step)) (prefix : List Bool) (i t : ℕ) (ss : List Step) (w : ℤ)
     → slice_get hours i ≡ Some ss
-    → t ≡ i + 1 → Some w ≡ period_welfare blocks prefix t (ss ++ as_steps t (drop (length prefix) blocks)) → part blocks hours prefix t ≡ w
+    → t ≡ i + 1 → Some w ≡ period_welfare blocks prefix t (relaxed_at ss t blocks (length prefix)) → part blocks hours prefix t ≡ w
 part_some blocks hours prefix i t ss w at e is = ap worth (steps_at blocks hours prefix i t ss at e ∙ sym is)
 
 pub worth_is : (blocks : List Block) (prefix : List Bool) (t : ℕ) (ss : List Step) (own : Taken) (p : IsPeriodOfDay blocks prefix t ss own)
@@ -50,14 +51,14 @@ worth_is blocks prefix t ss own p =
 
 pub part_is : (blocks : List Block) (hours : List (List Step)) (prefix : List Bool) (i t : ℕ) (ss : List Step) (own : Taken)
     → slice_get hours i ≡ Some ss
-    → t ≡ i + 1 → (p : IsPeriodOfDay blocks prefix t (ss ++ as_steps t (drop (length prefix) blocks)) own)
+    → t ≡ i + 1 → (p : IsPeriodOfDay blocks prefix t (relaxed_at ss t blocks (length prefix)) own)
     → part blocks hours prefix t ≡ p.welfare +ℤ block_value blocks prefix t
 part_is blocks hours prefix i t ss own at e p =
     part_some blocks hours prefix i t ss (p.welfare +ℤ block_value blocks prefix t) at e
-    (worth_is blocks prefix t (ss ++ as_steps t (drop (length prefix) blocks)) own p)
+    (worth_is blocks prefix t (relaxed_at ss t blocks (length prefix)) own p)
 
 -- ---- a sum over the periods
--- f of each of so many numbers from t on, added up
+-- f of each of n numbers from t on, added up
 abbrev pub sum_from : (ℕ → ℤ) → ℕ → ℕ → ℤ
 sum_from f t zero = pos 0
 sum_from f t (suc n) = f t +ℤ sum_from f (suc t) n
@@ -131,6 +132,10 @@ added_none : (x : Option ℤ) → added x None ≡ None
 added_none None = refl
 added_none (Some w) = refl
 
+-- the period has no welfare under the prefix, with the blocks that are left as steps
+abbrev IsNoneIn : List Block → List Bool → List Step → List Block → ℕ → Type 0
+IsNoneIn blocks prefix ss left t = period_welfare blocks prefix t (ss ++ as_steps t left) ≡ None
+
 none_from : (blocks left : List Block) (prefix : List Bool) (t : ℕ) (hours : List (List Step)) (i : ℕ) (ss : List Step)
     → slice_get hours i ≡ Some ss
     → period_welfare blocks prefix (t + i) (ss ++ as_steps (t + i) left) ≡ None
@@ -139,13 +144,13 @@ none_from blocks left prefix t [] i ss at none = absurd (cc)
 none_from blocks left prefix t (hour ∷ hours) zero ss at none =
     let number : t + 0 ≡ t = omega arith in
     let same : hour ≡ ss = cc in
-    let here = subst (λ (u : ℕ). period_welfare blocks prefix u (ss ++ as_steps u left) ≡ None) number none in
+    let here = subst (IsNoneIn blocks prefix ss left) number none in
     let own = subst (λ (hs : List Step). period_welfare blocks prefix t (hs ++ as_steps t left) ≡ None) (sym same) here in
     ap (λ (x : Option ℤ). added x (welfare_from blocks prefix (suc t) (relaxed_hours left (suc t) hours))) own
 none_from blocks left prefix t (hour ∷ hours) (suc i) ss at none =
     let next : t + suc i ≡ suc t + i = omega arith in
     let more = none_from blocks left prefix (suc t) hours i ss at
-    (subst (λ (u : ℕ). period_welfare blocks prefix u (ss ++ as_steps u left) ≡ None) next none) in
+    (subst (IsNoneIn blocks prefix ss left) next none) in
     ap (added (period_welfare blocks prefix t (hour ++ as_steps t left))) more ∙ added_none _
 
 pub no_welfare : (blocks left : List Block) (prefix : List Bool) (hours : List (List Step)) (place t : ℕ) (ss : List Step)
@@ -153,5 +158,5 @@ pub no_welfare : (blocks left : List Block) (prefix : List Bool) (hours : List (
     → period_welfare blocks prefix t (ss ++ as_steps t left) ≡ None → welfare_from blocks prefix 1 (relaxed_hours left 1 hours) ≡ None
 no_welfare blocks left prefix hours place t ss at period none =
     let same : t ≡ 1 + place = omega (arith, period) in
-    none_from blocks left prefix 1 hours place ss at (subst (λ (u : ℕ). period_welfare blocks prefix u (ss ++ as_steps u left) ≡ None)
+    none_from blocks left prefix 1 hours place ss at (subst (IsNoneIn blocks prefix ss left)
     same none)

@@ -24,7 +24,7 @@ relaxed_hours undecided t [] = []
 relaxed_hours undecided t (ss ∷ hours) =
     (ss ++ as_steps t undecided) ∷ relaxed_hours undecided (suc t) hours
 
--- the welfare of the prefix where each undecided block stands as a step of its own in each of its
+-- the welfare of the prefix if each undecided block stands as a step of its own in each of its
 -- periods; None if some period so relaxed has no execution that balances
 abbrev pub relaxed_welfare : ProblemState → List Bool → Option ℤ
 relaxed_welfare problem prefix =

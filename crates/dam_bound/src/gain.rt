@@ -84,7 +84,7 @@ fn surplus_of<A: Allocator>(
     total
 }
 
-/// What those of a family gain by themselves that the selection accepts.
+/// What the members of a family that the selection accepts gain by themselves.
 fn surplus_of_family<A: Allocator>(
     periods: &[Levels<A>],
     blocks: &[Block],

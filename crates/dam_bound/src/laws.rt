@@ -44,7 +44,7 @@ pub fn extension()
     dam_blocks::laws::sums();
 }
 
-/// Where every block is decided, the relaxed welfare is the welfare of each completion.
+/// If every block is decided, the relaxed welfare is the welfare of each completion.
 pub fn decided()
     ensures { (problem : ProblemState) (prefix sel : List Bool)
         → length problem.blocks ≤ length prefix → IsCompletion prefix sel

@@ -59,8 +59,8 @@ fn relaxed_hour<A: Allocator + Copy>(
     Hour::build(alloc, &relaxed)
 }
 
-/// A period with its undecided blocks as steps, at each depth: so many of the first blocks are
-/// decided.
+/// A period with its undecided blocks as steps, at each depth, which is the number of first blocks that
+/// are decided.
 ///
 /// Depths between which no block has a volume in the period share an hour.
 #[derive(Drop)]

@@ -15,10 +15,10 @@
 //!
 //! What these words mean stands in `specs/`: prefixes and their completions, the relaxed welfare,
 //! the live count. A contract sees a [`Relaxed`] as the problem that it was built of, without its
-//! rows. Only tested is that memory isn't said to have run out if it hasn't.
+//! rows. Tests alone show that a call reports out of memory only if memory was refused.
 //!
 //! The crate knows nothing of exclusive groups, nor of which selections are admissible or eligible; of links
-//! it knows just who descends from whom.
+//! it knows just which block descends from which.
 #![tactic(auto)]
 
 mod day;

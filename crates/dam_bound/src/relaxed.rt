@@ -143,7 +143,7 @@ impl<A: Allocator> Relaxed<A> {
     /// blocks are decided, and those in `taken` are accepted; in cents per MWh times tenths of a
     /// MW.
     ///
-    /// It is the welfare of the prefix where each undecided block may be executed in part, in each
+    /// It is the welfare of the prefix if each undecided block may be executed in part, in each
     /// of its periods apart from the others: the sum over the periods of the greatest welfare with
     /// the undecided blocks as orders, and the accepted buy blocks' limit times volume less the
     /// accepted sell blocks'. It may be below 0. `None` exactly if some period so relaxed has no

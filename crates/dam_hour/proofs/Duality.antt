@@ -5,7 +5,7 @@ use Rattle.dam_book.specs.declared.order.Side.{Side}
 use Rattle.dam_book.specs.declared.order.Side.TheVariants.{Buy, Sell}
 use Rattle.dam_hour.specs.declared.step.Step.{Step}
 use Rattle.dam_hour.specs.Execution.{IsExecution, executed_volume, volume_on, Balances}
-use Rattle.dam_hour.specs.Best.{signed, welfare_of, surplus_at}
+use Rattle.dam_hour.specs.Best.{signed, welfare_of, execution_surplus}
 use Rattle.dam_hour.specs.Price.{IsBetter, IsWorse, Supports}
 use Rattle.dam_hour.specs.inside.Volumes.{margin_of, above_zero, full_surplus}
 use Rattle.dam_hour.proofs.Numbers.{minus_times, plus_times, times_net, signed_times, full_or_none, at_most_full, full_where_better}
@@ -25,14 +25,15 @@ split_step Sell limit p x s b w u e =
     omega (arith, ints, m, l, r)
 
 pub welfare_split : (p : ℤ) (ss : List Step) (xs : List ℕ)
-    → welfare_of ss xs +ℤ p *ℤ pos (executed_volume Sell ss xs) ≡ surplus_at p ss xs +ℤ p *ℤ pos (executed_volume Buy ss xs)
+    → welfare_of ss xs +ℤ p *ℤ pos (executed_volume Sell ss xs) ≡ execution_surplus p ss xs +ℤ p *ℤ pos (executed_volume Buy ss xs)
 welfare_split p [] xs = refl
 welfare_split p (s ∷ ss) [] = refl
 welfare_split p (s ∷ ss) (x ∷ xs) =
-    split_step s.side s.price p x (executed_volume Sell ss xs) (executed_volume Buy ss xs) (welfare_of ss xs) (surplus_at p ss xs)
+    split_step s.side s.price p x (executed_volume Sell ss xs) (executed_volume Buy ss xs) (welfare_of ss xs) (execution_surplus p ss xs)
     (welfare_split p ss xs)
 
-pub welfare_balanced : (p net : ℤ) (ss : List Step) (xs : List ℕ) → Balances ss net xs → welfare_of ss xs ≡ surplus_at p ss xs +ℤ p *ℤ net
+pub welfare_balanced : (p net : ℤ) (ss : List Step) (xs : List ℕ) → Balances ss net xs
+    → welfare_of ss xs ≡ execution_surplus p ss xs +ℤ p *ℤ net
 welfare_balanced p net ss xs e =
     let m = times_net p net (executed_volume Buy ss xs) (executed_volume Sell ss xs) e in
     let w = welfare_split p ss xs in
@@ -42,7 +43,7 @@ welfare_balanced p net ss xs e =
 gain_by_margin : (side : Side) (limit p : ℤ) (x : ℕ) → signed side ((limit -ℤ p) *ℤ pos x) ≡ margin_of side limit p *ℤ pos x
 gain_by_margin side limit p x = signed_times side (limit -ℤ p) x
 
-pub surplus_at_most : (p : ℤ) (ss : List Step) (xs : List ℕ) → IsExecution ss xs → surplus_at p ss xs ≤ℤ pos (full_surplus p ss)
+pub surplus_at_most : (p : ℤ) (ss : List Step) (xs : List ℕ) → IsExecution ss xs → execution_surplus p ss xs ≤ℤ pos (full_surplus p ss)
 surplus_at_most p [] [] e = omega (arith, ints)
 surplus_at_most p [] (x ∷ xs) e = absurd e
 surplus_at_most p (s ∷ ss) [] e = absurd e
@@ -53,7 +54,7 @@ surplus_at_most p (s ∷ ss) (x ∷ xs) e =
     omega (arith, ints, g, m, r)
 
 pub surplus_supported : (p : ℤ) (ss : List Step) (xs : List ℕ) → IsExecution ss xs → Supports p ss xs
-    → surplus_at p ss xs ≡ pos (full_surplus p ss)
+    → execution_surplus p ss xs ≡ pos (full_surplus p ss)
 surplus_supported p [] [] e h = refl
 surplus_supported p [] (x ∷ xs) e h = absurd e
 surplus_supported p (s ∷ ss) [] e h = absurd e
@@ -64,8 +65,8 @@ surplus_supported p (s ∷ ss) (x ∷ xs) e h =
     let r = surplus_supported p ss xs e.1 h.2 in
     omega (arith, ints, g, m, r)
 
-pub supported_from_surplus : (p : ℤ) (ss : List Step) (xs : List ℕ) → IsExecution ss xs → surplus_at p ss xs ≡ pos (full_surplus p ss)
-    → Supports p ss xs
+pub supported_from_surplus : (p : ℤ) (ss : List Step) (xs : List ℕ) → IsExecution ss xs
+    → execution_surplus p ss xs ≡ pos (full_surplus p ss) → Supports p ss xs
 supported_from_surplus p [] [] e h = tt
 supported_from_surplus p [] (x ∷ xs) e h = absurd e
 supported_from_surplus p (s ∷ ss) [] e h = absurd e
@@ -75,7 +76,7 @@ supported_from_surplus p (s ∷ ss) (x ∷ xs) e h =
     let r = surplus_at_most p ss xs e.1 in
     let here : margin_of s.side s.price p *ℤ pos x ≡ pos (above_zero (margin_of s.side s.price p) * s.qty) =
     omega (arith, ints, g, m, r, h) in
-    let there : surplus_at p ss xs ≡ pos (full_surplus p ss) = omega (arith, ints, g, m, r, h) in (
+    let there : execution_surplus p ss xs ≡ pos (full_surplus p ss) = omega (arith, ints, g, m, r, h) in (
       (λ l. full_where_better (margin_of s.side s.price p) x s.qty here (margin_better s.side s.price p l)),
       (λ l. none_where_worse (margin_of s.side s.price p) x s.qty here (margin_worse s.side s.price p l)),
       supported_from_surplus p ss xs e.1 there,
@@ -98,7 +99,7 @@ supported_greatest p net ss xs ys ex bx sx ey by =
 pub equals_supported : (p net : ℤ) (ss : List Step) (xs ys : List ℕ) → IsExecution ss xs → Balances ss net xs → Supports p ss xs
     → IsExecution ss ys → Balances ss net ys → welfare_of ss xs ≤ℤ welfare_of ss ys → Supports p ss ys
 equals_supported p net ss xs ys ex bx sx ey by le =
-    let m : surplus_at p ss ys ≡ pos (full_surplus p ss) =
+    let m : execution_surplus p ss ys ≡ pos (full_surplus p ss) =
     omega (
       arith,
       ints,
@@ -131,10 +132,11 @@ supported_between low p high (s ∷ ss) (x ∷ xs) l h f g = (
 )
 
 -- ---- the laws of the surplus
-pub surplus_at_least_zero : (p : ℤ) (ss : List Step) (xs : List ℕ) → IsExecution ss xs → Supports p ss xs → pos 0 ≤ℤ surplus_at p ss xs
+pub surplus_at_least_zero : (p : ℤ) (ss : List Step) (xs : List ℕ) → IsExecution ss xs → Supports p ss xs
+    → pos 0 ≤ℤ execution_surplus p ss xs
 surplus_at_least_zero p ss xs e h = let s = surplus_supported p ss xs e h in omega (arith, ints, s)
 
 pub surplus_greatest : (p : ℤ) (ss : List Step) (xs ys : List ℕ) → IsExecution ss xs → Supports p ss xs → IsExecution ss ys
-    → surplus_at p ss ys ≤ℤ surplus_at p ss xs
+    → execution_surplus p ss ys ≤ℤ execution_surplus p ss xs
 surplus_greatest p ss xs ys ex h ey = let s = surplus_supported p ss xs ex h in let m = surplus_at_most p ss ys ey in
     omega (arith, ints, s, m)

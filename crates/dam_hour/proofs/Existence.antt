@@ -1,4 +1,5 @@
--- Where the net volume is within the offers there are a balanced execution, the ends and a best execution; and each is the only one.
+-- If the net volume is within the offers, there are a balanced execution, the ends and a best execution; there is only
+-- one pair of ends, and only one best execution.
 use Rattle.std.proofs.Common.{◌≡◌, ℕ, zero, suc, min, ◌-◌, ◌≤◌, ℤ, pos, negsuc, neg_ℤ, ◌+ℤ◌, ◌-ℤ◌, ◌≤ℤ◌, List, [], ◌∷◌, inl, inr, ap, ap₂}
 use Rattle.std.proofs.Common.{◌∙◌, sym, refl, arith}
 use Rattle.std.proofs.lemmas.Int.{ints, by_lt_z}

@@ -1,12 +1,12 @@
 -- A step that leaves a period: its ladder without it, and the steps that stay on each side.
 use Rattle.std.proofs.Common.{◌≡◌, ℕ, zero, suc, ◌+◌, ◌-◌, ◌*◌, ◌==◌, ◌<◌, ◌≤◌, ℤ, pos, neg_ℤ, ◌+ℤ◌, ◌*ℤ◌, ◌≤ℤ◌, Bool, true, false, cond}
-use Rattle.std.proofs.Common.{not, nat_lt, lt-ltb, le-ltb, inl, inr, List, [], ◌∷◌, ◌++◌, length, drop, get_or, map, ap, ap₂, ◌∙◌, sym}
+use Rattle.std.proofs.Common.{not, nat_lt, lt-ltb, le-ltb, inl, inr, List, [], ◌∷◌, ◌++◌, length, drop, get_or, map, ap, ◌∙◌, sym}
 use Rattle.std.proofs.Common.{subst, refl, arith}
 use Rattle.std.specs.List.{remove, filter}
 use Rattle.std.specs.List.Sorted.{IsNonDecreasingBy}
 use Rattle.std.proofs.lemmas.Bool.{cases_lt, eq-eqb, ne_eqb}
 use Rattle.std.proofs.lemmas.Int.{ints}
-use Rattle.std.proofs.lemmas.List.{get_or-map, length-map, drop_more, drop_all, append_assoc, append-nil}
+use Rattle.std.proofs.lemmas.List.{get_or-map, length-map, drop_all}
 use Rattle.std.proofs.lemmas.List.Edits.{length-remove}
 use Rattle.std.proofs.lemmas.List.Kept.{IsNonDecreasingBy-filter}
 use Rattle.std.proofs.lemmas.Nat.{mod-mul-add}
@@ -18,9 +18,9 @@ use Rattle.dam_hour.specs.declared.ladder.Rung.{Rung}
 use Rattle.dam_book.specs.Limits.{greatest_volume}
 use Rattle.dam_hour.specs.Limits.{most_steps, greatest_value}
 use Rattle.dam_hour.specs.Execution.{AreInRange, volume_on}
-use Rattle.dam_hour.specs.inside.Ladder.{rank_of, order_of, place_of, moved_up, without_place, total, value_of, rows_from, placed_of}
+use Rattle.dam_hour.specs.inside.Ladder.{rank_of, order_of, place_of, moved_up, without_place, total, total_value, rungs_from, placed_of}
 use Rattle.dam_hour.specs.inside.Ladder.{IsLadder, side_total, AreOfSide, AreKept}
-use Rattle.dam_hour.proofs.Ladders.{placed_back}
+use Rattle.dam_hour.proofs.Ladders.{drop_open, row_pushed, ladder_done, placed_done}
 
 -- ---- places
 abbrev order_up : ℕ → ℕ → ℕ
@@ -189,50 +189,35 @@ kept_without ss kept buys sells buys' sells' gone a l same same_buys same_sells 
 abbrev pub still : ℕ → ℕ → List Rung → List Placed
 still gone i rows = without_place gone (placed_of (drop i rows))
 
-opened : (i : ℕ) (rows : List Rung) (row : Rung) → i < length rows → row ≡ get_or rows i row → drop i rows ≡ row ∷ drop (i + 1) rows
-opened i rows row within is = drop_more rows i row within ∙ ap (λ (r : Rung). r ∷ drop (i + 1) rows) (sym is)
-
 still_more : (gone i : ℕ) (rows : List Rung) (row : Rung) → i < length rows → row ≡ get_or rows i row → ¬ (place_of row.placed.order ≡ gone)
     → still gone i rows ≡ moved_up gone row.placed ∷ still gone (i + 1) rows
 still_more gone i rows row within is other =
-    ap (λ (rs : List Rung). without_place gone (placed_of rs)) (opened i rows row within is)
+    ap (λ (rs : List Rung). without_place gone (placed_of rs)) (drop_open rows i row within is)
     ∙ ap (λ (b : Bool). cond b (still gone (i + 1) rows) (moved_up gone row.placed ∷ still gone (i + 1) rows))
     (ne_eqb (place_of row.placed.order) gone other)
 
 still_gone : (gone i : ℕ) (rows : List Rung) (row : Rung) → i < length rows → row ≡ get_or rows i row → place_of row.placed.order ≡ gone
     → still gone i rows ≡ still gone (i + 1) rows
 still_gone gone i rows row within is same =
-    ap (λ (rs : List Rung). without_place gone (placed_of rs)) (opened i rows row within is)
+    ap (λ (rs : List Rung). without_place gone (placed_of rs)) (drop_open rows i row within is)
     ∙ ap (λ (b : Bool). cond b (still gone (i + 1) rows) (moved_up gone row.placed ∷ still gone (i + 1) rows))
     (eq-eqb (place_of row.placed.order) gone same)
 
-row_pushed : (p : Placed) (ps qs : List Placed) (rows pushed all : List Rung) (v v' : ℕ) (w w' : ℤ) → ps ≡ p ∷ qs
-    → pushed ≡ rows ++ record { placed = p; before = record { volume = v; value = w } } ∷ [] → v' ≡ v + p.step.qty
-    → w' ≡ w +ℤ p.step.price *ℤ pos p.step.qty
-    → rows ++ rows_from v w ps ≡ all → pushed ++ rows_from v' w' qs ≡ all
-row_pushed p ps qs rows pushed all v v' w w' opened push volume value so_far =
-    let row : Rung = record { placed = p; before = record { volume = v; value = w } } in
-    ap (λ (rs : List Rung). rs ++ rows_from v' w' qs) push
-    ∙ append_assoc rows (row ∷ []) (rows_from v' w' qs)
-    ∙ ap₂ (λ (n : ℕ) (z : ℤ). rows ++ row ∷ rows_from n z qs) volume value
-    ∙ sym (ap (λ (ts : List Placed). rows ++ rows_from v w ts) opened)
-    ∙ so_far
-
 -- what is made of the first rows, as many as that
 pub record AreUpTo (gone i : ℕ) (old rows : List Rung) (v : ℕ) (w : ℤ) : Type 0 where
-  pub rows_are : rows ++ rows_from v w (still gone i old) ≡ rows_from 0 (pos 0) (without_place gone (placed_of old))
+  pub rows_are : rows ++ rungs_from v w (still gone i old) ≡ rungs_from 0 (pos 0) (without_place gone (placed_of old))
   pub volume_is : v + total (λ p. p.step.qty) (still gone i old) ≡ total (λ p. p.step.qty) (without_place gone (placed_of old))
-  pub value_is : w +ℤ value_of (still gone i old) ≡ value_of (without_place gone (placed_of old))
+  pub value_is : w +ℤ total_value (still gone i old) ≡ total_value (without_place gone (placed_of old))
   pub volume_small : v ≤ i * greatest_volume
   pub value_at_least : neg_ℤ (pos (i * greatest_value)) ≤ℤ w
   pub value_at_most : w ≤ℤ pos (i * greatest_value)
 
 pub up_to_none : (gone : ℕ) (old rows : List Rung) → rows ≡ [] → AreUpTo gone 0 old rows 0 (pos 0)
 up_to_none gone old rows none = record {
-  rows_are = ap (λ (rs : List Rung). rs ++ rows_from 0 (pos 0) (still gone 0 old)) none
-      ∙ ap (λ (rs : List Rung). rows_from 0 (pos 0) (without_place gone (placed_of rs))) (drop_none old);
+  rows_are = ap (λ (rs : List Rung). rs ++ rungs_from 0 (pos 0) (still gone 0 old)) none
+      ∙ ap (λ (rs : List Rung). rungs_from 0 (pos 0) (without_place gone (placed_of rs))) (drop_none old);
   volume_is = ap (λ (rs : List Rung). 0 + total (λ p. p.step.qty) (without_place gone (placed_of rs))) (drop_none old) ∙ (omega arith);
-  value_is = let e = ap (λ (rs : List Rung). value_of (without_place gone (placed_of rs))) (drop_none old) in omega (arith, ints, e);
+  value_is = let e = ap (λ (rs : List Rung). total_value (without_place gone (placed_of rs))) (drop_none old) in omega (arith, ints, e);
   volume_small = omega arith;
   value_at_least = omega (arith, ints);
   value_at_most = omega (arith, ints);
@@ -256,12 +241,12 @@ up_to_kept gone i old rows pushed row p v v' q w w' z a within is other made pus
     let value = value_sum ∙ ap (λ (y : ℤ). w +ℤ y) own_value in
     let stays = still_more gone i old row within is other in
     let total_at = ap (λ (ps : List Placed). total (λ p. p.step.qty) ps) stays in
-    let value_at = ap (λ (ps : List Placed). value_of ps) stays in
+    let value_at = ap (λ (ps : List Placed). total_value ps) stays in
     let total_was = a.volume_is in let value_was = a.value_is in
     let small_was = a.volume_small in let least_was = a.value_at_least in let most_was = a.value_at_most in
     record {
       rows_are = row_pushed (moved_up gone row.placed) (still gone i old) (still gone (i + 1) old) rows pushed
-          (rows_from 0 (pos 0) (without_place gone (placed_of old))) v v' w w' stays push' volume value a.rows_are;
+          (rungs_from 0 (pos 0) (without_place gone (placed_of old))) v v' w w' stays push' volume value a.rows_are;
       volume_is = omega (arith, volume, total_at, total_was);
       value_is = omega (arith, ints, value, value_at, value_was);
       volume_small = omega (arith, sum, small, small_was);
@@ -275,11 +260,11 @@ pub up_to_gone : (gone i : ℕ) (old rows : List Rung) (row : Rung) (v : ℕ) (w
 up_to_gone gone i old rows row v w a within is same =
     let leaves = still_gone gone i old row within is same in
     let total_at = ap (λ (ps : List Placed). total (λ p. p.step.qty) ps) leaves in
-    let value_at = ap (λ (ps : List Placed). value_of ps) leaves in
+    let value_at = ap (λ (ps : List Placed). total_value ps) leaves in
     let total_was = a.volume_is in let value_was = a.value_is in
     let small_was = a.volume_small in let least_was = a.value_at_least in let most_was = a.value_at_most in
     record {
-      rows_are = ap (λ (ps : List Placed). rows ++ rows_from v w ps) (sym leaves) ∙ a.rows_are;
+      rows_are = ap (λ (ps : List Placed). rows ++ rungs_from v w ps) (sym leaves) ∙ a.rows_are;
       volume_is = omega (arith, total_at, total_was);
       value_is = omega (arith, ints, value_at, value_was);
       volume_small = omega (arith, small_was);
@@ -294,25 +279,9 @@ pub up_to_all : (gone i : ℕ) (old rows : List Rung) (v : ℕ) (w : ℤ) → Ar
 up_to_all gone i old rows v w a done sorted few =
     let ps = without_place gone (placed_of old) in
     let none : still gone i old ≡ [] = ap (λ (rs : List Rung). without_place gone (placed_of rs)) (drop_all i old done) in
-    let whole : rows ≡ rows_from 0 (pos 0) ps = sym (append-nil rows) ∙ sym (ap (λ (qs : List Placed). rows ++ rows_from v w qs) none)
-    ∙ a.rows_are in
-    let placed : placed_of rows ≡ ps = ap placed_of whole ∙ placed_back 0 (pos 0) ps in
-    let long = length-map rows (λ (r : Rung). r.placed) in
     let was = length-map old (λ (r : Rung). r.placed) in
-    let same = ap (λ (qs : List Placed). length qs) placed in
-    let fewer = few_without gone (placed_of old) in
-    let volume = a.volume_is in let value = a.value_is in
-    let no_volume = ap (λ (qs : List Placed). total (λ p. p.step.qty) qs) none in
-    let no_value = ap (λ (qs : List Placed). value_of qs) none in
-    let volume_of = ap (λ (qs : List Placed). total (λ p. p.step.qty) qs) placed in
-    let value_of' = ap (λ (qs : List Placed). value_of qs) placed in (
-      record {
-        few = omega (arith, few, long, was, same, fewer);
-        sorted = subst (λ (qs : List Placed). IsNonDecreasingBy (λ (p : Placed). p.order) qs) (sym placed)
-            (sorted_without gone (placed_of old) sorted);
-        cumulated = whole ∙ sym (ap (λ (qs : List Placed). rows_from 0 (pos 0) qs) placed);
-        volume = omega (arith, volume, no_volume, volume_of);
-        value = omega (arith, ints, value, no_value, value_of');
-      },
-      placed,
+    let fewer = few_without gone (placed_of old) in (
+      ladder_done ps (still gone i old) rows v w none a.rows_are a.volume_is a.value_is (sorted_without gone (placed_of old) sorted)
+          (omega (arith, few, was, fewer)),
+      placed_done ps (still gone i old) rows v w none a.rows_are,
     )

@@ -1,4 +1,4 @@
--- The period's price lies between the ends, and which of its three cases applies.
+-- That the period's price lies between the ends, and which of its three cases applies.
 use Rattle.std.proofs.Common.{◌≡◌, ◌≢◌, ℤ, pos, negsuc, ◌+ℤ◌, ◌≤ℤ◌, ◌<ℤ◌, Bool, true, false, refl, arith}
 use Rattle.std.specs.Prelude.{int_lt, ◌&&◌, if◌then◌else◌}
 use Rattle.std.specs.Int.{int_div_euclid}
@@ -14,9 +14,12 @@ pub half_rounds_down : (z : ℤ)
 half_rounds_down (pos a) = (omega (arith, ints), omega (arith, ints))
 half_rounds_down (negsuc a) = (omega (arith, ints), omega (arith, ints))
 
+-- the price that four tests pick
+abbrev picked : Bool → Bool → Bool → Bool → ℤ → ℤ → ℤ → ℤ
+picked a b c d low high middle = if a && b then high else (if c && d then low else middle)
+
 chosen : (a b c d : Bool) (low high middle : ℤ) → low ≤ℤ high → low ≤ℤ middle → middle ≤ℤ high
-    → (low ≤ℤ (if a && b then high else (if c && d then low else middle)))
-    × ((if a && b then high else (if c && d then low else middle)) ≤ℤ high)
+    → (low ≤ℤ picked a b c d low high middle) × (picked a b c d low high middle ≤ℤ high)
 chosen true true c d low high middle h l m = (h, omega (arith, ints))
 chosen true false true true low high middle h l m = (omega (arith, ints), h)
 chosen true false true false low high middle h l m = (l, m)
@@ -49,13 +52,13 @@ eq_false a b h = elim (int_eq a b) as (λ t. int_eq a b ≡ t → t ≡ false) [
 ] refl
 
 picked_high : (a b c d : Bool) (low high middle : ℤ) → a ≡ true → b ≡ true
-    → (if a && b then high else (if c && d then low else middle)) ≡ high
+    → picked a b c d low high middle ≡ high
 picked_high true true c d low high middle e f = refl
 picked_high true false c d low high middle e f = cc
 picked_high false b c d low high middle e f = cc
 
 picked_low : (a b c d : Bool) (low high middle : ℤ) → b ≡ false → c ≡ true → d ≡ true
-    → (if a && b then high else (if c && d then low else middle)) ≡ low
+    → picked a b c d low high middle ≡ low
 picked_low a true c d low high middle e f g = cc
 picked_low true false true true low high middle e f g = refl
 picked_low false false true true low high middle e f g = refl
@@ -65,7 +68,7 @@ picked_low true false true false low high middle e f g = cc
 picked_low false false true false low high middle e f g = cc
 
 picked_middle : (a b c d : Bool) (low high middle : ℤ) → a ≡ false → d ≡ false
-    → (if a && b then high else (if c && d then low else middle)) ≡ middle
+    → picked a b c d low high middle ≡ middle
 picked_middle true b c d low high middle e f = cc
 picked_middle false b true true low high middle e f = cc
 picked_middle false b true false low high middle e f = refl

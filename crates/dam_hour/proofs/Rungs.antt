@@ -17,7 +17,7 @@ use Rattle.dam_hour.specs.declared.ladder.Placed.{Placed}
 use Rattle.dam_hour.specs.Limits.{most_steps}
 use Rattle.dam_hour.specs.Execution.{AreInRange, IsHour, volume_on, offered_volume}
 use Rattle.dam_hour.specs.inside.Volumes.{if_better, better_volume, at_volume}
-use Rattle.dam_hour.specs.inside.Ladder.{rank_of, order_of, total, rows_from, placed_of, side_total, AreOfSide, IsRung}
+use Rattle.dam_hour.specs.inside.Ladder.{rank_of, order_of, total, rungs_from, placed_of, side_total, AreOfSide, IsRung}
 use Rattle.dam_hour.specs.inside.Edge.{not_worse_volume, IsServed, IsEdge, IsLimitOfSell}
 use Rattle.dam_hour.specs.declared.ladder.Rung.{Rung}
 use Rattle.dam_hour.proofs.Ladders.{counted, counted_before, counted_after, front_of_place, none_in_front, offered_total}
@@ -245,17 +245,17 @@ around_edge ss ps net last next from to volume e v a =
 
 -- ---- the step that holds a unit
 row_volume : (v : ℕ) (w : ℤ) (ps : List Placed) (i : ℕ) (d : Rung) → i < length ps
-    → (get_or (rows_from v w ps) i d).before.volume ≡ v + volume_to i ps
+    → (get_or (rungs_from v w ps) i d).before.volume ≡ v + volume_to i ps
 row_volume v w [] i d l = absurd (omega (arith, l))
 row_volume v w (p ∷ ps) zero d l = omega arith
 row_volume v w (p ∷ ps) (suc i) d l =
     let rest = row_volume (v + p.step.qty) (w +ℤ p.step.price *ℤ pos p.step.qty) ps i d (omega (arith, l)) in omega (arith, rest)
 
-rows_long : (v : ℕ) (w : ℤ) (ps : List Placed) → length (rows_from v w ps) ≡ length ps
+rows_long : (v : ℕ) (w : ℤ) (ps : List Placed) → length (rungs_from v w ps) ≡ length ps
 rows_long v w [] = refl
 rows_long v w (p ∷ ps) = let rest = rows_long (v + p.step.qty) (w +ℤ p.step.price *ℤ pos p.step.qty) ps in omega (arith, rest)
 
-pub rows_rise : (rows : List Rung) (ps : List Placed) → rows ≡ rows_from 0 (pos 0) ps
+pub rows_rise : (rows : List Rung) (ps : List Placed) → rows ≡ rungs_from 0 (pos 0) ps
     → IsNonDecreasingBy (λ (r : Rung). r.before.volume) rows
 rows_rise rows ps e i j d l m =
     let long = ap length e ∙ rows_long 0 (pos 0) ps in
@@ -264,7 +264,7 @@ rows_rise rows ps e i j d l m =
     let rises = volume_rises ps i j l in
     omega (arith, at_i, at_j, rises)
 
-pub some_under : (rows : List Rung) (ps : List Placed) (unit k : ℕ) → rows ≡ rows_from 0 (pos 0) ps
+pub some_under : (rows : List Rung) (ps : List Placed) (unit k : ℕ) → rows ≡ rungs_from 0 (pos 0) ps
     → IsPartitionPoint (λ (r : Rung). ltb r.before.volume unit ≡ true) (λ (r : Rung). ltb r.before.volume unit ≡ false) rows k
     → 1 ≤ unit → unit ≤ total (λ p. p.step.qty) ps → 1 ≤ k
 some_under rows [] unit k e point first last = absurd (omega (arith, first, last))
@@ -276,7 +276,7 @@ some_under rows (p ∷ ps) unit zero e point first last =
     let none = ap (λ (rs : List Rung). (get_or rs 0 d).before.volume) e in
     absurd (omega (arith, later, none, first))
 
-pub holds_unit : (rows : List Rung) (ps : List Placed) (unit n k : ℕ) → rows ≡ rows_from 0 (pos 0) ps → k ≤ length rows → k ≡ suc n
+pub holds_unit : (rows : List Rung) (ps : List Placed) (unit n k : ℕ) → rows ≡ rungs_from 0 (pos 0) ps → k ≤ length rows → k ≡ suc n
     → IsPartitionPoint (λ (r : Rung). ltb r.before.volume unit ≡ true) (λ (r : Rung). ltb r.before.volume unit ≡ false) rows k
     → unit ≤ total (λ p. p.step.qty) ps → (n < length ps) × (volume_to n ps < unit) × (unit ≤ volume_to (suc n) ps)
 holds_unit rows [] unit n k e h s point last = let long = ap length e in absurd (omega (arith, h, s, long))

@@ -21,10 +21,10 @@ abbrev pub welfare_of : List Step → List ℕ → ℤ
 welfare_of (step ∷ steps) (x ∷ xs) = signed step.side (step.price *ℤ pos x) +ℤ welfare_of steps xs
 welfare_of _ _ = pos 0
 
--- what the steps gain at a price: limit less price, times executed volume, over buys, less the same over sells
-abbrev pub surplus_at : ℤ → List Step → List ℕ → ℤ
-surplus_at price (step ∷ steps) (x ∷ xs) = signed step.side ((step.price -ℤ price) *ℤ pos x) +ℤ surplus_at price steps xs
-surplus_at price _ _ = pos 0
+-- the surplus of an execution at a price: limit less price, times executed volume, over buys, less the same over sells
+abbrev pub execution_surplus : ℤ → List Step → List ℕ → ℤ
+execution_surplus price (step ∷ steps) (x ∷ xs) = signed step.side ((step.price -ℤ price) *ℤ pos x) +ℤ execution_surplus price steps xs
+execution_surplus price _ _ = pos 0
 
 -- at the first place where they differ the second has the greater volume, or they differ nowhere
 abbrev pub AtMostInOrder : List ℕ → List ℕ → Type 0

@@ -17,7 +17,8 @@ pub record IsHour (steps : List Step) : Type 0 where
   pub few : length steps ≤ most_steps
   pub in_range : AreInRange steps
 
--- a net volume that the blocks of a book can have in a period: what the accepted ones sell there less what they buy, in tenths of a MW
+-- a net volume that the blocks of a book can have in a period: what the accepted ones sell there less what they buy, in
+-- tenths of a MW
 pub record IsNetVolume (net : ℤ) : Type 0 where
   pub at_least : neg_ℤ (pos greatest_net) ≤ℤ net
   pub at_most : net ≤ℤ pos greatest_net

@@ -10,7 +10,8 @@ most_steps = most_hourly + most_blocks
 abbrev pub greatest_net : ℕ
 greatest_net = most_blocks * greatest_volume
 
--- the size of a limit or clearing price, of either sign, in cents per MWh: the highest is further from 0 than the lowest
+-- the size of a limit or clearing price, of either sign, in cents per MWh: the highest price is further from 0 than the
+-- lowest
 abbrev pub greatest_price : ℕ
 greatest_price = nat_abs highest_price
 

@@ -40,7 +40,8 @@ pub record AreEnds (steps : List Step) (net low high : ℤ) : Type 0 where
   pub least : (price : ℤ) → IsSupporting steps net price → low ≤ℤ price
   pub greatest : (price : ℤ) → IsSupporting steps net price → price ≤ℤ high
 
--- the one end that is no end of the range, and else the middle, a half rounded down (`int_div_euclid` by 2 rounds down also below zero)
+-- if just one of the two is an end of the range of prices, the other one; else the middle, a half cent rounded down,
+-- also below zero, as `int_div_euclid` by 2 rounds
 abbrev pub price_between : ℤ → ℤ → ℤ
 price_between low high =
     if int_eq low lowest_price && int_lt high highest_price then high

@@ -322,7 +322,7 @@ impl<A: Allocator> Hour<A> {
     /// `None` exactly if no execution balances. The execution is the one of greatest welfare
     /// (EUPHEMIA Public Description, "Welfare Maximization Problem (Master Problem)"), then of greatest
     /// bought volume ("Volume Indeterminacy Sub-problem"), then the one with the greater volume at the
-    /// first step in book order where two differ, which is this project's own. Takes no memory.
+    /// first step in book order at which two differ, which is this project's own. Takes no memory.
     pub fn clear(&self, net: i64) -> Option<Cleared>
         requires { IsNetVolume net }
         ensures none { IfNone result (IsUnbalanced self.now net) }

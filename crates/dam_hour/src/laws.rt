@@ -11,7 +11,7 @@ ghost use Rattle.dam_hour.specs.declared.step.Step.{Step};
 ghost use Rattle.dam_hour.specs.Limits.{most_steps, greatest_net};
 ghost use Rattle.dam_hour.specs.Execution.{AreInRange, IsExecution, executed_volume, Balances, IsWithinOffers, IsBalanced, IsUnbalanced};
 ghost use Rattle.dam_hour.specs.Price.{Supports, IsSupporting, AreEnds, price_between};
-ghost use Rattle.dam_hour.specs.Best.{AreSmall, IsBest, welfare_of, surplus_at, greatest_welfare};
+ghost use Rattle.dam_hour.specs.Best.{AreSmall, IsBest, welfare_of, execution_surplus, greatest_welfare};
 
 use crate::hour::{GREATEST_NET, MOST_STEPS};
 
@@ -93,12 +93,12 @@ pub fn welfare()
 /// volume; and at a price that supports it the surplus is at least 0, and the greatest there is.
 pub fn surplus()
     ensures welfare { (p net : ℤ) (steps : List Step) (xs : List ℕ)
-        → Balances steps net xs → welfare_of steps xs ≡ surplus_at p steps xs +ℤ p *ℤ net }
+        → Balances steps net xs → welfare_of steps xs ≡ execution_surplus p steps xs +ℤ p *ℤ net }
     ensures at_least_zero { (p : ℤ) (steps : List Step) (xs : List ℕ)
-        → IsExecution steps xs → Supports p steps xs → pos 0 ≤ℤ surplus_at p steps xs }
+        → IsExecution steps xs → Supports p steps xs → pos 0 ≤ℤ execution_surplus p steps xs }
     ensures greatest { (p : ℤ) (steps : List Step) (xs ys : List ℕ)
         → IsExecution steps xs → Supports p steps xs → IsExecution steps ys
-        → surplus_at p steps ys ≤ℤ surplus_at p steps xs }
+        → execution_surplus p steps ys ≤ℤ execution_surplus p steps xs }
 {}
 
 /// How large the executed volumes and the welfare of any execution can be: for each step at most

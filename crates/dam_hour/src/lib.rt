@@ -1,7 +1,7 @@
 //! One period of the auction: its clearing price and the execution of its hourly orders.
 //!
-//! An [`Hour`] holds the steps of a period in book order. With a net volume of accepted blocks it
-//! answers the price, the totals and the welfare (`clear`), the executed volume of one step
+//! An [`Hour`] holds the steps of a period in book order. At a net volume of accepted blocks it
+//! gives the price, the totals and the welfare (`clear`), the executed volume of one step
 //! (`executed`) and those of all steps (`execution`). What these words mean stands in `specs/`:
 //! executions and their balance, supporting prices, the best execution.
 //!
@@ -14,8 +14,8 @@
 //! assert_eq!(hour.executed(0, 1), Some(10));
 //! ```
 //!
-//! A contract sees an hour as the list of its steps, in book order. Only tested is that memory isn't said
-//! to have run out if it hasn't.
+//! A contract sees an hour as the list of its steps, in book order. Tests alone show that a call reports out
+//! of memory only if memory was refused.
 //!
 //! The crate knows nothing of blocks, books and the other periods.
 #![tactic(auto)]

@@ -9,10 +9,10 @@ use Rattle.dam_book.specs.declared.order.Side.TheVariants.{Buy, Sell}
 use Rattle.dam_hour.specs.declared.step.Step.{Step}
 use Rattle.dam_hour.specs.Limits.{price_span}
 use Rattle.dam_hour.specs.Execution.{AreInRange, IsExecution, executed_volume, offered_volume, Balances, IsBalanced}
-use Rattle.dam_hour.specs.Best.{welfare_of, surplus_at, greatest_welfare}
+use Rattle.dam_hour.specs.Best.{welfare_of, execution_surplus, greatest_welfare}
 use Rattle.dam_hour.specs.Price.{Supports, IsSupporting, AreEnds}
 use Rattle.dam_stack.specs.declared.row.Row.{Row}
-use Rattle.dam_stack.specs.Supply.{height_of, all_units, units_under, units_up_to, gain_at, AreUnitsAt}
+use Rattle.dam_stack.specs.Supply.{height_of, all_units, units_under, units_up_to, gain_under, AreUnitsAt}
 use Rattle.dam_stack.specs.inside.Supply.{worth_of, Reaches, Holds, IsCostOf, IsLow, IsHigh}
 use Rattle.dam_stack.proofs.Parts.{under_none, up_to_full, up_to_under, part_most, times_net}
 use Rattle.dam_stack.proofs.Supplying.{taken, spent, height_is, taken_total, supported_reaches, supported_spent, reached_execution}
@@ -26,7 +26,7 @@ up_to_below h k (s ∷ ss) l =
     let rest = up_to_below h k ss l in
     omega (arith, here, rest)
 
-pub none_at_zero : (ss : List Step) → (units_under 0 ss ≡ 0) × (gain_at 0 ss ≡ 0)
+pub none_at_zero : (ss : List Step) → (units_under 0 ss ≡ 0) × (gain_under 0 ss ≡ 0)
 none_at_zero [] = (refl, refl)
 none_at_zero (s ∷ ss) =
     let rest = none_at_zero ss in
@@ -167,9 +167,9 @@ pub record Laws : Type 0 where
   pub bound : (ss : List Step) (net w : ℤ) → greatest_welfare ss net ≡ Some w → (xs : List ℕ) → IsExecution ss xs → Balances ss net xs
       → welfare_of ss xs ≤ℤ w
   pub some : (ss : List Step) (net : ℤ) → IsBalanced ss net → (w : ℤ) × (greatest_welfare ss net ≡ Some w)
-  pub welfare : (p net : ℤ) (ss : List Step) (xs : List ℕ) → Balances ss net xs → welfare_of ss xs ≡ surplus_at p ss xs +ℤ p *ℤ net
+  pub welfare : (p net : ℤ) (ss : List Step) (xs : List ℕ) → Balances ss net xs → welfare_of ss xs ≡ execution_surplus p ss xs +ℤ p *ℤ net
   pub greatest : (p : ℤ) (ss : List Step) (xs ys : List ℕ) → IsExecution ss xs → Supports p ss xs → IsExecution ss ys
-      → surplus_at p ss ys ≤ℤ surplus_at p ss xs
+      → execution_surplus p ss ys ≤ℤ execution_surplus p ss xs
 
 -- what a price supports has the greatest welfare
 supporting_welfare : Laws → (ss : List Step) (net p : ℤ) (s : IsSupporting ss net p)
@@ -201,7 +201,7 @@ welfare_is laws ss net x cost a u c =
     let s = reaches_supporting ss net c.price x a u c.in_range c.reaches in
     let same = taken_units net x (taken ss s.volumes) (offered_volume Buy ss) (executed_volume Buy ss s.volumes)
     (executed_volume Sell ss s.volumes) u.balance (taken_total ss s.volumes s.execution) s.balance in
-    let k = spent_is (spent ss s.volumes) (gain_at (height_of c.price) ss) (height_of c.price) (taken ss s.volumes) x cost
+    let k = spent_is (spent ss s.volumes) (gain_under (height_of c.price) ss) (height_of c.price) (taken ss s.volumes) x cost
     (supported_spent c.price ss s.volumes c.in_range a s.execution s.support) same c.cost_is in
     let sum = welfare_sum net (welfare_of ss s.volumes) (executed_volume Sell ss s.volumes) (executed_volume Buy ss s.volumes)
     (spent ss s.volumes) (worth_of ss) cost

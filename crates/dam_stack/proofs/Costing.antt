@@ -9,7 +9,7 @@ use Rattle.dam_hour.specs.declared.step.Step.{Step}
 use Rattle.dam_stack.specs.declared.row.Row.{Row}
 use Rattle.dam_stack.specs.declared.taken.Taken.{Taken}
 use Rattle.dam_stack.specs.declared.taken.Cut.{Cut}
-use Rattle.dam_stack.specs.Supply.{height_of, if_any, all_units, units_under, units_up_to, gain_at}
+use Rattle.dam_stack.specs.Supply.{height_of, if_any, all_units, units_under, units_up_to, gain_under}
 use Rattle.dam_stack.specs.Taken.{IsTaken, IsCutOf}
 use Rattle.dam_stack.specs.inside.Supply.{Reaches, IsCostOf, Holds}
 use Rattle.dam_stack.specs.inside.Taken.{IsHeld, IsFree}
@@ -26,7 +26,8 @@ up_to_middle : (h : ℕ) (us vs : List Step) (s : Step)
     → units_up_to h (us ++ s ∷ vs) ≡ if_any (suc h - height_of s.price) s.qty + units_up_to h (us ++ vs)
 up_to_middle h us vs s = total_middle (λ t. if_any (suc h - height_of t.price) t.qty) us vs s
 
-gain_middle : (h : ℕ) (us vs : List Step) (s : Step) → gain_at h (us ++ s ∷ vs) ≡ (h - height_of s.price) * s.qty + gain_at h (us ++ vs)
+gain_middle : (h : ℕ) (us vs : List Step) (s : Step)
+    → gain_under h (us ++ s ∷ vs) ≡ (h - height_of s.price) * s.qty + gain_under h (us ++ vs)
 gain_middle h us vs s = total_middle (λ t. (h - height_of t.price) * t.qty) us vs s
 
 -- ---- gains and units
@@ -36,7 +37,7 @@ times_most k x y l =
     let m = ap (λ n. k * n) split in
     omega (arith, m)
 
-gain_most : (h : ℕ) (ss : List Step) → gain_at h ss ≤ h * units_under h ss
+gain_most : (h : ℕ) (ss : List Step) → gain_under h ss ≤ h * units_under h ss
 gain_most h [] = omega arith
 gain_most h (s ∷ ss) =
     let rest = gain_most h ss in
@@ -94,7 +95,7 @@ freed us vs s cut t held of f k =
     let under = k.under in let up_to = k.up_to in
     let part_under = under_middle h us vs s ∙ ap (λ (n : ℕ). n + units_under h (us ++ vs)) (part_by h s cut of) in
     let part_up_to = up_to_middle h us vs s ∙ ap (λ (n : ℕ). n + units_up_to h (us ++ vs)) (part_by (suc h) s cut of) in
-    let part_gain = gain_middle h us vs s ∙ ap (λ (n : ℕ). n + gain_at h (us ++ vs)) (gain_by h s cut of) in
+    let part_gain = gain_middle h us vs s ∙ ap (λ (n : ℕ). n + gain_under h (us ++ vs)) (gain_by h s cut of) in
     let full = up_to_full a h q f.not_over in
     let over = f.not_over in
     let less : (q ≤ t.units) × (units_under h (us ++ vs) + held ≤ t.units - q) = elim (cases_lt a h) [
@@ -108,7 +109,7 @@ freed us vs s cut t held of f k =
     let gain = gain_most h (us ++ vs) in
     let bound = times_most h (units_under h (us ++ vs)) (t.units - q) (let l = less.1 in omega (arith, l)) in
     let sum = k.cost_is in
-    let costs = within_cost h a q t.units (gain_at h (us ++ vs)) t.cost over less.0 (omega (arith, sum, part_gain))
+    let costs = within_cost h a q t.units (gain_under h (us ++ vs)) t.cost over less.0 (omega (arith, sum, part_gain))
     (omega (arith, gain, bound)) in
     let volume = less.0 in
     record {
@@ -131,7 +132,7 @@ stayed us vs s cut t free of f k =
     let under = k.under in let up_to = k.up_to in let out = f.not_under in
     let part_under = under_middle h us vs s ∙ ap (λ (n : ℕ). n + units_under h (us ++ vs)) (part_by h s cut of) in
     let part_up_to = up_to_middle h us vs s ∙ ap (λ (n : ℕ). n + units_up_to h (us ++ vs)) (part_by (suc h) s cut of) in
-    let part_gain = gain_middle h us vs s ∙ ap (λ (n : ℕ). n + gain_at h (us ++ vs)) (gain_by h s cut of) in
+    let part_gain = gain_middle h us vs s ∙ ap (λ (n : ℕ). n + gain_under h (us ++ vs)) (gain_by h s cut of) in
     let none = under_none a h q out in
     let gap : h - a ≡ 0 = omega (arith, out) in
     let no_gain = ap (λ n. n * q) gap in
@@ -162,7 +163,7 @@ taken_cost ss t k =
       price = lowest_price +ℤ pos t.height;
       in_range = record { at_least = omega (arith, ints); at_most = omega (arith, ints, range) };
       reaches = subst (λ (n : ℕ). Reaches ss t.units n) (sym back) (record { under = omega (arith, under); up_to = omega (arith, up_to) });
-      cost_is = subst (λ (n : ℕ). t.cost + gain_at n ss ≡ n * t.units) (sym back) k.cost_is;
+      cost_is = subst (λ (n : ℕ). t.cost + gain_under n ss ≡ n * t.units) (sym back) k.cost_is;
     }
 
 pub none_taken : (ss : List Step) → IsTaken ss (record { units = 0; height = 0; held = 0; free = 0; near = 0; cost = 0 })
@@ -183,7 +184,7 @@ pub row_taken : (ss : List Step) (units next near cost : ℕ) (row : Row) → Ho
     })
 row_taken ss units next near cost row h n l e =
     let before = h.before in let under = h.under in let up_to = n.up_to in
-    let sum = row_cost row.cost (gain_at (height_of row.price) ss) (height_of row.price) row.before units (omega (arith, before))
+    let sum = row_cost row.cost (gain_under (height_of row.price) ss) (height_of row.price) row.before units (omega (arith, before))
     h.cost_is in
     record {
       in_range = height_most row.price h.in_range;

@@ -128,7 +128,13 @@ decided_none all us vs s cut served accept net t of at e (inr many) xs f b =
     (omega (arith, both.0, many)) refl many (all.within _ _ xs f b)
 
 -- ---- a decision turned round, on a stack that stays
--- what the net volume and the value of what is accepted change by
+-- the net volume after it, and what the value of what is accepted changes by
+abbrev pub net_turned : Bool → Step → ℤ → ℤ
+net_turned accept s net = net +ℤ turned_by accept (neg_ℤ (signed s.side (pos s.qty)))
+
+abbrev pub value_turned : Bool → Step → ℤ
+value_turned accept s = turned_by accept (signed s.side (s.price *ℤ pos s.qty))
+
 turned_parts : (side : Side) (accept : Bool) (q : ℕ) (value : ℤ)
     → (turned_by accept (neg_ℤ (signed side (pos q))) ≡ cond (falls side accept) (pos q) (neg_ℤ (pos q)))
     × (turned_by accept (signed side value) ≡ cond (falls side accept) (neg_ℤ value) value)
@@ -167,35 +173,35 @@ value_is s cut of =
 
 pub fewer_moved : HourLaws → (ss : List Step) (s : Step) (cut : Cut) (accept : Bool) (net : ℤ) (t left : Taken) (change : ℤ)
     → IsCutOf s cut → IsTakenAt ss net t → falls s.side accept ≡ true → IsLeft ss t cut.volume (cut.height * cut.volume) left change
-    → IsMoved ss net ss (net +ℤ turned_by accept (neg_ℤ (signed s.side (pos s.qty))))
-    (turned_by accept (signed s.side (s.price *ℤ pos s.qty))) left change
+    → IsMoved ss net ss (net_turned accept s net)
+    (value_turned accept s) left change
 fewer_moved all ss s cut accept net t left change of at e l =
     let parts = turned_parts s.side accept s.qty (s.price *ℤ pos s.qty) in
     let more = parts.0 ∙ ap (λ (b : Bool). cond b (pos s.qty) (neg_ℤ (pos s.qty))) e in
     let worth = parts.1 ∙ ap (λ (b : Bool). cond b (neg_ℤ (s.price *ℤ pos s.qty)) (s.price *ℤ pos s.qty)) e in
-    let next = net +ℤ turned_by accept (neg_ℤ (signed s.side (pos s.qty))) in
+    let next = net_turned accept s net in
     let product = times_more lowest_price net next s.qty (let is : next ≡ net +ℤ pos s.qty = omega (arith, ints, more) in is) in
     let value = value_is s cut of in
     let sum = l.change_is in let units = l.units_are in let volume = of.volume_is in let balance = at.units_are.balance in
     let was = hour_cost ss t at.is_hour at.taken_is in let now = hour_cost ss left at.is_hour l.taken_is in let own = step_cost s cut of in
-    turned_moved all ss s cut net next (turned_by accept (signed s.side (s.price *ℤ pos s.qty))) change t left of at l.taken_is
+    turned_moved all ss s cut net next (value_turned accept s) change t left of at l.taken_is
     (record { balance = omega (arith, ints, balance, units, volume, more); within = units_most ss left l.taken_is })
     (omega (arith, ints, worth, product, value, sum)) (omega (arith, ints, sum, was, now, own)) (omega (arith, ints, sum, was, now, own))
 
 pub more_moved : HourLaws → (ss : List Step) (s : Step) (cut : Cut) (accept : Bool) (net : ℤ) (t all_taken : Taken) (change : ℤ)
     → IsCutOf s cut → IsTakenAt ss net t → falls s.side accept ≡ false → IsMore ss t cut.volume (cut.height * cut.volume) all_taken change
-    → IsMoved ss net ss (net +ℤ turned_by accept (neg_ℤ (signed s.side (pos s.qty))))
-    (turned_by accept (signed s.side (s.price *ℤ pos s.qty))) all_taken change
+    → IsMoved ss net ss (net_turned accept s net)
+    (value_turned accept s) all_taken change
 more_moved all ss s cut accept net t other change of at e l =
     let parts = turned_parts s.side accept s.qty (s.price *ℤ pos s.qty) in
     let less = parts.0 ∙ ap (λ (b : Bool). cond b (pos s.qty) (neg_ℤ (pos s.qty))) e in
     let worth = parts.1 ∙ ap (λ (b : Bool). cond b (neg_ℤ (s.price *ℤ pos s.qty)) (s.price *ℤ pos s.qty)) e in
-    let next = net +ℤ turned_by accept (neg_ℤ (signed s.side (pos s.qty))) in
+    let next = net_turned accept s net in
     let product = times_more lowest_price next net s.qty (let is : net ≡ next +ℤ pos s.qty = omega (arith, ints, less) in is) in
     let value = value_is s cut of in
     let sum = l.change_is in let units = l.units_are in let volume = of.volume_is in let balance = at.units_are.balance in
     let was = hour_cost ss t at.is_hour at.taken_is in let now = hour_cost ss other at.is_hour l.taken_is in let own = step_cost s cut of in
-    turned_moved all ss s cut net next (turned_by accept (signed s.side (s.price *ℤ pos s.qty))) change t other of at l.taken_is
+    turned_moved all ss s cut net next (value_turned accept s) change t other of at l.taken_is
     (record { balance = omega (arith, ints, balance, units, volume, less); within = units_most ss other l.taken_is })
     (omega (arith, ints, worth, product, value, sum)) (omega (arith, ints, sum, was, now, own)) (omega (arith, ints, sum, was, now, own))
 
@@ -203,7 +209,7 @@ more_moved all ss s cut accept net t other change of at e l =
 pub fewer_none : HourLaws → (ss : List Step) (s : Step) (cut : Cut) (accept : Bool) (net : ℤ) (t : Taken) → IsCutOf s cut
     → IsTakenAt ss net t
     → falls s.side accept ≡ true → IsTooMuch ss t.units cut.volume
-    → IsUnbalanced ss (net +ℤ turned_by accept (neg_ℤ (signed s.side (pos s.qty))))
+    → IsUnbalanced ss (net_turned accept s net)
 fewer_none all ss s cut accept net t of at e too xs f b =
     let parts = turned_parts s.side accept s.qty (pos 0) in
     let more = parts.0 ∙ ap (λ (x : Bool). cond x (pos s.qty) (neg_ℤ (pos s.qty))) e in
@@ -217,7 +223,7 @@ fewer_none all ss s cut accept net t of at e too xs f b =
 pub more_none : HourLaws → (ss : List Step) (s : Step) (cut : Cut) (accept : Bool) (net : ℤ) (t : Taken) → IsCutOf s cut
     → IsTakenAt ss net t
     → falls s.side accept ≡ false → all_units ss < t.units + cut.volume
-    → IsUnbalanced ss (net +ℤ turned_by accept (neg_ℤ (signed s.side (pos s.qty))))
+    → IsUnbalanced ss (net_turned accept s net)
 more_none all ss s cut accept net t of at e many xs f b =
     let parts = turned_parts s.side accept s.qty (pos 0) in
     let less = parts.0 ∙ ap (λ (x : Bool). cond x (pos s.qty) (neg_ℤ (pos s.qty))) e in
@@ -247,9 +253,9 @@ pub fewer_answer : HourLaws → (ss : List Step) (s : Step) (cut : Cut) (accept 
     → IsCutOf s cut
     → IsTakenAt ss net t → falls s.side accept ≡ true
     → MatchOption answer (IsTooMuch ss t.units cut.volume) (λ d. IsLeft ss t cut.volume (cut.height * cut.volume) d.0 d.1)
-    → MatchOption answer (IsUnbalanced ss (net +ℤ turned_by accept (neg_ℤ (signed s.side (pos s.qty)))))
-    (λ d. IsMoved ss net ss (net +ℤ turned_by accept (neg_ℤ (signed s.side (pos s.qty))))
-    (turned_by accept (signed s.side (s.price *ℤ pos s.qty))) d.0 d.1)
+    → MatchOption answer (IsUnbalanced ss (net_turned accept s net))
+    (λ d. IsMoved ss net ss (net_turned accept s net)
+    (value_turned accept s) d.0 d.1)
 fewer_answer all ss s cut accept net t None of at e m = fewer_none all ss s cut accept net t of at e m
 fewer_answer all ss s cut accept net t (Some d) of at e m = fewer_moved all ss s cut accept net t d.0 d.1 of at e m
 
@@ -257,8 +263,8 @@ pub more_answer : HourLaws → (ss : List Step) (s : Step) (cut : Cut) (accept :
     → IsCutOf s cut
     → IsTakenAt ss net t → falls s.side accept ≡ false
     → MatchOption answer (all_units ss < t.units + cut.volume) (λ d. IsMore ss t cut.volume (cut.height * cut.volume) d.0 d.1)
-    → MatchOption answer (IsUnbalanced ss (net +ℤ turned_by accept (neg_ℤ (signed s.side (pos s.qty)))))
-    (λ d. IsMoved ss net ss (net +ℤ turned_by accept (neg_ℤ (signed s.side (pos s.qty))))
-    (turned_by accept (signed s.side (s.price *ℤ pos s.qty))) d.0 d.1)
+    → MatchOption answer (IsUnbalanced ss (net_turned accept s net))
+    (λ d. IsMoved ss net ss (net_turned accept s net)
+    (value_turned accept s) d.0 d.1)
 more_answer all ss s cut accept net t None of at e m = more_none all ss s cut accept net t of at e m
 more_answer all ss s cut accept net t (Some d) of at e m = more_moved all ss s cut accept net t d.0 d.1 of at e m

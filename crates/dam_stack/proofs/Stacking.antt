@@ -6,7 +6,7 @@ use Rattle.std.proofs.lemmas.List.Sums.{sum_by-cons}
 use Rattle.std.proofs.lemmas.List.Sorted.{sum_by-IsPermutation}
 use Rattle.dam_hour.specs.declared.step.Step.{Step}
 use Rattle.dam_stack.specs.declared.row.Row.{Row}
-use Rattle.dam_stack.specs.Supply.{height_of, if_any, total_of, all_units, units_under, units_up_to, gain_at, rows_from, AreAlike}
+use Rattle.dam_stack.specs.Supply.{height_of, if_any, total_of, all_units, units_under, units_up_to, gain_under, rows_from, AreAlike}
 use Rattle.dam_stack.specs.Supply.{AreRowsOf}
 use Rattle.dam_stack.specs.inside.Supply.{Holds}
 use Rattle.dam_book.specs.Price.{IsPrice}
@@ -41,7 +41,7 @@ none_under m h (s ∷ ss) a l =
     let rest = none_under m h ss a.1 l in
     omega (arith, here, rest)
 
-no_gain : (m h : ℕ) (ss : List Step) → AtLeast m ss → h ≤ m → gain_at h ss ≡ 0
+no_gain : (m h : ℕ) (ss : List Step) → AtLeast m ss → h ≤ m → gain_under h ss ≡ 0
 no_gain m h [] a l = refl
 no_gain m h (s ∷ ss) a l =
     let low = a.0 in
@@ -74,7 +74,7 @@ row_height m b c (s ∷ ss) (suc i) d a l = row_height m (b + s.qty) (c + height
 record IsRow (b c : ℕ) (ss : List Step) (row next : Row) : Type 0 where
   pub under : units_under (height_of row.price) ss + b ≤ row.before
   pub up_to : next.before ≤ b + units_up_to (height_of row.price) ss
-  pub cost_is : row.cost + gain_at (height_of row.price) ss + height_of row.price * b ≡ c + height_of row.price * row.before
+  pub cost_is : row.cost + gain_under (height_of row.price) ss + height_of row.price * b ≡ c + height_of row.price * row.before
 
 -- what one step more in front changes
 cost_sum : (a h q b c k g r : ℕ) → a ≤ h → r + g + h * (b + q) ≡ (c + a * q) + h * k → r + ((h - a) * q + g) + h * b ≡ c + h * k
@@ -113,7 +113,7 @@ row_is b c (s ∷ ss) (suc i) d r l =
     record {
       under = omega (arith, under, most);
       up_to = omega (arith, up_to, full);
-      cost_is = cost_sum a h s.qty b c row.before (gain_at h ss) row.cost higher rest.cost_is;
+      cost_is = cost_sum a h s.qty b c row.before (gain_under h ss) row.cost higher rest.cost_is;
     }
 
 -- ---- of the steps in any order
@@ -134,7 +134,7 @@ same_length ss ts same = sym (count_is ts) ∙ same (λ h q. 1) ∙ count_is ss
 record IsRowOf (ss : List Step) (row next : Row) : Type 0 where
   pub under : units_under (height_of row.price) ss ≤ row.before
   pub up_to : next.before ≤ units_up_to (height_of row.price) ss
-  pub cost_is : row.cost + gain_at (height_of row.price) ss ≡ height_of row.price * row.before
+  pub cost_is : row.cost + gain_under (height_of row.price) ss ≡ height_of row.price * row.before
 
 pub rows_are_more : (ss : List Step) (rows : List Row) → AreRowsOf ss rows → length rows ≡ suc (length ss)
 rows_are_more ss rows a =

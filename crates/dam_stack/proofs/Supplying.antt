@@ -10,7 +10,7 @@ use Rattle.dam_hour.specs.declared.step.Step.{Step}
 use Rattle.dam_hour.specs.Execution.{AreInRange, IsExecution, executed_volume, offered_volume, volume_on}
 use Rattle.dam_hour.specs.Best.{welfare_of}
 use Rattle.dam_hour.specs.Price.{Supports}
-use Rattle.dam_stack.specs.Supply.{height_of, if_any, all_units, units_under, units_up_to, gain_at}
+use Rattle.dam_stack.specs.Supply.{height_of, if_any, all_units, units_under, units_up_to, gain_under}
 use Rattle.dam_stack.specs.inside.Supply.{worth_of, Reaches}
 use Rattle.dam_stack.proofs.Parts.{under_up_to, under_full, up_to_none, part_most, taken_of, taken_back, taken_fits, taken_full, taken_none}
 use Rattle.dam_stack.proofs.Parts.{better_full, worse_none, part_within, part_cost, part_welfare}
@@ -72,7 +72,7 @@ supported_reaches p (s ∷ ss) (x ∷ xs) r a e h =
     record { under = omega (arith, here.0, under); up_to = omega (arith, here.1, up_to) }
 
 pub supported_spent : (p : ℤ) (ss : List Step) (xs : List ℕ) → IsPrice p → AreInRange ss → IsExecution ss xs → Supports p ss xs
-    → spent ss xs + gain_at (height_of p) ss ≡ height_of p * taken ss xs
+    → spent ss xs + gain_under (height_of p) ss ≡ height_of p * taken ss xs
 supported_spent p [] [] r a e h = omega arith
 supported_spent p [] (x ∷ xs) r a e h = absurd e
 supported_spent p (s ∷ ss) [] r a e h = absurd e
@@ -84,7 +84,7 @@ supported_spent p (s ∷ ss) (x ∷ xs) r a e h =
     let rest = supported_spent p ss xs r a.2 e.1 h.2 in
     spent_sum (height_of p) (height_of s.price * taken_of s.side s.qty x) ((height_of p - height_of s.price) * s.qty)
     (taken_of s.side s.qty x)
-    (spent ss xs) (gain_at (height_of p) ss) (taken ss xs) here rest
+    (spent ss xs) (gain_under (height_of p) ss) (taken ss xs) here rest
   where
     spent_sum : (h c g y d k t : ℕ) → c + g ≡ h * y → d + k ≡ h * t → (c + d) + (g + k) ≡ h * (y + t)
     spent_sum h c g y d k t e f = omega (arith, e, f)

@@ -1,6 +1,5 @@
 -- The steps of a period as one stack of supply, in prices counted from the least one up: the sells with their volumes,
--- and the buys with what of
--- them is not served.
+-- and the buys with what of them is not served.
 use Rattle.std.specs.Prelude.{◌≡◌, ℕ, zero, suc, ◌+◌, ◌-◌, ◌*◌, ◌≤◌, ℤ, pos, ◌+ℤ◌, ◌-ℤ◌, nat_abs, List, [], ◌∷◌}
 use Rattle.std.specs.List.Sorted.{IsNonDecreasingBy}
 use Rattle.dam_book.specs.Limits.{lowest_price, highest_price}
@@ -36,8 +35,8 @@ abbrev pub units_up_to : ℕ → List Step → ℕ
 units_up_to h steps = total_of (λ step. if_any (suc h - height_of step.price) step.qty) steps
 
 -- what the steps under the height gain at it as supply
-abbrev pub gain_at : ℕ → List Step → ℕ
-gain_at h steps = total_of (λ step. (h - height_of step.price) * step.qty) steps
+abbrev pub gain_under : ℕ → List Step → ℕ
+gain_under h steps = total_of (λ step. (h - height_of step.price) * step.qty) steps
 
 -- a row for each step, with what stands before it, and a last one
 abbrev pub rows_from : ℕ → ℕ → List Step → List Row
@@ -50,7 +49,8 @@ rows_from before cost (step ∷ steps) =
           cost;
     } ∷ rows_from (before + step.qty) (cost + height_of step.price * step.qty) steps
 
--- two lists of steps that differ at most in their order and their sides: whatever number a height and a volume give, its total is the same
+-- two lists of steps that differ at most in their order and their sides: whatever number a height and a volume give,
+-- its total is the same
 abbrev pub AreAlike : List Step → List Step → Type 0
 AreAlike steps ts = (f : ℕ → ℕ → ℕ)
     → total_of (λ step. f (height_of step.price) step.qty) ts ≡ total_of (λ step. f (height_of step.price) step.qty) steps

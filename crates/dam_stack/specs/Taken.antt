@@ -1,6 +1,5 @@
 -- What is taken of a period's supply from the bottom, and what becomes of it if one of the steps is decided: accepted
--- whole or rejected, it is a
--- step no more.
+-- whole or rejected, it is no step any more.
 use Rattle.std.specs.Prelude.{◌≡◌, ℕ, ◌+◌, ◌*◌, ◌^◌, ◌≤◌, Bool, true, false, not, ℤ, pos, neg_ℤ, ◌+ℤ◌, ◌-ℤ◌, ◌*ℤ◌, ◌≤ℤ◌, Some, List}
 use Rattle.dam_book.specs.Price.{IsPrice}
 use Rattle.dam_book.specs.Quantity.{IsQuantity}
@@ -13,7 +12,7 @@ use Rattle.dam_hour.specs.Best.{signed, greatest_welfare}
 use Rattle.dam_stack.specs.declared.taken.Taken.{Taken}
 use Rattle.dam_stack.specs.declared.taken.Cut.{Cut}
 use Rattle.dam_stack.specs.Small.{IsSmall}
-use Rattle.dam_stack.specs.Supply.{height_of, units_under, units_up_to, gain_at, AreUnitsAt}
+use Rattle.dam_stack.specs.Supply.{height_of, units_under, units_up_to, gain_under, AreUnitsAt}
 
 -- these units of the supply: all that stands under the height, nothing above it, and of what stands at it at least
 -- `held`, with at least `free` left
@@ -21,7 +20,7 @@ pub record IsTaken (steps : List Step) (taken : Taken) : Type 0 where
   pub in_range : taken.height ≤ price_span
   pub under : units_under taken.height steps + taken.held ≤ taken.units
   pub up_to : taken.units + taken.free ≤ units_up_to taken.height steps
-  pub cost_is : taken.cost + gain_at taken.height steps ≡ taken.height * taken.units
+  pub cost_is : taken.cost + gain_under taken.height steps ≡ taken.height * taken.units
 
 -- what is taken if the steps of an hour balance at the net volume, and the greatest welfare there
 pub record IsTakenAt (steps : List Step) (net : ℤ) (taken : Taken) : Type 0 where

@@ -14,8 +14,8 @@
 //! ```
 //!
 //! A contract sees the rows of all stacks, and asks of a span of them whose steps' stack it is. The welfare is that of
-//! `Hour::clear` at the same net volume, and the ends those of the prices that support it. Only tested is that memory
-//! isn't said to have run out if it hasn't.
+//! `Hour::clear` at the same net volume, and the ends those of the prices that support it. Tests alone show that a call
+//! reports out of memory only if memory was refused.
 //!
 //! The crate knows nothing of blocks, books and the other periods.
 #![tactic(auto)]

@@ -4,5 +4,5 @@ use Rattle.dam_blocks.specs.declared.selection.Best.{Best}
 use Rattle.dam_blocks.specs.Result.{RanksAtOrBelow}
 
 -- the first ranks at or below the second
-abbrev pub IsNoBetter : Best → Best → Type 0
-IsNoBetter a b = RanksAtOrBelow (pos a.welfare) a.selection (pos b.welfare) b.selection
+abbrev pub RanksNoHigher : Best → Best → Type 0
+RanksNoHigher a b = RanksAtOrBelow (pos a.welfare) a.selection (pos b.welfare) b.selection

@@ -4,9 +4,9 @@ use Rattle.dam_book.specs.Terms.{HourTerms}
 use Rattle.dam_hour.specs.declared.step.Step.{Step}
 
 -- the order as a step
-abbrev pub step_of : HourTerms → Step
-step_of order = record { side = order.side; price = order.price; qty = order.qty }
+abbrev pub hourly_step : HourTerms → Step
+hourly_step order = record { side = order.side; price = order.price; qty = order.qty }
 
 -- the steps of each period, with the order after those of its own
 abbrev pub with_step : List (List Step) → HourTerms → List (List Step)
-with_step hours order = slice_set hours (order.period - 1) (slice_index_or hours (order.period - 1) [] ++ step_of order ∷ [])
+with_step hours order = slice_set hours (order.period - 1) (slice_index_or hours (order.period - 1) [] ++ hourly_step order ∷ [])

@@ -28,7 +28,7 @@ abbrev pub IsBefore : Change → ℕ → ℕ → ℕ → ℕ → Type 0
 IsBefore Decide place depth decided count = (decided ≡ place) × (depth ≡ place + 1)
 IsBefore Turn place depth decided count = (decided ≡ count) × (depth ≡ count)
 
--- the decisions after it differ from those before by the block at the place alone, and that many blocks are decided by them
+-- the decisions after it differ from those before only in the block at the place, and they decide that many blocks
 pub record IsChange (blocks : List Block) (place : ℕ) (change : Change) (accept : Bool) (depth : ℕ) (before after : List Bool)
     : Type 0 where
   pub kind : IsBefore change place depth (length before) (length blocks)
@@ -71,7 +71,8 @@ steps_before m = m.steps ++ as_steps m.period (drop (length m.before) m.blocks)
 abbrev pub steps_after : Move → List Step
 steps_after m = m.steps ++ as_steps m.period (drop (length m.after) m.blocks)
 
--- the touch and the stack with every block decided are those of the block in the period, and so much is taken there before the change
+-- the touch and the stack with every block decided are those of the block in the period, and this is taken there before
+-- the change
 pub record IsMove (rows : List Row) (end : Span) (touch : Touch) (change : Change) (own : Taken) (m : Move) : Type 0 where
   pub block_is : slice_get m.blocks m.place ≡ Some m.block
   pub some : 0 < volume_in m.block.order.volumes m.period

@@ -26,7 +26,8 @@ pair_of touch = (touch.at + 1, touch.cut.volume)
 abbrev pub pairs_of : List Touch → List Pair
 pairs_of touches = map pair_of touches
 
--- the block at the place in one of its periods: it stands as a step after the hourly orders, and the cut leads to the later blocks
+-- the block at the place in one of its periods: it stands as a step after the hourly orders, and the cut leads to the
+-- later blocks
 pub record IsTouch (hours : List (List Step)) (blocks : List Block) (rows : List Row) (place : ℕ) (b : Block) (p : Pair) (touch : Touch)
     : Type 0 where
   pub at_is : p.0 ≡ touch.at + 1

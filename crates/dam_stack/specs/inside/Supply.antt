@@ -7,7 +7,7 @@ use Rattle.dam_hour.specs.declared.step.Step.{Step}
 use Rattle.dam_hour.specs.Limits.{most_steps, price_span}
 use Rattle.dam_hour.specs.Execution.{volume_on, offered_volume}
 use Rattle.dam_stack.specs.declared.row.Row.{Row}
-use Rattle.dam_stack.specs.Supply.{height_of, units_under, units_up_to, gain_at}
+use Rattle.dam_stack.specs.Supply.{height_of, units_under, units_up_to, gain_under}
 
 -- the heights of the buys, each times its volume
 abbrev pub worth_of : List Step → ℕ
@@ -24,7 +24,7 @@ pub record IsCostOf (steps : List Step) (units cost : ℕ) : Type 0 where
   pub price : ℤ
   pub in_range : IsPrice price
   pub reaches : Reaches steps units (height_of price)
-  pub cost_is : cost + gain_at (height_of price) steps ≡ height_of price * units
+  pub cost_is : cost + gain_under (height_of price) steps ≡ height_of price * units
 
 -- the row has the price of the unit, counted from 1 at the bottom, and what stands before the row
 pub record Holds (steps : List Step) (unit : ℕ) (row : Row) : Type 0 where
@@ -32,7 +32,7 @@ pub record Holds (steps : List Step) (unit : ℕ) (row : Row) : Type 0 where
   pub before : row.before < unit
   pub under : units_under (height_of row.price) steps ≤ row.before
   pub up_to : unit ≤ units_up_to (height_of row.price) steps
-  pub cost_is : row.cost + gain_at (height_of row.price) steps ≡ height_of row.price * row.before
+  pub cost_is : row.cost + gain_under (height_of row.price) steps ≡ height_of row.price * row.before
 
 -- the price of the last of this number of units, or the least of the range if there is none
 pub record IsLow (steps : List Step) (units : ℕ) (price : ℤ) : Type 0 where

@@ -1,4 +1,4 @@
--- The volume is what is left of the pairs has.
+-- What is left of the pairs has the same volume in the period as all of them.
 use Rattle.std.proofs.Common.{◌≡◌, drop}
 use Rattle.dam_blocks.specs.Selection.{volume_in}
 use Rattle.dam_blocks.proofs.accepted.volume_in.Given as goal

@@ -1,4 +1,4 @@
--- Where the parent is another block, the chain goes on from it.
+-- If the parent is another block, the chain goes on from it.
 use Rattle.std.proofs.Common.{◌≡◌, ℕ, ◌+◌, ◌-◌, Option, length, ap, ◌∙◌, arith, rules}
 use Rattle.dam_blocks.specs.Family.{leads_to}
 use Rattle.dam_blocks.proofs.Families.{next_link}

@@ -37,120 +37,53 @@ loop-touch-init g c = record {
 
 pub bounds-day-at : goal.bounds-day-at
 bounds-day-at g c =
-    let block = one_at c.requires.0.blocks c.args.place c.requires.4 in
-    let so_far = c.loop-touch.invariant.so_far c.requires.0 c.requires.1 c.requires.2 block.0 c.requires.3 block.1 c.requires.5
-    c.requires.6 in
-    let touch = get_or c.touches-touch-items.result.now c.loop-touch.touch-index no_touch_there in
-    let pairs = pairs_of c.touches-touch-items.result.now in
-    let t = touched_now c.requires.0 c.args.tables.now.stacks c.args.tables.now.ends.items c.args.tables.now.lots.items
-    c.index-lot.result.now c.touches-touch-items.result.now c.args.place (length c.requires.0.blocks)
-    Turn c.args.accept c.requires.1 c.requires.2
-    block.0
-    c.args.day.now c.loop-touch.day.periods c.loop-touch.touch-index c.requires.3 block.1 c.index-lot.ensures c.touches-touch-items.ensures
-    c.loop-touch-test.true c.requires.5 c.requires.6 so_far.0 in
-    let inside = t.inside in let few = c.requires.3.few_periods in
-    omega (arith, inside, few)
+    let r = c.requires in let block = one_at r.0.blocks c.args.place r.4 in
+    let so_far = c.loop-touch.invariant.so_far r.0 r.1 r.2 block.0 r.3 block.1 r.5 r.6 in
+    let t = touched_now r.3 block.1 c.index-lot.ensures c.touches-touch-items.ensures c.loop-touch-test.true r.5 r.6 so_far.0 in
+    let inside = t.inside in let few = r.3.few_periods in omega (arith, inside, few)
 
 pub bounds-day-at-in-loop-touch : goal.bounds-day-at-in-loop-touch
 bounds-day-at-in-loop-touch g c =
-    let block = one_at c.requires.0.blocks c.args.place c.requires.4 in
-    let so_far = c.loop-touch.invariant.so_far c.requires.0 c.requires.1 c.requires.2 block.0 c.requires.3 block.1 c.requires.5
-    c.requires.6 in
-    let touch = get_or c.touches-touch-items.result.now c.loop-touch.touch-index no_touch_there in
-    let pairs = pairs_of c.touches-touch-items.result.now in
-    let t = touched_now c.requires.0 c.args.tables.now.stacks c.args.tables.now.ends.items c.args.tables.now.lots.items
-    c.index-lot.result.now c.touches-touch-items.result.now c.args.place (length c.requires.0.blocks)
-    Turn c.args.accept c.requires.1 c.requires.2
-    block.0
-    c.args.day.now c.loop-touch.day.periods c.loop-touch.touch-index c.requires.3 block.1 c.index-lot.ensures c.touches-touch-items.ensures
-    c.loop-touch-test.true c.requires.5 c.requires.6 so_far.0 in
-    let inside = t.inside in let few = c.requires.3.few_periods in
-    omega (arith, inside, few)
+    let r = c.requires in let block = one_at r.0.blocks c.args.place r.4 in
+    let so_far = c.loop-touch.invariant.so_far r.0 r.1 r.2 block.0 r.3 block.1 r.5 r.6 in
+    let t = touched_now r.3 block.1 c.index-lot.ensures c.touches-touch-items.ensures c.loop-touch-test.true r.5 r.6 so_far.0 in
+    let inside = t.inside in let few = r.3.few_periods in omega (arith, inside, few)
 
 pub index-requires : goal.index-requires
 index-requires g c =
-    let block = one_at c.requires.0.blocks c.args.place c.requires.4 in
-    let so_far = c.loop-touch.invariant.so_far c.requires.0 c.requires.1 c.requires.2 block.0 c.requires.3 block.1 c.requires.5
-    c.requires.6 in
-    let touch = get_or c.touches-touch-items.result.now c.loop-touch.touch-index no_touch_there in
-    let pairs = pairs_of c.touches-touch-items.result.now in
-    let t = touched_now c.requires.0 c.args.tables.now.stacks c.args.tables.now.ends.items c.args.tables.now.lots.items
-    c.index-lot.result.now c.touches-touch-items.result.now c.args.place (length c.requires.0.blocks)
-    Turn c.args.accept c.requires.1 c.requires.2
-    block.0
-    c.args.day.now c.loop-touch.day.periods c.loop-touch.touch-index c.requires.3 block.1 c.index-lot.ensures c.touches-touch-items.ensures
-    c.loop-touch-test.true c.requires.5 c.requires.6 so_far.0 in
-    let inside = t.inside in let many = c.requires.3.ends_are.as_many in let ok = c.args.tables.now.ends.ok.0 in
+    let r = c.requires in let block = one_at r.0.blocks c.args.place r.4 in
+    let so_far = c.loop-touch.invariant.so_far r.0 r.1 r.2 block.0 r.3 block.1 r.5 r.6 in
+    let t = touched_now r.3 block.1 c.index-lot.ensures c.touches-touch-items.ensures c.loop-touch-test.true r.5 r.6 so_far.0 in
+    let inside = t.inside in let many = r.3.ends_are.as_many in let ok = c.args.tables.now.ends.ok.0 in
     omega (arith, inside, many, ok)
 
 pub moved-next-requires : goal.moved-next-requires
 moved-next-requires g c =
-    let block = one_at c.requires.0.blocks c.args.place c.requires.4 in
-    let so_far = c.loop-touch.invariant.so_far c.requires.0 c.requires.1 c.requires.2 block.0 c.requires.3 block.1 c.requires.5
-    c.requires.6 in
-    let touch = get_or c.touches-touch-items.result.now c.loop-touch.touch-index no_touch_there in
-    let pairs = pairs_of c.touches-touch-items.result.now in
-    let t = touched_now c.requires.0 c.args.tables.now.stacks c.args.tables.now.ends.items c.args.tables.now.lots.items
-    c.index-lot.result.now c.touches-touch-items.result.now c.args.place (length c.requires.0.blocks)
-    Turn c.args.accept c.requires.1 c.requires.2
-    block.0
-    c.args.day.now c.loop-touch.day.periods c.loop-touch.touch-index c.requires.3 block.1 c.index-lot.ensures c.touches-touch-items.ensures
-    c.loop-touch-test.true c.requires.5 c.requires.6 so_far.0 in (
+    let r = c.requires in let block = one_at r.0.blocks c.args.place r.4 in
+    let so_far = c.loop-touch.invariant.so_far r.0 r.1 r.2 block.0 r.3 block.1 r.5 r.6 in
+    let t = touched_now r.3 block.1 c.index-lot.ensures c.touches-touch-items.ensures c.loop-touch-test.true r.5 r.6 so_far.0 in (
       t.move,
-      is_move_at c.requires.0 c.args.tables.now.stacks c.args.tables.now.ends.items c.args.place (length c.requires.0.blocks)
-          Turn c.args.accept
-          c.requires.1 c.requires.2 block.0 c.loop-touch.day.periods c.loop-touch.touch-index pairs touch c.index.result.now t
-          c.index.ensures,
+      is_move_at t c.index.ensures,
     )
 
 pub returns-in_default : goal.returns-in_default
 returns-in_default g c problem before after are inside is of =
     let block = one_at problem.blocks c.args.place inside in
     let so_far = c.loop-touch.invariant.so_far problem before after block.0 are block.1 is of in
-    let touch = get_or c.touches-touch-items.result.now c.loop-touch.touch-index no_touch_there in
-    let pairs = pairs_of c.touches-touch-items.result.now in
-    let t = touched_now problem c.args.tables.now.stacks c.args.tables.now.ends.items c.args.tables.now.lots.items c.index-lot.result.now
-    c.touches-touch-items.result.now c.args.place (length problem.blocks) Turn c.args.accept before after block.0
-    c.args.day.now c.loop-touch.day.periods c.loop-touch.touch-index are block.1 c.index-lot.ensures c.touches-touch-items.ensures
-    c.loop-touch-test.true is of so_far.0 in
-    let move = is_move_at problem c.args.tables.now.stacks c.args.tables.now.ends.items c.args.place (length problem.blocks)
-    Turn c.args.accept
-    before after block.0 c.loop-touch.day.periods c.loop-touch.touch-index pairs touch
-    c.index.result.now t c.index.ensures in
-    let served = serves problem c.args.tables.now.stacks c.args.tables.now.ends.items c.args.tables.now.lots.items c.index-lot.result.now
-    c.args.place (length problem.blocks) Turn c.args.accept before after block.0 c.loop-touch.day.periods c.loop-touch.touch-index pairs
-    touch
-    c.side.result c.is_served-is_served.result are block.1 c.index-lot.ensures c.is_served-is_served.ensures c.side.ensures t in
-    (touch_unbalanced problem c.args.tables.now.stacks c.args.tables.now.ends.items c.args.place (length problem.blocks)
-    Turn c.args.accept before
-    after block.0 c.loop-touch.day.periods c.loop-touch.touch-index pairs touch
-    (λ ss net none. (c.welfare.ensures.none ss net).1 none) t (c.in_default.ensures t.move move served))
+    let t = touched_now are block.1 c.index-lot.ensures c.touches-touch-items.ensures c.loop-touch-test.true is of so_far.0 in
+    let move = is_move_at t c.index.ensures in
+    let served = serves are block.1 c.index-lot.ensures c.is_served-is_served.ensures c.side.ensures t in
+    (touch_unbalanced (λ ss net none. (c.welfare.ensures.none ss net).1 none) t (c.in_default.ensures t.move move served))
 
 pub overflow_add-day : goal.overflow_add-day
 overflow_add-day g c =
-    let block = one_at c.requires.0.blocks c.args.place c.requires.4 in
-    let so_far = c.loop-touch.invariant.so_far c.requires.0 c.requires.1 c.requires.2 block.0 c.requires.3 block.1 c.requires.5
-    c.requires.6 in
-    let touch = get_or c.touches-touch-items.result.now c.loop-touch.touch-index no_touch_there in
-    let pairs = pairs_of c.touches-touch-items.result.now in
-    let t = touched_now c.requires.0 c.args.tables.now.stacks c.args.tables.now.ends.items c.args.tables.now.lots.items
-    c.index-lot.result.now c.touches-touch-items.result.now c.args.place (length c.requires.0.blocks)
-    Turn c.args.accept c.requires.1 c.requires.2
-    block.0
-    c.args.day.now c.loop-touch.day.periods c.loop-touch.touch-index c.requires.3 block.1 c.index-lot.ensures c.touches-touch-items.ensures
-    c.loop-touch-test.true c.requires.5 c.requires.6 so_far.0 in
-    let move = is_move_at c.requires.0 c.args.tables.now.stacks c.args.tables.now.ends.items c.args.place (length c.requires.0.blocks) Turn
-    c.args.accept c.requires.1 c.requires.2 block.0 c.loop-touch.day.periods c.loop-touch.touch-index pairs touch
-    c.index.result.now t c.index.ensures in
-    let served = serves c.requires.0 c.args.tables.now.stacks c.args.tables.now.ends.items c.args.tables.now.lots.items
-    c.index-lot.result.now c.args.place (length c.requires.0.blocks)
-    Turn c.args.accept c.requires.1 c.requires.2 block.0 c.loop-touch.day.periods
-    c.loop-touch.touch-index pairs touch
-    c.side.result c.is_served-is_served.result c.requires.3 block.1 c.index-lot.ensures c.is_served-is_served.ensures c.side.ensures t in
+    let r = c.requires in let block = one_at r.0.blocks c.args.place r.4 in
+    let so_far = c.loop-touch.invariant.so_far r.0 r.1 r.2 block.0 r.3 block.1 r.5 r.6 in
+    let t = touched_now r.3 block.1 c.index-lot.ensures c.touches-touch-items.ensures c.loop-touch-test.true r.5 r.6 so_far.0 in
+    let move = is_move_at t c.index.ensures in
+    let served = serves r.3 block.1 c.index-lot.ensures c.is_served-is_served.ensures c.side.ensures t in
     let m = c.in-Some.ensures t.move move served in
-    let size = total_within c.requires.0 (drop c.loop-touch.touch-index pairs) c.requires.1 c.requires.2 c.args.day.now
-    c.loop-touch.day.periods c.loop-touch.day.total
-    (length c.requires.0.hours) c.requires.3.blocks_are c.requires.3.few_blocks c.requires.3.few_periods c.requires.6 so_far.1 in
+    let size = total_within (length r.0.hours) r.3.blocks_are r.3.few_blocks r.3.few_periods r.6 so_far.1 in
     let low = size.at_least in let high = size.at_most in let least = m.at_least in let most = m.at_most in
     let sum = added_up c.loop-touch.day.total c.in-Some.gained (omega (arith, ints, low, high)) (omega (arith, ints, least, most))
     (omega (arith, ints, low, high, least, most)) in
@@ -163,30 +96,16 @@ loop-touch-preserved g c = record {
       (let so_far = c.loop-touch.invariant.so_far problem before after b are at is of in
       let touch = get_or c.touches-touch-items.result.now c.loop-touch.touch-index no_touch_there in
       let pairs = pairs_of c.touches-touch-items.result.now in
-      let t = touched_now problem c.args.tables.now.stacks c.args.tables.now.ends.items c.args.tables.now.lots.items
-      c.index-lot.result.now c.touches-touch-items.result.now c.args.place (length problem.blocks) Turn c.args.accept before after b
-      c.args.day.now c.loop-touch.day.periods c.loop-touch.touch-index are at c.index-lot.ensures c.touches-touch-items.ensures
-      c.loop-touch-test.true is of so_far.0 in
-      let move = is_move_at problem c.args.tables.now.stacks c.args.tables.now.ends.items c.args.place (length problem.blocks)
-      Turn c.args.accept
-      before after b c.loop-touch.day.periods c.loop-touch.touch-index pairs touch
-      c.index.result.now t c.index.ensures in
-      let served = serves problem c.args.tables.now.stacks c.args.tables.now.ends.items c.args.tables.now.lots.items
-      c.index-lot.result.now c.args.place (length problem.blocks) Turn c.args.accept before after b c.loop-touch.day.periods
-      c.loop-touch.touch-index pairs touch
-      c.side.result c.is_served-is_served.result are at c.index-lot.ensures c.is_served-is_served.ensures c.side.ensures t in
+      let t = touched_now are at c.index-lot.ensures c.touches-touch-items.ensures c.loop-touch-test.true is of so_far.0 in
+      let move = is_move_at t c.index.ensures in
+      let served = serves are at c.index-lot.ensures c.is_served-is_served.ensures c.side.ensures t in
       let m = c.in-Some.ensures t.move move served in
-      let size = total_within problem (drop c.loop-touch.touch-index pairs) before after c.args.day.now
-      c.loop-touch.day.periods c.loop-touch.day.total
-      (length problem.hours) are.blocks_are are.few_blocks are.few_periods of so_far.1 in
+      let size = total_within (length problem.hours) are.blocks_are are.few_blocks are.few_periods of so_far.1 in
       let low = size.at_least in let high = size.at_most in let least = m.at_least in let most = m.at_most in
       let sum = added_up c.loop-touch.day.total c.in-Some.gained (omega (arith, ints, low, high)) (omega (arith, ints, least, most))
       (omega (arith, ints, low, high, least, most)) in
       let in_day = t.inside in let few = are.few_periods in let long = c.loop-touch.invariant.long in
-      let changed = touch_changed problem c.args.tables.now.stacks c.args.tables.now.ends.items c.args.place (length problem.blocks) Turn
-      c.args.accept before after b c.loop-touch.day.periods c.loop-touch.touch-index pairs touch
-      nothing_taken c.in-Some.next c.loop-touch.day.total c.in-Some.gained c.index.result.now t (omega (arith, in_day, few, long)) m
-      so_far.1 in (
+      let changed = touch_changed nothing_taken c.index.result.now t (omega (arith, in_day, few, long)) m so_far.1 in (
         still_own pairs c.loop-touch.touch-index touch.at t.pair c.args.day.now.periods c.loop-touch.day.periods
             c.in-Some.next t.past t.pair_is t.some t.number so_far.0,
         subst (IsChangedSoFar problem.blocks problem.hours (drop (c.loop-touch.touch-index + 1) pairs) before after

@@ -99,10 +99,10 @@ loop-period-preserved g c =
 
 pub returns-clause-value : goal.returns-clause-value
 returns-clause-value g c prefix prices is day are =
+    let order = (slice_index_or c.args.blocks.now c.args.place c.index-blocks-place.result).order in
     gain_whole (to_z w64 c.loop-period.total-bits) _ _
-    (ap (λ (ps : List Pair). surplus_of prices (with_pairs (slice_index_or c.args.blocks.now c.args.place c.index-blocks-place.result).order
-    ps)) (drop_all c.loop-period.period-index c.pairs-pairs.result.now c.loop-period-test.false) ∙ without_pairs
-    (slice_index_or c.args.blocks.now c.args.place c.index-blocks-place.result).order 1 prices)
+    (ap (λ (ps : List Pair). surplus_of prices (with_pairs order ps))
+    (drop_all c.loop-period.period-index c.pairs-pairs.result.now c.loop-period-test.false) ∙ without_pairs order 1 prices)
     (c.loop-period.invariant.so_far prefix prices is day are)
 
 pub returns-clause-size : goal.returns-clause-size

@@ -1,4 +1,4 @@
--- Where the welfare is known, an execution balances, and so the price has its ends.
+-- If the welfare is known, an execution balances, and so the price has its ends.
 use Rattle.dam_bound.proofs.Gains.{some_prices}
 use Rattle.dam_bound.proofs.laws.prices.Goals as goal
 

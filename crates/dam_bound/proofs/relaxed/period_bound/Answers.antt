@@ -1,4 +1,4 @@
--- The hour at the depth has the period's steps, and behind them the undecided blocks.
+-- The hour at the depth has the period's steps, and after them the undecided blocks.
 use Rattle.std.proofs.Common.{arith, rules}
 use Rattle.std.proofs.lemmas.Int.{ints}
 use Rattle.dam_bound.proofs.Bounding.{cleared_period}

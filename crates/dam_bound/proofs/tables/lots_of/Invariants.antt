@@ -1,4 +1,4 @@
--- The lots so far, and the stacks behind them.
+-- The lots so far, and the stacks after their decisions.
 use Rattle.std.proofs.Common.{◌≡◌, ◌+◌, ◌*◌, List, length}
 use Rattle.dam_book.specs.Limits.{last_period}
 use Rattle.dam_hour.specs.declared.step.Step.{Step}

@@ -1,4 +1,5 @@
--- The periods of the touches so far stand in the block's row, as they are after the decision; what is below the row is as it was.
+-- The periods of the touches so far stand in the block's row, as they are after the decision; what is below the row is
+-- as it was.
 use Rattle.std.proofs.Common.{◌≡◌, ℕ, ◌+◌, ◌*◌, ◌<◌, Bool, ℤ, Some, List, length, drop, get_or}
 use Rattle.std.specs.List.{slice_get}
 use Rattle.dam_book.specs.Limits.{last_period}

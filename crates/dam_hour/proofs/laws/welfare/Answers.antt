@@ -1,4 +1,4 @@
--- The greatest welfare is reached by the best execution and by none surpassed.
+-- The best execution reaches the greatest welfare, and none surpasses it.
 use Rattle.dam_hour.proofs.Enumeration.{best_greatest_welfare, greatest_welfare_reached, greatest_welfare_bound, greatest_welfare_none}
 use Rattle.dam_hour.proofs.Enumeration.{greatest_welfare_some, unbalanced_welfare}
 use Rattle.dam_hour.proofs.laws.welfare.Goals as goal

@@ -8,14 +8,19 @@ use Rattle.dam_hour.specs.Limits.{most_steps, price_span, greatest_price}
 use Rattle.dam_hour.proofs.Ladders.{full_gain}
 use Rattle.dam_hour.proofs.volumes.surplus.Goals as goal
 
+-- no greater than a price times the volume of a side can be
+abbrev IsSmall : ℤ → Type 0
+IsSmall z =
+    (neg_ℤ (pos (greatest_price * (most_steps * greatest_volume))) ≤ℤ z) × (z ≤ℤ pos (greatest_price * (most_steps * greatest_volume)))
+
 -- a difference of two values that is a gain fits, and is read as it is
 difference : (a b : ℤ) (g : ℕ) → a -ℤ b ≡ pos g → g ≤ most_steps * (price_span * greatest_volume)
-    → ((neg_ℤ (pos (greatest_price * (most_steps * greatest_volume))) ≤ℤ a) × (a ≤ℤ pos (greatest_price * (most_steps * greatest_volume))))
+    → IsSmall a
     → nat_abs (to_z w64 (of_z w64 (to_z w64 (of_z w64 a) -ℤ to_z w64 (of_z w64 b)))) ≡ g
 difference a b g e small within = omega (arith, ints, e, small, within.0, within.1)
 
 difference_from : (a b : ℤ) (g : ℕ) → a -ℤ b ≡ pos g → g ≤ most_steps * (price_span * greatest_volume)
-    → ((neg_ℤ (pos (greatest_price * (most_steps * greatest_volume))) ≤ℤ b) × (b ≤ℤ pos (greatest_price * (most_steps * greatest_volume))))
+    → IsSmall b
     → nat_abs (to_z w64 (of_z w64 (to_z w64 (of_z w64 a) -ℤ to_z w64 (of_z w64 b)))) ≡ g
 difference_from a b g e small within = omega (arith, ints, e, small, within.0, within.1)
 

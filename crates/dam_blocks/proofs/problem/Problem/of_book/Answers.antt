@@ -9,6 +9,10 @@ use Rattle.dam_blocks.proofs.FromBook.{length-hours_from, problem_made, problem_
 use Rattle.dam_blocks.proofs.RowByRow.{take_hours, few_in_periods}
 use Rattle.dam_blocks.proofs.problem.Problem.of_book.Goals as goal
 
+-- the steps of each list
+abbrev steps_of : {D : Type 0} → List (Vec Step D) → List (List Step)
+steps_of {D} lists = map (λ (steps : Vec Step D). steps.items) lists
+
 pub hours_of-requires-clause-periods : goal.hours_of-requires-clause-periods
 hours_of-requires-clause-periods g c =
     let book = c.args.book.now in let periods = c.periods-periods.ensures in
@@ -21,7 +25,7 @@ hours_of-requires-clause-periods g c =
 pub hours_of-requires-clause-few : goal.hours_of-requires-clause-few
 hours_of-requires-clause-few g c =
     let book = c.args.book.now in
-    let lists = ap (λ (vs : List (Vec Step g.row.A.Denot)). map (λ (steps : Vec Step g.row.A.Denot). steps.items) vs) c.deref.ensures.value
+    let lists = ap steps_of c.deref.ensures.value
     ∙ c.in_ok-lists.ensures.hourly in
     few_in_periods last_period book.rows _ lists c.periods-periods.ensures.valid.few_hourly
 
@@ -35,7 +39,7 @@ all_hindrances-requires g c =
 pub invariant_of-result : goal.invariant_of-result
 invariant_of-result g c =
     let book = c.args.book.now in let periods = c.periods-periods.ensures in
-    let lists = ap (λ (vs : List (Vec Step g.row.A.Denot)). map (λ (steps : Vec Step g.row.A.Denot). steps.items) vs) c.deref.ensures.value
+    let lists = ap steps_of c.deref.ensures.value
     ∙ c.in_ok-lists.ensures.hourly in
     let hours = c.in_ok-hours_of.ensures
     ∙ ap₂ (λ (n : ℕ) (hs : List (List Step)). take n hs) (c.get.ensures.value ∙ periods.value) lists
@@ -49,7 +53,7 @@ invariant_of-result g c =
 pub returns-clause-ok : goal.returns-clause-ok
 returns-clause-ok g c =
     let book = c.args.book.now in let periods = c.periods-periods.ensures in
-    let lists = ap (λ (vs : List (Vec Step g.row.A.Denot)). map (λ (steps : Vec Step g.row.A.Denot). steps.items) vs) c.deref.ensures.value
+    let lists = ap steps_of c.deref.ensures.value
     ∙ c.in_ok-lists.ensures.hourly in
     let hours = c.in_ok-hours_of.ensures
     ∙ ap₂ (λ (n : ℕ) (hs : List (List Step)). take n hs) (c.get.ensures.value ∙ periods.value) lists

@@ -1,4 +1,4 @@
--- A block with a volume leaves a level behind it, and any other leaves the last one.
+-- A block with a volume adds an hour, and any other keeps the last one.
 use Rattle.std.proofs.Common.{◌≡◌, ℕ, List, length, ◌-◌, drop, ◌∷◌, [], ◌++◌, get_or, ap, ◌∙◌, rules, arith}
 use Rattle.std.proofs.lemmas.Option.{slice_get_read, get_or_from_slice_get}
 use Rattle.std.proofs.lemmas.List.{length-append}

@@ -22,15 +22,15 @@ as_passed p q prefix trail total same fits is =
 
 pub decide_block-requires : goal.decide_block-requires
 decide_block-requires g c =
-    let prefix = c.requires.day.0 in (
-      problem_kept c.self.inside.periods.items c.self.inside.blocks.items,
+    let problem = problem_kept c.self.inside.periods.items c.self.inside.blocks.items in let prefix = c.requires.day.0 in (
+      problem,
       prefix,
       prefix ++ c.args.accept ∷ [],
       c.self.invariant.3,
       subst (λ (p : ProblemState). c.args.depth < length p.blocks) (sym c.self.view_is) c.requires.depth,
       decision (record { parted = c.sums.ensures.parted; padded = c.sums.ensures.padded }) c.self.inside.blocks.items prefix c.args.accept
           c.args.depth c.requires.day.1,
-      as_passed (problem_kept c.self.inside.periods.items c.self.inside.blocks.items) c.args.self.now prefix c.args.trail.now c.args.total
+      as_passed problem c.args.self.now prefix c.args.trail.now c.args.total
           c.self.view_is (search rules) c.requires.day.2,
     )
 
@@ -42,7 +42,8 @@ returns-clause-kept g c =
 
 pub returns-clause-day : goal.returns-clause-day
 returns-clause-day g c prefix is day =
-    extended c.decide_block.result (problem_kept c.self.inside.periods.items c.self.inside.blocks.items) c.args.self.now c.args.least
+    let problem = problem_kept c.self.inside.periods.items c.self.inside.blocks.items in
+    extended c.decide_block.result problem c.args.self.now c.args.least
     prefix (prefix ++ c.args.accept ∷ []) c.decide_block.new.trail c.self.view_is
     (never_rises
     (record {
@@ -57,10 +58,10 @@ returns-clause-day g c prefix is day =
       sums = record { parted = c.sums.ensures.parted; padded = c.sums.ensures.padded };
     })
     c.self.inside.blocks.items prefix (c.args.accept ∷ []))
-    (c.decide_block.ensures.day (problem_kept c.self.inside.periods.items c.self.inside.blocks.items) prefix
+    (c.decide_block.ensures.day problem prefix
     (prefix ++ c.args.accept ∷ [])
     c.self.invariant.3 (subst (λ (p : ProblemState). c.args.depth < length p.blocks) (sym c.self.view_is) c.requires.depth)
     (decision (record { parted = c.sums.ensures.parted; padded = c.sums.ensures.padded }) c.self.inside.blocks.items prefix c.args.accept
     c.args.depth is)
-    (as_passed (problem_kept c.self.inside.periods.items c.self.inside.blocks.items) c.args.self.now prefix c.args.trail.now c.args.total
+    (as_passed problem c.args.self.now prefix c.args.trail.now c.args.total
     c.self.view_is (search rules) day))

@@ -1,4 +1,4 @@
--- Each look halves the buys of which it is open whether they are served.
+-- Each look halves the buys of which it isn't known yet whether they are served.
 use Rattle.std.proofs.Common.{◌≤◌, ◌+◌, ◌-◌, ◌/◌, length, refl, arith, rules}
 use Rattle.dam_book.specs.declared.order.Side.TheVariants.{Buy}
 use Rattle.dam_hour.proofs.Rungs.{volume_small, around_all, around_served, around_unserved}

@@ -1,38 +1,48 @@
 -- The ends are those of the tests, and at the least price as much is traded as balances.
-use Rattle.std.proofs.Common.{ℤ, subst, arith}
+use Rattle.std.proofs.Common.{ℤ, List, subst, arith}
 use Rattle.std.proofs.lemmas.Int.{ints, to_z-of_z}
 use mir.Syntax.{w64}
+use mir.Val.{to_z, of_z, SFits}
+use Rattle.dam_hour.specs.declared.step.Step.{Step}
+use Rattle.dam_hour.specs.Execution.{AreInRange, IsWithinOffers}
+use Rattle.dam_hour.specs.Price.{AreEnds}
 use Rattle.dam_hour.specs.inside.Volumes.{IsLeastHighEnough, IsGreatestLowEnough}
 use Rattle.dam_hour.proofs.Supporting.{least_is_low, ends_from}
 use Rattle.dam_hour.proofs.hour.Matched.of.Goals as goal
 
+-- the same at the net volume itself, which fits
+least_at : (hour : List Step) (net low : ℤ) → SFits w64 net → IsLeastHighEnough hour (to_z w64 (of_z w64 net)) low
+    → IsLeastHighEnough hour net low
+least_at hour net low fits least = subst (λ (z : ℤ). IsLeastHighEnough hour z low) (to_z-of_z w64 net fits) least
+
+ends_at : (hour : List Step) (net low high : ℤ) → SFits w64 net → AreInRange hour → IsWithinOffers hour net
+    → IsLeastHighEnough hour (to_z w64 (of_z w64 net)) low → IsGreatestLowEnough hour (to_z w64 (of_z w64 net)) high
+    → AreEnds hour net low high
+ends_at hour net low high fits in_range within least greatest =
+    ends_from hour net low high in_range within (least_at hour net low fits least)
+    (subst (λ (z : ℤ). IsGreatestLowEnough hour z high) (to_z-of_z w64 net fits) greatest)
+
 pub overflow_cast-result-else-supply-demand : goal.overflow_cast-result-else-supply-demand
 overflow_cast-result-else-supply-demand g c =
     let hour = c.args.hour.now in
-    let least = subst (λ (z : ℤ). IsLeastHighEnough hour z c.low-low.result) (to_z-of_z w64 c.args.net c.ranges.net) c.low-low.ensures in
+    let least = least_at hour c.args.net c.low-low.result c.ranges.net c.low-low.ensures in
     let low = (least_is_low hour c.args.net c.low-low.result c.requires.steps.in_range c.requires.within least).enough in
     (omega (arith, ints, low), omega (arith, ints, low))
 
 pub returns-then-supply-demand-clause-ends : goal.returns-then-supply-demand-clause-ends
 returns-then-supply-demand-clause-ends g c =
-    let hour = c.args.hour.now in
-    let same = to_z-of_z w64 c.args.net c.ranges.net in
-    ends_from hour c.args.net c.low-low.result c.high-high.result c.requires.steps.in_range c.requires.within
-    (subst (λ (z : ℤ). IsLeastHighEnough hour z c.low-low.result) same c.low-low.ensures)
-    (subst (λ (z : ℤ). IsGreatestLowEnough hour z c.high-high.result) same c.high-high.ensures)
+    ends_at c.args.hour.now c.args.net c.low-low.result c.high-high.result c.ranges.net c.requires.steps.in_range c.requires.within
+    c.low-low.ensures c.high-high.ensures
 
 pub returns-else-supply-demand-clause-ends : goal.returns-else-supply-demand-clause-ends
 returns-else-supply-demand-clause-ends g c =
-    let hour = c.args.hour.now in
-    let same = to_z-of_z w64 c.args.net c.ranges.net in
-    ends_from hour c.args.net c.low-low.result c.high-high.result c.requires.steps.in_range c.requires.within
-    (subst (λ (z : ℤ). IsLeastHighEnough hour z c.low-low.result) same c.low-low.ensures)
-    (subst (λ (z : ℤ). IsGreatestLowEnough hour z c.high-high.result) same c.high-high.ensures)
+    ends_at c.args.hour.now c.args.net c.low-low.result c.high-high.result c.ranges.net c.requires.steps.in_range c.requires.within
+    c.low-low.ensures c.high-high.ensures
 
 pub returns-else-supply-demand-clause-totals : goal.returns-else-supply-demand-clause-totals
 returns-else-supply-demand-clause-totals g c =
     let hour = c.args.hour.now in
-    let least = subst (λ (z : ℤ). IsLeastHighEnough hour z c.low-low.result) (to_z-of_z w64 c.args.net c.ranges.net) c.low-low.ensures in
+    let least = least_at hour c.args.net c.low-low.result c.ranges.net c.low-low.ensures in
     let low = (least_is_low hour c.args.net c.low-low.result c.requires.steps.in_range c.requires.within least).enough in
     let high = least.enough.enough in
     record {
