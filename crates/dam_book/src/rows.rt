@@ -84,8 +84,10 @@ fn key_bytes(who: &Participant, name: &Name) -> [u8; HASHED]
     ensures { result ≡ key_bytes (who.now, name.now) }
 {
     let mut bytes = [0; HASHED];
-    bytes[..LONGEST_PARTICIPANT].copy_from_slice(who.padded());
-    bytes[LONGEST_PARTICIPANT..LONGEST_PARTICIPANT + LONGEST_NAME].copy_from_slice(name.padded());
+    bytes[..LONGEST_PARTICIPANT].copy_from_slice(who.with_zeros());
+    bytes[LONGEST_PARTICIPANT..LONGEST_PARTICIPANT + LONGEST_NAME].copy_from_slice(
+        name.with_zeros(),
+    );
     bytes
 }
 

@@ -16,7 +16,8 @@ use Rattle.dam_book.specs.declared.command.Entry.{Entry}
 use Rattle.dam_book.specs.Book.{BookState, empty_book, book_after, commands_of, IsLegalFrom, IsLegalHistory}
 use Rattle.dam_gate.specs.Pass.{PassState, Knowledge, knowing_nothing, IsPass, AreInOrder, holders, new_pass, is_own, is_from, is_close}
 use Rattle.dam_gate.specs.Settled.{numbered, receipts_of}
-use Rattle.dam_gate.specs.Day.{commands_by, is_one_of, AreTaken, IsDayFault, giver, givers_from, givers_of, with_any, with_giver, IsDayRun}
+use Rattle.dam_book.specs.Command.{giver}
+use Rattle.dam_gate.specs.Day.{commands_by, is_one_of, AreTaken, IsDayFault, givers_from, givers_of, with_any, with_giver, IsDayRun}
 use Rattle.dam_gate.specs.inside.Tally.{AreReceipts}
 use Rattle.dam_gate.specs.inside.Entering.{AreApart, AreGivers, AreServed, Enters, HasAll, HasEntered, IsRefusalAt, own_commands}
 use Rattle.dam_gate.specs.declared.day.DayFault.{DayFault}

@@ -6,7 +6,8 @@ use Rattle.dam_book.specs.Limits.{most_entries}
 use Rattle.dam_book.specs.Name.{same_text}
 use Rattle.dam_book.specs.Book.{commands_of, IsLegalHistory}
 use Rattle.dam_book.specs.declared.command.Command.{Command}
-use Rattle.dam_book.specs.declared.command.Command.TheVariants.{Submit, Amend, Cancel, Close}
+use Rattle.dam_book.specs.Command.{giver}
+use Rattle.dam_book.specs.declared.command.Command.TheVariants.{Close}
 use Rattle.dam_book.specs.declared.command.Entry.{Entry}
 use Rattle.dam_gate.specs.Limits.{most_participants}
 use Rattle.dam_gate.specs.Pass.{is_from, is_close}
@@ -26,13 +27,6 @@ pub record IsDayRun (periods : ℕ) (given : List Command) (es : List Entry) : T
   pub close_last : commands_of es ≡ before ++ Close ∷ []
   pub close_once : filter is_close before ≡ []
   pub own_order : (who : List ℕ) → commands_by who (commands_of es) ≡ commands_by who given
-
--- who gives the command; a close is nobody's
-abbrev pub giver : Command → Option (List ℕ)
-giver (Submit who name order) = Some who
-giver (Amend who name price volumes) = Some who
-giver (Cancel who name) = Some who
-giver Close = None
 
 -- whether the participant is one of these
 abbrev pub is_one_of : List (List ℕ) → List ℕ → Bool

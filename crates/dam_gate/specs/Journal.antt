@@ -1,17 +1,14 @@
 -- A journal: the commands that reached the book, in one order, each with its reply, and the book that they made.
-use Rattle.std.specs.Prelude.{◌≡◌, ℕ, suc, ◌+◌, ◌-◌, ◌≤◌, Bool, true, false, nat_le, List, [], ◌∷◌, ◌++◌, length}
+use Rattle.std.specs.Prelude.{◌≡◌, ℕ, suc, ◌+◌, ◌-◌, ◌≤◌, Bool, true, false, nat_le, List, [], ◌∷◌, ◌++◌, length, is_some, if◌then◌else◌}
 use Rattle.dam_book.specs.Book.{BookState, empty_book, is_day, reply_to, book_after, run, commands_of, IsLegalHistory}
 use Rattle.dam_book.specs.declared.command.Command.{Command}
-use Rattle.dam_book.specs.declared.command.Command.TheVariants.{Submit, Amend, Cancel, Close}
+use Rattle.dam_book.specs.Command.{giver}
 use Rattle.dam_book.specs.declared.command.Entry.{Entry}
 use Rattle.dam_book.specs.Limits.{most_entries}
 
 -- whether a journal of `held` entries has no room for the command: the last entry is kept for a close
 abbrev pub is_full : ℕ → Command → Bool
-is_full held (Submit who name order) = nat_le (most_entries - 1) held
-is_full held (Amend who name price volumes) = nat_le (most_entries - 1) held
-is_full held (Cancel who name) = nat_le (most_entries - 1) held
-is_full held Close = nat_le most_entries held
+is_full held c = nat_le (if is_some (giver c) then most_entries - 1 else most_entries) held
 
 -- each of the entries found room in a journal of those before it, of which `held` come before these
 abbrev pub FoundRoom : ℕ → List Entry → Type 0

@@ -2,7 +2,7 @@
 use Rattle.std.specs.Prelude.{◌≡◌, ℕ, ◌-◌, ◌<◌, ◌≤◌, Bool, true, false, List, [], ◌∷◌, ◌++◌, length, map, Option, None, Some}
 use Rattle.dam_book.specs.Name.{same_text}
 use Rattle.dam_book.specs.declared.command.Command.{Command}
-use Rattle.dam_book.specs.declared.command.Command.TheVariants.{Submit, Amend, Cancel, Close}
+use Rattle.dam_book.specs.Command.{giver}
 use Rattle.dam_book.specs.declared.command.Entry.{Entry}
 use Rattle.dam_gate.specs.Journal.{is_full}
 
@@ -12,23 +12,23 @@ pub record PassState : Type 0 where
   pub seen : ℕ
   pub receipts : List Entry
 
--- whether this participant gave the command; nobody but the operator closes
-abbrev pub is_from : List ℕ → Command → Bool
-is_from who (Submit giver name order) = same_text who giver
-is_from who (Amend giver name price volumes) = same_text who giver
-is_from who (Cancel giver name) = same_text who giver
-is_from who Close = false
-
-abbrev pub is_close : Command → Bool
-is_close (Submit who name order) = false
-is_close (Amend who name price volumes) = false
-is_close (Cancel who name) = false
-is_close Close = true
+-- whether these are one participant, or both nobody
+abbrev pub same_giver : Option (List ℕ) → Option (List ℕ) → Bool
+same_giver None None = true
+same_giver None (Some other) = false
+same_giver (Some who) None = false
+same_giver (Some who) (Some other) = same_text who other
 
 -- whether the command is for the holder of a pass to give: a participant's own commands, or the operator's close
 abbrev pub is_own : Option (List ℕ) → Command → Bool
-is_own None c = is_close c
-is_own (Some who) c = is_from who c
+is_own holder c = same_giver holder (giver c)
+
+-- whether this participant gave the command; nobody but the operator closes
+abbrev pub is_from : List ℕ → Command → Bool
+is_from who c = is_own (Some who) c
+
+abbrev pub is_close : Command → Bool
+is_close c = is_own None c
 
 -- the numbers are above `low`, each above the one before it, and none is above `seen`
 abbrev pub AreInOrder : ℕ → ℕ → List Entry → Type 0

@@ -1,8 +1,9 @@
 ghost use Rattle.std.specs.Prelude.{◌≡◌};
-ghost use Rattle.dam_gate.specs.Pass.{IsPass, is_from, is_own};
+ghost use Rattle.std.specs.Option.{option_copied};
+ghost use Rattle.dam_gate.specs.Pass.{IsPass, same_giver};
 
 use crate::packed::Receipt;
-use dam_book::{Command, Participant};
+use dam_book::Participant;
 use std::marker::Model;
 
 /// What is left of a pass after its day: its holder, how many entries of the journal it had seen, and a receipt of each
@@ -27,25 +28,14 @@ impl Model for Account {
     ghost invariant = { λ p. IsPass (record { holder = p.holder; seen = p.seen; receipts = p.receipts.items }) };
 }
 
-/// Whether the command is this participant's.
-fn is_from(who: &Participant, command: &Command) -> bool
-    ensures { result ≡ is_from who.now command.now }
+/// Whether a command of this giver is for the holder to give: a participant's own, and the operator's what is nobody's.
+pub(crate) fn owns(holder: &Option<Participant>, giver: Option<&Participant>) -> bool
+    ensures { result ≡ same_giver holder.now (option_copied giver.entry) }
 {
-    match command {
-        Command::Submit { who: giver, .. }
-        | Command::Amend { who: giver, .. }
-        | Command::Cancel { who: giver, .. } => *who == *giver,
-        Command::Close => false,
-    }
-}
-
-/// Whether the command is for the holder to give: a participant's own commands, or the operator's close.
-pub(crate) fn owns(holder: &Option<Participant>, command: &Command) -> bool
-    ensures { result ≡ is_own holder.now command.now }
-{
-    match holder {
-        None => matches!(command, Command::Close),
-        Some(who) => is_from(who, command),
+    match (holder, giver) {
+        (Some(who), Some(giver)) => *who == *giver,
+        (None, None) => true,
+        (Some(_), None) | (None, Some(_)) => false,
     }
 }
 

@@ -6,7 +6,7 @@ ghost use Rattle.dam_book.specs.Limits.{most_entries};
 ghost use Rattle.dam_gate.specs.Journal.{IsJournal};
 ghost use Rattle.dam_gate.specs.Pass.{Knowledge, IsPass, holders, knowing_nothing};
 ghost use Rattle.dam_gate.specs.Headline.{IsWholeAccount};
-ghost use Rattle.dam_gate.specs.Day.{AreTaken, IsDayFault, IsDayRun, day_holders, giver, givers_of, is_one_of};
+ghost use Rattle.dam_gate.specs.Day.{AreTaken, IsDayFault, IsDayRun, day_holders, givers_of, is_one_of};
 ghost use Rattle.dam_gate.specs.inside.Entering.{AreGivers, AreServed, Enters, HasAll, IsClosedDay, IsLateFault, IsRefusalAt, Takes, own_commands};
 
 use crate::account::Account;

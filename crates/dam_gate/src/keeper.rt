@@ -289,11 +289,9 @@ pub(crate) fn is_full(held: u32, command: &Command) -> bool
     ensures { result ≡ is_full held command.now }
 {
     let held = held as usize;
-    match command {
-        Command::Submit { .. } | Command::Amend { .. } | Command::Cancel { .. } => {
-            held >= MOST_ENTRIES - 1
-        }
-        Command::Close => held >= MOST_ENTRIES,
+    match command.participant() {
+        Some(_) => held >= MOST_ENTRIES - 1,
+        None => held >= MOST_ENTRIES,
     }
 }
 

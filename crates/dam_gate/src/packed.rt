@@ -1,8 +1,8 @@
 ghost use Rattle.std.specs.Prelude.{◌≡◌, IfOk};
 ghost use Rattle.std.specs.Option.{option_copied};
-ghost use Rattle.dam_gate.specs.Day.{giver};
+ghost use Rattle.dam_book.specs.Command.{giver};
 ghost use Rattle.dam_gate.specs.Pass.{is_own};
-ghost use Rattle.dam_gate.specs.inside.Packed.{command_of, is_held};
+ghost use Rattle.dam_gate.specs.inside.Packed.{command_of};
 
 use crate::account::owns;
 use dam_book::{Command, Entry, HourOrder, Name, Order, Participant, Reply};
@@ -93,11 +93,7 @@ impl PackedCommand {
     pub(crate) fn is_own(&self, holder: &Option<Participant>) -> bool
         ensures { result ≡ is_own holder.now self.now }
     {
-        match &self.form {
-            Form::Hour { who, .. } | Form::Cancel { who, .. } => is_holder(holder, who),
-            Form::Close => holder.is_none(),
-            Form::Whole(command) => owns(holder, command),
-        }
+        owns(holder, self.giver())
     }
 
     /// Who gives the command; a close is nobody's.
@@ -107,18 +103,8 @@ impl PackedCommand {
         match &self.form {
             Form::Hour { who, .. } | Form::Cancel { who, .. } => Some(who),
             Form::Close => None,
-            Form::Whole(command) => giver(command),
+            Form::Whole(command) => command.participant(),
         }
-    }
-}
-
-/// Whether the participant holds the pass.
-fn is_holder(holder: &Option<Participant>, who: &Participant) -> bool
-    ensures { result ≡ is_held holder.now who.now }
-{
-    match holder {
-        None => false,
-        Some(holder) => *holder == *who,
     }
 }
 
@@ -126,18 +112,6 @@ fn whole(alloc: Global, command: &Command) -> Result<Form, AllocError>
     ensures { IfOk result (λ form. command_of form ≡ command.now) }
 {
     Ok(Form::Whole(Box::new(alloc, command.copy())?))
-}
-
-/// Who gives the command; a close is nobody's.
-fn giver(command: &Command) -> Option<&Participant>
-    ensures { option_copied result ≡ giver command.now }
-{
-    match command {
-        Command::Submit { who, .. } | Command::Amend { who, .. } | Command::Cancel { who, .. } => {
-            Some(who)
-        }
-        Command::Close => None,
-    }
 }
 
 /// The commands, packed.

@@ -140,7 +140,7 @@ impl<J: GateName> Pass<J> {
     pub(crate) fn owns(&self, command: &Command) -> bool
         ensures { result ≡ is_own self.now.account.holder command.now }
     {
-        owns(&self.holder, command)
+        owns(&self.holder, command.participant())
     }
 
     /// The same of a packed command.

@@ -49,9 +49,13 @@ impl<J: GateName> Round<J> {
         &mut self,
         rt: &impl Wait,
         gate: &Gate<J, H>,
-        holder: &Option<Participant>,
+        holder: Option<&Participant>,
     ) -> Result<usize, Stop> {
-        if let Some(place) = self.passes.iter().position(|pass| pass.holder() == *holder) {
+        if let Some(place) = self
+            .passes
+            .iter()
+            .position(|pass| pass.holder().as_ref() == holder)
+        {
             return Ok(place);
         }
         for _ in 0..TRIES {
@@ -82,7 +86,7 @@ impl<J: GateName> Round<J> {
         command: &Command,
         earlier: u32,
     ) -> Result<(), Stop> {
-        let place = self.place_of(rt, gate, &giver(command))?;
+        let place = self.place_of(rt, gate, command.participant())?;
         let pass = self.passes.get_mut(place).ok_or(Stop::Wrong)?;
         let (mut seen, receipts) = (pass.seen(), pass.receipts().len());
         let noted = pass.note().is_some();
@@ -119,16 +123,6 @@ impl<J: GateName> Round<J> {
 fn entries_shown<J: GateName>(pass: &mut Pass<J>) -> Option<u32> {
     let look = pass.look(&Participant::new(b"A")?, &Name::new(b"A")?)?;
     Some(look.seen)
-}
-
-/// Who gives the command; a close is nobody's.
-fn giver(command: &Command) -> Option<Participant> {
-    match command {
-        Command::Submit { who, .. } | Command::Amend { who, .. } | Command::Cancel { who, .. } => {
-            Some(who.copy())
-        }
-        Command::Close => None,
-    }
 }
 
 /// Settles the journal, and says how many calls were refused memory.

@@ -15,12 +15,12 @@ abbrev pub same_label : Label → Label → Bool
 same_label l m = same_key l.0 m.0 && nat_eq l.1 m.1
 
 -- the text, and a 0 in each place after it
-abbrev pub padded : ℕ → List ℕ → List ℕ
-padded places text = text ++ replicate (places - length text) 0
+abbrev pub with_zeros : ℕ → List ℕ → List ℕ
+with_zeros places text = text ++ replicate (places - length text) 0
 
 -- the bytes that a key is hashed as: its two texts, and zeros up to three words of eight bytes
 abbrev pub key_bytes : Key → List ℕ
-key_bytes k = padded longest_participant k.0 ++ (padded longest_name k.1 ++ replicate 4 0)
+key_bytes k = with_zeros longest_participant k.0 ++ (with_zeros longest_name k.1 ++ replicate 4 0)
 
 abbrev pub Place : Type 0
 Place = Label × Option Order

@@ -7,7 +7,8 @@ use Rattle.dam_book.specs.declared.command.Command.TheVariants.{Close}
 use Rattle.dam_gate.specs.Pass.{PassState, IsPass, is_own}
 use Rattle.dam_gate.specs.Journal.{JournalState, IsJournal}
 use Rattle.dam_gate.specs.Limits.{most_participants}
-use Rattle.dam_gate.specs.Day.{commands_by, giver, is_one_of, with_any, with_giver}
+use Rattle.dam_book.specs.Command.{giver}
+use Rattle.dam_gate.specs.Day.{commands_by, is_one_of, with_any, with_giver}
 use Rattle.dam_gate.specs.declared.day.DayFault.{DayFault}
 use Rattle.dam_gate.specs.declared.day.DayFault.TheVariants.{TooManyCommands, CloseGiven, TooManyParticipants, NotSettled, Memory}
 use Rattle.dam_gate.specs.declared.settlement.Mismatch.TheVariants.{Memory as MismatchMemory}
