@@ -8,6 +8,7 @@ TOKEN = re.compile(
     r"""//[^\n]*|/\*.*?\*/|b?r(#*)".*?"\1|b?"(?:[^"\\]|\\.)*"|b?'(?:[^'\\\n]|\\[^\n][^'\n]*)'|\w+|[{}()\[\];]""", re.S
 )
 READ = re.compile(r"\w+\Z|[{}()\[\];]\Z")
+TYPE = re.compile(r"^(?:pub(?:\([^)]*\))? )?(?:struct|enum) (\w+)", re.M)
 CYCLE = re.compile(r"#\[cycle\((\w+)\)\]")
 OWNERS = ("impl", "trait", "mod")
 CLAUSES = ("requires", "ensures", "ghost", "measure")
@@ -21,12 +22,21 @@ class Token(NamedTuple):
     ends: int
 
 
+class Owner(NamedTuple):
+    """An impl, a trait or a module: the name under which a check lists what stands in it, and the type if the impl is of no trait."""
+
+    name: str
+    type: str = None
+
+
 class Function(NamedTuple):
-    """A function with a body: its name, with that of its impl before it, and where the body lies, braces included."""
+    """A function with a body: its name, with that of its impl before it, where the body lies, braces included, and the type if it
+    is a method of no trait."""
 
     name: str
     begins: int
     ends: int
+    type: str = None
 
 
 def functions_of(text):
@@ -46,10 +56,10 @@ def functions_of(text):
             if opens and ";" not in head:
                 owners.append((depth + 1, owner_of(head)))
         elif token.word == "fn" and at < len(tokens) and re.match(r"[A-Za-z_]", tokens[at].word):
-            name = "::".join([*(it for _, it in owners), tokens[at].word])
+            name = "::".join([*(it.name for _, it in owners), tokens[at].word])
             at, body = body_of(tokens, at + 1)
             if body:
-                found.append(Function(name, *body))
+                found.append(Function(name, *body, owners[-1][1].type if owners else None))
     return found
 
 
@@ -75,13 +85,36 @@ def body_of(tokens, at):
 
 
 def owner_of(head):
-    """Returns the name under which a check lists what stands in an impl: TextHash for `impl<const N: usize> Hash for Text<N>`."""
-    head = head.replace("->", "")
-    while re.search(r"<[^<>]*>", head):
-        head = re.sub(r"<[^<>]*>", "", head)
-    words = re.split(r"\bwhere\b|:(?!:)", head.replace("::", "."))[0].split()
-    names = [it.rpartition(".")[2] for it in words if it not in (*OWNERS, "for")]
-    return "".join(reversed(names))
+    """Returns the owner of what stands after a head such as `impl<T> From<Step<T>> for Way`, which is listed as WayFromStep: first the
+    words of the type, then those of the trait, without the parameters of the impl."""
+    kind = re.match(r"\w+", head)[0]
+    rest = " ".join(re.split(r"\bwhere\b", head[len(kind) :].replace("->", ""))[0].split())
+    if kind != "impl":
+        return Owner(re.search(r"\w+", rest)[0])
+    parameters, rest = parameters_of(rest)
+    trait, is_of_trait, subject = rest.rpartition(" for ")
+    words = [it for it in [*words_of(subject), *words_of(trait)] if it not in parameters]
+    return Owner("".join(words), None if is_of_trait else words[0])
+
+
+def parameters_of(text):
+    """Returns the names of the parameters with which a text begins, as in `<const N: usize, T: Into<u64>>`, and the text after them."""
+    depth = 0
+    for at, letter in enumerate(text):
+        depth += {"<": 1, ">": -1}.get(letter, 0)
+        if depth == 0:
+            # A text that does not begin with `<` ends here too, with no parameter.
+            inside, rest = text[1:at], text[at + 1 :] if at else text
+            break
+    while re.search(r"<[^<>]*>", inside):
+        inside = re.sub(r"<[^<>]*>", "", inside)
+    return [it.partition(":")[0].split()[-1] for it in inside.split(",") if it.strip()], rest
+
+
+def words_of(text):
+    """Returns the names of a type or a trait as a check joins them: without paths and lifetimes, and each with a capital letter."""
+    text = re.sub(r"'\w+|\w+::", "", text).replace("()", "Unit")
+    return [it[0].upper() + it[1:] for it in re.findall(r"\w+", text)]
 
 
 def outside(text, functions):
@@ -102,7 +135,18 @@ def leaders_of(text, functions):
     return found
 
 
-def listed_name(crate, path, function):
-    """Returns the name under which a check lists a function of this file of the crate."""
+def homes_of(texts):
+    """Returns by name the file in which a crate, whose texts these are by path, defines a type; nothing of a name with two files."""
+    found = {}
+    for path, text in texts.items():
+        for name in TYPE.findall(text):
+            found.setdefault(name, set()).add(path)
+    return {name: paths.pop() for name, paths in found.items() if len(paths) == 1}
+
+
+def listed_name(crate, path, function, homes):
+    """Returns the name under which a check lists a function of this file of the crate: a method of no trait stands in the module of its
+    type, any other function in that of the file."""
+    path = homes.get(function.type, path)
     module = re.sub(r"(^|/)(lib|main|mod)$", "", path[len("src/") : -len(".rt")])
     return "::".join([crate, *filter(None, module.split("/")), function.name])

@@ -2,7 +2,7 @@
 
 import unittest
 
-from source import functions_of, leaders_of, listed_name, outside
+from source import functions_of, homes_of, leaders_of, listed_name, outside
 
 STEP = """\
 use crate::hour::Hour;
@@ -54,7 +54,7 @@ pub const fn most() -> [u8; 2] { [1, 2] }
 class Bodies(unittest.TestCase):
     def test_each_function_with_a_body_is_found_under_its_name(self):
         names = [it.name for it in functions_of(STEP)]
-        self.assertEqual(names, ["Step::of", "Step::len", "TextHash::hash", "DayFaultFrom::from", "Turnstile::leave", "most"])
+        self.assertEqual(names, ["Step::of", "Step::len", "TextHash::hash", "DayFaultFromAllocFailed::from", "Turnstile::leave", "most"])
 
     def test_a_body_lies_between_its_braces_and_after_the_clauses(self):
         bodies = {it.name: STEP[it.begins : it.ends] for it in functions_of(STEP)}
@@ -79,13 +79,45 @@ class Bodies(unittest.TestCase):
         self.assertEqual(functions_of(""), [])
 
 
+IMPLS = {
+    "impl Step": "Step::go",
+    "impl<'a, F: Fn(u32) -> u32, const N: usize> kind::Step<'a, F, N>": "Step::go",
+    "impl<T: Drop> From<AllocFailed<T>> for DayFault\nwhere\n    T: Send,\n": "DayFaultFromAllocFailed::go",
+    "impl<T> Named<(), u64> for Holder<Near<T>>": "HolderNearNamedUnitU64::go",
+    "impl<'a> Life<'a> for Near<u32>": "NearU32Life::go",
+    "pub trait Order<T>: Send": "Order::go",
+    "mod plain": "plain::go",
+}
+OWNED = "pub struct Hour {\n    step: Step,\n}\n\nimpl Hour {\n    fn len(&self) -> u64 { 0 }\n}\n"
+MORE = "use crate::hour::Hour;\nimpl Hour {\n    fn len(&self) -> u64 { 0 }\n}\nimpl Len for Hour {\n    fn more(&self) {}\n}\nfn free() {}\n"
+
+
 class Names(unittest.TestCase):
+    def test_an_owner_is_listed_by_its_type_and_then_its_trait(self):
+        for head, name in IMPLS.items():
+            with self.subTest(head):
+                (function,) = functions_of(head + " {\n    fn go() {}\n}\n")
+                self.assertEqual(function.name, name)
+
     def test_the_name_has_the_modules_of_the_file(self):
         (function,) = functions_of("impl Hour {\n    fn len(&self) -> u64 { 0 }\n}\n")
-        self.assertEqual(listed_name("dam_hour", "src/hour.rt", function), "dam_hour::hour::Hour::len")
-        self.assertEqual(listed_name("dam_hour", "src/lib.rt", function), "dam_hour::Hour::len")
-        self.assertEqual(listed_name("dam_hour", "src/plain/mod.rt", function), "dam_hour::plain::Hour::len")
-        self.assertEqual(listed_name("dam_hour", "src/plain/steps.rt", function), "dam_hour::plain::steps::Hour::len")
+        self.assertEqual(listed_name("dam_hour", "src/hour.rt", function, {}), "dam_hour::hour::Hour::len")
+        self.assertEqual(listed_name("dam_hour", "src/lib.rt", function, {}), "dam_hour::Hour::len")
+        self.assertEqual(listed_name("dam_hour", "src/plain/mod.rt", function, {}), "dam_hour::plain::Hour::len")
+        self.assertEqual(listed_name("dam_hour", "src/plain/steps.rt", function, {}), "dam_hour::plain::steps::Hour::len")
+
+    def test_a_method_has_the_modules_of_its_type_unless_it_is_of_a_trait(self):
+        homes = homes_of({"src/hour.rt": OWNED, "src/plain/more.rt": MORE})
+        names = [listed_name("dam_hour", "src/plain/more.rt", it, homes) for it in functions_of(MORE)]
+        self.assertEqual(names, ["dam_hour::hour::Hour::len", "dam_hour::plain::more::HourLen::more", "dam_hour::plain::more::free"])
+
+    def test_the_home_of_a_type_is_the_one_file_that_defines_it(self):
+        texts = {
+            "src/one.rt": "#[derive(Drop)]\npub(crate) struct Row<A> {\n}\n// struct Comment {\n    struct Inner;\nenum Way {}\n",
+            "src/two.rt": "pub struct Twice(u64);\nuse crate::one::Row;\n",
+            "src/three.rt": "struct Twice;\npub trait Walk {}\n",
+        }
+        self.assertEqual(homes_of(texts), {"Row": "src/one.rt", "Way": "src/one.rt"})
 
 
 if __name__ == "__main__":

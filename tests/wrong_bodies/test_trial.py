@@ -21,7 +21,7 @@ GONE = "proofs/{name}/Answers.antt:1:1: error: `right` is not in scope"
 
 
 class Stand(Trial):
-    """A trial whose check refuses a function with `wrong` in its body, and one whose callee is called `spoiled`."""
+    """A trial whose check refuses a function with `wrong` in its body, and lists the methods of `Tree` under the module `tree`."""
 
     def checked(self, what):
         self.checks += 1
@@ -40,7 +40,7 @@ class Stand(Trial):
             if "wrong()" in (body if it.name not in CYCLE or not text.startswith("#[cycle") else text):
                 lines.append(REFUSED.format(line=line))
                 said = "no proof: `search` did not prove `returns`"
-            lines.append(f"fn toy::{it.name}: {said}")
+            lines.append(f"fn toy::{'tree::' if it.name.startswith('Tree::') else ''}{it.name}: {said}")
         is_proved = all(re.search(r": (proved)$", it) for it in lines)
         end = "logic=proved functions=4" if is_proved else "logic=not-proved"
         return Report("\n".join(ills or [*gone, *lines, end]))
@@ -115,6 +115,15 @@ class Trials(unittest.TestCase):
         self.edit("b", two="wrong")
         self.assertEqual(self.tried(cycle), {"a": (True, "refused"), "b": (True, "refused")})
         self.assertEqual(self.trial.tried[1:], ["2 wrong bodies at once", "a", "b"])
+
+    def test_a_method_of_a_type_that_another_file_defines_is_refused_in_the_batch(self):
+        text = LIB.replace("fn one() -> u64 {\n    right()\n}", "impl Tree {\nfn one() -> u64 {\n    right()\n}\n}")
+        write(f"{self.crate}/src/lib.rt", text)
+        write(f"{self.crate}/src/tree.rt", "pub struct Tree {\n    depth: u64,\n}\n")
+        self.edit("method", one="wrong")
+        self.edit("other", two="wrong")
+        self.assertEqual(self.tried(text), {"method": (True, "refused"), "other": (True, "refused")})
+        self.assertEqual(self.trial.tried, ["as it stands", "2 wrong bodies at once"])
 
     def test_an_edit_that_cannot_be_applied(self):
         self.edit("none", five="wrong")

@@ -9,7 +9,7 @@ from collections import Counter
 
 from edits import batches_of, read, write
 from report import Report
-from source import functions_of, leaders_of, listed_name, outside
+from source import functions_of, homes_of, leaders_of, listed_name, outside
 
 
 class Trial:
@@ -94,20 +94,27 @@ class Trial:
         the name under which a check lists it, by that name the name of the function with whose proofs its own stand, and its lines."""
         bodies = {key: body for it in edits for key, body in it.bodies.items()}
         texts, names, leaders, lines = {}, {}, {}, {}
+        sources = self.sources()
+        homes = homes_of(sources)
         for path in sorted({path for path, _ in bodies}):
-            right = read(f"{self.folder}/{path}")
+            right = sources[path]
             functions = functions_of(right)
             first, *parts = outside(right, functions)
             text = first
             for number, (function, leader, part) in enumerate(zip(functions, leaders_of(right, functions), parts)):
                 begins = text.count("\n") + 1
                 text += bodies.get((path, number), right[function.begins : function.ends])
-                names[path, number] = listed_name(self.crate, path, function)
-                leaders[names[path, number]] = listed_name(self.crate, path, leader)
+                names[path, number] = listed_name(self.crate, path, function, homes)
+                leaders[names[path, number]] = listed_name(self.crate, path, leader, homes)
                 lines[path, number] = range(begins, text.count("\n") + 2)
                 text += part
             texts[path] = text
         return texts, names, leaders, lines
+
+    def sources(self):
+        """Returns the texts of the crate's files of code, by their path in the crate."""
+        found = [f"{folder}/{it}" for folder, _, files in os.walk(f"{self.folder}/src") for it in files if it.endswith(".rt")]
+        return {os.path.relpath(it, self.folder): read(it) for it in found}
 
     def alone(self, edit):
         """Tries an edit by itself. Returns whether the crate is refused with it for more than a name that went, and why."""

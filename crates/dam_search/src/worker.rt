@@ -10,28 +10,28 @@ use crate::shared::Shared;
 use crate::turnstile::Turnstile;
 use dam_blocks::Problem;
 use dam_bound::Relaxed;
-use std::alloc::{AllocError, Global};
+use std::alloc::{AllocError, Allocator};
 
 /// A worker's whole share of a search: it explores each piece that it draws, until a draw finds
 /// none left.
 ///
 /// It answers for just the pieces that its seat drew, in the order of the draws, with the limit
-/// `nodes` on each. Room for an answer about every piece is taken before the first draw: after a
-/// refusal nothing was drawn, and nothing more is asked for later.
+/// `nodes` on each. It takes room for an answer about every piece from `alloc` before the first
+/// draw: after a refusal nothing was drawn, and it asks for nothing more later.
 ///
 /// Only [`search`](crate::search) makes seats, and so it alone can call this, once for each worker, on a
 /// thread of its own. It gives a fresh seat, made for the pieces of a cutting of this depth, and the
 /// bounds of this very problem. Every piece is answered only if all seats of the words have worked and
 /// none was refused memory. A worker waits for nothing but the turnstile.
-pub fn work<T: Turnstile>(
-    alloc: Global,
-    problem: &Problem,
-    relaxed: &Relaxed,
+pub fn work<A: Allocator, B: Allocator, C: Allocator, T: Turnstile>(
+    alloc: C,
+    problem: &Problem<A>,
+    relaxed: &Relaxed<B>,
     depth: usize,
     nodes: u32,
     seat: &mut Shared,
     turnstile: &T,
-) -> Result<Vec<PieceAnswer>, AllocError>
+) -> Result<Vec<PieceAnswer, C>, AllocError>
     requires same { relaxed.now ≡ without_rows problem.now }
     requires depth { depth ≤ length problem.now.blocks }
 
