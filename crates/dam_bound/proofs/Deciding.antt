@@ -1,10 +1,10 @@
 -- A change of one block, pair by pair of its volumes.
 use Rattle.std.proofs.Common.{◌≡◌, ◌≢◌, ℕ, zero, suc, ◌+◌, ◌-◌, ◌*◌, ◌<◌, ◌≤◌, ◌==◌, cond, ℤ, pos, ◌+ℤ◌, ◌-ℤ◌, ◌≤ℤ◌, ◌<ℤ◌, IsTrue, ◌↔◌}
 use Rattle.std.proofs.Common.{Bool, true, false, MatchBool, Option, Some, None, List, [], ◌++◌, length, drop, get_or, slice_set, ap, ◌∙◌}
-use Rattle.std.proofs.Common.{sym, subst, refl, arith, inl, inr}
+use Rattle.std.proofs.Common.{sym, subst, refl, arith, inl, inr, true≢false}
 use Rattle.std.specs.List.{slice_get}
 use Rattle.std.specs.Option.{option_map}
-use Rattle.std.proofs.lemmas.Int.{ints}
+use Rattle.std.proofs.lemmas.Int.{ints, by_lt_z}
 use Rattle.std.proofs.lemmas.Bool.{cases_lt}
 use Rattle.std.proofs.lemmas.Bool.Decides.{nat_tests}
 use Rattle.std.proofs.lemmas.List.{get_or-set_same, get_or-set_other}
@@ -336,3 +336,15 @@ pub under : (problem : ProblemState) (least : ℕ) (before after : List Bool) (t
 under problem least before after total shown floor bound r same level within e below m f =
     inr (λ never w is. (let less = (m total within).0 (subst (λ z. total <ℤ z) level (subst (λ z. z <ℤ bound) same (below.0 e))) in
     let most = f never w is in omega (arith, ints, less, most)))
+
+-- what isn't under the floor is at least as great
+pub not_under : (shown bound : ℤ) (r : Bool) → r ≡ false → IsTrue r ↔ (shown <ℤ bound) → bound ≤ℤ shown
+not_under shown bound r e below =
+    by_lt_z shown bound (λ less. absurd (let yes : r ≡ true = below.1 less in true≢false (sym yes ∙ e))) (λ more. more)
+
+-- a total that isn't under the floor is at least what was asked for
+pub asked : (least : ℕ) (total floor bound : ℤ) → bound ≡ floor → IsWithin (last_period * greatest_period_bound) total
+    → ((z : ℤ) → IsWithin (last_period * greatest_period_bound) z → (z <ℤ floor) ↔ (z <ℤ pos least))
+    → bound ≤ℤ total → pos least ≤ℤ total
+asked least total floor bound level within m high =
+    by_lt_z total (pos least) (λ less. absurd (let low = (m total within).1 less in omega (arith, ints, low, level, high))) (λ more. more)

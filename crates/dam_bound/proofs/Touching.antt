@@ -2,7 +2,8 @@
 use Rattle.std.proofs.Common.{◌≡◌, ℕ, ◌+◌, ◌*◌, ◌<◌, ◌≤◌, Bool, true, false, ℤ, pos, ◌+ℤ◌, ◌*ℤ◌, neg_ℤ, Option, Some, None, MatchOption}
 use Rattle.std.proofs.Common.{List, ◌∷◌, ◌++◌, length, drop, get_or, slice_set, ap, ◌∙◌, sym, subst, refl, arith}
 use Rattle.std.specs.List.{slice_get}
-use Rattle.std.proofs.lemmas.List.{drop_all, append-nil}
+use Rattle.std.proofs.lemmas.List.{drop_all, append-nil, length-map}
+use Rattle.std.proofs.lemmas.List.Sorted.{length_permutation}
 use Rattle.std.proofs.lemmas.Option.{slice_get_within, slice_get_read, slice_get-get_or, slice_get-map}
 use Rattle.std.specs.Option.{option_map}
 use Rattle.dam_book.specs.Limits.{last_period}
@@ -240,6 +241,17 @@ lot_at problem rows ends lots lot place b are at read =
     let here = slice_get_read lots (length lots) place lot refl (omega (arith, inside, many)) read in
     (here, are.lots_are.each place b lot at here)
 
+-- a block has a touch, since it has a volume
+pub some_touch : (problem : ProblemState) {rows : List Row} {ends : List Span} {lots : List LotState} {lot : LotState}
+    {touches : List Touch} (place : ℕ) {b : Block}
+    → AreTables problem.hours problem.blocks rows ends lots
+    → slice_get problem.blocks place ≡ Some b → lot ≡ get_or lots place lot → touches ≡ lot.touches → 0 < length touches
+some_touch problem {rows} {ends} {lots} {lot} {touches} place {b} are at read same =
+    let is = (lot_at problem rows ends lots lot place b are at read).1 in
+    let as_many = length_permutation b.order.volumes (pairs_of lot.touches) is.pairs_are in let long = length-map lot.touches pair_of in
+    let some = (block_at (length problem.hours) problem.blocks place b are.blocks_are at).order.volumes.nonempty in
+    subst (λ (ts : List Touch). 0 < length ts) (sym same) (omega (arith, as_many, long, some))
+
 -- the touch at the place of a list of touches
 abbrev pub no_touch_there : Touch
 no_touch_there = record {
@@ -275,7 +287,7 @@ touched_now {problem} {rows} {ends} {lots} {lot} {touches} {place} {depth} {chan
     (slice_get-get_or touches j no_touch_there inside)) is of
     (subst (λ (ts : List Touch). AreStill (drop j (pairs_of ts)) day.periods periods) same still))
 
--- whether the supply is left with what the block asks for
+-- whether the block's units fall away from those taken, as the code answered it
 pub serves : {problem : ProblemState} {rows : List Row} {ends : List Span} {lots : List LotState} {lot : LotState} {place depth : ℕ}
     {change : Change} {accept : Bool} {before after : List Bool} {b : Block} {periods : List Taken} {j : ℕ} {pairs : List Pair}
     {touch : Touch} {side : Side} {served : Bool}

@@ -1,4 +1,4 @@
-ghost use Rattle.std.specs.Prelude.{ℤ, ◌≡◌, not, ◌<◌, ◌≤◌, [], ◌∷◌, ◌++◌, List, Bool, Some, None, length, drop, map, slice_get, slice_set, IfOk, IfSome, MatchBool, MatchOption};
+ghost use Rattle.std.specs.Prelude.{ℤ, pos, ◌≡◌, not, ◌<◌, ◌≤◌, ◌≤ℤ◌, [], ◌∷◌, ◌++◌, List, Bool, Some, None, length, drop, map, slice_get, slice_set, IfOk, IfSome, MatchBool, MatchOption};
 ghost use Rattle.dam_book.specs.Limits.{most_blocks};
 ghost use Rattle.dam_blocks.specs.Problem.{AreBlocks};
 ghost use Rattle.dam_blocks.specs.Selection.{padded};
@@ -173,13 +173,12 @@ impl<A: Allocator> Relaxed<A> {
         self.tables.root.total
     }
 
-    /// Extends the day of a prefix by the decision on the block at the depth, and returns its relaxed
-    /// welfare; `None` if the extension has no bound or one under `least`. The days of the prefix and of
-    /// shorter ones stay, so that the other decision can be made afterwards.
+    /// Extends the day of a prefix by the decision on the block at the depth, and returns the relaxed
+    /// welfare of the extension; `None` exactly if it has none or one under `least`. The days of the prefix
+    /// and of shorter ones stay, so that the other decision can be made afterwards.
     ///
-    /// That there is a relaxed welfare doesn't say that it reaches `least`. Only the periods in which
-    /// the block has a volume are looked at, and no further than until the bound is seen to be under
-    /// `least`. Takes no memory.
+    /// Only the periods in which the block has a volume are looked at, and no further than until the
+    /// relaxed welfare is seen to be under `least`. Takes no memory.
     pub fn extend(
         &self,
         trail: &mut Trail,
@@ -196,6 +195,7 @@ impl<A: Allocator> Relaxed<A> {
             → IsDayIn self.now prefix trail.old total
             → MatchOption result (IsUnder self.now (prefix ++ accept ∷ []) least)
             (IsDayIn self.now (prefix ++ accept ∷ []) trail.new) }
+        ensures reached { IfSome result (λ welfare. pos least ≤ℤ welfare) }
     {
         dam_hour::laws::joining();
         dam_hour::laws::welfare();

@@ -1,6 +1,6 @@
 //! The days of a walk, in slots that are neither copied nor undone.
 
-ghost use Rattle.std.specs.Prelude.{◌≡◌, ◌*◌, ◌+◌, ◌<◌, ◌≤◌, ℕ, ℤ, pos, ◌^◌, ◌<ℤ◌, ◌≤ℤ◌, ◌↔◌, List, Bool, length, slice_index_or, IsTrue, MatchOption};
+ghost use Rattle.std.specs.Prelude.{◌≡◌, ◌*◌, ◌+◌, ◌<◌, ◌≤◌, ℕ, ℤ, pos, ◌^◌, ◌<ℤ◌, ◌≤ℤ◌, ◌↔◌, List, Bool, length, slice_index_or, IsTrue, IfSome, MatchOption};
 ghost use Rattle.dam_book.specs.Limits.{last_period};
 ghost use Rattle.dam_stack.specs.declared.taken.Taken.{Taken};
 ghost use Rattle.dam_blocks.specs.Problem.{ProblemState};
@@ -69,8 +69,9 @@ fn is_under(total: i64, floor: i64) -> bool
     total < floor
 }
 
-/// Decides the block at the place in each of its periods; the new total, or `None` if some period
-/// doesn't balance or the total is at some time under `least`.
+/// Decides the block at the place in each of its periods, and returns the new total, which is at least
+/// `least`; `None` if some period doesn't balance, or if the total is under `least` after one of them. In a
+/// walk no decision raises the relaxed welfare of a period, so a total under `least` stays under it.
 ///
 /// The slots below the block's row stay as they are.
 pub(crate) fn decide_block<A: Allocator>(
@@ -95,6 +96,7 @@ pub(crate) fn decide_block<A: Allocator>(
         → IsDayIn problem before trail.old total
         → MatchOption result (IsGivenUp problem least before after)
         (IsDayIn problem after trail.new) }
+    ensures reached { IfSome result (λ left. pos least ≤ℤ left) }
     ensures below { (i : ℕ) (own : Taken) → i < (place + 1) * last_period
         → slice_index_or trail.new.slots i own ≡ slice_index_or trail.old.slots i own }
     ensures room { length trail.new.slots ≡ slot_count }

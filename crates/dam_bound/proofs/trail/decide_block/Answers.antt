@@ -15,8 +15,9 @@ use Rattle.dam_bound.proofs.Tabling.{block_at}
 use Rattle.dam_bound.proofs.Volumes.{volume_ordered}
 use Rattle.dam_bound.proofs.Periods.{one_at}
 use Rattle.dam_bound.proofs.Sizes.{added_to}
-use Rattle.dam_bound.proofs.Deciding.{IsChangedSoFar, nothing_changed, total_within, total_at_least, still_own, under}
-use Rattle.dam_bound.proofs.Touching.{no_touch_there, nothing_taken, lot_at, touched_now, serves, touch_changed, touch_unbalanced}
+use Rattle.dam_bound.proofs.Deciding.{IsChangedSoFar, nothing_changed, total_within, total_at_least, still_own, under, not_under, asked}
+use Rattle.dam_bound.proofs.Touching.{no_touch_there, nothing_taken, lot_at, some_touch, touched_now, serves, touch_changed}
+use Rattle.dam_bound.proofs.Touching.{touch_unbalanced}
 use Rattle.dam_bound.proofs.Walking.{IsDecidedSoFar, undecided, is_move_read, from_within, to_within, below_more, decided_more, all_decided}
 use Rattle.dam_bound.proofs.trail.decide_block.Goals as goal
 
@@ -45,6 +46,7 @@ loop-touch-init g c = record {
       c.args.trail.now total at is.kind.0 volumes of
       (nothing_changed problem c.args.place (c.args.place + 1) Decide c.args.accept before after b of.day
       (pairs_of c.touches-touch-items.result.now) at volumes is of.day_is)));
+  reached = λ some. absurd (omega (arith, some));
 }
 
 pub offset_bounds-trail-touch : goal.offset_bounds-trail-touch
@@ -160,6 +162,7 @@ loop-touch-preserved g c =
           (still_own pairs at touch.at t.pair of.day.periods so_far.periods c.in-Some.next t.past t.pair_is t.some t.number so_far.still)
           (subst (IsChangedSoFar problem.blocks problem.hours (drop (at + 1) pairs) before after
           (slice_set so_far.periods touch.at c.in-Some.next)) (sym sum.1) changed));
+      reached = λ some. not_under _ _ c.is_under.result c.if-is_under.false c.is_under.ensures;
     }
 
 pub returns-then-is_under-clause-day : goal.returns-then-is_under-clause-day
@@ -210,3 +213,19 @@ returns-clause-day g c problem before after are inside is of =
     let many = length-map c.touches-touch-items.result.now pair_of in let past = c.loop-touch-test.false in
     all_decided problem c.args.place before after (drop at pairs) of.day.periods c.loop-touch.trail (to_z w64 c.loop-touch.left-bits)
     c.loop-touch.invariant.room is.long (drop_all at pairs (omega (arith, many, past))) so_far
+
+pub returns-clause-reached : goal.returns-clause-reached
+returns-clause-reached g c =
+    let problem = c.requires.0 in let before = c.requires.1 in let after = c.requires.2 in let are = c.requires.3 in
+    let inside = c.requires.4 in let is = c.requires.5 in let of = c.requires.6 in
+    let block = one_at problem.blocks c.args.place inside in
+    let so_far = c.loop-touch.invariant.so_far problem before after block.0 are block.1 is c.args.total (same c.args.total (search rules))
+    of in
+    let some = some_touch problem c.args.place are block.1 c.index-lot.ensures c.touches-touch-items.ensures in
+    let past = c.loop-touch-test.false in
+    asked c.args.least (to_z w64 c.loop-touch.left-bits) c.floor_of-floor.result _
+    (let from = c.floor_of-floor.ensures.at_least in let to = c.floor_of-floor.ensures.at_most in
+    to_z-of_z w64 c.floor_of-floor.result (omega (arith, ints, from, to)))
+    (total_within (length problem.hours) are.blocks_are are.few_blocks are.few_periods of.day_is so_far.so_far)
+    c.floor_of-floor.ensures.floor
+    (c.loop-touch.invariant.reached (omega (arith, some, past)))

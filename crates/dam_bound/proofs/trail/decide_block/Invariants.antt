@@ -1,6 +1,6 @@
 -- The periods of the touches so far stand in the block's row, as they are after the decision; what is below the row is
--- as it was.
-use Rattle.std.proofs.Common.{◌≡◌, ℕ, ◌+◌, ◌*◌, ◌<◌, Bool, ℤ, Some, List, length, drop, get_or}
+-- as it was. After a touch, the total isn't under the floor.
+use Rattle.std.proofs.Common.{◌≡◌, ℕ, ◌+◌, ◌*◌, ◌<◌, Bool, ℤ, ◌≤ℤ◌, Some, List, length, drop, get_or}
 use Rattle.std.specs.List.{slice_get}
 use Rattle.dam_book.specs.Limits.{last_period}
 use Rattle.dam_stack.specs.declared.taken.Taken.{Taken}
@@ -24,4 +24,5 @@ invariant-loop-touch g l = record {
       → (total : ℤ) → total ≡ l.total → (is : IsDayIn problem before l.fn.trail total)
       → IsDecidedSoFar problem.blocks problem.hours l.place (drop l.touch-index (pairs_of l.touch-items)) before after
       is.day.periods l.trail.slots l.left;
+  reached : 0 < l.touch-index → l.floor ≤ℤ l.left;
 }
