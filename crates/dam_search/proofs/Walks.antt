@@ -92,7 +92,6 @@ pub reads_nothing : (left before after read told told' : ℕ) → read ≤ told 
 reads_nothing left before after read told told' h e none = record {
   grows = omega arith;
   greatest_read = omega (arith, h, e);
-  kept = λ f. omega (arith, e, f);
   asked = λ more some. absurd (omega (arith, none, more, some));
   unvisited = λ f. refl;
   full = λ f. refl;
@@ -105,7 +104,6 @@ pub reads_asked : (left before after read_before read_after told_before told_aft
 reads_asked left before after read_before read_after told_before told_after some more h h' e = record {
   grows = omega (arith, h, h');
   greatest_read = omega (arith, h', e);
-  kept = λ f. omega (arith, e);
   asked = λ m n. omega (arith, e);
   unvisited = λ f. absurd (omega (arith, f, more));
   full = λ f. absurd (omega (arith, f, some));

@@ -8,8 +8,8 @@ pub enum SearchFault {
     /// list, before its first draw.
     #[error("out of memory")]
     Memory,
-    /// Some piece has no answer of the workers, or more than one. No order in which workers run
-    /// makes it so.
+    /// Some piece has no answer of the workers, or more than one. `search` and `search_alone` never
+    /// answer this.
     #[error("piece {piece} has no answer, or more than one")]
     Collected {
         /// The least such piece, from 0.

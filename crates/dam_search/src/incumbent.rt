@@ -20,7 +20,8 @@ pub trait Incumbent {
     ghost kept: { Self → Self.Kept };
 
     /// A welfare to prune by, never less than what this incumbent answered before, in cents per MWh
-    /// times tenths of a MW. A walk asks for it before each bound.
+    /// times tenths of a MW. A walk asks for it at each node that leaves a block undecided, and compares
+    /// the node's bound with it.
     fn read(&mut self) -> u64
         ensures rises { greatest_read self.old ≤ result }
         ensures greatest_read { greatest_read self.new ≡ result }

@@ -7,7 +7,7 @@ ghost use Rattle.dam_bound.specs.Relaxed.{relaxed_welfare, without_rows};
 ghost use Rattle.dam_bound.specs.Day.{IsUnder};
 ghost use Rattle.dam_bound.specs.Trail.{IsDayIn, KeepsDays};
 ghost use Rattle.dam_search.specs.Piece.{IsFind, IsMatched, Rises, welfare_found, IsSound, IsSpent};
-ghost use Rattle.dam_search.specs.inside.Walk.{Finds, Covers, IsGoing, IsWalked};
+ghost use Rattle.dam_search.specs.inside.Walk.{IsBoundIn, Finds, Covers, IsGoing, IsWalked};
 
 use crate::answer::PieceAnswer;
 use crate::incumbent::Incumbent;
@@ -83,8 +83,7 @@ impl<A: Allocator, B: Allocator> SearchSpace<'_, A, B> {
         found: &mut Progress,
     )
         requires full { length self.now.problem.now.blocks ≡ length prefix.now }
-        requires day { MatchOption total (IsUnder self.now.relaxed.now prefix.now found.old.read)
-            (IsDayIn self.now.relaxed.now prefix.now trail.now) }
+        requires day { IsBoundIn self.now.relaxed.now prefix.now found.old.read trail.now total }
         requires admissible { IsAdmissible self.now.problem.now.blocks (padded prefix.now) }
         requires best { IsFind self.now.problem.now [] found.old.best }
         requires offered { welfare_found found.old.best ≤ I.greatest_offer incumbent.old }
@@ -124,6 +123,9 @@ impl<A: Allocator, B: Allocator> SearchSpace<'_, A, B> {
     /// completion has more welfare than that, and only the order of ties counts: 'accepted' comes first in
     /// it, and is explored first. The days of the prefix and of the shorter ones stay.
     ///
+    /// `total` is the prefix's bound. There is none if it has no bound, or one that is known to be under what
+    /// was read.
+    ///
     /// It is inlined into `decide`, so that the walk is one function that calls itself.
     #[cycle(explore)]
     #[inline(always)]
@@ -137,8 +139,7 @@ impl<A: Allocator, B: Allocator> SearchSpace<'_, A, B> {
         found: &mut Progress,
     ) -> bool
         requires depth { length prefix ≤ length self.now.problem.now.blocks }
-        requires day { MatchOption total (IsUnder self.now.relaxed.now prefix found.old.read)
-            (IsDayIn self.now.relaxed.now prefix trail.old) }
+        requires day { IsBoundIn self.now.relaxed.now prefix found.old.read trail.old total }
         requires admissible { IsAdmissible self.now.problem.now.blocks (padded prefix) }
         requires going { IsGoing self.now.problem.now nodes
             (I.greatest_read incumbent.old) (I.greatest_offer incumbent.old) found.old }
@@ -163,11 +164,11 @@ impl<A: Allocator, B: Allocator> SearchSpace<'_, A, B> {
         let Some(bound) = prefix.open_bound(total, found.read) else {
             return true;
         };
-        let first = equals(bound, found.read);
-        if !self.decide(nodes, &prefix, first, trail, bound, incumbent, found) {
+        let accept = equals(bound, found.read);
+        if !self.decide(nodes, &prefix, accept, trail, bound, incumbent, found) {
             return false;
         }
-        self.decide(nodes, &prefix, !first, trail, bound, incumbent, found)
+        self.decide(nodes, &prefix, !accept, trail, bound, incumbent, found)
     }
 
     /// Explores the extension of a prefix by this decision on the next block, as `explore` does.
@@ -213,10 +214,11 @@ impl<A: Allocator, B: Allocator> SearchSpace<'_, A, B> {
 /// selection of the piece, apart from those with less welfare than what was read of the incumbent.
 ///
 /// In piece j the block at place i is accepted if the binary digit of j with weight 2 to the power
-/// `depth` - 1 - i is 0. A node is a prefix that extends the piece's and that the links and the groups
-/// admit; it is visited when its bound is compared with what was read, or, if it decides every block,
-/// when its welfare is looked at. No node is visited twice, and the answer isn't `done` if it takes more
-/// than `nodes` nodes. The search takes no memory.
+/// `depth` - 1 - i is 0. A node is a prefix that extends the piece's. If the links and the groups admit
+/// it, it is visited when its bound is compared with what was read, or, if it decides every block, when
+/// its welfare is looked at; otherwise it is passed over without a visit. No node is visited twice, and
+/// the answer isn't `done` if it takes more than `nodes` nodes. The search takes no memory but 80 kB of
+/// the stack, for the days of the walk.
 pub fn search_piece<A: Allocator, B: Allocator, I: Incumbent>(
     problem: &Problem<A>,
     relaxed: &Relaxed<B>,

@@ -1,5 +1,5 @@
 ghost use Rattle.std.specs.Prelude.{◌≡◌, ◌+◌, ◌-◌, ◌^◌, ◌<◌, ◌≤◌, ℤ, pos, ◌<ℤ◌, true, false, Some};
-ghost use Rattle.std.specs.Prelude.{ℕ, List, Bool, [], ◌∷◌, ◌++◌, length, slice_get, IsTrue, ◌↔◌, MatchOption};
+ghost use Rattle.std.specs.Prelude.{ℕ, List, Bool, [], ◌∷◌, ◌++◌, length, take, slice_get, IsTrue, ◌↔◌, MatchOption};
 ghost use Rattle.dam_book.specs.Limits.{most_blocks};
 ghost use Rattle.dam_blocks.specs.Problem.{ProblemState};
 ghost use Rattle.dam_blocks.specs.Selection.{choice, padded, IsAdmissible};
@@ -9,7 +9,7 @@ ghost use Rattle.dam_bound.specs.Relaxed.{relaxed_welfare, reaches};
 ghost use Rattle.dam_bound.specs.Day.{IsDay, IsUnder};
 ghost use Rattle.dam_bound.specs.Trail.{IsDayIn};
 ghost use Rattle.dam_bound.specs.declared.trail.Trail.{Trail};
-ghost use Rattle.dam_search.specs.inside.Walk.{IsDayFrom, turned_at};
+ghost use Rattle.dam_search.specs.inside.Walk.{IsBoundIn, IsDayFrom, turned_at};
 
 use crate::space::kept;
 use dam_blocks::{Problem, Selection, admissible, is_allowed};
@@ -60,7 +60,8 @@ impl Prefix {
 
     /// The decisions of a selection on every block.
     pub(crate) fn of_selection<A: Allocator>(selection: Selection, problem: &Problem<A>) -> Prefix
-        ensures { length result ≡ length problem.now.blocks }
+        ensures value { result ≡ take (length problem.now.blocks) selection }
+        ensures long { length result ≡ length problem.now.blocks }
     {
         let mut prefix = Prefix::of_piece(0, 0);
         for place in 0..problem.block_count() {
@@ -141,8 +142,7 @@ impl Prefix {
         trail: &mut Trail,
     ) -> Option<i64>
         requires { length self.now ≤ length relaxed.now.blocks }
-        ensures { MatchOption result (IsUnder relaxed.now self.now 0)
-            (IsDayIn relaxed.now self.now trail.new) }
+        ensures { IsBoundIn relaxed.now self.now 0 trail.new result }
     {
         dam_bound::laws::extension();
         let mut total = relaxed.begin(trail);
@@ -212,7 +212,7 @@ impl Prefix {
     /// to be under what was read before.
     pub(crate) fn open_bound(&self, total: Option<i64>, least: u64) -> Option<i64>
         ensures { (relaxed : ProblemState) (trail : Trail) (low : ℕ) → low ≤ least
-            → MatchOption total (IsUnder relaxed self.now low) (IsDayIn relaxed self.now trail)
+            → IsBoundIn relaxed self.now low trail total
             → MatchOption result
             ((sel : List Bool) (w : ℤ) → IsCompletion self.now sel
             → selection_welfare relaxed sel ≡ Some w → w <ℤ pos least)

@@ -1,7 +1,7 @@
 -- The account of a walk from a prefix: what it finds, what it costs, and what it does to the
 -- incumbent.
 use Rattle.std.specs.Prelude.{◌≡◌, ℕ, ◌+◌, ◌-◌, ◌*◌, ◌^◌, ◌<◌, ◌≤◌, max, ℤ, pos, ◌<ℤ◌, ◌⊎◌, Bool, true, false, not, Option, Some, None}
-use Rattle.std.specs.Prelude.{List, [], length, slice_set, slice_index_or}
+use Rattle.std.specs.Prelude.{List, [], length, slice_set, slice_index_or, MatchOption}
 use Rattle.dam_blocks.specs.declared.selection.Best.{Best}
 use Rattle.dam_blocks.specs.Problem.{ProblemState}
 use Rattle.dam_blocks.specs.Eligible.{IsEligible}
@@ -9,6 +9,8 @@ use Rattle.dam_bound.specs.Prefix.{IsCompletion}
 use Rattle.dam_bound.specs.Relaxed.{live_count}
 use Rattle.dam_bound.specs.declared.day.Day.{Day}
 use Rattle.dam_bound.specs.Day.{IsDay, IsUnder}
+use Rattle.dam_bound.specs.Trail.{IsDayIn}
+use Rattle.dam_bound.specs.declared.trail.Trail.{Trail}
 use Rattle.dam_search.specs.declared.piece.Progress.{Progress}
 use Rattle.dam_search.specs.Piece.{IsFind, IsMatched, Rises, welfare_found}
 
@@ -43,7 +45,6 @@ pub record Reads (left visited_before visited_after read_before read_after great
     greatest_read_after : ℕ) : Type 0 where
   pub grows : read_before ≤ read_after
   pub greatest_read : greatest_read_after ≡ max greatest_read_before read_after
-  pub kept : read_before ≡ greatest_read_before → read_after ≡ greatest_read_after
   pub asked : visited_before < visited_after → 0 < left → read_after ≡ greatest_read_after
   pub unvisited : visited_after ≡ visited_before → read_after ≡ read_before
   pub full : left ≡ 0 → read_after ≡ read_before
@@ -69,6 +70,11 @@ pub record IsWalked (problem : ProblemState) (prefix : List Bool)
   pub reads : Reads (length problem.blocks - length prefix) before.visited after.visited
       before.read after.read greatest_read_before greatest_read_after
   pub offered : greatest_offer_after ≡ max greatest_offer_before (welfare_found after.best)
+
+-- the total is the prefix's relaxed welfare, and its day is in the slots; or there is no total, and the prefix
+-- has no relaxed welfare or one that is less than the value
+abbrev pub IsBoundIn : ProblemState → List Bool → ℕ → Trail → Option ℤ → Type 0
+IsBoundIn problem prefix least trail total = MatchOption total (IsUnder problem prefix least) (IsDayIn problem prefix trail)
 
 -- the decisions with the one at the place reversed
 abbrev pub turned_at : List Bool → ℕ → List Bool

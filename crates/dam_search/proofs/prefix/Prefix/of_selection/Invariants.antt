@@ -1,6 +1,6 @@
--- So many blocks are decided.
-use Rattle.std.proofs.Common.{◌≡◌, length}
+-- The first blocks are decided as in the selection.
+use Rattle.std.proofs.Common.{◌≡◌, length, take}
 use Rattle.dam_search.proofs.prefix.Prefix.of_selection.Given as goal
 
 abbrev pub invariant-loop-place : goal.invariant-loop-place
-invariant-loop-place g l = length l.prefix ≡ l.place
+invariant-loop-place g l = (l.prefix ≡ take l.place l.selection) × (length l.prefix ≡ l.place)

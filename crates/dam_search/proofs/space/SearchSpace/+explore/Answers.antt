@@ -194,7 +194,7 @@ explore-decide-requires g t c =
 pub explore-returns-then-not-decide-clause-walked : goal.explore-returns-then-not-decide-clause-walked
 explore-returns-then-not-decide-clause-walked g t c =
     let problem = c.args.self.now.problem.now in let prefix = c.args.prefix in let n = length problem.blocks in
-    let first = c.equals-first.result in
+    let first = c.equals-accept.result in
     let nodes = c.args.nodes in let told = g.I.Incumbent.greatest_read in
     let low : c.args.found.now.read ≤ c.read-found.result = omega (arith, c.requires.going.read, c.read-found.ensures.rises) in
     let is = c.in-Some.ensures c.args.self.now.relaxed.now c.args.trail.now c.args.found.now.read low c.requires.day in
@@ -240,7 +240,7 @@ explore-decide-requires-2 g t c =
     let going : IsGoing problem c.args.nodes (g.I.Incumbent.greatest_read incumbent) (g.I.Incumbent.greatest_offer incumbent) now = record {
       room = walked.spends.within;
       read = omega (arith, told);
-      best = found_after problem (prefix ++ c.equals-first.result ∷ []) c.args.found.now.best now.best c.requires.going.best walked.finds;
+      best = found_after problem (prefix ++ c.equals-accept.result ∷ []) c.args.found.now.best now.best c.requires.going.best walked.finds;
       offered = omega (arith, top);
     } in
     search rules
@@ -248,7 +248,7 @@ explore-decide-requires-2 g t c =
 pub explore-returns-clause-walked : goal.explore-returns-clause-walked
 explore-returns-clause-walked g t c =
     let problem = c.args.self.now.problem.now in let prefix = c.args.prefix in let n = length problem.blocks in
-    let first = c.equals-first.result in
+    let first = c.equals-accept.result in
     let nodes = c.args.nodes in let told = g.I.Incumbent.greatest_read in
     let low : c.args.found.now.read ≤ c.read-found.result = omega (arith, c.requires.going.read, c.read-found.ensures.rises) in
     let is = c.in-Some.ensures c.args.self.now.relaxed.now c.args.trail.now c.args.found.now.read low c.requires.day in
