@@ -90,8 +90,8 @@ pub(crate) fn root_of<A: Allocator>(
     day
 }
 
-/// Whether the supply is left with what a block of the side asks for: a sell that is accepted is served,
-/// and a buy that is rejected takes nothing.
+/// Whether the block's units fall away from those taken of the supply: those of an accepted sell, which is
+/// served, and of a rejected buy, which asks for nothing.
 pub(crate) fn is_served(side: Side, accept: bool) -> bool
     ensures { result ≡ falls side accept }
 {

@@ -54,8 +54,8 @@ pub fn decided()
 }
 
 /// The completions of a prefix are those of its two extensions by the next block. The prefix with
-/// no other block accepted is one of them; and if every block is decided, they are the only one
-/// that can be admissible.
+/// no other block accepted is one of them; and if every block is decided, it is the only one that
+/// can be admissible.
 pub fn completions()
     ensures extended { (prefix sel : List Bool) → length prefix < most_blocks
         → IsCompletion prefix sel

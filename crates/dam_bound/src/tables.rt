@@ -193,7 +193,9 @@ fn write_places(places: &mut [u32], row: u32, block: &Block)
     }
 }
 
-/// A block as the walk has it, the blocks before it being decided; after it, it is decided too.
+/// Makes the block's lot, and replaces each stack of the block's periods in `spans` by the stack without it.
+///
+/// The blocks before it are decided in these stacks, and those after it are not.
 fn lot_of<A: Allocator + Copy>(
     alloc: A,
     stacks: &mut Stacks<A>,

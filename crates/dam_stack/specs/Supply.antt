@@ -1,5 +1,5 @@
--- The steps of a period as one stack of supply, in prices counted from the least one up: the sells with their volumes,
--- and the buys with what of them is not served.
+-- The steps of a period as one stack of supply: the sells with their volumes, and the buys, whose units are supply if
+-- they aren't served. Prices are heights: the cents from the least price up.
 use Rattle.std.specs.Prelude.{◌≡◌, ℕ, zero, suc, ◌+◌, ◌-◌, ◌*◌, ◌≤◌, ℤ, pos, ◌+ℤ◌, ◌-ℤ◌, nat_abs, List, [], ◌∷◌}
 use Rattle.std.specs.List.Sorted.{IsNonDecreasingBy}
 use Rattle.dam_book.specs.Limits.{lowest_price, highest_price}
@@ -50,7 +50,8 @@ rows_from before cost (step ∷ steps) =
     } ∷ rows_from (before + step.qty) (cost + height_of step.price * step.qty) steps
 
 -- two lists of steps that differ at most in their order and their sides: whatever number a height and a volume give,
--- its total is the same
+-- its total is the same. That is no weaker than a permutation of heights and volumes, since the number may be 1 for one
+-- height with one volume and 0 for all others; and what is read off a stack are such totals
 abbrev pub AreAlike : List Step → List Step → Type 0
 AreAlike steps ts = (f : ℕ → ℕ → ℕ)
     → total_of (λ step. f (height_of step.price) step.qty) ts ≡ total_of (λ step. f (height_of step.price) step.qty) steps

@@ -1,5 +1,5 @@
--- What is taken of a period's supply from the bottom, and what becomes of it if one of the steps is decided: accepted
--- whole or rejected, it is no step any more.
+-- What is taken of a period's supply from the bottom, and what becomes of that if a step is decided. A decided step is
+-- accepted whole or rejected, and is no step any more.
 use Rattle.std.specs.Prelude.{◌≡◌, ℕ, ◌+◌, ◌*◌, ◌^◌, ◌≤◌, Bool, true, false, not, ℤ, pos, neg_ℤ, ◌+ℤ◌, ◌-ℤ◌, ◌*ℤ◌, ◌≤ℤ◌, Some, List}
 use Rattle.dam_book.specs.Price.{IsPrice}
 use Rattle.dam_book.specs.Quantity.{IsQuantity}
@@ -38,7 +38,7 @@ pub record IsCutOf (step : Step) (cut : Cut) : Type 0 where
   pub volume_is : cut.volume ≡ step.qty
   pub height_is : cut.height ≡ height_of step.price
 
--- whether a decided step's units are no more taken from the supply: an accepted sell's, which are served, and a
+-- whether a decided step's units fall away from those taken of the supply: an accepted sell's, which are served, and a
 -- rejected buy's, which ask for nothing
 abbrev pub falls : Side → Bool → Bool
 falls Buy accept = not accept

@@ -397,8 +397,10 @@ impl<A: Allocator> Stacks<A> {
     /// execution of the other steps balances then.
     ///
     /// The step is accepted whole or rejected, and is no step any more. `is_served` says whether its units
-    /// fall away: an accepted sell's, and a rejected buy's, which ask for nothing then. If these are surely
-    /// among those taken, or the others surely not, nothing is looked up. Takes no memory.
+    /// fall away from those taken: an accepted sell's, which are served, and a rejected buy's, which ask for
+    /// nothing. If they don't, as many units are taken as before, of the supply without the step. Nothing is
+    /// looked up if units that fall away surely were taken, or if units that don't fall away surely weren't.
+    /// Takes no memory.
     pub fn decided(&self, taken: Taken, cut: Cut, is_served: bool) -> Option<(Taken, i64)>
         requires { (us : List Step) × (step : Step) × (vs : List Step) × (net : ℤ)
             × IsCutOff self.now step (us ++ vs) cut × IsTakenAt (us ++ step ∷ vs) net taken }
