@@ -10,9 +10,12 @@ use Rattle.dam_book.specs.Command.{giver}
 use Rattle.dam_book.specs.declared.command.Command.TheVariants.{Close}
 use Rattle.dam_book.specs.declared.command.Entry.{Entry}
 use Rattle.dam_gate.specs.Limits.{most_participants}
-use Rattle.dam_gate.specs.Pass.{is_from, is_close}
+use Rattle.dam_gate.specs.Journal.{IsJournal}
+use Rattle.dam_gate.specs.Pass.{holders, is_from, is_close}
+use Rattle.dam_gate.specs.Headline.{IsWholeAccount}
 use Rattle.dam_gate.specs.declared.day.DayFault.{DayFault}
 use Rattle.dam_gate.specs.declared.day.DayFault.TheVariants.{TooManyCommands, CloseGiven, TooManyParticipants, NotSettled, Memory}
+use Rattle.dam_gate.specs.declared.day.SettledDay.{SettledDay}
 use Rattle.dam_gate.specs.declared.settlement.Mismatch.TheVariants.{Memory as MismatchMemory}
 
 -- this participant's commands, in their order
@@ -50,21 +53,30 @@ givers_from participants (c ∷ cs) = givers_from (with_any participants (giver 
 abbrev pub givers_of : List Command → List (List ℕ)
 givers_of cs = givers_from [] cs
 
--- who holds the passes of a day of these commands, in the order of the passes: the participants, by first occurrence, and
--- then the operator
+-- who holds the passes of a day of these commands, in the order of the passes: the participants, by first occurrence,
+-- and then the operator
 abbrev pub day_holders : List Command → List (Option (List ℕ))
 day_holders cs = map (λ (who : List ℕ). Some who) (givers_of cs) ++ None ∷ []
 
--- a day takes the commands: there are fewer than a journal has entries, whose last is kept for the close; none of them is a
--- close; and no more participants give them than a day may have
+-- a day takes the commands: there are fewer than a journal has entries, whose last is kept for the close; none of them
+-- is a close; and no more participants give them than a day may have
 pub record AreTaken (cs : List Command) : Type 0 where
   pub room : length cs < most_entries
   pub no_close : filter is_close cs ≡ []
   pub participants : length (givers_of cs) ≤ most_participants
 
--- what a day of these commands may answer: that there are too many; if there aren't, the place, from 0, of a command that it
--- doesn't take while it takes those before, a close or one that brings a participant too many; if it takes them all, that it
--- came out unsettled; or, unless there are too many, that memory ran out
+-- a day of given commands that came out settled: its journal, and the accounts of its passes
+pub record IsSettledDay (periods : ℕ) (given : List Command) (d : SettledDay) : Type 0 where
+  pub taken : AreTaken given
+  pub day_length : d.settled.book.periods ≡ periods
+  pub journal : IsJournal d.settled
+  pub run : IsDayRun periods given d.settled.entries
+  pub account : IsWholeAccount d.settled d.passes.items
+  pub held_by : holders d.passes.items ≡ day_holders given
+
+-- what a day of these commands may answer in place of that: that there are too many; if there aren't, the place, from
+-- 0, of a command that it doesn't take while it takes those before, a close or one that brings a participant too many;
+-- if it takes them all, that it came out unsettled; or, unless there are too many, that memory ran out
 abbrev pub IsDayFault : List Command → DayFault → Type 0
 IsDayFault cs TooManyCommands = most_entries ≤ length cs
 IsDayFault cs (CloseGiven place) =

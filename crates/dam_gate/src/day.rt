@@ -2,11 +2,9 @@ ghost use Rattle.std.specs.Option.{option_copied};
 ghost use Rattle.dam_gate.specs.Limits.{most_participants};
 ghost use Rattle.std.specs.Prelude.{◌≡◌, ◌≤◌, ◌<◌, ◌∷◌, ◌++◌, [], ℕ, All, true, None, Some, length, map, slice_index_or, IfOk, IfErr, OnOk};
 ghost use Rattle.dam_book.specs.Book.{commands_of};
-ghost use Rattle.dam_book.specs.Limits.{most_entries};
-ghost use Rattle.dam_gate.specs.Journal.{IsJournal};
 ghost use Rattle.dam_gate.specs.Pass.{Knowledge, IsPass, holders, knowing_nothing};
 ghost use Rattle.dam_gate.specs.Headline.{IsWholeAccount};
-ghost use Rattle.dam_gate.specs.Day.{AreTaken, IsDayFault, IsDayRun, day_holders, givers_of, is_one_of};
+ghost use Rattle.dam_gate.specs.Day.{AreTaken, IsDayFault, IsSettledDay, givers_of, is_one_of};
 ghost use Rattle.dam_gate.specs.inside.Entering.{AreGivers, AreServed, Enters, HasAll, IsClosedDay, IsLateFault, IsRefusalAt, Takes, own_commands};
 
 use crate::account::Account;
@@ -58,17 +56,6 @@ pub struct SettledDay {
     pub passes: Vec<Account>,
 }
 
-impl From<AllocError> for DayFault {
-    ghost use Rattle.std.specs.Prelude.{◌≡◌};
-    ghost use Rattle.dam_gate.specs.declared.day.DayFault.TheVariants.{Memory};
-
-    ghost from_gives = { λ _ fault. fault ≡ Memory };
-
-    fn from(_error: AllocError) -> DayFault {
-        DayFault::Memory
-    }
-}
-
 impl<T: Drop> From<AllocFailed<T>> for DayFault {
     ghost use Rattle.std.specs.Prelude.{◌≡◌};
     ghost use Rattle.dam_gate.specs.declared.day.DayFault.TheVariants.{Memory};
@@ -76,6 +63,17 @@ impl<T: Drop> From<AllocFailed<T>> for DayFault {
     ghost from_gives = { λ _ fault. fault ≡ Memory };
 
     fn from(_error: AllocFailed<T>) -> DayFault {
+        DayFault::Memory
+    }
+}
+
+impl From<AllocError> for DayFault {
+    ghost use Rattle.std.specs.Prelude.{◌≡◌};
+    ghost use Rattle.dam_gate.specs.declared.day.DayFault.TheVariants.{Memory};
+
+    ghost from_gives = { λ _ fault. fault ≡ Memory };
+
+    fn from(_error: AllocError) -> DayFault {
         DayFault::Memory
     }
 }
@@ -212,15 +210,17 @@ fn take_giver(
     Ok(())
 }
 
-/// The participants who give the commands, by first occurrence.
+/// The participants who give the commands, by first occurrence, if the day takes the commands.
 fn givers(alloc: Global, commands: &[PackedCommand]) -> Result<Vec<Participant>, DayFault>
-    requires { length commands.now < most_entries }
     ensures ok { IfOk result (λ participants. AreGivers participants.items commands.now) }
     ensures order { IfOk result (λ participants. participants.items ≡ givers_of commands.now) }
     ensures few { IfOk result (λ participants. length participants.items ≤ most_participants) }
     ensures taken { OnOk result (AreTaken commands.now) }
     ensures fault { IfErr result (IsDayFault commands.now) }
 {
+    if commands.len() >= MOST_ENTRIES {
+        return Err(DayFault::TooManyCommands);
+    }
     let mut participants = Vec::new(alloc);
     for (place, command) in commands.iter().enumerate() {
         take_giver(&mut participants, command, place)?;
@@ -341,13 +341,10 @@ fn run_day<J: GateName + Send + Sync, R: Threads + Wait + Sync, K: Hooks + Sync>
     requires name { opening ≡ J.opening }
     requires day { opening.periods ≡ periods }
     requires givers { AreGivers participants.now commands.now }
+    requires order { participants.now ≡ givers_of commands.now }
     requires few { length participants.now ≤ most_participants }
-    ensures periods { IfOk result (λ day. day.settled.book.periods ≡ periods) }
-    ensures journal { IfOk result (λ day. IsJournal day.settled) }
-    ensures day { IfOk result (λ day. IsDayRun periods commands.now day.settled.entries) }
-    ensures account { IfOk result (λ day. IsWholeAccount day.settled day.passes.items) }
-    ensures passes { IfOk result (λ day.
-        holders day.passes.items ≡ map (λ who. Some who) participants.now ++ None ∷ []) }
+    requires taken { AreTaken commands.now }
+    ensures day { IfOk result (IsSettledDay periods commands.now) }
     ensures err { IfErr result IsLateFault }
 {
     let gate = Gate::<J, &R>::for_day(rt, alloc, opening, periods, seed)?;
@@ -390,12 +387,7 @@ pub fn run_commands<R: Threads + Wait + Sync, K: Hooks + Sync>(
     commands: &[Command],
     hooks: &K,
 ) -> Result<SettledDay, DayFault>
-    ensures periods { IfOk result (λ day. day.settled.book.periods ≡ periods) }
-    ensures journal { IfOk result (λ day. IsJournal day.settled) }
-    ensures day { IfOk result (λ day. IsDayRun periods commands.now day.settled.entries) }
-    ensures account { IfOk result (λ day. IsWholeAccount day.settled day.passes.items) }
-    ensures passes { IfOk result (λ day. holders day.passes.items ≡ day_holders commands.now) }
-    ensures taken { OnOk result (AreTaken commands.now) }
+    ensures day { IfOk result (IsSettledDay periods commands.now) }
     ensures fault { IfErr result (IsDayFault commands.now) }
 {
     if commands.len() >= MOST_ENTRIES {
@@ -414,17 +406,9 @@ pub fn run_packed<R: Threads + Wait + Sync, K: Hooks + Sync>(
     commands: &[PackedCommand],
     hooks: &K,
 ) -> Result<SettledDay, DayFault>
-    ensures periods { IfOk result (λ day. day.settled.book.periods ≡ periods) }
-    ensures journal { IfOk result (λ day. IsJournal day.settled) }
-    ensures day { IfOk result (λ day. IsDayRun periods commands.now day.settled.entries) }
-    ensures account { IfOk result (λ day. IsWholeAccount day.settled day.passes.items) }
-    ensures passes { IfOk result (λ day. holders day.passes.items ≡ day_holders commands.now) }
-    ensures taken { OnOk result (AreTaken commands.now) }
+    ensures day { IfOk result (IsSettledDay periods commands.now) }
     ensures fault { IfErr result (IsDayFault commands.now) }
 {
-    if commands.len() >= MOST_ENTRIES {
-        return Err(DayFault::TooManyCommands);
-    }
     let participants = givers(alloc, commands)?;
     let opening = Opening::new(periods.get());
     run_day::<Brand, R, K>(

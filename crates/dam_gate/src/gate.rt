@@ -127,7 +127,7 @@ impl<J: GateName, R: Wait + Drop> Gate<J, R> {
         let Some(periods) = DayLength::new(opening.periods()) else {
             return Err(BeginFault::BadDay);
         };
-        Ok(Gate::for_day(rt, alloc, opening, periods, seed)?)
+        Gate::for_day(rt, alloc, opening, periods, seed).map_err(|_| BeginFault::Memory)
     }
 
     /// The gate that `begin_seeded` gives, for those who have the opening's day as a length. The error is out of memory.

@@ -48,17 +48,6 @@ pub enum BeginFault {
     Memory,
 }
 
-impl From<AllocError> for BeginFault {
-    ghost use Rattle.std.specs.Prelude.{◌≡◌};
-    ghost use Rattle.dam_gate.specs.declared.keeper.BeginFault.TheVariants.{Memory};
-
-    ghost from_gives = { λ _ fault. fault ≡ Memory };
-
-    fn from(_error: AllocError) -> BeginFault {
-        BeginFault::Memory
-    }
-}
-
 /// The book of one day and the journal of the commands that reached it, to which commands are added one by one.
 ///
 /// A contract sees the journal, as its entries and the book, and for how many entries more there is room. The entries
@@ -131,7 +120,7 @@ impl<A: Allocator + Copy> Keeper<A> {
         let Some(periods) = DayLength::new(periods) else {
             return Err(BeginFault::BadDay);
         };
-        Ok(Keeper::for_day(alloc, periods, Seed::fixed())?)
+        Keeper::for_day(alloc, periods, Seed::fixed()).map_err(|_| BeginFault::Memory)
     }
 
     /// The empty journal and the empty book of a day of that length, which hashes names with the seed. The error is out of

@@ -1,11 +1,12 @@
 -- One command more is taken, or is the first that isn't.
 use Rattle.std.proofs.Common.{◌≡◌, ℕ, ◌+◌, ◌<◌, ◌++◌, ◌∷◌, [], List, length, take, slice_get, Some, Result, Ok, Err, IfErr, refl, sym, ap}
-use Rattle.std.proofs.Common.{subst, ◌∙◌, arith}
+use Rattle.std.proofs.Common.{subst, ◌∙◌, arith, rules}
 use Rattle.std.specs.Result.{IsErrAnd}
 use Rattle.std.specs.List.{filter}
 use Rattle.std.proofs.lemmas.List.{length-take, take_all, take_more}
 use Rattle.std.proofs.lemmas.Option.{slice_get_read}
 use Rattle.dam_book.specs.declared.command.Command.{Command}
+use Rattle.dam_book.specs.Limits.{most_entries}
 use Rattle.dam_gate.specs.Pass.{is_close}
 use Rattle.dam_gate.specs.Day.{AreTaken, IsDayFault, givers_of}
 use Rattle.dam_gate.specs.declared.day.DayFault.{DayFault}
@@ -56,7 +57,7 @@ pub returns-clause-taken : goal.returns-clause-taken
 returns-clause-taken c =
     let whole = take_all c.loop-place.place c.args.commands.now (omega arith) in
     record {
-      room = c.requires;
+      room = search rules;
       no_close = subst (λ (cs : List Command). filter is_close cs ≡ []) whole c.loop-place.invariant.no_close;
       participants = omega (
         arith,
@@ -73,16 +74,17 @@ returns-in_err-take_giver-clause-fault c =
     let item = c.index-commands-place.result in
     let participants = c.loop-place.participants.items in
     let fault = c.in_err-take_giver.field-0.0 in
+    let few : length cs < most_entries = search rules in
     let inside : i < length cs = c.loop-place-test.true in
     let next : take (i + 1) cs ≡ take i cs ++ item ∷ [] = take_more cs i item inside
     ∙ ap (λ (d : Command). take i cs ++ d ∷ []) (sym c.index-commands-place.is) in
     let at : slice_get cs i ≡ Some item = slice_get_read cs (length cs) i item refl inside c.index-commands-place.is in
     let taken : AreTaken (take i cs) =
     record {
-      room = omega (arith, c.requires, length-take i cs);
+      room = omega (arith, few, length-take i cs);
       no_close = c.loop-place.invariant.no_close;
       participants = omega (arith, c.loop-place.invariant.few, ap (λ (ps : List (List ℕ)). length ps) c.loop-place.invariant.order);
     } in
     passed_on (IsDayFault cs) c.from_residual.result fault c.from_residual.ensures.1
-    (refused-at cs i participants item fault c.requires inside at next taken c.loop-place.invariant.order
+    (refused-at cs i participants item fault few inside at next taken c.loop-place.invariant.order
     c.in_err-take_giver.ensures.refused)

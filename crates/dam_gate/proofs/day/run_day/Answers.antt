@@ -1,8 +1,8 @@
 -- The settled journal is a day run, and the passes are the participants' and then the operator's.
-use Rattle.std.proofs.Common.{◌≡◌, ◌++◌, ◌∷◌, [], ℕ, List, Option, ap, ap₂, subst, sym, ◌∙◌}
+use Rattle.std.proofs.Common.{◌≡◌, ◌++◌, ◌∷◌, [], ℕ, List, Option, None, Some, ap, ap₂, map, subst, sym, ◌∙◌}
 use Rattle.std.proofs.lemmas.List.{map-append}
 use Rattle.dam_book.specs.Book.{IsLegalHistory}
-use Rattle.dam_gate.specs.Journal.{IsJournal, JournalState}
+use Rattle.dam_gate.specs.Journal.{JournalState}
 use Rattle.dam_gate.specs.Opening.{OpeningState}
 use Rattle.dam_gate.specs.Pass.{PassState, holders}
 use Rattle.dam_gate.specs.Headline.{IsWholeAccount}
@@ -15,29 +15,27 @@ use Rattle.dam_gate.proofs.day.run_day.Goals as goal
 
 pub returns-clause-day : goal.returns-clause-day
 returns-clause-day g c =
-    let es = c.in_ok-settled.settled.entries in
+    let j = c.in_ok-settled.settled in
+    let es = j.entries in
+    let ps = c.deref.result.now in
     let closed = subst IsClosedDay c.journal.ensures.value (c.ends_with_a_close.ensures c.if-not-ends_with_a_close.false) in
-    let periods : c.in_ok-settled.settled.book.periods ≡ c.args.periods =
-    ap (λ (j : JournalState). j.book.periods) c.in_ok-settled.ensures.journal
+    let periods : j.book.periods ≡ c.args.periods =
+    ap (λ (x : JournalState). x.book.periods) c.in_ok-settled.ensures.journal
     ∙ (c.finish-journal.ensures.day ∙ (sym (ap (λ (o : OpeningState). o.periods) c.requires.name) ∙ c.requires.day)) in
     let legal = subst (λ (n : ℕ). IsLegalHistory n es) periods closed.journal.history.legal in
-    day_run c.args.periods c.args.commands.now c.args.participants.now es c.in_ok-passes.passes.items c.in_ok-operator.operator
-    closed.before legal
-    (subst (λ (ps : List PassState). AreReceipts es (receipts_of ps)) (c.deref.ensures.value ∙ c.in_ok-push.ensures.items)
-    (each_number c.args.periods es (receipts_of c.deref.result.now) legal c.in_ok-settled.ensures.account.each_once))
-    c.requires.givers c.in_ok-passes.ensures.ok c.in_ok-operator.ensures.ok c.in_ok-operator.ensures.pass closed.last
-
-pub returns-clause-journal : goal.returns-clause-journal
-returns-clause-journal g c = subst IsJournal c.journal.ensures.value
-    (c.ends_with_a_close.ensures c.if-not-ends_with_a_close.false).journal
-
-pub returns-clause-account : goal.returns-clause-account
-returns-clause-account g c = subst (λ (ps : List PassState). IsWholeAccount c.in_ok-settled.settled ps) c.deref.ensures.value
-    c.in_ok-settled.ensures.account
-
-pub returns-clause-passes : goal.returns-clause-passes
-returns-clause-passes g c =
-    ap holders c.in_ok-push.ensures.items ∙ map-append (λ (p : PassState). p.holder) c.in_ok-passes.passes.items
-    (c.in_ok-operator.operator ∷ [])
-    ∙ ap₂ (λ (hs : List (Option (List ℕ))) (h : Option (List ℕ)). hs ++ h ∷ []) c.in_ok-passes.ensures.holders
-    c.in_ok-operator.ensures.holder
+    record {
+      taken = c.requires.taken;
+      day_length = periods;
+      journal = closed.journal;
+      run = day_run c.args.periods c.args.commands.now c.args.participants.now es c.in_ok-passes.passes.items c.in_ok-operator.operator
+          closed.before legal
+          (subst (λ (ps : List PassState). AreReceipts es (receipts_of ps)) (c.deref.ensures.value ∙ c.in_ok-push.ensures.items)
+          (each_number c.args.periods es (receipts_of ps) legal c.in_ok-settled.ensures.account.each_once))
+          c.requires.givers c.in_ok-passes.ensures.ok c.in_ok-operator.ensures.ok c.in_ok-operator.ensures.pass closed.last;
+      account = subst (λ (ps : List PassState). IsWholeAccount j ps) c.deref.ensures.value c.in_ok-settled.ensures.account;
+      held_by = ap holders c.in_ok-push.ensures.items ∙ map-append (λ (p : PassState). p.holder) c.in_ok-passes.passes.items
+          (c.in_ok-operator.operator ∷ [])
+          ∙ ap₂ (λ (hs : List (Option (List ℕ))) (h : Option (List ℕ)). hs ++ h ∷ []) c.in_ok-passes.ensures.holders
+          c.in_ok-operator.ensures.holder
+          ∙ ap (λ (ps : List (List ℕ)). map (λ (who : List ℕ). Some who) ps ++ None ∷ []) c.requires.order;
+    }
