@@ -1,5 +1,5 @@
 -- The devices of a run that ends with a fault which isn't of a device, and of one whose writer failed.
-use Rattle.std.proofs.Common.{◌≡◌, ℕ, true, false, List, [], take, Option, Some, None, Result, Ok, Err, OnOk, IfErr, MatchResult, arith}
+use Rattle.std.proofs.Common.{◌≡◌, ℕ, true, false, List, [], take, Option, Some, None, Result, Ok, Err, OnOk, IfErr, MatchResult, refl, arith}
 use Rattle.std.proofs.lemmas.List.{length-take}
 use Rattle.dam_engines.specs.declared.fault.RunFault.{RunFault}
 use Rattle.dam_engines.specs.declared.fault.RunFault.TheVariants.{Read, Input, TooManyCommands, CloseGiven, TooManyParticipants, StillOpen}
@@ -13,29 +13,29 @@ front-of-all : (old new : Option (List ℕ)) → GivesAll old new → GivesFront
 front-of-all None new all = record { front = []; few = omega arith; given = tt }
 front-of-all (Some given) new all = record { front = take most_read given; few = omega (arith, length-take most_read given); given = all }
 
--- a fault of no device, after which neither has failed
-pub neither-failed : {R W : Type 0} (Fails : RunFault → Type 0) (reader_old reader_new : SourceState R) (writer_new : SinkState W)
+-- a fault of no device, after which neither has failed and nothing is written
+pub neither-failed : {R W : Type 0} (Fails : RunFault → Type 0) (reader_old reader_new : SourceState R) (writer : SinkState W)
     → ¬ (Fails Read) → ((written : ℕ) → ¬ (Fails (Write written)))
-    → HasServed reader_old reader_new → writer_new.failed ≡ false
-    → (fault : RunFault) → Fails fault → AreDevicesAfter reader_old reader_new writer_new (Err fault)
-neither-failed Fails ro rn wn no_read no_write read written Read is = absurd (no_read is)
-neither-failed Fails ro rn wn no_read no_write read written (Input why) is = (read, written)
-neither-failed Fails ro rn wn no_read no_write read written TooManyCommands is = (read, written)
-neither-failed Fails ro rn wn no_read no_write read written (CloseGiven at) is = (read, written)
-neither-failed Fails ro rn wn no_read no_write read written (TooManyParticipants at) is = (read, written)
-neither-failed Fails ro rn wn no_read no_write read written StillOpen is = (read, written)
-neither-failed Fails ro rn wn no_read no_write read written (Mismatch why) is = (read, written)
-neither-failed Fails ro rn wn no_read no_write read written (Unfinished piece visited) is = (read, written)
-neither-failed Fails ro rn wn no_read no_write read written (Collected piece) is = (read, written)
-neither-failed Fails ro rn wn no_read no_write read written Memory is = ((read.0, front-of-all ro.unread rn.unread read.1), written)
-neither-failed Fails ro rn wn no_read no_write read written (Write count) is = absurd (no_write count is)
+    → HasServed reader_old reader_new → writer.failed ≡ false
+    → (fault : RunFault) → Fails fault → AreDevicesAfter reader_old reader_new writer writer (Err fault)
+neither-failed Fails ro rn w no_read no_write read unfailed Read is = absurd (no_read is)
+neither-failed Fails ro rn w no_read no_write read unfailed (Input why) is = (read, (unfailed, refl))
+neither-failed Fails ro rn w no_read no_write read unfailed TooManyCommands is = (read, (unfailed, refl))
+neither-failed Fails ro rn w no_read no_write read unfailed (CloseGiven at) is = (read, (unfailed, refl))
+neither-failed Fails ro rn w no_read no_write read unfailed (TooManyParticipants at) is = (read, (unfailed, refl))
+neither-failed Fails ro rn w no_read no_write read unfailed StillOpen is = (read, (unfailed, refl))
+neither-failed Fails ro rn w no_read no_write read unfailed (Mismatch why) is = (read, (unfailed, refl))
+neither-failed Fails ro rn w no_read no_write read unfailed (Unfinished piece visited) is = (read, (unfailed, refl))
+neither-failed Fails ro rn w no_read no_write read unfailed (Collected piece) is = (read, (unfailed, refl))
+neither-failed Fails ro rn w no_read no_write read unfailed Memory is = ((read.0, front-of-all ro.unread rn.unread read.1), (unfailed, refl))
+neither-failed Fails ro rn w no_read no_write read unfailed (Write count) is = absurd (no_write count is)
 
 -- a run of which the reader gave all, and whose text was then written
-pub written-devices : {R W : Type 0} (reader_old reader_new : SourceState R) (writer_new : SinkState W)
+pub written-devices : {R W : Type 0} (reader_old reader_new : SourceState R) (writer_old writer_new : SinkState W)
     (old new : Option (List ℕ)) (sent : List ℕ) (result : Result (Unit {0}) RunFault)
     → HasServed reader_old reader_new → IfErr result (IsWritingFault old new sent) → OnOk result (writer_new.flushed ≡ true)
     → MatchResult result (λ _. writer_new.failed ≡ false) (λ _. writer_new.failed ≡ true)
-    → AreDevicesAfter reader_old reader_new writer_new result
-written-devices ro rn wn old new sent (Ok done) read cut flushed cause = (read, cause, flushed)
-written-devices ro rn wn old new sent (Err fault) read cut flushed cause =
-    cut-told (λ why. AreDevicesAfter ro rn wn (Err why)) old new sent (λ written. (read, cause)) fault cut
+    → AreDevicesAfter reader_old reader_new writer_old writer_new result
+written-devices ro rn wo wn old new sent (Ok done) read cut flushed cause = (read, cause, flushed)
+written-devices ro rn wo wn old new sent (Err fault) read cut flushed cause =
+    cut-told (λ why. AreDevicesAfter ro rn wo wn (Err why)) old new sent (λ written. (read, cause)) fault cut

@@ -1,4 +1,4 @@
--- What was read is the front of the reader's bytes, where these are known, and the reader has lost just that.
+-- What was read is the front of the reader's bytes, if these are known, and the reader has lost just that.
 use Rattle.std.proofs.Common.{◌≡◌, ◌≤◌, ℕ, List, [], ◌++◌, length, take, Some, None, IfSome, Option, sym, ap, subst, ◌∙◌, append-nil}
 use Rattle.std.proofs.lemmas.List.{take_all}
 use Rattle.std.proofs.Math.Seq.{take-append_seam}

@@ -1,7 +1,6 @@
 -- What is known of the given text, which may be unknown, from what is known of the text that was read.
-use Rattle.std.proofs.Common.{◌≡◌, ◌≤◌, ◌+◌, ◌-◌, ℕ, List, length, take, Option, Some, None, IfSome, Result, Ok, Err, IfErr, OnOk, refl}
+use Rattle.std.proofs.Common.{◌≡◌, ◌≤◌, ◌+◌, ◌-◌, ℕ, List, length, take, Option, Some, None, IfSome, Result, Ok, Err, IfErr, OnOk}
 use Rattle.std.proofs.Common.{subst, arith}
-use Rattle.std.proofs.lemmas.Result.{IfErr-weaker}
 use Rattle.std.specs.Io.KnownBytes.{Appends}
 use Rattle.dam_book.specs.declared.command.Command.{Command}
 use Rattle.dam_results.specs.Journal.{IsMadeFrom}
@@ -9,7 +8,7 @@ use Rattle.dam_engines.specs.declared.fault.RunFault.{RunFault}
 use Rattle.dam_engines.specs.declared.fault.RunFault.TheVariants.{Memory, Write}
 use Rattle.dam_engines.specs.Engine.{most_read, Ends, IsWritingFault}
 use Rattle.dam_engines.specs.inside.Reading.{IsReadingFault}
-use Rattle.dam_engines.proofs.Cuts.{cut-told, cut-ends, ends-weaker, fault-ends, reading-told}
+use Rattle.dam_engines.proofs.Cuts.{cut-ends, ends-weaker, fault-ends, reading-told}
 use Rattle.dam_engines.proofs.Fronts.{reads-given}
 
 -- the text is the front that is read of the given bytes
@@ -41,7 +40,7 @@ known-fault IsPrinted IsFault old new known asked text fault none carries =
     known-front (λ bs. IsFault bs fault) (λ bs. Ends (IsPrinted bs) (IsFault bs) old new asked (Err fault)) known text
     (λ given is. fault-ends (IsPrinted given) (IsFault given) old new asked (none given) fault (carries given fault is))
 
--- a run whose text was written, as a whole or up to where the writer failed
+-- a run whose text was written, as a whole or up to the failure of the writer
 pub known-written : (Prints : ℕ → List Command → List ℕ → Type 0) (IsFault : List ℕ → RunFault → Type 0) (old new known : Option (List ℕ))
     (asked : ℕ)
     (text sent printed : List ℕ) (result : Result (Unit {0}) RunFault)
@@ -62,13 +61,6 @@ known-written Prints IsFault old new known asked text sent printed (Err fault) f
     (λ given is. cut-ends (IsMadeFrom Prints given) (IsFault given) old new asked printed
     (is.0, is.1, reads-given given is.0 is.1 is.2, is.3)
     (subst (λ bs. asked ≤ length bs) same few) fault (subst (λ bs. IsWritingFault old new bs fault) same cut)) front
-
--- only if the writer failed did it take bytes
-pub unwritten : (Kept : Type 0) (old new : Option (List ℕ)) (sent : List ℕ) (result : Result (Unit {0}) RunFault)
-    → IfErr result (IsWritingFault old new sent) → IfErr result (λ fault. ((written : ℕ) → ¬ (fault ≡ Write written)) → Kept)
-unwritten Kept old new sent result cut =
-    IfErr-weaker result _ _ (cut-told (λ fault. ((written : ℕ) → ¬ (fault ≡ Write written)) → Kept) old new sent
-    (λ written none. absurd (none written refl))) cut
 
 -- a run whose text and fault are such a weaker one
 pub result-weaker : (IsPrinted IsText : List ℕ → Type 0) (IsFault IsOther : RunFault → Type 0) (old new : Option (List ℕ)) (asked : ℕ)

@@ -1,5 +1,5 @@
 -- The reader and the writer of a run, before and after it.
-use Rattle.std.specs.Prelude.{◌≡◌, ◌≤◌, ℕ, Bool, true, false, List, length, take, Option, IfSome, Result, Ok, Err}
+use Rattle.std.specs.Prelude.{◌≡◌, ◌≤◌, ◌+◌, ℕ, min, Bool, true, false, List, length, take, Option, Some, None, IfSome, Result, Ok, Err}
 use Rattle.std.specs.Io.KnownBytes.{Consumes}
 use Rattle.dam_engines.specs.declared.fault.RunFault.{RunFault}
 use Rattle.dam_engines.specs.declared.fault.RunFault.TheVariants.{Read, Memory, Write}
@@ -22,6 +22,12 @@ pub record SinkState (W : Type 0) : Type 0 where
   pub failed : Bool
   pub flushed : Bool
 
+-- how often a run asks a reader at most: once for each byte that it has, and once more, which shows that it has no other; and never
+-- more often than bytes are read at most
+abbrev pub most_asked : Option (List ℕ) → ℕ
+most_asked None = most_read
+most_asked (Some bytes) = min (length bytes + 1) most_read
+
 -- the reader gave all its bytes, or the first of them, as many as are read at most
 abbrev pub GivesAll : Option (List ℕ) → Option (List ℕ) → Type 0
 GivesAll old new = IfSome old (λ bytes. Consumes old new (take most_read bytes))
@@ -43,16 +49,17 @@ IsReaderAfter old new Read = (new.failed ≡ true) × GivesFront old.unread new.
 IsReaderAfter old new Memory = (new.failed ≡ false) × GivesFront old.unread new.unread
 IsReaderAfter old new fault = HasServed old new
 
--- a writer after a run with this fault, before which it hadn't failed: it failed if that is the fault, and only then
-abbrev pub IsWriterAfter : {W : Type 0} → SinkState W → RunFault → Type 0
-IsWriterAfter new (Write written) = new.failed ≡ true
-IsWriterAfter new fault = new.failed ≡ false
+-- a writer after a run with this fault, before which it hadn't failed: it failed if that is the fault; with any other fault it is
+-- as it was
+abbrev pub IsWriterAfter : {W : Type 0} → SinkState W → SinkState W → RunFault → Type 0
+IsWriterAfter old new (Write written) = new.failed ≡ true
+IsWriterAfter old new fault = (new.failed ≡ false) × (new ≡ old)
 
 -- the devices after a run: without a fault, neither failed, the reader gave all, and the writer was flushed after all that it
--- took; with one, each failed if the fault is its own, and only then
-abbrev pub AreDevicesAfter : {R W : Type 0} → SourceState R → SourceState R → SinkState W
+-- took; with one, each failed if the fault is its own, and only then, and a writer that didn't fail is as it was
+abbrev pub AreDevicesAfter : {R W : Type 0} → SourceState R → SourceState R → SinkState W → SinkState W
     → Result (Unit {0}) RunFault → Type 0
-AreDevicesAfter reader_old reader_new writer_new (Ok done) =
+AreDevicesAfter reader_old reader_new writer_old writer_new (Ok done) =
     HasServed reader_old reader_new × (writer_new.failed ≡ false) × (writer_new.flushed ≡ true)
-AreDevicesAfter reader_old reader_new writer_new (Err fault) =
-    IsReaderAfter reader_old reader_new fault × IsWriterAfter writer_new fault
+AreDevicesAfter reader_old reader_new writer_old writer_new (Err fault) =
+    IsReaderAfter reader_old reader_new fault × IsWriterAfter writer_old writer_new fault

@@ -1,10 +1,10 @@
-ghost use Rattle.std.specs.Prelude.{◌≡◌, ◌≢◌, ◌≤◌, ◌+◌, ◌-◌, ◌↔◌, ℕ, List, false, IfOk, IfErr, IfSome, IsErrOf};
+ghost use Rattle.std.specs.Prelude.{◌≡◌, ◌≤◌, ◌+◌, ◌-◌, ◌↔◌, ℕ, List, false, IfOk, IfErr, IfSome, IsErrOf};
 ghost use Rattle.dam_book.specs.Book.{run};
 ghost use Rattle.dam_book.specs.declared.command.Command.{Command};
 ghost use Rattle.dam_results.specs.Journal.{IsMadeFrom, ReadsAs};
 ghost use Rattle.dam_results.specs.Clearing.{IsResultsText};
-ghost use Rattle.dam_engines.specs.Device.{AreDevicesAfter};
-ghost use Rattle.dam_engines.specs.Engine.{Ends, IsRunFault, IsTextFault, most_read};
+ghost use Rattle.dam_engines.specs.Device.{AreDevicesAfter, most_asked};
+ghost use Rattle.dam_engines.specs.Engine.{Ends, IsRunFault, IsTextFault};
 ghost use Rattle.dam_engines.specs.Clear.{AreResults, IsBookFault, IsClearFault};
 
 use crate::device::{Sink, Source};
@@ -45,10 +45,8 @@ pub fn run_clear<H: Threads + Sync, R: Read, W: Write, T: Watch + Sync>(
     ensures ends { IfSome reader.old.unread (λ given.
         Ends (IsMadeFrom AreResults given) (IsRunFault (IsClearFault plan) given)
         writer.old.taken writer.new.taken (writer.new.asked - writer.old.asked) result) }
-    ensures unwritten { IfErr result (λ fault.
-        ((written : ℕ) → fault ≢ RunFault.Write written) → writer.new ≡ writer.old) }
-    ensures devices { AreDevicesAfter reader.old reader.new writer.new result }
-    ensures asked { reader.new.asked ≤ reader.old.asked + most_read }
+    ensures devices { AreDevicesAfter reader.old reader.new writer.old writer.new result }
+    ensures asked { reader.new.asked ≤ reader.old.asked + most_asked reader.old.unread }
 {
     let text = read_input(alloc, reader)?;
     let results = clear_text(rt, alloc, seed, text, plan, turnstile)?;

@@ -1,11 +1,11 @@
-ghost use Rattle.std.specs.Prelude.{◌≡◌, ◌≢◌, ◌≤◌, ◌+◌, ◌-◌, ℕ, List, None, true, false, IfOk, IfErr, IfSome, OnOk};
+ghost use Rattle.std.specs.Prelude.{◌≡◌, ◌≤◌, ◌+◌, ◌-◌, ℕ, List, None, true, false, IfOk, IfErr, IfSome, OnOk};
 ghost use Rattle.dam_gate.specs.Day.{AreTaken, IsDayRun};
 ghost use Rattle.dam_gate.specs.Journal.{IsJournal};
 ghost use Rattle.dam_plan.specs.Plan.{PlanTerms};
 ghost use Rattle.dam_results.specs.Journal.{IsMadeFrom};
 ghost use Rattle.dam_results.specs.Clearing.{IsResultsText};
-ghost use Rattle.dam_engines.specs.Device.{AreDevicesAfter};
-ghost use Rattle.dam_engines.specs.Engine.{Ends, IsRunFault, most_read};
+ghost use Rattle.dam_engines.specs.Device.{AreDevicesAfter, most_asked};
+ghost use Rattle.dam_engines.specs.Engine.{Ends, IsRunFault};
 ghost use Rattle.dam_engines.specs.Clear.{IsBookFault};
 ghost use Rattle.dam_engines.specs.Day.{IsCommandsFault, IsDayText, with_results};
 
@@ -53,10 +53,8 @@ pub fn run_day<H: Threads + Wait + Sync, R: Read, W: Write, T: Watch + Sync, U: 
     ensures ends { IfSome reader.old.unread (λ given.
         Ends (IsMadeFrom IsDayText given) (IsRunFault (IsCommandsFault plan) given)
         writer.old.taken writer.new.taken (writer.new.asked - writer.old.asked) result) }
-    ensures unwritten { IfErr result (λ fault.
-        ((written : ℕ) → fault ≢ RunFault.Write written) → writer.new ≡ writer.old) }
-    ensures devices { AreDevicesAfter reader.old reader.new writer.new result }
-    ensures asked { reader.new.asked ≤ reader.old.asked + most_read }
+    ensures devices { AreDevicesAfter reader.old reader.new writer.old writer.new result }
+    ensures asked { reader.new.asked ≤ reader.old.asked + most_asked reader.old.unread }
 {
     let text = read_input(alloc, reader)?;
     let day = day_text(rt, alloc, seed, text, plan, turnstile, entrance)?;

@@ -1,5 +1,5 @@
 ghost use Rattle.std.specs.Prelude.{◌≡◌, ◌≤◌, ◌+◌, false, take, IfOk, IfErr, IfSome, MatchResult};
-ghost use Rattle.dam_engines.specs.Device.{HasServed, IsReaderAfter};
+ghost use Rattle.dam_engines.specs.Device.{HasServed, IsReaderAfter, most_asked};
 ghost use Rattle.dam_engines.specs.Engine.{most_read};
 ghost use Rattle.dam_engines.specs.inside.Reading.{IsReadingFault};
 
@@ -27,7 +27,7 @@ pub fn read_input<R: Read>(alloc: Global, reader: &mut Source<R>) -> Result<Vec<
     ensures cause { MatchResult result
         (λ _. HasServed reader.old reader.new)
         (IsReaderAfter reader.old reader.new) }
-    ensures asked { reader.new.asked ≤ reader.old.asked + most_read }
+    ensures asked { reader.new.asked ≤ reader.old.asked + most_asked reader.old.unread }
 {
     let mut text = Vec::new(alloc);
     let mut chunk = [0; CHUNK];

@@ -1,8 +1,8 @@
-ghost use Rattle.std.specs.Prelude.{◌≡◌, ◌≢◌, ◌≤◌, ◌+◌, ◌-◌, ℕ, false, IfOk, IfErr, IfSome};
+ghost use Rattle.std.specs.Prelude.{◌≡◌, ◌≤◌, ◌+◌, ◌-◌, false, IfOk, IfErr, IfSome};
 ghost use Rattle.dam_results.specs.Journal.{IsMadeFrom};
 ghost use Rattle.dam_results.specs.Replies.{AreReplies};
-ghost use Rattle.dam_engines.specs.Device.{AreDevicesAfter};
-ghost use Rattle.dam_engines.specs.Engine.{Ends, IsTextFault, most_read};
+ghost use Rattle.dam_engines.specs.Device.{AreDevicesAfter, most_asked};
+ghost use Rattle.dam_engines.specs.Engine.{Ends, IsTextFault};
 
 use crate::device::{Sink, Source};
 use crate::fault::RunFault;
@@ -31,10 +31,8 @@ pub fn run_replay<R: Read, W: Write>(
     ensures ends { IfSome reader.old.unread (λ given.
         Ends (IsMadeFrom AreReplies given) (IsTextFault given)
         writer.old.taken writer.new.taken (writer.new.asked - writer.old.asked) result) }
-    ensures unwritten { IfErr result (λ fault.
-        ((written : ℕ) → fault ≢ RunFault.Write written) → writer.new ≡ writer.old) }
-    ensures devices { AreDevicesAfter reader.old reader.new writer.new result }
-    ensures asked { reader.new.asked ≤ reader.old.asked + most_read }
+    ensures devices { AreDevicesAfter reader.old reader.new writer.old writer.new result }
+    ensures asked { reader.new.asked ≤ reader.old.asked + most_asked reader.old.unread }
 {
     let text = read_input(alloc, reader)?;
     let replies = replies_of(alloc, seed, text.as_slice())?;

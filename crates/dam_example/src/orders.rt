@@ -1,4 +1,4 @@
-//! Orders as values: each is checked where it is made.
+//! Orders as values: each is checked when it is made.
 
 use dam_book::{Command, HourOrder, Name, Order, Participant, Period, Price, Qty, Side};
 

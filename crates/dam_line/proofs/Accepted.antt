@@ -476,7 +476,7 @@ rows_given c a rows own each has =
     let given = row_given a found.0 (fits a (ap (arg_by_id c) (same_text found.0.id a.id found.2) ∙ own)) in
     (given.0, ap (option_and_then row_text) found.1 ∙ given.1, given.2)
 
--- where a level of the parse has no fault, a rule that has a default has a text that passes its parser
+-- if a level of the parse has no fault, a rule that has a default has a text that passes its parser
 pub level_gives : (s : Shape) (names : Names) (words : List Text) (has_subcommand : Bool) (below : Kinds) (a : Rule)
     → Each (IsUsual s.rules) s.rules
     → level_fault s names nothing_held words has_subcommand below ≡ [] → Stands a s.rules → arg_by_id s.rules a.id ≡ Some a

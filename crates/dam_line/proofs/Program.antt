@@ -49,7 +49,7 @@ pub is_command : (words : List Text) (found : Text × List Row) → subcommand_o
 is_command words found is = named_stop
     (stop_after (built program).top.rules (names_of (built program)) (argument_words program words)) found is
 
--- the fault that an error comes to, where its kind is one that the words have
+-- the fault that an error comes to, if its kind is one that the words have
 pub fault_by : {E : Type 0} (words : List Text) (kind : ErrorKind) (answer : Result (String Global) E) (fault : LineFault)
     → IsRefusal kind answer fault
     → (kind ≡ OutOfMemory) ⊎ IsAmong kind (fault_of program words) → IsLineFault words fault

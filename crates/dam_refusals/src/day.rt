@@ -1,5 +1,6 @@
 //! The day, from the first pass to the settlement.
-ghost use Rattle.std.specs.Prelude.{◌≡◌};
+ghost use Rattle.std.specs.Prelude.{◌≡◌, ◌<◌, ◌+◌, length, IfOk};
+ghost use Rattle.dam_gate.specs.Settled.{IsSettled};
 
 use dam_book::{Command, DayLength, Name, Participant, Seed};
 use dam_gate::{
@@ -7,6 +8,7 @@ use dam_gate::{
     PassFault, Settled, settle,
 };
 use std::alloc::{AllocError, Global};
+use std::fmt;
 use std::marker::Brand;
 use std::sync::Wait;
 
@@ -28,12 +30,41 @@ impl From<AllocError> for Stop {
     }
 }
 
+impl fmt::Display for Stop {
+    ghost use Rattle.std.specs.Prelude.{Some};
+    ghost use Rattle.dam_refusals.specs.Printed.{stop_text};
+
+    ghost output = { λ stop. Some (stop_text stop) };
+
+    fn fmt<W: fmt::Write>(&self, f: &mut fmt::Formatter<W>) -> fmt::Result {
+        f.write_str(match self {
+            Stop::Memory => "memory",
+            Stop::Wrong => "wrong",
+        })
+    }
+}
+
 /// What came of a day.
 #[derive(Drop)]
 pub struct Day {
     pub entries: usize,
     /// How many calls were refused memory.
     pub refused: u32,
+}
+
+impl fmt::Display for Day {
+    ghost use Rattle.std.specs.Prelude.{Some};
+    ghost use Rattle.dam_refusals.specs.Printed.{day_text};
+
+    ghost output = { λ day. Some (day_text day) };
+
+    fn fmt<W: fmt::Write>(&self, f: &mut fmt::Formatter<W>) -> fmt::Result {
+        write!(
+            f,
+            "{} entries, {} calls refused",
+            self.entries, self.refused
+        )
+    }
 }
 
 /// The day as it goes on: all room that it needs is made before the first call.
@@ -77,8 +108,8 @@ impl<J: GateName> Round<J> {
         Err(Stop::Wrong)
     }
 
-    /// Has the gate take the command after `earlier` others. A refused call has to leave the pass as it was, and a look after each
-    /// call has to show just the entries so far.
+    /// Has the gate take the command after `earlier` others. A refused call has to leave the pass as it was, and a look
+    /// after each call has to show just the entries so far.
     fn enter<H: Wait + Drop>(
         &mut self,
         rt: &impl Wait,
@@ -130,7 +161,11 @@ fn settle_again(
     alloc: Global,
     journal: Journal,
     accounts: &[Account],
-) -> Result<(Settled, u32), Stop> {
+) -> Result<(Settled, u32), Stop>
+    ensures journal { IfOk result (λ found. found.0 ≡ journal) }
+    ensures settled { IfOk result (λ found. IsSettled found.0 accounts.now) }
+    ensures refused { IfOk result (λ found. found.1 < 10) }
+{
     let mut journal = journal;
     for refused in 0..TRIES {
         match settle(alloc, journal, accounts) {
@@ -154,6 +189,7 @@ fn hold_named<J: GateName, R: Wait>(
     keeper: &Keeper,
 ) -> Result<Day, Stop>
     requires { opening ≡ J.opening }
+    ensures { IfOk result (λ day. day.entries ≡ length keeper.now.journal.entries) }
 {
     let mut accounts = Vec::with_capacity(alloc, MOST_PASSES as usize)?;
     let mut round = Round::<J> {
@@ -181,13 +217,16 @@ fn hold_named<J: GateName, R: Wait>(
     })
 }
 
-/// Enters the commands and then a close at a gate, by one thread; compared with a keeper, which has them first.
+/// Enters the commands and then a close at a gate, by one thread; compared with a keeper, which has them first. So the
+/// day has an entry for each command and one for the close.
 pub fn hold_day<R: Wait>(
     rt: &R,
     alloc: Global,
     periods: DayLength,
     commands: &[Command],
-) -> Result<Day, Stop> {
+) -> Result<Day, Stop>
+    ensures { IfOk result (λ day. day.entries ≡ length commands.now + 1) }
+{
     let mut keeper = Keeper::for_day(alloc, periods, Seed::fixed()).map_err(|_| Stop::Memory)?;
     for command in commands {
         keeper.apply(command.copy()).map_err(|_| Stop::Memory)?;

@@ -1,8 +1,10 @@
-//! A day at a gate, each of whose calls is made again if memory was refused to it: `tests/hostile` refuses each of them in turn.
+//! A day at a gate, each of whose calls is made again if memory was refused to it: `tests/hostile` refuses each of them
+//! in turn.
 //!
-//! It enters the commands of a journal, which has no close and stands on standard input, closes, and settles. It prints how many entries
-//! the day has and how many calls were refused; or `memory` if memory was refused to what comes before the gate; or `wrong` if a call was
-//! answered what it shouldn't be, one that was refused changed something, or a look after a call shows another number of entries.
+//! It reads a journal without a close from standard input, enters its commands, closes, and settles. It prints how many
+//! entries the day has and how many calls were refused; or `memory` if memory was refused to what comes before the gate;
+//! or `wrong` if a call was answered what it shouldn't be, one that was refused changed something, or a look after a
+//! call shows another number of entries.
 #![tactic(auto)]
 
 mod day;
@@ -22,11 +24,10 @@ fn main(rt: HostRuntime) -> io::Result<()> {
 
 fn print_day<R: Print + Wait>(rt: &R, alloc: Global, text: &[u8]) -> io::Result<()> {
     let Ok(read) = read_journal(alloc, text) else {
-        return println!(rt; "memory");
+        return println!(rt; "{}", Stop::Memory);
     };
     match hold_day(rt, alloc, read.periods, &read.commands) {
-        Ok(day) => println!(rt; "{} entries, {} calls refused", day.entries, day.refused),
-        Err(Stop::Memory) => println!(rt; "memory"),
-        Err(Stop::Wrong) => println!(rt; "wrong"),
+        Ok(day) => println!(rt; "{day}"),
+        Err(stop) => println!(rt; "{stop}"),
     }
 }

@@ -30,7 +30,7 @@ not_both (false ∷ xs) (false ∷ ys) e f = not_both xs ys e f
 not_both (true ∷ xs) (false ∷ ys) e f = cc
 not_both (false ∷ xs) (true ∷ ys) e f = cc
 
--- the welfare of the second is less; or the same, and then the first accepts where they first differ
+-- the welfare of the second is less; or the same, and then the first accepts the first block at which they differ
 abbrev IsBetter : ℤ → List Bool → ℤ → List Bool → Type 0
 IsBetter v xs w ys = (w <ℤ v) ⊎ ((w ≡ v) × (accepts_first xs ys ≡ true))
 

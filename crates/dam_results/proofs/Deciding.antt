@@ -64,7 +64,7 @@ heads x y xs ys is = cc
 tails : {X : Type 0} (x y : X) (xs ys : List X) → x ∷ xs ≡ y ∷ ys → xs ≡ ys
 tails x y xs ys is = cc
 
--- whether the text has this front, and what is behind it is so
+-- whether the text begins with this front, and what comes after it is so
 module _ (Q : List ℕ → Type 0) (decided : (rest : List ℕ) → IsDecided (Q rest)) where
   abbrev Fronted : List ℕ → List ℕ → Type 0
   Fronted front text = (rest : List ℕ) × (text ≡ front ++ rest) × Q rest

@@ -198,7 +198,7 @@ decided_rules [] fields = inl tt
 decided_rules (rule ∷ rules) [] = inl tt
 decided_rules (rule ∷ rules) (field ∷ fields) = one_field rule rules field fields (decided_rule rule field) (decided_rules rules fields)
 
--- a fault that isn't want of memory
+-- a fault other than that memory ran out
 abbrev Faulty : (JournalFault → Type 0) → Type 0
 Faulty IsFault = (fault : JournalFault) × IsFault fault × (fault ≢ Memory)
 

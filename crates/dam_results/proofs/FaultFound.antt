@@ -104,7 +104,7 @@ AreRecords-all rows periods commands rest day h e =
       written = ap (λ (rs : List Fields). day_row periods ∷ rs) all;
     }
 
--- the commands read so far, of which there are so many, made this
+-- the commands read so far, `count` of them, made this
 pub record ReadsInto {T : Type 0} (MadeOf : ℕ → List Command → T → Type 0) (periods : ℕ) (rows rest : List Fields) (count : ℕ)
     (made : T) : Type 0 where
   pub commands : List Command
@@ -131,7 +131,7 @@ ReadsInto-more MadeOf periods rows rest more row count next command before after
       made_of = takes commands (omega (arith, following, counted)) h.made_of;
     }
 
--- where memory ran out or the next record has a fault, the records have it
+-- if memory ran out or the next record has a fault, the records have it
 pub ReadsInto-fault : {T : Type 0} (MadeOf : ℕ → List Command → T → Type 0) (periods : ℕ) (rows rest more : List Fields) (row : Fields)
     (count number : ℕ) (made : T) (fault : JournalFault)
     → is_day periods ≡ true → ReadsInto MadeOf periods rows rest count made → rest ≡ row ∷ more → number ≡ count + 2 → (fault ≡ Memory)

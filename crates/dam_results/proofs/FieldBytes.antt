@@ -33,7 +33,7 @@ is_field_byte b = nat_le 45 b && nat_le b 122
 abbrev pub HasFieldBytes : List ℕ → Type 0
 HasFieldBytes x = list_all is_field_byte x ≡ true
 
--- such bytes, and at most so many
+-- such bytes, and no more than `most` of them
 pub record IsFieldText (most : ℕ) (x : List ℕ) : Type 0 where
   pub fits : length x ≤ most
   pub bytes : HasFieldBytes x

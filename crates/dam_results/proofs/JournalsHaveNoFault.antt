@@ -151,7 +151,7 @@ HasFault-none rows fault periods cs r h =
 some_rows : (rows : List Fields) (periods : ℕ) (cs : List Command) → AreRecords rows periods cs → rows ≡ [] → ⊥
 some_rows rows periods cs r e = let w = r.written in absurd cc
 
--- a text that is a journal has no fault but want of memory
+-- a text that is a journal has no fault but that memory ran out
 pub only_memory : (text : List ℕ) (fault : JournalFault) (periods : ℕ) (cs : List Command) → IsJournalFault text fault
     → ReadsAs text periods cs → fault ≡ Memory
 only_memory text TooLong periods cs h r = absurd (let s = r.short in omega arith)

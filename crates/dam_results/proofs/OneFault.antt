@@ -1,4 +1,4 @@
--- A text has one first fault: a record has one fault at most, and of two faulty records only the first has a journal in front of it.
+-- A text has one first fault: a record has one fault at most, and of two faulty records only the first has a journal before it.
 use Rattle.std.proofs.Common.{◌≡◌, ℕ, zero, suc, ◌+◌, ◌<◌, ◌≤◌, ◌⊎◌, inl, inr, List, [], ◌∷◌, ◌++◌, length, Some, None, refl, sym, ap, ap₂}
 use Rattle.std.proofs.Common.{subst, ◌∙◌, arith}
 use Rattle.std.proofs.Math.Nat.{lt_of_not-le}
@@ -62,7 +62,7 @@ record_fault-one number row (BadField at field) (BadField other second) h k =
     ap₂ BadField (h.1 ∙ sym k.1) (least_broken-one (rules_of number row) row field second h.3 k.3)
 record_fault-one number row (BadField at field) Memory h k = absurd k
 
--- of two records of a list, the earlier one stands in front of the later one
+-- of two records of a list, one comes before the other
 front_splits : (xs ys tail rest : List Fields) (x y : Fields) → xs ++ x ∷ tail ≡ ys ++ y ∷ rest → length xs < length ys →
     (mid : List Fields) × (ys ≡ xs ++ x ∷ mid)
 front_splits xs [] tail rest x y e less = absurd (omega (arith, less))
@@ -80,7 +80,7 @@ record_at-one [] (z ∷ ys) tail rest x y e same = absurd (omega (arith, same))
 record_at-one (w ∷ xs) [] tail rest x y e same = absurd (omega (arith, same))
 record_at-one (w ∷ xs) (z ∷ ys) tail rest x y e same = record_at-one xs ys tail rest x y (cc) (omega (arith, same))
 
--- no faulty record stands in front of the first one
+-- no faulty record comes before the first one
 not_earlier : (rows : List Fields) (f g : JournalFault) (h : HasFault rows f) (k : HasFault rows g) → length h.front < length k.front → ⊥
 not_earlier rows f g h k less =
     let split = front_splits h.front k.front h.rest k.rest h.row k.row (sym h.parts ∙ k.parts) less in
@@ -106,7 +106,7 @@ HasFault-some rows f h none =
     let empty : length rows ≡ 0 = ap length none in
     omega (arith, parts, empty)
 
--- the two are the same, or one of them is want of memory
+-- the two are the same, or one of them says that memory ran out
 abbrev pub AreAlike : JournalFault → JournalFault → Type 0
 AreAlike f g = (f ≡ g) ⊎ ((f ≡ Memory) ⊎ (g ≡ Memory))
 

@@ -46,7 +46,7 @@ enough (suc n) (suc m) s xs e p q =
           records_from-Some n s xs r some ∙ (ap (λ (rows : List Fields). r.0 ∷ rows) same ∙ sym (records_from-Some m s xs r some))
     ] refl
 
--- the bytes left, where they are known
+-- the bytes left, if they are known
 pub record Left (reader : RecordReader) : Type 0 where
   pub bytes : List ℕ
   pub source : unread reader ≡ Some bytes

@@ -51,7 +51,7 @@ pub nine_alike : (a b c d e f g h i a' b' c' d' e' f' g' h' i' : List ℕ) → a
     → (a ∷ b ∷ c ∷ d ∷ e ∷ f ∷ g ∷ h ∷ i ∷ []) ≡ (a' ∷ b' ∷ c' ∷ d' ∷ e' ∷ f' ∷ g' ∷ h' ∷ i' ∷ [])
 nine_alike a b c d e f g h i a' b' c' d' e' f' g' h' i' pa pb pc pd pe pf pg ph pi = cc
 
--- where a reader stops, at a field that should be empty
+-- the field at which a reader stops, which should be empty
 pub stops : (rules : List FieldRule) (row : NineFields) (r : Result Command ℕ) (n e : ℕ) → IsErrAnd r (λ f. f ≡ e) → e ≡ n
     → IsLeastBroken rules (fields_in row) n → ReadsCommand rules row r
 stops rules row (Ok x) n e h k broken = absurd h

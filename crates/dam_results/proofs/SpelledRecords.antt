@@ -45,7 +45,7 @@ unfolding escaped
 escaped_plain [] h = refl
 escaped_plain (b ∷ x) h = let o = first_other b x h in rw o.quote (ap (λ (bytes : List ℕ). b ∷ bytes) (escaped_plain x (rest_plain b x h)))
 
--- what stands behind a record, and the state and the text after the record's end
+-- what comes after a record, and the state and the text after the record's end
 data Stop : List ℕ → State → List ℕ → Type 0 where
   Over : Stop [] st.StartRecord []
   Feed : (rest : List ℕ) → Stop (10 ∷ rest) st.StartRecord rest
@@ -95,7 +95,7 @@ last_field _ _ (Bare []) h fields tail s rest stop = stops-start fields tail s r
 last_field _ _ (Bare (b ∷ x)) h fields tail s rest stop = bare_run fields b x tail h ∙ stops-in_field fields (b ∷ x) tail s rest stop
 last_field _ _ (Quoted x) h fields tail s rest stop = quoted_run fields x tail h ∙ stops-after_quote fields x tail s rest stop
 
--- a field with a comma behind it
+-- a field with a comma after it
 comma-in_field : (fields : Fields) (x tail : List ℕ) → next_record default_config st.InField fields x
     (44 ∷ tail) ≡ next_record default_config st.StartField (fields ++ x ∷ []) [] tail
 unfolding next_record

@@ -18,7 +18,7 @@ use crate::nine_fields::{NineFields, field_of};
 use crate::record::{read_command, read_day};
 use csv::{ByteRecord, Reader, ReaderBuilder};
 use dam_book::{Command, DayLength, Seed};
-use std::alloc::{AllocError, AllocFailed, Global};
+use std::alloc::{AllocError, Global};
 use thiserror::Error;
 
 /// What a journal's text says.
@@ -82,17 +82,6 @@ impl From<AllocError> for JournalFault {
     ghost from_gives = { λ _ e. e ≡ Memory };
 
     fn from(_error: AllocError) -> JournalFault {
-        JournalFault::Memory
-    }
-}
-
-impl<T: Drop> From<AllocFailed<T>> for JournalFault {
-    ghost use Rattle.std.specs.Prelude.{◌≡◌};
-    ghost use Rattle.dam_results.specs.declared.journal.JournalFault.TheVariants.{Memory};
-
-    ghost from_gives = { λ _ e. e ≡ Memory };
-
-    fn from(_error: AllocFailed<T>) -> JournalFault {
         JournalFault::Memory
     }
 }

@@ -1,11 +1,12 @@
 -- What is answered to the text that was read is answered to the given one.
+use Rattle.std.proofs.Common.{refl}
 use Rattle.std.proofs.lemmas.Result.{err_from_is_err_and}
 use Rattle.dam_results.specs.Journal.{IsMadeFrom}
 use Rattle.dam_engines.specs.Engine.{IsRunFault}
 use Rattle.dam_engines.specs.Day.{IsCommandsFault, IsDayText}
 use Rattle.dam_engines.proofs.Fronts.{run_fault-given}
 use Rattle.dam_engines.specs.Device.{IsWriterAfter}
-use Rattle.dam_engines.proofs.Runs.{asked-within, known-fault, known-unread, known-written, unwritten}
+use Rattle.dam_engines.proofs.Runs.{asked-within, known-fault, known-unread, known-written}
 use Rattle.dam_engines.proofs.Devices.{neither-failed, written-devices}
 use Rattle.dam_engines.proofs.Cuts.{reading-told}
 use Rattle.dam_engines.proofs.day.run_day.Goals as goal
@@ -29,16 +30,13 @@ returns-clause-ends g c =
     known-written IsDayText (IsRunFault (IsCommandsFault c.args.plan)) _ _ _ _ _ _ _ _ c.in_ok-text.ensures.text c.as_slice.ensures.value
     c.write_text.ensures.done c.write_text.ensures.fault (asked-within _ _ _ c.write_text.ensures.asked) done
 
-pub returns-clause-unwritten : goal.returns-clause-unwritten
-returns-clause-unwritten g c = unwritten _ _ _ _ _ c.write_text.ensures.fault
-
 pub returns-in_err-text-clause-devices : goal.returns-in_err-text-clause-devices
 returns-in_err-text-clause-devices g c =
     let p = err_from_is_err_and c.from_residual.result c.from_residual.ensures.1 in
     rw (p.1, p.2) (
       c.in_err-text.ensures.cause,
-      reading-told
-          (IsWriterAfter c.args.writer.now) c.requires.writes c.requires.writes _ c.in_err-text.ensures.fault,
+      reading-told (IsWriterAfter c.args.writer.now c.args.writer.now)
+          (c.requires.writes, refl) (c.requires.writes, refl) _ c.in_err-text.ensures.fault,
     )
 
 pub returns-in_err-day-clause-devices : goal.returns-in_err-day-clause-devices
@@ -49,5 +47,5 @@ returns-in_err-day-clause-devices g c =
 
 pub returns-clause-devices : goal.returns-clause-devices
 returns-clause-devices g c =
-    written-devices c.args.reader.now c.read_input.new.reader c.write_text.new.writer _ _ _ _
+    written-devices c.args.reader.now c.read_input.new.reader c.args.writer.now c.write_text.new.writer _ _ _ _
     c.in_ok-text.ensures.cause c.write_text.ensures.fault c.write_text.ensures.flushed c.write_text.ensures.cause

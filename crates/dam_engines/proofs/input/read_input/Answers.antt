@@ -1,4 +1,4 @@
--- The loop ends where the text is as long as it may be, or where the reader has no more.
+-- The loop ends when the text is as long as it may be, or when the reader has no more.
 use Rattle.std.proofs.Common.{◌≡◌, ◌≤◌, ◌<◌, ◌++◌, length, take, arith}
 use Rattle.std.proofs.lemmas.List.{length-take, length-append}
 use Rattle.std.proofs.lemmas.Result.{err_from_is_err_and}
