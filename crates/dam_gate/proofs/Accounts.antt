@@ -1,5 +1,5 @@
--- Receipts that are the entries number by number are the entries, each once, and the other way round; those of a pass stand
--- in their order.
+-- Receipts that are the entries number by number are the entries, each once, and the other way round; those of a pass
+-- stand in their order.
 use Rattle.std.proofs.Common.{◌≡◌, ◌≢◌, ℕ, suc, ◌<◌, ◌≤◌, ◌==◌, ◌⊎◌, inl, inr, Bool, true, false, Option, List, [], ◌∷◌, ◌++◌, length, refl}
 use Rattle.std.proofs.Common.{sym, ap, subst, ◌∙◌, append_assoc, length-append, arith, All}
 use Rattle.std.proofs.lemmas.Bool.{eqb-true, eqb-false, cases_lt}
@@ -15,7 +15,7 @@ use Rattle.dam_gate.specs.inside.Tally.{AreReceipts}
 use Rattle.dam_gate.proofs.Numbers.{numbered-head, numbered-tail, none_below}
 use Rattle.dam_gate.proofs.Permutations.{filter-permutation, short-permutation}
 
--- where the entry of a number stands
+-- the entry is among these, between a front and a back
 pub record Stands (e : Entry) (rs : List Entry) : Type 0 where
   pub front : List Entry
   pub back : List Entry

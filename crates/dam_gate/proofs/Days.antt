@@ -547,7 +547,7 @@ held-all given participants olds news new_ones as_long enters =
     ap (λ (ps : List PassState). get_or ps i d) new_ones ∙ new_at participants i d w (omega (arith, within, as_long, many)) in
     (enters i d (omega (arith, within, as_long))).holder ∙ ap (λ (p : PassState). p.holder) at)
 
--- ---- what a pass knows besides its account
+-- ---- what a pass knows in addition to its account
 
 abbrev pub accounts : List Knowledge → List PassState
 accounts ks = map (λ (k : Knowledge). k.account) ks

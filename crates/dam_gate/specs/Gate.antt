@@ -29,17 +29,18 @@ abbrev pub gate_fault_of : KeeperFault → GateFault
 gate_fault_of (KeeperFull n) = JournalFull n
 gate_fault_of KeeperMemory = Memory
 
--- what a gate may answer to the command of a pass in place of its entry: that the pass may not give it; or, if it may, that a
--- journal of as many entries is full for it, that memory ran out, or that no version could be shown. Other threads may change
--- the journal, so this mentions none, and doesn't say that there was room if one of the last two is the answer
+-- what a gate may answer to the command of a pass in place of its entry: that the pass may not give it; or, if it may,
+-- that a journal of as many entries is full for it, that memory ran out, or that no version could be shown. Other
+-- threads may change the journal, so this mentions none, and doesn't say that there was room if one of the last two is
+-- the answer
 abbrev pub IsGateFault : PassState → Command → GateFault → Type 0
 IsGateFault p c NotYours = is_own p.holder c ≡ false
 IsGateFault p c (JournalFull held) = (is_own p.holder c ≡ true) × (held ≤ most_entries) × (is_full held c ≡ true)
 IsGateFault p c Memory = is_own p.holder c ≡ true
 IsGateFault p c NoVersion = is_own p.holder c ≡ true
 
--- the history is one that a journal of a day with this number of periods may hold; it ends with the entry, and before that begins
--- with all that the pass had seen and learnt of
+-- the history is one that a journal of a day with this number of periods may hold; it ends with the entry, and before
+-- that begins with all that the pass had seen and learnt of
 pub record IsAnswered (periods : ℕ) (k : Knowledge) (history : List Entry) (e : Entry) : Type 0 where
   pub before : List Entry
   pub legal : IsHistory periods history
@@ -54,7 +55,8 @@ pub record IsCalled (periods : ℕ) (before after : Knowledge) (e : Entry) : Typ
   pub receipt : after ≡ after_call before after.history e
   pub history : IsAnswered periods before after.history e
 
--- the history is one that a journal of a day with this number of periods may hold, and its run shows what was looked for
+-- the history is one that a journal of a day with this number of periods may hold, and its run shows what was looked
+-- for
 pub record IsLook (periods : ℕ) (history : List Entry) (key : Key) (look : Look) : Type 0 where
   pub legal : IsHistory periods history
   pub seen : look.seen ≡ length history

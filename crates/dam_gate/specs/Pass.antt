@@ -60,8 +60,8 @@ with_receipt p e = record { holder = p.holder; seen = e.number; receipts = p.rec
 abbrev pub having_seen : PassState → ℕ → PassState
 having_seen p seen = record { holder = p.holder; seen = seen; receipts = p.receipts }
 
--- what a pass knows: its account; the history of the gate that it has seen; the longest that it has learnt of, of which each
--- other one is a prefix; and the one that its last call made
+-- what a pass knows: its account; the history of the gate that it has seen; the longest that it has learnt of, of which
+-- each other one is a prefix; and the one that its last call made
 pub record Knowledge : Type 0 where
   pub account : PassState
   pub history : List Entry

@@ -53,7 +53,8 @@ IsFaultOfReceipts es rs (Differs n) = IsLeastFault IsDifferent es rs n
 IsFaultOfReceipts es rs (Extra n) = IsLeastFault IsExtra es rs n
 IsFaultOfReceipts es rs Memory = ⊥
 
--- why a journal and passes are not found settled: the book is open, or the least faulty number is faulty so, or memory ran out
+-- why a journal and passes are not found settled: the book is open, or the least faulty number is faulty so, or memory
+-- ran out
 abbrev pub IsMismatch : JournalState → List PassState → Mismatch → Type 0
 IsMismatch j passes StillOpen = j.book.closed ≡ false
 IsMismatch j passes Memory = j.book.closed ≡ true

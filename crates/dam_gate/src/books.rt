@@ -26,8 +26,8 @@ impl<A: Allocator> Model for Earlier<A> {
     ghost view = { λ s. record { book = arc_value s.book; place = s.place } };
 }
 
-/// A book that others may share, and the one before it with the place of the command that changed it. If nobody shares that one
-/// any more, the command that it lacks makes it equal to the other, which is far quicker than a copy.
+/// A book that others may share, and the one before it with the place of the command that changed it. If nobody shares
+/// that one any more, the command that it lacks makes it equal to the other, which is far quicker than a copy.
 ///
 /// A contract sees the two.
 #[derive(Debug, Drop)]
@@ -84,8 +84,8 @@ impl<A: Allocator + Copy> Books<A> {
         self.book.try_copy()
     }
 
-    /// Goes on to the book after the entry's command, if the command changed it. The entry is the next of the journal, at this
-    /// place.
+    /// Goes on to the book after the entry's command, if the command changed it. The entry is the next of the journal,
+    /// at this place.
     pub(crate) fn follow(&mut self, book: Arc<Book<A>, A>, entry: &Entry, place: usize)
         requires reply { entry.now.reply ≡ reply_to self.old.book entry.now.command }
         requires book { arc_value book ≡ book_after self.old.book entry.now.command }

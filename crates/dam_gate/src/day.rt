@@ -38,8 +38,8 @@ pub enum DayFault {
     /// The command at this place brings one participant too many.
     #[error("command {0} brings one participant too many")]
     TooManyParticipants(usize),
-    /// The journal and the passes came out unsettled, or the journal doesn't end with the close (`StillOpen`). No day of one gate
-    /// should show either; the reason is never `Memory`.
+    /// The journal and the passes came out unsettled, or the journal doesn't end with the close (`StillOpen`). No day
+    /// of one gate should show either; the reason is never `Memory`.
     #[error("not settled: {0}")]
     NotSettled(Mismatch),
     /// Memory ran out, or a call or a pass was refused.
@@ -51,8 +51,8 @@ pub enum DayFault {
 #[derive(Debug, Drop)]
 pub struct SettledDay {
     pub settled: Settled,
-    /// The accounts of the passes through which its commands were entered: the participants', by first occurrence among the
-    /// commands given, and then the operator's.
+    /// The accounts of the passes through which its commands were entered: the participants', by first occurrence among
+    /// the commands given, and then the operator's.
     pub passes: Vec<Account>,
 }
 
@@ -377,8 +377,8 @@ fn settle_day(alloc: Global, journal: Journal, passes: &[Account]) -> Result<Set
 /// Runs a day of given commands: each participant enters its own, in their order, through a pass of its own and on a
 /// thread of its own if one can be started; then the operator closes, and the journal is settled.
 ///
-/// The gate's book hashes names by the seed. The hooks are called before and after each participant's commands, on the thread
-/// that enters them. `Memory` may come in place of any answer but `TooManyCommands`. A place is counted from 0.
+/// The gate's book hashes names by the seed. The hooks are called before and after each participant's commands, on the
+/// thread that enters them. `Memory` may come in place of any answer but `TooManyCommands`. A place is counted from 0.
 pub fn run_commands<R: Threads + Wait + Sync, K: Hooks + Sync>(
     rt: &R,
     alloc: Global,

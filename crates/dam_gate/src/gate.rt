@@ -32,8 +32,8 @@ pub enum GateFault {
     /// Memory ran out.
     #[error("out of memory")]
     Memory,
-    /// The history had gone on without the journal, or the slot of the version was taken, so that no version of the command
-    /// could be shown. In the tests no call leaves a gate like that.
+    /// The history had gone on without the journal, or the slot of the version was taken, so that no version of the
+    /// command could be shown. In the tests no call leaves a gate like that.
     #[error("no version could be shown")]
     NoVersion,
 }
@@ -91,8 +91,8 @@ impl From<AllocError> for PassFault {
 /// The gate of one delivery day, which threads share by reference. One lock protects the book and its journal, and
 /// each call's step under it is one step of the sequential book. Looks take no lock.
 ///
-/// `J` is its name: passes and notes of another gate have another. `R` is the handle with which a call, and the gate's end,
-/// wait for looks to end.
+/// `J` is its name: passes and notes of another gate have another. `R` is the handle with which a call, and the gate's
+/// end, wait for looks to end.
 #[derive(Drop)]
 pub struct Gate<J: GateName, R: Wait + Drop>
 where
@@ -102,8 +102,8 @@ where
 }
 
 impl<J: GateName, R: Wait + Drop> Gate<J, R> {
-    /// The gate of the opening's day, of 23, 24, 25, 92, 96 or 100 periods, with an empty journal, on the fixed seed that
-    /// everybody knows.
+    /// The gate of the opening's day, of 23, 24, 25, 92, 96 or 100 periods, with an empty journal, on the fixed seed
+    /// that everybody knows.
     pub fn begin(rt: R, alloc: Global, opening: Opening) -> Result<Gate<J, R>, BeginFault>
         requires { opening ≡ J.opening }
         ensures ok { OnOk result (is_day opening.periods ≡ true) }
@@ -112,8 +112,8 @@ impl<J: GateName, R: Wait + Drop> Gate<J, R> {
         Gate::begin_seeded(rt, alloc, opening, Seed::fixed())
     }
 
-    /// The gate that `begin` gives, whose book hashes names with the seed. With a secret one nobody can choose names that collide
-    /// in the book's map, and so make each call slow, those of the others too.
+    /// The gate that `begin` gives, whose book hashes names with the seed. With a secret one nobody can choose names
+    /// that collide in the book's map, and so make each call slow, those of the others too.
     pub fn begin_seeded(
         rt: R,
         alloc: Global,
@@ -130,7 +130,8 @@ impl<J: GateName, R: Wait + Drop> Gate<J, R> {
         Gate::for_day(rt, alloc, opening, periods, seed).map_err(|_| BeginFault::Memory)
     }
 
-    /// The gate that `begin_seeded` gives, for those who have the opening's day as a length. The error is out of memory.
+    /// The gate that `begin_seeded` gives, for those who have the opening's day as a length. The error is out of
+    /// memory.
     pub(crate) fn for_day(
         rt: R,
         alloc: Global,

@@ -200,8 +200,8 @@ impl<J: GateName> History<J> {
 }
 
 impl<J: GateName> EntryCount<J> {
-    /// The history with the entry added, if the gate's history is just this one. Everything seen and learnt is a prefix of it.
-    /// `None` if the gate's history is another.
+    /// The history with the entry added, if the gate's history is just this one. Everything seen and learnt is a prefix
+    /// of it. `None` if the gate's history is another.
     pub(crate) fn add(
         &self,
         history: &History<J>,

@@ -123,8 +123,8 @@ impl<A: Allocator + Copy> Keeper<A> {
         Keeper::for_day(alloc, periods, Seed::fixed()).map_err(|_| BeginFault::Memory)
     }
 
-    /// The empty journal and the empty book of a day of that length, which hashes names with the seed. The error is out of
-    /// memory.
+    /// The empty journal and the empty book of a day of that length, which hashes names with the seed. The error is out
+    /// of memory.
     pub fn for_day(alloc: A, periods: DayLength, seed: Seed) -> Result<Keeper<A>, AllocError>
         ensures { IfOk result (λ keeper. keeper.journal ≡ empty_journal periods) }
     {
@@ -137,8 +137,8 @@ impl<A: Allocator + Copy> Keeper<A> {
         })
     }
 
-    /// Takes all memory of a command's step: the room in the journal, and a book for the step's result, if it changes the
-    /// book.
+    /// Takes all memory of a command's step: the room in the journal, and a book for the step's result, if it changes
+    /// the book.
     ///
     /// The journal and the book stay as they are.
     pub fn ready(&mut self, command: &Command) -> Result<Ready<A>, KeeperFault>

@@ -15,8 +15,8 @@ use crate::settlement::Settled;
 use dam_book::laws::histories_are_runs;
 use std::alloc::Allocator;
 
-/// Once a gate is settled, its journal's commands, run one by one from the empty book, give exactly the recorded replies
-/// and the book held, and the participants' receipts are its entries, each once, in each holder's order.
+/// Once a gate is settled, its journal's commands, run one by one from the empty book, give exactly the recorded
+/// replies and the book held, and the participants' receipts are its entries, each once, in each holder's order.
 pub fn whole_account<A: Allocator + Copy>(settled: &Settled<A>, passes: &[Account])
     requires { IsSettled settled.now passes.now }
     ensures { IsWholeAccount settled.now passes.now }

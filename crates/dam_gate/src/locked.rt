@@ -21,9 +21,9 @@ use std::sync::{Arc, OnceLock, Wait};
 
 /// What lies under the lock: the keeper, and what publishes its versions.
 ///
-/// A contract sees the journal, and how many passes were given. Whenever the lock is free, the history of the name `J` that it
-/// has is just the journal's entries, the day is that of the name, and the version that is shown has as many entries as the
-/// journal.
+/// A contract sees the journal, and how many passes were given. Whenever the lock is free, the history of the name `J`
+/// that it has is just the journal's entries, the day is that of the name, and the version that is shown has as many
+/// entries as the journal.
 #[derive(Drop)]
 pub(crate) struct Locked<J: GateName, R: Wait + Drop>
 where
@@ -93,8 +93,8 @@ fn writer_from<J: GateName, R: Wait + Drop>(
     WriteHandle::new(alloc, rt, first, second, MOST_PASSES as usize)
 }
 
-/// A slot for the next version, still empty: the one that a refused call left at the writer, or else a new one. The writer shows
-/// it next.
+/// A slot for the next version, still empty: the one that a refused call left at the writer, or else a new one. The
+/// writer shows it next.
 fn next_slot<J: GateName, R: Wait + Drop>(
     alloc: Global,
     writer: &mut WriteHandle<Shown<J>, NextShown<J>, R>,
@@ -123,8 +123,8 @@ fn next_slot<J: GateName, R: Wait + Drop>(
     Ok(slot)
 }
 
-/// Makes the copy that no look reads any more equal to the one that is shown, so that nothing keeps the version before it. It
-/// waits for the looks at that version.
+/// Makes the copy that no look reads any more equal to the one that is shown, so that nothing keeps the version before
+/// it. It waits for the looks at that version.
 fn let_go<J: GateName, R: Wait + Drop>(writer: &mut WriteHandle<Shown<J>, NextShown<J>, R>)
     requires { pending writer.old ≡ [] }
     ensures shown { (published writer.new).held ≡ (published writer.old).held }
@@ -237,8 +237,8 @@ impl<J: GateName, R: Wait + Drop> Locked<J, R> {
         Ok(pass)
     }
 
-    /// Journals the command, and shows the version after it. It answers the entry's number and reply, and the history that ends
-    /// with it.
+    /// Journals the command, and shows the version after it. It answers the entry's number and reply, and the history
+    /// that ends with it.
     ///
     /// All that may be refused comes first. The next call takes the slot that a refused call has left at the writer.
     pub(crate) fn enter(

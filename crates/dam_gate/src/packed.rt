@@ -9,8 +9,8 @@ use dam_book::{Command, Entry, HourOrder, Name, Order, Participant, Reply};
 use std::alloc::{AllocError, Global};
 use std::marker::Model;
 
-/// A command that leaves out the room which a `Command` has for the volumes of a block: 40 bytes for a submit of an hourly
-/// order, a cancel or a close. Any other command is in memory of its own.
+/// A command that leaves out the room which a `Command` has for the volumes of a block: 40 bytes for a submit of an
+/// hourly order, a cancel or a close. Any other command is in memory of its own.
 ///
 /// A contract sees the command.
 #[derive(Debug, Drop)]

@@ -48,8 +48,8 @@ impl<J: GateName> Note<J> {
 /// What a holder carries through the gate's calls: what it has seen of the gate's history and learnt of it, and a
 /// receipt of each of its own commands that reached the book, in the order of its calls.
 ///
-/// A contract sees what the pass knows. Each history in it is a prefix of the one history of the gate of the name `J`: nothing
-/// else makes such a value.
+/// A contract sees what the pass knows. Each history in it is a prefix of the one history of the gate of the name `J`:
+/// nothing else makes such a value.
 #[derive(Drop)]
 pub struct Pass<J: GateName> {
     holder: Option<Participant>,

@@ -71,8 +71,8 @@ pub struct Unsettled<A: Allocator = Global> {
     pub journal: Journal<A>,
 }
 
-/// Compares the receipts of the passes with the entries of a closed journal: each entry needs just one receipt, equal to
-/// it, and no receipt may have another number. A journal that comes out settled accounts for its whole day.
+/// Compares the receipts of the passes with the entries of a closed journal: each entry needs just one receipt, equal
+/// to it, and no receipt may have another number. A journal that comes out settled accounts for its whole day.
 ///
 /// It goes once over the receipts and once over the entries, and takes a byte of memory for each entry.
 pub fn settle<A: Allocator + Copy, B: Allocator>(

@@ -56,8 +56,8 @@ impl<J: GateName> Version<J> {
 /// A call makes a slot empty, and puts its version there later.
 pub(crate) type Slot<J> = Arc<OnceLock<Version<J>>, Global>;
 
-/// What the pair of `left_right` has two of: the slot of the last version, and its number of entries. Of two histories of one
-/// gate, one is a prefix of the other, so the number says which it is.
+/// What the pair of `left_right` has two of: the slot of the last version, and its number of entries. Of two histories
+/// of one gate, one is a prefix of the other, so the number says which it is.
 #[derive(Drop)]
 pub struct Shown<J: GateName> {
     pub(crate) slot: Slot<J>,

@@ -22,8 +22,8 @@ IsPassFault given PassesUsed = most_passes ≤ given
 IsPassFault given NoPlace = given < most_passes
 IsPassFault given Memory = given < most_passes
 
--- what is answered to the command of a pass in place of its entry if the journal holds `held`: each fault only if none of those
--- before it is one
+-- what is answered to the command of a pass in place of its entry if the journal holds `held`: each fault only if none
+-- of those before it is one
 abbrev pub IsFaultAt : ℕ → PassState → Command → GateFault → Type 0
 IsFaultAt held p c NotYours = is_own p.holder c ≡ false
 IsFaultAt held p c (JournalFull n) = (is_own p.holder c ≡ true) × (n ≡ held) × (is_full held c ≡ true)

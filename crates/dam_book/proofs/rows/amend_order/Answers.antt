@@ -1,4 +1,4 @@
--- The place keeps its label, and the order changes where there is one.
+-- The place keeps its label, and its order changes if it has one.
 use Rattle.std.proofs.Common.{List, Some, sym, ap, ◌∙◌, subst}
 use Rattle.dam_book.specs.Order.{amended}
 use Rattle.dam_book.specs.inside.Gaps.{Place, held, gap_count, AreNumbered}
