@@ -2,8 +2,9 @@
 
 A check goes on after a function that it does not prove, and reports each function in a line `fn NAME: ..`. The goals that are not
 proved stand in notes right above that line; the errors of proof files stand together at the top, and belong to the function of
-their folder. `it calls F, which is not proved` alone is no refusal of the function's own: what calls a function sees its contract
-and never its body, so a caller is checked to its end all the same.
+their folder. A loop that may not end has no goal: the check asks for its measure, and that is a refusal. `it calls F, which is not
+proved` alone is no refusal of the function's own: what calls a function sees its contract and never its body, so a caller is checked
+to its end all the same.
 """
 
 import os
@@ -13,6 +14,7 @@ from typing import NamedTuple
 GOAL = re.compile(r"note: (src/\S+:\d+:\d+: it is not proved that .*)")
 ERROR = re.compile(r"(?:\./)?((?:src|specs|proofs)/\S+?):(\d+):\d+: error(?:\[[\w-]+\])?: (.*)")
 VERDICT = re.compile(r"(?:fn|struct|enum|impl) (\S+): (.*)")
+ENDLESS = re.compile(r"no proof: (expected a measure\b.*)")
 CLOSURE = re.compile(r"::fn::(\S+?)::[^\s:+]+(?:\+Fn(?:Mut|Once)?::\w+)?$")
 # A check speaks so of a proof that cites a name which an edit took away, of what rests on a proof that was refused, and of a text
 # that it cannot read.
@@ -56,6 +58,9 @@ class Report:
             elif verdict:
                 name, words = verdict.groups()
                 _, _, path = name.partition("::")
+                endless = ENDLESS.match(words)
+                if endless:
+                    goals.append(f"it may not end: {endless[1]}"[:WIDTH])
                 if words.startswith("not proved") and path in wrong:
                     goals.append(wrong[path])
                 if goals and not words.startswith("proved"):
