@@ -1,4 +1,4 @@
--- So many blocks are decided.
+-- The blocks before the place are decided.
 use Rattle.std.proofs.Common.{◌≡◌, length}
 use Rattle.dam_search.proofs.prefix.Prefix.of_selection.Given as goal
 
