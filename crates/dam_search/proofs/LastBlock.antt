@@ -14,7 +14,7 @@ same_block blocks i b other e f = cc
 turned : (a b : Block) → AreOfOneGroup a b → AreOfOneGroup b a
 turned a b h = record { who = sym h.who; group = h.group; first = h.second; second = h.first }
 
--- an accepted block lets one that was allowed before be accepted, where it is allowed itself
+-- an accepted block still lets another one be accepted, if the newly accepted one is allowed itself
 still_permits : (blocks : List Block) (sel : List Bool) (at i j : ℕ) (b other : Block) → at < length sel → i ≢ at → accepts sel i ≡ true
     → slice_get blocks i ≡ Some b → slice_get blocks j ≡ Some other
     → Permits other (accepts sel j) b → IsAllowed blocks (set sel at true) at → Permits other (accepts (set sel at true) j) b

@@ -1,4 +1,4 @@
--- A prefix of decisions and the selection that accepts rejected other block.
+-- A prefix of decisions, and the selection that accepts no other block.
 use Rattle.std.proofs.Common.{◌≡◌, ◌≢◌, inl, inr, not, Some, get_or, slice_set, ap₂, ℕ, zero, suc, ◌+◌, ◌-◌, ◌^◌, ◌<◌, ◌≤◌, Bool, true}
 use Rattle.std.proofs.Common.{false, cond, nat_lt, List, [], ◌∷◌, ◌++◌, length, replicate, take, length-append, ap, ◌∙◌, sym, refl, arith}
 use Rattle.std.proofs.Math.ListN.{set}
@@ -104,7 +104,7 @@ read_at [] i a e = absurd (cc)
 read_at (x ∷ xs) zero a e = some_is x a e
 read_at (x ∷ xs) (suc i) a e = read_at xs i a e
 
--- one decision more of those with one turned round
+-- one decision more of those with one reversed
 pub turned_more : (xs done : List Bool) (place own : ℕ) (a b : Bool) → place < length xs → own < length xs → slice_get xs own ≡ Some a
     → (own ≡ place → b ≡ not a) → (own ≢ place → b ≡ a) → done ≡ take own (slice_set xs place (not (get_or xs place false)))
     → done ++ b ∷ [] ≡ take (own + 1) (slice_set xs place (not (get_or xs place false)))

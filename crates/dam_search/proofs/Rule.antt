@@ -352,7 +352,7 @@ joins n id other v w alive s h at apart there =
 
 -- ---- the close
 
--- where the seats of one view are all there are, every other view is spent
+-- if the seats of one view are all there are, every other view is spent
 pub closes : (n : ℕ) (s : State (Unit {0}) View) (i : ℕ) (v : View) → AreWords n s → get_elem? s.views i ≡ some v
     → v.seats + v.seats_left ≡ most_seats → IsClosed n s.words v
 closes n s i v h at all =

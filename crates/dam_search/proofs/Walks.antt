@@ -121,7 +121,7 @@ twice_over n prefix b h = ap (λ (k : ℕ). 2 ^ (k + 1)) (one_less n prefix b h)
     more : (k : ℕ) → suc k + 1 ≡ (k + 1) + 1
     more k = omega arith
 
--- the node and the first of its extensions, where the limit was met
+-- the node and the first of its extensions, at which the limit was met
 pub spends_first : (problem : ProblemState) (prefix : List Bool) (first : Bool) (n told least nodes before after : ℕ) → length prefix < n
     → told ≤ least → reaches (relaxed_welfare problem prefix) least ≡ true
     → Spends problem (prefix ++ first ∷ []) (n - length (prefix ++ first ∷ [])) least nodes (before + 1) after false

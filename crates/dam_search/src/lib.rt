@@ -11,8 +11,8 @@
 //! of acceptances. Only tests show that the number of visited nodes in an answer is the number
 //! visited, and that the incumbent is read at each; which of several unfinished pieces is named;
 //! that the first selection is a good one; that a turnstile is called; that pieces are explored at
-//! the same time, and that one worker reads what another offered; and that memory is reported to
-//! have run out only if it has.
+//! the same time, and that one worker reads what another offered; and that a search reports out of
+//! memory only if memory has run out.
 //!
 //! The crate knows nothing of how prices are found, nor of texts.
 #![tactic(auto)]

@@ -9,15 +9,15 @@ use crate::words::{CLAIM, Draw, INCUMBENT, JoinIn, Offer, Read, Seat, SplitOff, 
 /// A worker's seat at the two words of a search: it draws pieces, and it is the incumbent that the
 /// worker's pieces are pruned by. A contract sees what it knows as `view_of seat`.
 ///
-/// In the program [`search`](crate::search) alone makes seats, as no other crate can: one for each
-/// worker is split off the first one, all are joined into it after their work, and with it the words
-/// are closed. Whoever makes them by hand, as a test does, owes as much: a seat that is dropped in
-/// place of being joined is missing at the close, which asks for all of them. And a seat that drew
-/// past the last piece draws no more.
+/// In the program [`search`](crate::search) alone makes seats, as no other crate can: it splits one
+/// for each worker off the first one, joins all of them into it after their work, and closes the words
+/// with it. Whoever makes them by hand, as a test does, owes as much: a seat that is dropped instead
+/// of joined is missing at the close, which asks for all of them. And a seat that drew past the last
+/// piece draws no more.
 ///
 /// A draw is one `fetch_add`, a read one load and an offer one `fetch_max`, all of them sequentially
-/// consistent. That is enough: the steps on both words so have one order, and the rule of the words
-/// is kept by each step in it. Nothing else goes from thread to thread by the words. The problem and
+/// consistent. That is enough, because the steps on both words then have one order, and each step in
+/// it keeps the rule of the words. The words pass nothing else from thread to thread. The problem and
 /// its bounds were there before the threads began, and a thread's answers are read when it has ended.
 #[derive(Drop)]
 pub struct Shared<'a> {

@@ -196,11 +196,11 @@ pub(crate) fn explore_all<R: Threads + Sync, T: Turnstile + Sync>(
 /// that accepts at the first place where two differ. No plan and no order in which the workers
 /// happen to run changes it.
 ///
-/// A first good selection is found, and its welfare is offered before any worker starts. The cutting
+/// The search first finds a good selection, and offers its welfare before any worker starts. The cutting
 /// decides as many of the first blocks as the plan says, or all of them if there are fewer. The workers,
 /// each on a thread of its own, draw its pieces as they come free, and prune by the greatest welfare
-/// that any of them has found. If a thread can't be made, the calling one does its work.
-/// `Memory` comes first of the faults, then `Collected`, and then `Unfinished`.
+/// that any of them has found. If a thread can't be made, the calling one does its work. Of the faults,
+/// `Memory` comes first, then `Collected`, and then `Unfinished`.
 pub fn search<R: Threads + Sync, T: Turnstile + Sync>(
     rt: &R,
     alloc: Global,

@@ -1,4 +1,4 @@
--- So many seats were split off.
+-- As many seats were split off as the loop has counted.
 use Rattle.std.proofs.Common.{◌≡◌, ◌-◌, ◌≤◌, vec_len, vec_capacity}
 use Rattle.std.specs.List.{All}
 use Rattle.dam_search.specs.declared.shared.Shared.{Shared}

@@ -1,4 +1,4 @@
--- Where the decisions before the last are admitted, the last block alone decides.
+-- If the decisions before the last are admitted, the last block alone decides.
 use Rattle.std.proofs.Common.{◌-◌, List, Bool, subst, sym, ◌∙◌, rules, arith}
 use Rattle.dam_blocks.specs.Selection.{IsAdmissible}
 use Rattle.dam_search.proofs.Prefixes.{prefix_of}

@@ -1,4 +1,4 @@
--- Less than the value by the bound law, where the prefix isn't opened.
+-- If the prefix isn't opened, its completions have less welfare than the value, by the bound law.
 use Rattle.std.proofs.Common.{◌≡◌, ℕ, ◌<◌, ℤ, pos, negsuc, ◌≤ℤ◌, ◌<ℤ◌, Option, Some, List, Bool, false, ◌∙◌, ap, sym, subst, true, rules}
 use Rattle.std.proofs.Common.{arith}
 use Rattle.std.proofs.lemmas.Bool.Decides.{nat_tests}

@@ -1,4 +1,4 @@
--- The decisions so far, with the one at the place turned round.
+-- The decisions so far, with the one at the place reversed.
 use Rattle.std.proofs.Common.{◌≡◌, false, not, take, get_or, slice_set}
 use Rattle.dam_search.proofs.prefix.Prefix.turned.Given as goal
 

@@ -1,4 +1,4 @@
--- One decision more, and where a bound of some of the decisions is under 0.
+-- One decision more; and if a bound of some of the decisions is under 0, so is that of all of them.
 use Rattle.std.proofs.Common.{◌≡◌, ◌+◌, List, Bool, [], ◌∷◌, ◌++◌, take, drop, take-append-drop, ap, ◌∙◌, sym, subst, rules, arith}
 use Rattle.std.proofs.lemmas.Int.{ints}
 use Rattle.dam_bound.specs.Trail.{IsDayIn}

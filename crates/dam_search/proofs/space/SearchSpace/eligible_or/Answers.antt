@@ -1,4 +1,4 @@
--- The day tells the verdict.
+-- The day gives the verdict.
 use Rattle.std.proofs.Common.{◌≡◌, ◌≤◌, ℤ, pos, negsuc, false, nat_abs, List, Bool, length, ◌∙◌, sym, subst, refl, rules, arith}
 use lib.Signed.{lt_z}
 use Rattle.std.proofs.lemmas.Int.{to_z-of_z}
