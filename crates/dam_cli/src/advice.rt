@@ -1,10 +1,20 @@
 //! What a person at a terminal reads in addition to a fault of the input, or to the refusal of words that name a file.
 
+ghost use Rattle.std.specs.Prelude.{◌≡◌, ◌≤◌, ◌↔◌, IfSome, IsSome};
+ghost use Rattle.dam_line.specs.Line.{IsSubcommand};
+ghost use Rattle.dam_results.specs.declared.journal.JournalFault.{JournalFault};
+ghost use Rattle.dam_engines.specs.Fault.{fault_status, input_status};
+ghost use Rattle.dam_cli.specs.Advice.{BeginsWithField, NamesItsField};
+
 use dam_engines::RunFault;
 use dam_results::JournalFault;
 
 /// Which rule the input breaks, and what to do; nothing for a fault that isn't the input's.
-pub fn rule_of(fault: &RunFault) -> Option<&'static str> {
+pub fn rule_of(fault: &RunFault) -> Option<&'static str>
+    ensures input { IsSome result ↔ (fault_status fault.now ≡ 1) }
+    ensures field { (given : JournalFault) → fault.now ≡ RunFault.Input given
+        → IfSome result (λ rule. NamesItsField given rule.now) }
+{
     let rule = match fault {
         RunFault::Input(fault) => return rule_of_journal(*fault),
         RunFault::TooManyCommands => "a day takes 9,999 commands at most",
@@ -23,7 +33,11 @@ pub fn rule_of(fault: &RunFault) -> Option<&'static str> {
     Some(rule)
 }
 
-fn rule_of_journal(fault: JournalFault) -> Option<&'static str> {
+/// The same of a journal's fault.
+fn rule_of_journal(fault: JournalFault) -> Option<&'static str>
+    ensures input { IsSome result ↔ (input_status fault ≡ 1) }
+    ensures field { IfSome result (λ rule. NamesItsField fault rule.now) }
+{
     let rule = match fault {
         JournalFault::TooLong => "a journal has 16,777,216 bytes at most",
         JournalFault::NotAscii(0) => {
@@ -52,7 +66,9 @@ fn rule_of_day(field: usize) -> &'static str {
 }
 
 /// The rule of a field of a command's record.
-fn rule_of_command(field: usize) -> &'static str {
+fn rule_of_command(field: usize) -> &'static str
+    ensures { 1 ≤ field → field ≤ 9 → BeginsWithField field result.now }
+{
     match field {
         1 => "field 1 is what the record is: submit, amend, cancel or close",
         2 => "field 2 is the participant: 1 to 8 capitals; empty in a close",
@@ -74,7 +90,9 @@ fn rule_of_command(field: usize) -> &'static str {
 
 /// The first word after the command that is neither an option nor an option's number, and the command; if that is one
 /// of the three.
-pub fn file_in(words: &[String]) -> Option<(&str, &str)> {
+pub fn file_in(words: &[String]) -> Option<(&str, &str)>
+    ensures { IfSome result (λ found. IsSubcommand found.0.now) }
+{
     let command = words.first()?.as_str();
     if command != "replay" && command != "clear" && command != "day" {
         return None;

@@ -6,19 +6,25 @@
 
 mod advice;
 mod progress;
+mod run;
+
+ghost use Rattle.std.specs.Prelude.{◌≡◌, IfErr};
+ghost use Rattle.std.specs.Process.{exit_status};
+ghost use Rattle.dam_line.specs.declared.line.LineFault.{LineFault};
+ghost use Rattle.dam_engines.specs.Fault.{fault_status};
+ghost use Rattle.dam_cli.specs.Status.{IsLineStatus, run_status};
 
 use advice::{file_in, rule_of};
 use dam_book::Seed;
-use dam_engines::{
-    RunFault, Sink, Source, fault_line, run_clear, run_day, run_replay, status, write_text,
-};
+use dam_engines::{RunFault, Sink, Source, fault_line, status, write_text};
 use dam_line::{Job, LineFault, read_line};
-use dam_search::FreeTurn;
 use progress::Progress;
+use run::run_job;
 use std::alloc::Global;
 use std::env;
 use std::io::{ErrorKind, IsTerminal, Write};
 use std::process::ExitCode;
+use std::sync::Wait;
 
 /// The status of a command line that is refused.
 const REFUSED_LINE: u8 = 2;
@@ -32,39 +38,41 @@ fn main(rt: HostRuntime) -> ExitCode {
     let progress = Progress::new(&rt, rt.stderr().is_terminal());
     let (mut input, mut output) = (Source::new(rt.stdin()), Sink::new(rt.stdout()));
     let seed = Seed::drawn(&rt);
-    let done = match job {
-        Job::Replay => run_replay(rt.alloc(), seed, &mut input, &mut output),
-        Job::Clear(plan) => run_clear(
-            &rt,
-            rt.alloc(),
-            seed,
-            &mut input,
-            &mut output,
-            plan,
-            &progress,
-        ),
-        Job::Day(plan) => run_day(
-            &rt,
-            rt.alloc(),
-            seed,
-            &mut input,
-            &mut output,
-            plan,
-            &progress,
-            &FreeTurn,
-        ),
-    };
+    let done = run_job(
+        &rt,
+        rt.alloc(),
+        seed,
+        job,
+        &mut input,
+        &mut output,
+        &progress,
+    );
+    ended(&rt, &progress, done)
+}
+
+/// The status of a run that ended so. After a fault its line is printed, and else, at a terminal, how many commands
+/// were refused.
+fn ended<R: Wait + Eprint>(
+    rt: &HostRuntime,
+    progress: &Progress<'_, R>,
+    done: Result<(), RunFault>,
+) -> ExitCode
+    ensures { exit_status result ≡ run_status done }
+{
     match done {
         Ok(()) => {
             progress.say_refused();
             ExitCode::SUCCESS
         }
-        Err(fault) => report(&rt, &fault),
+        Err(fault) => report(rt, &fault),
     }
 }
 
 /// The job that the program's words ask for. If they ask for none, they are answered, and this is the status.
-fn job(rt: &HostRuntime) -> Result<Job, ExitCode> {
+fn job(rt: &HostRuntime) -> Result<Job, ExitCode>
+    ensures { IfErr result (λ status.
+        (fault : LineFault) × IsLineStatus fault (exit_status status)) }
+{
     let words = match words(rt) {
         Ok(words) => words,
         Err(fault) => return Err(answer(rt, &fault, &[])),
@@ -110,7 +118,9 @@ fn hint(rt: &HostRuntime) {
 
 /// Prints the fault's line, if there is memory for it, and gives its status. At a terminal a second line says which
 /// rule the input breaks.
-fn report(rt: &HostRuntime, fault: &RunFault) -> ExitCode {
+fn report(rt: &HostRuntime, fault: &RunFault) -> ExitCode
+    ensures { exit_status result ≡ fault_status fault.now }
+{
     if let Ok(line) = fault_line(rt.alloc(), fault) {
         let _ = rt.stderr().write_all(&line);
     }
@@ -123,7 +133,9 @@ fn report(rt: &HostRuntime, fault: &RunFault) -> ExitCode {
 }
 
 /// Answers words that ask for no job: with the help, if they ask for that.
-fn answer(rt: &HostRuntime, fault: &LineFault, words: &[String]) -> ExitCode {
+fn answer(rt: &HostRuntime, fault: &LineFault, words: &[String]) -> ExitCode
+    ensures { IsLineStatus fault.now (exit_status result) }
+{
     match fault {
         LineFault::Refused { help: true, text } => {
             match write_text(&mut Sink::new(rt.stdout()), text.as_bytes()) {
@@ -138,7 +150,9 @@ fn answer(rt: &HostRuntime, fault: &LineFault, words: &[String]) -> ExitCode {
 
 /// Prints why the words are refused. At a terminal, if one of them may be a journal's file, a last line says how it is
 /// read.
-fn refuse(rt: &HostRuntime, text: &str, words: &[String]) -> ExitCode {
+fn refuse(rt: &HostRuntime, text: &str, words: &[String]) -> ExitCode
+    ensures { exit_status result ≡ 2 }
+{
     let _ = eprint!(rt; "command line\n{text}");
     if let Some((command, file)) = file_in(words) {
         if rt.stderr().is_terminal() {

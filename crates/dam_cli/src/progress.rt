@@ -1,7 +1,10 @@
-//! What a person at a terminal is shown of a run, on standard error. Where that is no terminal nothing is printed.
+//! What a person at a terminal is shown of a run, on standard error. If that is no terminal, nothing is printed.
+
+ghost use Rattle.std.specs.Prelude.{◌≡◌, ◌+◌, ◌-◌, ◌^◌, min};
 
 use dam_engines::Watch;
 use dam_search::Turnstile;
+use std::fmt;
 use std::sync::{Mutex, Wait};
 
 /// Takes a terminal to the beginning of the line, and clears it.
@@ -13,6 +16,74 @@ struct Count {
     ended: u32,
     pieces: u32,
     refused: u32,
+}
+
+impl Count {
+    /// Nothing is counted yet.
+    fn new() -> Count
+        ensures { result ≡ record { ended = 0; pieces = 0; refused = 0 } }
+    {
+        Count {
+            ended: 0,
+            pieces: 0,
+            refused: 0,
+        }
+    }
+
+    /// A search of this many pieces begins.
+    fn begin(&mut self, pieces: u32)
+        ensures { self.new ≡ record self.old { ended = 0; pieces = pieces } }
+    {
+        self.ended = 0;
+        self.pieces = pieces;
+    }
+
+    /// One more piece has ended.
+    fn end_piece(&mut self)
+        ensures { self.new ≡ record self.old { ended = min (self.old.ended + 1) (2 ^ 32 - 1) } }
+    {
+        self.ended = self.ended.saturating_add(1);
+    }
+}
+
+/// The line of a search.
+impl fmt::Display for Count {
+    ghost use Rattle.std.specs.Prelude.{Some};
+    ghost use Rattle.dam_cli.specs.Shown.{pieces_text};
+
+    ghost output = { λ count. Some (pieces_text count) };
+
+    fn fmt<W: fmt::Write>(&self, f: &mut fmt::Formatter<W>) -> fmt::Result {
+        write!(
+            f,
+            "dam: {} of {} pieces are searched",
+            self.ended, self.pieces
+        )
+    }
+}
+
+/// How many commands the book refused: at least one.
+#[derive(Drop)]
+struct Refused(u32);
+
+/// The line of refused commands.
+impl fmt::Display for Refused {
+    ghost use Rattle.std.specs.Prelude.{Some};
+    ghost use Rattle.dam_cli.specs.Shown.{refused_text};
+
+    ghost output = { λ refused. Some (refused_text refused.0) };
+
+    fn fmt<W: fmt::Write>(&self, f: &mut fmt::Formatter<W>) -> fmt::Result {
+        let refused = self.0;
+        if refused == 1 {
+            f.write_str("dam: 1 command was refused, which `dam replay` shows")
+        } else {
+            write!(
+                f,
+                "dam: {refused} commands were refused, which `dam replay` shows"
+            )
+        }
+    }
 }
 
 /// Shows at a terminal how many pieces of a search have ended, in one line that is written again as each ends and taken
@@ -30,11 +101,7 @@ impl<'a, R: Wait + Eprint> Progress<'a, R> {
         Progress {
             rt,
             is_shown,
-            count: Mutex::new(Count {
-                ended: 0,
-                pieces: 0,
-                refused: 0,
-            }),
+            count: Mutex::new(Count::new()),
         }
     }
 
@@ -44,23 +111,13 @@ impl<'a, R: Wait + Eprint> Progress<'a, R> {
         if !self.is_shown || refused == 0 {
             return;
         }
-        let (verb, noun) = if refused == 1 {
-            ("was", "command")
-        } else {
-            ("were", "commands")
-        };
-        let _ = eprintln!(self.rt;
-            "dam: {refused} {noun} {verb} refused, which `dam replay` shows"
-        );
+        let _ = eprintln!(self.rt; "{}", Refused(refused));
     }
 
     /// Writes the line again.
     fn show(&self, count: &Count) {
         if self.is_shown {
-            let _ = eprint!(self.rt;
-                "{CLEAR}dam: {} of {} pieces are searched",
-                count.ended, count.pieces
-            );
+            let _ = eprint!(self.rt; "{CLEAR}{count}");
         }
     }
 }
@@ -70,7 +127,7 @@ impl<'a, R: Wait + Eprint> Turnstile for Progress<'a, R> {
 
     fn after(&self, _job: u32) {
         let mut count = self.count.lock(self.rt);
-        count.ended = count.ended.saturating_add(1);
+        count.end_piece();
         self.show(&count);
     }
 }
@@ -82,8 +139,7 @@ impl<'a, R: Wait + Eprint> Watch for Progress<'a, R> {
 
     fn begin(&self, pieces: u32) {
         let mut count = self.count.lock(self.rt);
-        count.ended = 0;
-        count.pieces = pieces;
+        count.begin(pieces);
         self.show(&count);
     }
 

@@ -1,0 +1,13 @@
+-- What a rule that a person reads at a terminal says of the fault.
+use Rattle.std.specs.Prelude.{◌≡◌, ◌≢◌, ◌≤◌, ◌+◌, ℕ, List, ◌∷◌, ◌++◌, take, codes}
+use Rattle.dam_results.specs.declared.journal.JournalFault.{JournalFault}
+use Rattle.dam_results.specs.declared.journal.JournalFault.TheVariants.{BadField}
+
+-- the text begins with the name of this field of a record, whose number has one digit: that is 48 more in ASCII
+abbrev pub BeginsWithField : ℕ → List ℕ → Type 0
+BeginsWithField field text = take 8 text ≡ codes "field " ++ ((48 + field) ∷ codes " ")
+
+-- of a bad field of a command's record, the rule begins with the name of that field
+abbrev pub NamesItsField : JournalFault → List ℕ → Type 0
+NamesItsField (BadField at field) rule = at ≢ 1 → 1 ≤ field → field ≤ 9 → BeginsWithField field rule
+NamesItsField fault rule = Unit {0}

@@ -1,0 +1,4 @@
+pub mod Status
+pub mod Run
+pub mod Advice
+pub mod Shown
