@@ -1,5 +1,5 @@
 ghost use Rattle.std.specs.Prelude.{◌≡◌, ◌+◌, ◌-◌, ◌^◌, ◌<◌, ◌≤◌, ℤ, pos, ◌<ℤ◌, true, false, Some};
-ghost use Rattle.std.specs.Prelude.{ℕ, List, Bool, [], ◌∷◌, ◌++◌, length, slice_get, IsTrue, ◌↔◌, MatchOption};
+ghost use Rattle.std.specs.Prelude.{ℕ, List, Bool, [], ◌∷◌, ◌++◌, length, take, slice_get, IsTrue, ◌↔◌, MatchOption};
 ghost use Rattle.dam_book.specs.Limits.{most_blocks};
 ghost use Rattle.dam_blocks.specs.Problem.{ProblemState};
 ghost use Rattle.dam_blocks.specs.Selection.{choice, padded, IsAdmissible};
@@ -60,7 +60,8 @@ impl Prefix {
 
     /// The decisions of a selection on every block.
     pub(crate) fn of_selection<A: Allocator>(selection: Selection, problem: &Problem<A>) -> Prefix
-        ensures { length result ≡ length problem.now.blocks }
+        ensures value { result ≡ take (length problem.now.blocks) selection }
+        ensures full { length result ≡ length problem.now.blocks }
     {
         let mut prefix = Prefix::of_piece(0, 0);
         for place in 0..problem.block_count() {
