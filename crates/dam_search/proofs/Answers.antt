@@ -29,16 +29,17 @@ is_done false e = absurd (cc)
 
 -- ---- the least answer that isn't done
 
-Behind : PieceAnswer → PieceAnswer → Type 0
-Behind u a = a.done ≡ false → u.piece ≤ a.piece
+-- if the second answer isn't done, it is about no lesser piece than the first
+abbrev IsNoLesser : PieceAnswer → PieceAnswer → Type 0
+IsNoLesser u a = a.done ≡ false → u.piece ≤ a.piece
 
 pub lesser_step : (answers : List PieceAnswer) (a : PieceAnswer) (least : Option PieceAnswer) → IsLeastUnfinished answers least
     → is_lesser a least ≡ true → IsLeastUnfinished (answers ++ a ∷ []) (Some a)
 lesser_step answers a None h e = (
   Contains-push answers a,
   not_done a.done e,
-  All-push (λ (x : PieceAnswer). x.done ≡ false → a.piece ≤ x.piece) answers a
-      (All-weaker (λ (x : PieceAnswer). x.done ≡ true) (λ (x : PieceAnswer). x.done ≡ false → a.piece ≤ x.piece)
+  All-push (IsNoLesser a) answers a
+      (All-weaker (λ (x : PieceAnswer). x.done ≡ true) (IsNoLesser a)
       (λ (x : PieceAnswer) (d : x.done ≡ true) (f : x.done ≡ false). absurd (cc)) answers h)
       (λ f. omega arith),
 )
@@ -47,9 +48,9 @@ lesser_step answers a (Some u) h e =
     let less : a.piece < u.piece = grind (arith, nat_tests, both.1) in (
       Contains-push answers a,
       not_done a.done both.0,
-      All-push (λ (x : PieceAnswer). x.done ≡ false → a.piece ≤ x.piece) answers a
-          (All-weaker (λ (x : PieceAnswer). x.done ≡ false → u.piece ≤ x.piece) (λ (x : PieceAnswer). x.done ≡ false → a.piece ≤ x.piece)
-          (λ (x : PieceAnswer) (b : x.done ≡ false → u.piece ≤ x.piece) (f : x.done ≡ false). (let m = b f in omega (arith, m, less)))
+      All-push (IsNoLesser a) answers a
+          (All-weaker (IsNoLesser u) (IsNoLesser a)
+          (λ (x : PieceAnswer) (b : IsNoLesser u x) (f : x.done ≡ false). (let m = b f in omega (arith, m, less)))
           answers h.2)
           (λ f. omega arith),
     )
@@ -64,13 +65,13 @@ kept_step answers a None h e = All-push (λ (x : PieceAnswer). x.done ≡ true) 
 kept_step answers a (Some u) h e = (
   Contains-append_left answers (a ∷ []) u h.0,
   h.1,
-  All-push (λ (x : PieceAnswer). x.done ≡ false → u.piece ≤ x.piece) answers a h.2
-      (λ f. (let m = behind a.done (nat_lt a.piece u.piece) f e in grind (arith, nat_tests, m))),
+  All-push (IsNoLesser u) answers a h.2
+      (λ f. (let m = not_lesser a.done (nat_lt a.piece u.piece) f e in grind (arith, nat_tests, m))),
 )
   where
-    behind : (b c : Bool) → b ≡ false → (not b && c) ≡ false → c ≡ false
-    behind true c f e = absurd (cc)
-    behind false c f e = e
+    not_lesser : (b c : Bool) → b ≡ false → (not b && c) ≡ false → c ≡ false
+    not_lesser true c f e = absurd (cc)
+    not_lesser false c f e = e
 
 -- ---- the highest that was found
 

@@ -24,6 +24,16 @@ IsSolvable = (problem : ProblemState) → IsProblem problem → (sel : List Bool
 abbrev pub AreChoices : Type 0
 AreChoices = (xs : List Bool) → (k : ℕ) × (k < 2 ^ length xs) × (choice (length xs) k ≡ xs)
 
+-- none of the answers read more than some eligible selection has
+abbrev pub AreReached : ProblemState → List PieceAnswer → Type 0
+AreReached problem answers = All (λ (a : PieceAnswer). IsReached problem a.read) answers
+
+-- one of several sound answers
+sound_one : (problem : ProblemState) (depth : ℕ) (answers : List PieceAnswer) (a : PieceAnswer) → AreAnswered problem depth answers
+    → Contains answers a → IsSoundAnswer problem depth a
+sound_one problem depth answers a are here =
+    All-contains (λ (x : PieceAnswer). IsSoundAnswer problem depth x) answers a are.sound here
+
 -- each selection is a completion of some piece
 pub some_piece : AreChoices → (depth : ℕ) (sel : List Bool) → depth ≤ most_blocks → length sel ≡ most_blocks
     → (k : ℕ) × (k < 2 ^ depth) × IsCompletion (choice depth k) sel
@@ -43,13 +53,13 @@ some_piece choices depth sel few long =
 -- the result is matched by what the answer about its piece found
 pub result_matched : (problem : ProblemState) (depth : ℕ) (answers : List PieceAnswer) (sel : List Bool) (w : ℤ) → AreChoices
     → depth ≤ most_blocks → AreAnswered problem depth answers
-    → All (λ (a : PieceAnswer). IsReached problem a.read) answers → IsResult problem sel w
+    → AreReached problem answers → IsResult problem sel w
     → (a : PieceAnswer) × Contains answers a × IsMatched w sel a.best
 result_matched problem depth answers sel w choices few are reached result =
     let piece = some_piece choices depth sel few result.eligible.as_long in
     let answer = are.each piece.0 piece.1 in
     let a = answer.0 in
-    let sound = All-contains (λ (x : PieceAnswer). IsSoundAnswer problem depth x) answers a are.sound answer.1 in
+    let sound = sound_one problem depth answers a are answer.1 in
     let done = All-contains (λ (x : PieceAnswer). x.done ≡ true) answers a are.done answer.1 in
     let read = All-contains (λ (x : PieceAnswer). IsReached problem x.read) answers a reached answer.1 in
     let here = subst (λ (k : ℕ). IsCompletion (choice depth k) sel) (sym answer.2) piece.2 in
@@ -71,7 +81,7 @@ found_eligible problem prefix best b e h = (subst (λ (o : Option Best). IsFind 
 
 pub collected : (problem : ProblemState) (depth : ℕ) (answers : List PieceAnswer) (b : Best) → IsSolvable → AreChoices → IsTransitive
     → IsProblem problem → depth ≤ length problem.blocks
-    → AreAnswered problem depth answers → All (λ (a : PieceAnswer). IsReached problem a.read) answers → IsHighest answers b
+    → AreAnswered problem depth answers → AreReached problem answers → IsHighest answers b
     → IsResult problem b.selection (pos b.welfare)
 collected problem depth answers b solvable choices through is deep are reached highest =
     let few : depth ≤ most_blocks = omega (arith, deep, is.few_blocks) in
@@ -82,10 +92,10 @@ collected problem depth answers b solvable choices through is deep are reached h
     let c = found.0 in
     let rises = All-contains (λ (x : PieceAnswer). Rises x.best (Some b)) answers answer.0 highest.others answer.1 in
     let c_below = subst (λ (o : Option Best). Rises o (Some b)) found.1 rises in
-    let sound = All-contains (λ (x : PieceAnswer). IsSoundAnswer problem depth x) answers answer.0 are.sound answer.1 in
+    let sound = sound_one problem depth answers answer.0 are answer.1 in
     let c_eligible = found_eligible problem (choice depth answer.0.piece) answer.0.best c found.1 sound.found in
     let top = highest.among in
-    let sound_top = All-contains (λ (x : PieceAnswer). IsSoundAnswer problem depth x) answers top.0 are.sound top.1 in
+    let sound_top = sound_one problem depth answers top.0 are top.1 in
     let eligible = found_eligible problem (choice depth top.0.piece) top.0.best b top.2 sound_top.found in
     let below = through w (pos c.welfare) (pos b.welfare) sel c.selection b.selection result.eligible.as_long c_eligible.as_long
     eligible.as_long found.2 c_below in
@@ -98,7 +108,7 @@ collected problem depth answers b solvable choices through is deep are reached h
 -- something was found
 pub some_found : (problem : ProblemState) (depth : ℕ) (answers : List PieceAnswer) → IsSolvable → AreChoices → IsProblem problem
     → depth ≤ length problem.blocks
-    → AreAnswered problem depth answers → All (λ (a : PieceAnswer). IsReached problem a.read) answers
+    → AreAnswered problem depth answers → AreReached problem answers
     → All (λ (a : PieceAnswer). a.best ≡ None) answers → ⊥
 some_found problem depth answers solvable choices is deep are reached none =
     let few : depth ≤ most_blocks = omega (arith, deep, is.few_blocks) in
@@ -148,7 +158,7 @@ reached_zero problem sel w e h = record { selection = sel; welfare = w; eligible
 
 -- no value read above a value that is reached
 pub all_reached : (problem : ProblemState) (answers : List PieceAnswer) (value : ℕ) → IsReached problem value
-    → All (λ (a : PieceAnswer). a.read ≤ value) answers → All (λ (a : PieceAnswer). IsReached problem a.read) answers
+    → All (λ (a : PieceAnswer). a.read ≤ value) answers → AreReached problem answers
 all_reached problem answers value r all =
     All-weaker (λ (a : PieceAnswer). a.read ≤ value) (λ (a : PieceAnswer). IsReached problem a.read)
     (λ (a : PieceAnswer) (h : a.read ≤ value). reached_less problem value a.read h r) answers all

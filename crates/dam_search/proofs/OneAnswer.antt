@@ -1,5 +1,5 @@
 -- One answer, about the one piece of an uncut search.
-use Rattle.std.proofs.Common.{◌≡◌, ℕ, ◌<◌, ◌≤◌, max, ◌-◌, pos, true, Some, None, List, [], ◌∷◌, length, sym, subst, refl, arith}
+use Rattle.std.proofs.Common.{◌≡◌, ℕ, ◌≤◌, max, ◌-◌, pos, true, Some, [], ◌∷◌, length, sym, subst, refl, arith}
 use Rattle.std.specs.List.{All}
 use Rattle.std.proofs.lemmas.List.Elements.{All-push}
 use Rattle.dam_blocks.specs.declared.selection.Best.{Best}

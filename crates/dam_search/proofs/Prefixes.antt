@@ -64,25 +64,24 @@ length-prefix taken n is few =
     let rest = length-replicate (most_blocks - length (take n taken)) false in
     length-take-le n taken (omega (arith, long, parts, rest))
 
+-- what a prefix's parts are to the list of its decisions
+pub prefix_of : (taken prefix : List Bool) (n : ℕ) → take n taken ≡ prefix → taken ≡ padded (take n taken) → n ≤ most_blocks
+    → (length prefix ≡ n) × (taken ≡ padded prefix)
+prefix_of taken prefix n view is few = (ap (λ (xs : List Bool). length xs) (sym view) ∙ length-prefix taken n is few, is ∙ ap padded view)
+
 -- the selection of the prefix with the next decision
 pub taken_next : (prefix taken next : List Bool) (n : ℕ) (accept : Bool) → take n taken ≡ prefix → taken ≡ padded (take n taken)
     → n ≤ most_blocks → length prefix < most_blocks
     → (accept ≡ true → next ≡ set taken n true) → (accept ≡ false → next ≡ taken) → next ≡ padded (prefix ++ accept ∷ [])
 taken_next prefix taken next n true view is few h accepted rejected =
-    let long : length prefix ≡ n = ap (λ (xs : List Bool). length xs) (sym view) ∙ length-prefix taken n is few in
-    accepted refl ∙ ap (λ (m : ℕ). set taken m true) (sym long) ∙ padded-accepted prefix taken (is ∙ ap padded view) h
+    let own = prefix_of taken prefix n view is few in
+    accepted refl ∙ ap (λ (m : ℕ). set taken m true) (sym own.0) ∙ padded-accepted prefix taken own.1 h
 taken_next prefix taken next n false view is few h accepted rejected = rejected refl ∙ padded-rejected prefix taken (is ∙ ap padded view) h
 
 pub length_next : (prefix taken : List Bool) (n : ℕ) (accept : Bool) → take n taken ≡ prefix → taken ≡ padded (take n taken)
     → n ≤ most_blocks → length (prefix ++ accept ∷ []) ≡ n + 1
 length_next prefix taken n accept view is few =
-    let long : length prefix ≡ n = ap (λ (xs : List Bool). length xs) (sym view) ∙ length-prefix taken n is few in
-    omega (arith, length_more prefix accept, long)
-
--- what a prefix's parts are to the list of its decisions
-pub prefix_of : (taken prefix : List Bool) (n : ℕ) → take n taken ≡ prefix → taken ≡ padded (take n taken) → n ≤ most_blocks
-    → (length prefix ≡ n) × (taken ≡ padded prefix)
-prefix_of taken prefix n view is few = (ap (λ (xs : List Bool). length xs) (sym view) ∙ length-prefix taken n is few, is ∙ ap padded view)
+    let long = (prefix_of taken prefix n view is few).0 in omega (arith, length_more prefix accept, long)
 
 -- ---- a decision
 at_front : (xs ys : List Bool) (i : ℕ) → i < length xs → slice_get xs i ≡ Some (get_or (xs ++ ys) i false)
@@ -109,17 +108,15 @@ pub turned_more : (xs done : List Bool) (place own : ℕ) (a b : Bool) → place
     → (own ≡ place → b ≡ not a) → (own ≢ place → b ≡ a) → done ≡ take own (slice_set xs place (not (get_or xs place false)))
     → done ++ b ∷ [] ≡ take (own + 1) (slice_set xs place (not (get_or xs place false)))
 turned_more xs done place own a b inside less at here apart is =
-    let ys = slice_set xs place (not (get_or xs place false)) in
-    let long = length-set xs place (not (get_or xs place false)) in
+    let other = not (get_or xs place false) in let ys = slice_set xs place other in let long = length-set xs place other in
+    let stays : own ≢ place → get_or ys own false ≡ a = λ ne. get_or-set_other xs place own other false ne ∙ read_at xs own a at in
     ap₂ (λ (zs : List Bool) (c : Bool). zs ++ c ∷ []) is (elim (cases_lt own place) [
-      | inl l ↦ (let other : own ≢ place = omega (arith, l) in apart other
-          ∙ sym (get_or-set_other xs place own (not (get_or xs place false)) false other ∙ read_at xs own a at))
+      | inl l ↦ (let ne : own ≢ place = omega (arith, l) in apart ne ∙ sym (stays ne))
       | inr m ↦ elim (cases_lt place own) [
-        | inl l ↦ (let other : own ≢ place = omega (arith, l) in apart other
-            ∙ sym (get_or-set_other xs place own (not (get_or xs place false)) false other ∙ read_at xs own a at))
+        | inl l ↦ (let ne : own ≢ place = omega (arith, l) in apart ne ∙ sym (stays ne))
         | inr k ↦ (let same : own ≡ place = omega (arith, m, k) in
             here same ∙ ap not (sym (read_at xs own a at) ∙ ap (λ (n : ℕ). get_or xs n false) same)
-            ∙ sym (ap (λ (n : ℕ). get_or ys n false) same ∙ get_or-set_same xs place (not (get_or xs place false)) false inside))
+            ∙ sym (ap (λ (n : ℕ). get_or ys n false) same ∙ get_or-set_same xs place other false inside))
       ]
     ])
     ∙ sym (take_more ys own false (omega (arith, less, long)))

@@ -9,12 +9,23 @@ use Rattle.std.specs.List.{slice_index}
 use Rattle.atomic_table.specs.Table.{State, Me, keeps, step, opening, Allows, Splits, Joins}
 use Rattle.atomic_table.proofs.Lists.{at_set, at_snoc, set_else}
 use Rattle.dam_search.specs.declared.view.View.{View}
-use Rattle.dam_search.specs.Words.{sum_of, times, once_below, most_pieces, most_seats, first_view, spent_view, drawn_after, cut_left}
-use Rattle.dam_search.specs.Words.{cut_right, joined, IsFit, AreWordsOf, AreWords, IsDrawn, IsRead, IsOffered, IsClosed}
+use Rattle.dam_search.specs.Words.{sum_of, greatest, times, once_below, most_pieces, most_seats, first_view, spent_view}
+use Rattle.dam_search.specs.Words.{drawn_after, cut_left, cut_right, joined, IsFit, AreWordsOf, AreWords, IsDrawn, IsRead, IsOffered, IsClosed}
 use Rattle.dam_search.proofs.Sums.{total_set, total_snoc, part_of_total, greatest_set, greatest_snoc, total_less, part_of_greatest}
 use Rattle.dam_search.proofs.Sums.{total_none, greatest_none, placed, times_append}
 
 -- ---- one view changes
+
+-- no view offered more than the greatest offer of all
+no_greater_offer : (views : List View) (i : ℕ) (v : View) → get_elem? views i ≡ some v
+    → v.greatest_offer ≤ greatest (λ (x : View). x.greatest_offer) views
+no_greater_offer views i v at = part_of_greatest (λ (x : View). x.greatest_offer) views i v at
+
+-- the greatest offer of all, if one view changes
+offers_set : (views : List View) (i : ℕ) (v w : View) → get_elem? views i ≡ some v
+    → max (greatest (λ (x : View). x.greatest_offer) (set views i w)) v.greatest_offer
+    ≡ max (greatest (λ (x : View). x.greatest_offer) views) w.greatest_offer
+offers_set views i v w at = greatest_set (λ (x : View). x.greatest_offer) views i v w at
 
 -- a step that changes one view, and with it the words, keeps the rule
 changed : (n claim incumbent claim' incumbent' : ℕ) (views : List View) (i : ℕ) (v w : View) → get_elem? views i ≡ some v
@@ -37,9 +48,8 @@ changed n claim incumbent claim' incumbent' views i v w at h drawn count many fi
       few_seats = (let all = total_set (λ (v : View). v.seats + v.seats_left) views i v w at in let few = h.few_seats in omega
           (arith, all, few, seats));
       greatest_offer =
-          (let all = greatest_set (λ (v : View). v.greatest_offer) views i v w at in let part = part_of_greatest
-          (λ (v : View). v.greatest_offer) views i v at in let before = h.greatest_offer in
-          let after = part_of_greatest (λ (v : View). v.greatest_offer) (set views i w) i w (placed views i v w at) in
+          (let all = offers_set views i v w at in let part = no_greater_offer views i v at in let before = h.greatest_offer in
+          let after = no_greater_offer (set views i w) i w (placed views i v w at) in
           omega (arith, all, part, before, after, rises, offer));
       none_above = λ j u e.
           elim (at_set views i j w u e) [
@@ -131,22 +141,22 @@ draws n slots id me more s h homes at small =
     let as_many = kept.as_many in
     let next : (found + 1) % 2 ^ 64 ≡ found + 1 = mod-eq_of_lt (omega (arith, pasts, counted, as_many, pieces_few)) in
     let fits = kept.fit id me.0 at in
-    let step = drawn_step n found me.0 (fits.told_pieces (omega (arith, more))) in
+    let step = drawn_step n found me.0 (fits.knows_pieces (omega (arith, more))) in
     let seats = step.seats in let left = step.seats_left in let top = step.greatest_offer in let told = step.greatest_read in
     let past = step.draws_past_the_end in
-    let below = part_of_greatest (λ (v : View). v.greatest_offer) s.views id me.0 at in let offers = kept.greatest_offer in
+    let below = no_greater_offer s.views id me.0 at in let offers = kept.greatest_offer in
     let read = kept.none_above id me.0 at in
     let after : AreWordsOf n (found + 1) h.incumbent (set s.views id (drawn_after me.0 found)) =
     changed n found h.incumbent (found + 1) h.incumbent s.views id me.0 (drawn_after me.0 found) at kept step.drawn step.counted step.many
     (record {
       spent = λ z. absurd (omega (arith, z, seats, more));
-      told_pieces = λ z. step.pieces ∙ fits.told_pieces (omega (arith, more));
+      knows_pieces = λ z. step.pieces ∙ fits.knows_pieces (omega (arith, more));
       few_past = omega (arith, past, seats, more);
     }) (omega (arith, seats, left)) (omega (arith, top))
     (omega (arith, below, offers, top)) (omega (arith, told, read)) in
     let long = part_of_total (λ (v : View). length v.drawn) (set s.views id (drawn_after me.0 found)) id (drawn_after me.0 found)
     (placed s.views id me.0 (drawn_after me.0 found) at) in
-    let many = after.as_many in let same = step.pieces ∙ fits.told_pieces (omega (arith, more)) in (
+    let many = after.as_many in let same = step.pieces ∙ fits.knows_pieces (omega (arith, more)) in (
       drawn_after me.0 found,
       keeps,
       tt,
@@ -166,11 +176,11 @@ pub reads : (n slots id : ℕ) (me : Me (Unit {0}) View) → 0 < me.0.seats → 
 reads n slots id me alive s h homes at small =
     let found = slice_index s.words 1 in let is : found ≡ h.incumbent = ap (λ (ws : List ℕ). slice_index ws 1) h.words in
     let kept = h.kept in let fits = kept.fit id me.0 at in let read = kept.none_above id me.0 at in
-    let below = part_of_greatest (λ (v : View). v.greatest_offer) s.views id me.0 at in let offers = kept.greatest_offer in
+    let below = no_greater_offer s.views id me.0 at in let offers = kept.greatest_offer in
     let w : View = record me.0 { greatest_read = found } in
     let after : AreWordsOf n h.claim h.incumbent (set s.views id w) =
     changed n h.claim h.incumbent h.claim h.incumbent s.views id me.0 w at kept (λ x. refl) refl refl
-    (record { spent = λ z. absurd (omega (arith, z, alive)); told_pieces = fits.told_pieces; few_past = fits.few_past })
+    (record { spent = λ z. absurd (omega (arith, z, alive)); knows_pieces = fits.knows_pieces; few_past = fits.few_past })
     (omega arith) (omega arith)
     (omega (arith, below, offers)) (omega (arith, is)) in (
       w,
@@ -191,11 +201,11 @@ pub offers : (n slots id offer : ℕ) (me : Me (Unit {0}) View) → 0 < me.0.sea
 offers n slots id offer me alive s h homes at small =
     let found = slice_index s.words 1 in let is : found ≡ h.incumbent = ap (λ (ws : List ℕ). slice_index ws 1) h.words in
     let kept = h.kept in let fits = kept.fit id me.0 at in let read = kept.none_above id me.0 at in
-    let below = part_of_greatest (λ (v : View). v.greatest_offer) s.views id me.0 at in let greatest_offer = kept.greatest_offer in
+    let below = no_greater_offer s.views id me.0 at in let greatest_offer = kept.greatest_offer in
     let w : View = record me.0 { greatest_offer = max me.0.greatest_offer offer } in
     let after : AreWordsOf n h.claim (max h.incumbent offer) (set s.views id w) =
     changed n h.claim h.incumbent h.claim (max h.incumbent offer) s.views id me.0 w at kept (λ x. refl) refl refl
-    (record { spent = λ z. absurd (omega (arith, z, alive)); told_pieces = fits.told_pieces; few_past = fits.few_past }) (omega arith)
+    (record { spent = λ z. absurd (omega (arith, z, alive)); knows_pieces = fits.knows_pieces; few_past = fits.few_past }) (omega arith)
     (omega arith) (omega (arith, below, greatest_offer)) (omega (arith, read)) in (
       w,
       keeps,
@@ -234,7 +244,7 @@ opens n few = record {
 
     first_fits : (i : ℕ) (v : View) → get_elem? (first_view n ∷ []) i ≡ some v → IsFit n v
     first_fits zero v e = subst (IsFit n) (some-injective (first_view n) v e)
-        (record { spent = λ z. absurd (omega arith); told_pieces = λ z. refl; few_past = omega arith })
+        (record { spent = λ z. absurd (omega arith); knows_pieces = λ z. refl; few_past = omega arith })
     first_fits (suc i) v e = absurd (some-ne-none v (sym e))
 
     first_told : (i : ℕ) (v : View) → get_elem? (first_view n ∷ []) i ≡ some v → v.greatest_read ≤ 0
@@ -249,10 +259,10 @@ splits n id v alive more s h at =
     let as_many = kept.as_many in let counted = kept.counted in let few = kept.few_seats in
     let lengths = sums (λ (v : View). length v.drawn) in let pasts = sums (λ (v : View). v.draws_past_the_end) in
     let seats = sums (λ (v : View). v.seats + v.seats_left) in
-    let tops = greatest_set (λ (v : View). v.greatest_offer) s.views id v l at in
+    let tops = offers_set s.views id v l at in
     let snoc = greatest_snoc (λ (v : View). v.greatest_offer) (set s.views id l) r in
-    let offer = kept.greatest_offer in let below = part_of_greatest (λ (v : View). v.greatest_offer) s.views id v at in
-    let there = part_of_greatest (λ (v : View). v.greatest_offer) (set s.views id l) id l (placed s.views id v l at) in
+    let offer = kept.greatest_offer in let below = no_greater_offer s.views id v at in
+    let there = no_greater_offer (set s.views id l) id l (placed s.views id v l at) in
     record {
       few_pieces = h.few_pieces;
       claim = h.claim;
@@ -267,14 +277,14 @@ splits n id v alive more s h at =
               | inl old ↦ elim (at_set s.views id i l u old) [
                 | inl here ↦ subst (IsFit n) here.1 (record {
                   spent = λ z. absurd (omega (arith, z, alive));
-                  told_pieces = fits.told_pieces;
+                  knows_pieces = fits.knows_pieces;
                   few_past = fits.few_past;
                 })
                 | inr other ↦ kept.fit i u other.1
               ]
               | inr new ↦ subst (IsFit n) new (record {
                 spent = λ z. absurd (omega arith);
-                told_pieces = λ z. fits.told_pieces alive;
+                knows_pieces = λ z. fits.knows_pieces alive;
                 few_past = omega arith;
               })
             ];
@@ -304,11 +314,11 @@ joins n id other v w alive s h at apart there =
     let few_w = fits_w.few_past in
     let lengths = sums (λ (v : View). length v.drawn) in let long = length-append v.drawn w.drawn in
     let pasts = sums (λ (v : View). v.draws_past_the_end) in let seats = sums (λ (v : View). v.seats + v.seats_left) in
-    let first = greatest_set (λ (v : View). v.greatest_offer) s.views id v both at in
-    let second = greatest_set (λ (v : View). v.greatest_offer) (set s.views id both) other w spent_view there in
-    let offer = kept.greatest_offer in let below_v = part_of_greatest (λ (v : View). v.greatest_offer) s.views id v at in
-    let below_w = part_of_greatest (λ (v : View). v.greatest_offer) s.views other w found in
-    let after = part_of_greatest (λ (v : View). v.greatest_offer) (set (set s.views id both) other spent_view) id both
+    let first = offers_set s.views id v both at in
+    let second = offers_set (set s.views id both) other w spent_view there in
+    let offer = kept.greatest_offer in let below_v = no_greater_offer s.views id v at in
+    let below_w = no_greater_offer s.views other w found in
+    let after = no_greater_offer (set (set s.views id both) other spent_view) id both
     (set_else (set s.views id both) other id spent_view (λ e. apart (sym e)) ∙ placed s.views id v both at) in
     record {
       few_pieces = h.few_pieces;
@@ -324,13 +334,13 @@ joins n id other v w alive s h at apart there =
             elim (at_set (set s.views id both) other i spent_view u e) [
               | inl here ↦ subst (IsFit n) here.1 (record {
                 spent = λ z. refl;
-                told_pieces = λ z. absurd (omega arith);
+                knows_pieces = λ z. absurd (omega arith);
                 few_past = omega arith;
               })
               | inr rest ↦ elim (at_set s.views id i both u rest.1) [
                 | inl here ↦ subst (IsFit n) here.1 (record {
                   spent = λ z. absurd (omega (arith, z, alive));
-                  told_pieces = λ z. fits.told_pieces alive;
+                  knows_pieces = λ z. fits.knows_pieces alive;
                   few_past = omega (arith, few_v, few_w);
                 })
                 | inr old ↦ kept.fit i u old.1
@@ -372,7 +382,7 @@ closes n s i v h at all =
     at in omega (arith, none, changes, zero_is)) in
     let lengths = only (λ (v : View). length v.drawn) refl in let pasts = only (λ (v : View). v.draws_past_the_end) refl in
     let tops = greatest_none (λ (v : View). v.greatest_offer) rest (λ j u e. ap (λ (v : View). v.greatest_offer) (spent j u e)) in
-    let top_set = greatest_set (λ (v : View). v.greatest_offer) s.views i v spent_view at in
+    let top_set = offers_set s.views i v spent_view at in
     let as_many = kept.as_many in let counted = kept.counted in let offer = kept.greatest_offer in let told = kept.none_above i v at in
     let top_is : h.incumbent ≡ v.greatest_offer = omega (arith, tops, top_set, offer) in
     record {

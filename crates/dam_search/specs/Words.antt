@@ -104,7 +104,7 @@ standing v = record v { greatest_offer = 0; greatest_read = 0 }
 -- drew past the end more often than the seats in it
 pub record IsFit (pieces : ℕ) (v : View) : Type 0 where
   pub spent : v.seats ≡ 0 → v ≡ spent_view
-  pub told_pieces : 0 < v.seats → v.pieces ≡ pieces
+  pub knows_pieces : 0 < v.seats → v.pieces ≡ pieces
   pub few_past : v.draws_past_the_end ≤ v.seats
 
 -- the two words, and all views

@@ -61,7 +61,7 @@ impl Prefix {
     /// The decisions of a selection on every block.
     pub(crate) fn of_selection<A: Allocator>(selection: Selection, problem: &Problem<A>) -> Prefix
         ensures value { result ≡ take (length problem.now.blocks) selection }
-        ensures long { length result ≡ length problem.now.blocks }
+        ensures full { length result ≡ length problem.now.blocks }
     {
         let mut prefix = Prefix::of_piece(0, 0);
         for place in 0..problem.block_count() {

@@ -1,5 +1,5 @@
 -- The walk over the whole is a worker's work.
-use Rattle.std.proofs.Common.{◌≡◌, ◌≤◌, max, inr, arith}
+use Rattle.std.proofs.Common.{◌≤◌, max, arith}
 use Rattle.dam_search.specs.Piece.{welfare_found}
 use Rattle.dam_search.proofs.Shares.{first_reached}
 use Rattle.dam_search.proofs.OneAnswer.{worked_is}
@@ -14,4 +14,4 @@ concluded-requires-clause-worked c =
     c.offer.ensures.greatest_offer in let none =
     c.new-incumbent.ensures.greatest_offer in omega (arith, told, top, known, offered, none)) in
     worked_is problem first.welfare _ c.args.nodes a walk.piece walk.sound
-    (first_reached problem first c.first_selection-first.ensures) read walk.spent
+    (first_reached problem first c.first_selection-first.ensures.eligible) read walk.spent

@@ -1,7 +1,11 @@
--- What was found so far is eligible.
-use Rattle.std.proofs.Common.{pos}
-use Rattle.dam_blocks.specs.Eligible.{IsEligible}
+-- What was found so far is eligible, and has no less welfare than the empty selection.
+use Rattle.std.proofs.Common.{◌≡◌, ℤ, pos, ◌≤ℤ◌, Some}
+use Rattle.dam_blocks.specs.Selection.{empty_selection}
+use Rattle.dam_blocks.specs.Eligible.{IsEligible, selection_welfare}
 use Rattle.dam_search.proofs.first.first_selection.Given as goal
 
 abbrev pub invariant-loop : goal.invariant-loop
-invariant-loop g l = IsEligible l.problem l.best.selection (pos l.best.welfare)
+invariant-loop g l = record {
+  eligible : IsEligible l.problem l.best.selection (pos l.best.welfare);
+  least : (w : ℤ) → selection_welfare l.problem empty_selection ≡ Some w → w ≤ℤ pos l.best.welfare;
+}

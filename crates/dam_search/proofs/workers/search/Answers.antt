@@ -9,7 +9,7 @@ use Rattle.dam_search.proofs.workers.search.Goals as goal
 
 pub collected-requires-clause-worked : goal.collected-requires-clause-worked
 collected-requires-clause-worked g c =
-    let problem = c.args.problem.now in let reached = first_reached problem c.first_selection.result c.first_selection.ensures in
+    let problem = c.args.problem.now in let reached = first_reached problem c.first_selection.result c.first_selection.ensures.eligible in
     subst (λ (xs : List PieceAnswer). All (λ (a : PieceAnswer). IsWorked problem c.depth.result c.nodes.result a) xs)
     (sym c.deref.ensures.value)
     (all_worked problem c.depth.result c.nodes.result c.first_selection.result.welfare c.in_ok-explored.explored.answers.items reached

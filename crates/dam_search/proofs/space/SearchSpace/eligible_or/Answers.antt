@@ -1,5 +1,5 @@
 -- The day gives the verdict.
-use Rattle.std.proofs.Common.{◌≡◌, ◌≤◌, ℤ, pos, negsuc, false, nat_abs, List, Bool, length, ◌∙◌, sym, subst, refl, rules, arith}
+use Rattle.std.proofs.Common.{◌≡◌, ◌≤◌, inr, ℤ, pos, negsuc, false, nat_abs, List, Bool, length, ◌∙◌, sym, subst, refl, rules, arith}
 use lib.Signed.{lt_z}
 use Rattle.std.proofs.lemmas.Int.{to_z-of_z}
 use mir.Syntax.{w64}
@@ -14,8 +14,8 @@ not_below : (z : ℤ) → lt_z z (pos 0) ≡ false → pos (nat_abs z) ≡ z
 not_below (pos n) h = refl
 not_below (negsuc n) h = absurd (cc)
 
-pub returns : goal.returns
-returns g c =
+pub returns-clause-eligible : goal.returns-clause-eligible
+returns-clause-eligible g c =
     let problem = c.args.self.now.problem.now in let prefix = c.args.prefix.now in
     let full = c.requires.full in let blocks = c.kept.ensures.few_blocks in
     let few : length prefix ≤ most_blocks = omega (arith, full, blocks) in
@@ -31,3 +31,8 @@ returns g c =
     subst (λ (xs : List Bool). IsEligible problem xs (pos (nat_abs (to_z w64 (of_z w64 c.args.day.now.total))))) (sym c.selection.ensures)
     (subst (λ (z : ℤ). IsEligible problem (padded prefix) z) (sym
     (not_below (to_z w64 (of_z w64 c.args.day.now.total)) c.if-day-lt0.false ∙ value)) is)
+
+pub returns-clause-either : goal.returns-clause-either
+returns-clause-either g c =
+    let total = c.args.day.now.total in let fits : SFits w64 total = search rules in
+    inr (not_below (to_z w64 (of_z w64 total)) c.if-day-lt0.false ∙ to_z-of_z w64 total fits)
