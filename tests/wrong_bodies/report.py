@@ -60,7 +60,7 @@ class Report:
                 _, _, path = name.partition("::")
                 endless = ENDLESS.match(words)
                 if endless:
-                    goals.append(f"it may not end: {endless[1]}"[:WIDTH])
+                    goals.append(f"no goal, but a loop without a measure: {endless[1]}"[:WIDTH])
                 if words.startswith("not proved") and path in wrong:
                     goals.append(wrong[path])
                 if goals and not words.startswith("proved"):

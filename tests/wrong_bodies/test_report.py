@@ -71,7 +71,7 @@ class Reports(unittest.TestCase):
     def test_a_loop_that_may_not_end_is_a_refusal(self):
         line = "fn toy::waits: no proof: expected a measure in ./proofs/waits/Invariants.antt\nlogic=not-proved\n"
         self.assertEqual([*Report(line).refusals()], ["toy::waits"])
-        self.assertTrue(Report(line).refusals()["toy::waits"].startswith("it may not end: expected a measure"))
+        self.assertTrue(Report(line).refusals()["toy::waits"].startswith("no goal, but a loop without a measure: expected a measure"))
 
     def test_nothing_is_refused_of_a_proved_crate(self):
         self.assertEqual(Report(PROVED).refusals(), {})

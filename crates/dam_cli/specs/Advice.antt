@@ -1,9 +1,9 @@
--- What a rule that a person reads at a terminal says of the fault.
+-- What the rule that a person reads at a terminal says about the fault.
 use Rattle.std.specs.Prelude.{◌≡◌, ◌≢◌, ◌≤◌, ◌+◌, ℕ, List, ◌∷◌, ◌++◌, take, codes}
 use Rattle.dam_results.specs.declared.journal.JournalFault.{JournalFault}
 use Rattle.dam_results.specs.declared.journal.JournalFault.TheVariants.{BadField}
 
--- the text begins with the name of this field of a record, whose number has one digit: that is 48 more in ASCII
+-- the text begins with the name of this field of a record: that is `field n `, with n of one digit, whose byte is 48 + n
 abbrev pub BeginsWithField : ℕ → List ℕ → Type 0
 BeginsWithField field text = take 8 text ≡ codes "field " ++ ((48 + field) ∷ codes " ")
 

@@ -8,9 +8,8 @@ mod advice;
 mod progress;
 mod run;
 
-ghost use Rattle.std.specs.Prelude.{◌≡◌, IfErr};
+ghost use Rattle.std.specs.Prelude.{◌≡◌};
 ghost use Rattle.std.specs.Process.{exit_status};
-ghost use Rattle.dam_line.specs.declared.line.LineFault.{LineFault};
 ghost use Rattle.dam_engines.specs.Fault.{fault_status};
 ghost use Rattle.dam_cli.specs.Status.{IsLineStatus, run_status};
 
@@ -50,7 +49,7 @@ fn main(rt: HostRuntime) -> ExitCode {
     ended(&rt, &progress, done)
 }
 
-/// The status of a run that ended so. After a fault its line is printed, and else, at a terminal, how many commands
+/// The status of a run that ended so. After a fault its line is printed; otherwise, at a terminal, how many commands
 /// were refused.
 fn ended<R: Wait + Eprint>(
     rt: &HostRuntime,
@@ -69,10 +68,7 @@ fn ended<R: Wait + Eprint>(
 }
 
 /// The job that the program's words ask for. If they ask for none, they are answered, and this is the status.
-fn job(rt: &HostRuntime) -> Result<Job, ExitCode>
-    ensures { IfErr result (λ status.
-        (fault : LineFault) × IsLineStatus fault (exit_status status)) }
-{
+fn job(rt: &HostRuntime) -> Result<Job, ExitCode> {
     let words = match words(rt) {
         Ok(words) => words,
         Err(fault) => return Err(answer(rt, &fault, &[])),

@@ -22,8 +22,8 @@ pub record SinkState (W : Type 0) : Type 0 where
   pub failed : Bool
   pub flushed : Bool
 
--- how often a run asks a reader at most: once for each byte that it has, and once more, which shows that it has no other; and never
--- more often than bytes are read at most
+-- how often a run asks a reader at most: if it shows its bytes, once for each, and once more, which shows that there is no other; and
+-- never more often than bytes are read at most
 abbrev pub most_asked : Option (List ℕ) → ℕ
 most_asked None = most_read
 most_asked (Some bytes) = min (length bytes + 1) most_read

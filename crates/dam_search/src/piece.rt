@@ -1,10 +1,7 @@
 ghost use Rattle.std.specs.Prelude.{◌≡◌, ◌⊎◌, ◌+◌, ◌-◌, ◌^◌, ◌<◌, ◌≤◌, max, ℤ, pos, ◌<ℤ◌, ◌≤ℤ◌, true, false, Some, None};
-ghost use Rattle.std.specs.Prelude.{Option, List, Bool, [], ◌∷◌, ◌++◌, length, IsTrue, ◌↔◌, MatchBool, MatchOption, IfSome, IfNone};
+ghost use Rattle.std.specs.Prelude.{Option, [], ◌∷◌, ◌++◌, length, IsTrue, ◌↔◌, MatchBool, IfSome, IfNone};
 ghost use Rattle.dam_blocks.specs.Selection.{choice, padded, IsAdmissible};
-ghost use Rattle.dam_blocks.specs.Eligible.{IsEligible};
-ghost use Rattle.dam_bound.specs.Prefix.{IsCompletion};
-ghost use Rattle.dam_bound.specs.Relaxed.{relaxed_welfare, without_rows};
-ghost use Rattle.dam_bound.specs.Day.{IsUnder};
+ghost use Rattle.dam_bound.specs.Relaxed.{without_rows};
 ghost use Rattle.dam_bound.specs.Trail.{IsDayIn, KeepsDays};
 ghost use Rattle.dam_search.specs.Piece.{IsFind, IsMatched, Rises, welfare_found, IsSound, IsSpent};
 ghost use Rattle.dam_search.specs.inside.Walk.{IsBoundIn, Finds, Covers, IsGoing, IsWalked};
