@@ -8,7 +8,11 @@ receipt, both packed, and whole in the journal. The input is freed before the co
 made once. A settlement is compared with a plain pass that compares each receipt with its entry. An hour finds the end of the best execution
 by one bisection over the buys' own limits, with one over the sells inside, and then both ends of the price by two look-ups among the sells.
 The levels keep an hour for each depth and period, since a bound is read off them; in memory that is fresh, its pages cost more than the
-work."""
+work.
+
+A day of `dam` takes as many instructions as one of the baseline (116 and 118 million), but writes 2.5 MiB more: the whole entries of the
+journal, and the orders of two books. That is 690 more page faults, 3 of the 7 ms between the two, and a third more misses of the last
+cache. In several runs on a quiet machine, its processor time was 1.16 to 1.27 times the baseline's."""
 
 import statistics
 import sys
