@@ -18,3 +18,5 @@ pub mod Magnitude
 pub mod Joining
 pub mod Extension
 pub mod Answering
+pub mod Fairness
+pub mod Reordering

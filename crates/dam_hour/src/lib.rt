@@ -25,6 +25,7 @@ mod execution;
 mod hour;
 mod ladder;
 pub mod laws;
+pub mod market;
 mod step;
 mod volumes;
 

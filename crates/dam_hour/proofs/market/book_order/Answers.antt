@@ -1,0 +1,9 @@
+-- Each execution of the one list has its counterpart of the other.
+use Rattle.dam_hour.proofs.Reordering.{same_welfare, same_ends}
+use Rattle.dam_hour.proofs.market.book_order.Goals as goal
+
+pub returns-clause-welfare : goal.returns-clause-welfare
+returns-clause-welfare c = same_welfare
+
+pub returns-clause-ends : goal.returns-clause-ends
+returns-clause-ends c = same_ends
