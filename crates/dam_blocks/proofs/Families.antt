@@ -295,7 +295,7 @@ next_link blocks m n i p o one apart is =
     ∙ ap (λ (x : Bool). x || leads_to m blocks i (parent_place blocks p)) (unequal p i apart))
 
 -- which places of the selection pass the test
-accepts_where : (p : ℕ → Bool) (t : ℕ) (sel : List Bool) (i : ℕ) → accepts (accepted_where p t sel) i ≡ (accepts sel i && p (t + i))
+pub accepts_where : (p : ℕ → Bool) (t : ℕ) (sel : List Bool) (i : ℕ) → accepts (accepted_where p t sel) i ≡ (accepts sel i && p (t + i))
 accepts_where p t [] i = refl
 accepts_where p t (a ∷ sel) zero = ap (λ (m : ℕ). a && p m) (sym (first_place t))
 accepts_where p t (a ∷ sel) (suc i) = accepts_where p (suc t) sel i ∙ ap (λ (m : ℕ). accepts sel i && p m) (sym (next_place t i))

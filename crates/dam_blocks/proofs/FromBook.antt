@@ -256,7 +256,7 @@ pub get_seam : (xs ys : List Block) (b : Block) → slice_get (xs ++ b ∷ ys) (
 get_seam [] ys b = refl
 get_seam (x ∷ xs) ys b = get_seam xs ys b
 
-blocks-append : (front rs : List Row) → blocks_in (front ++ rs) ≡ blocks_in front ++ blocks_in rs
+pub blocks-append : (front rs : List Row) → blocks_in (front ++ rs) ≡ blocks_in front ++ blocks_in rs
 blocks-append front rs = filter_map-append (λ (r : Row). block_under r.0.0 r.0.1 r.1) front rs
 
 parent_before : (front : List Row) (k : Key) (o : BlockTerms) (rest : List Row) (name : List ℕ)

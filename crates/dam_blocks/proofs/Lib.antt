@@ -20,3 +20,5 @@ pub mod Fronts
 pub mod ResultExists
 pub mod Hindering
 pub mod BestSelection
+pub mod Sharing
+pub mod Participants

@@ -51,7 +51,7 @@ over_accepted-replicate f [] n = refl
 over_accepted-replicate f (b ∷ bs) zero = refl
 over_accepted-replicate f (b ∷ bs) (suc n) = over_accepted-replicate f bs n
 
-over_accepted-nil : (f : BlockTerms → ℤ) (bs : List Block) → over_accepted f bs [] ≡ pos 0
+pub over_accepted-nil : (f : BlockTerms → ℤ) (bs : List Block) → over_accepted f bs [] ≡ pos 0
 over_accepted-nil f [] = refl
 over_accepted-nil f (b ∷ bs) = refl
 

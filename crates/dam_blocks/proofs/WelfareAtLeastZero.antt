@@ -120,7 +120,7 @@ parent_stands_before problem j p is e =
     let less = kept.lesser in omega (arith, same, less)
 
 -- among the blocks of a problem a parent stands before its child, and an admissible selection accepts it too
-are_chains : (problem : ProblemState) (sel : List Bool) → IsProblem problem → IsAdmissible problem.blocks sel → AreChains problem.blocks sel
+pub are_chains : (problem : ProblemState) (sel : List Bool) → IsProblem problem → IsAdmissible problem.blocks sel → AreChains problem.blocks sel
 are_chains problem sel is admissible = record {
   before = λ j p e. parent_stands_before problem j p is e;
   with_parent = λ j p acc e. (let found = parent_found problem.blocks j p e in

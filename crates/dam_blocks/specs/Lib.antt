@@ -5,4 +5,5 @@ pub mod Eligible
 pub mod Magnitude
 pub mod Score
 pub mod Result
+pub mod Market
 pub mod inside

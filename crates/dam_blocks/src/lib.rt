@@ -28,6 +28,7 @@ mod gain;
 mod hindrances;
 pub mod laws;
 mod links;
+pub mod market;
 mod problem;
 mod result;
 mod rows;

@@ -1,0 +1,60 @@
+//! What the auction promises to those who trade in it, each promise the contract of a function that does
+//! nothing but cite the laws that it rests on.
+
+ghost use Rattle.std.specs.Prelude.{◌≡◌, ℕ, ℤ, pos, ◌+ℤ◌, ◌≤ℤ◌, Bool, Some, List, length};
+ghost use Rattle.dam_book.specs.declared.order.Side.TheVariants.{Buy, Sell};
+ghost use Rattle.dam_hour.specs.declared.step.Step.{Step};
+ghost use Rattle.dam_hour.specs.Best.{IsBest};
+ghost use Rattle.dam_blocks.specs.declared.problem.Block.{Block};
+ghost use Rattle.dam_blocks.specs.declared.problem.Place.TheVariants.{Hour as AtHour};
+ghost use Rattle.dam_blocks.specs.Problem.{ProblemState, IsProblem};
+ghost use Rattle.dam_blocks.specs.Selection.{net_volume};
+ghost use Rattle.dam_blocks.specs.Eligible.{selection_welfare, IsEligible};
+ghost use Rattle.dam_blocks.specs.Market.{AreBestExecutions, IsOutcome, traded, money_from, hourly_surplus, accepted_surplus, gain_of, over_orders_of};
+
+/// Welfare is shared out: the welfare of a selection is what all hourly orders and the accepted blocks
+/// gain at its prices. Other prices would share out the same sum in another way.
+pub fn welfare_is_shared_out()
+    ensures shared { (problem : ProblemState) (selection : List Bool) (prices : List ℤ)
+        (executions : List (List ℕ)) → IsOutcome problem selection prices executions
+        → selection_welfare problem selection ≡ Some (hourly_surplus prices problem.hours executions
+        +ℤ accepted_surplus prices problem.blocks selection) }
+    ensures any_prices { (problem : ProblemState) (selection : List Bool) (prices : List ℤ)
+        (executions : List (List ℕ)) → length prices ≡ length problem.hours
+        → AreBestExecutions problem.blocks selection 1 problem.hours executions
+        → selection_welfare problem selection ≡ Some (hourly_surplus prices problem.hours executions
+        +ℤ accepted_surplus prices problem.blocks selection) }
+{
+    dam_hour::laws::welfare();
+    dam_hour::laws::surplus();
+}
+
+/// Money balances: in each period, the hourly orders and the accepted blocks together buy as much as they
+/// sell. So, at the period's one price, buyers pay what sellers receive, in each period and over the day.
+pub fn money_balances()
+    ensures volume { (blocks : List Block) (selection : List Bool) (t : ℕ) (steps : List Step)
+        (volumes : List ℕ) → IsBest steps (net_volume blocks selection t) volumes
+        → traded Buy blocks selection t steps volumes ≡ traded Sell blocks selection t steps volumes }
+    ensures money { (problem : ProblemState) (selection : List Bool) (prices : List ℤ)
+        (executions : List (List ℕ)) → IsOutcome problem selection prices executions
+        → money_from Buy problem.blocks selection 1 prices problem.hours executions
+        ≡ money_from Sell problem.blocks selection 1 prices problem.hours executions }
+{}
+
+/// Nobody loses: no hourly order has a surplus below 0, and what all orders of a participant gain
+/// together, hourly ones and accepted blocks, is at least 0.
+///
+/// A single block may lose if its descendants make up for it. They are its participant's: a block and its
+/// parent have one owner.
+pub fn nobody_loses()
+    ensures order { (problem : ProblemState) (selection : List Bool) (prices : List ℤ)
+        (executions : List (List ℕ)) (t i : ℕ) → IsOutcome problem selection prices executions
+        → pos 0 ≤ℤ gain_of problem selection prices executions (AtHour t i) }
+    ensures participant { (problem : ProblemState) (selection : List Bool) (welfare : ℤ)
+        (prices : List ℤ) (executions : List (List ℕ)) (who : List ℕ) → IsProblem problem
+        → IsEligible problem selection welfare → IsOutcome problem selection prices executions
+        → pos 0 ≤ℤ over_orders_of who (gain_of problem selection prices executions) problem.rows }
+{
+    dam_hour::laws::support();
+    dam_hour::laws::surplus();
+}
