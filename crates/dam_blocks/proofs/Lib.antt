@@ -22,3 +22,6 @@ pub mod Hindering
 pub mod BestSelection
 pub mod Sharing
 pub mod Participants
+pub mod Transfer
+pub mod Withdrawing
+pub mod Repricing

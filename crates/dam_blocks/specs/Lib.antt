@@ -6,4 +6,5 @@ pub mod Magnitude
 pub mod Score
 pub mod Result
 pub mod Market
+pub mod Changes
 pub mod inside

@@ -1,16 +1,19 @@
 //! What the auction promises to those who trade in it, each promise the contract of a function that does
 //! nothing but cite the laws that it rests on.
 
-ghost use Rattle.std.specs.Prelude.{◌≡◌, ℕ, ℤ, pos, ◌+ℤ◌, ◌≤ℤ◌, Bool, Some, List, length};
+ghost use Rattle.std.specs.Prelude.{◌≡◌, ℕ, ℤ, pos, ◌+ℤ◌, ◌≤ℤ◌, Bool, true, false, Some, List, length};
 ghost use Rattle.dam_book.specs.declared.order.Side.TheVariants.{Buy, Sell};
 ghost use Rattle.dam_hour.specs.declared.step.Step.{Step};
+ghost use Rattle.dam_hour.specs.Price.{IsBetter, IsWorse};
 ghost use Rattle.dam_hour.specs.Best.{IsBest};
 ghost use Rattle.dam_blocks.specs.declared.problem.Block.{Block};
 ghost use Rattle.dam_blocks.specs.declared.problem.Place.TheVariants.{Hour as AtHour};
 ghost use Rattle.dam_blocks.specs.Problem.{ProblemState, IsProblem};
-ghost use Rattle.dam_blocks.specs.Selection.{net_volume};
+ghost use Rattle.dam_blocks.specs.Selection.{accepts, net_volume};
 ghost use Rattle.dam_blocks.specs.Eligible.{selection_welfare, IsEligible};
+ghost use Rattle.dam_blocks.specs.Result.{IsResult};
 ghost use Rattle.dam_blocks.specs.Market.{AreBestExecutions, IsOutcome, traded, money_from, hourly_surplus, accepted_surplus, gain_of, over_orders_of};
+ghost use Rattle.dam_blocks.specs.Changes.{without_place, IsWithoutBlock, IsWithLimit};
 
 /// Welfare is shared out: the welfare of a selection is what all hourly orders and the accepted blocks
 /// gain at its prices. Other prices would share out the same sum in another way.
@@ -58,3 +61,59 @@ pub fn nobody_loses()
     dam_hour::laws::support();
     dam_hour::laws::surplus();
 }
+
+/// More blocks, no less welfare: if a book has a block more, wherever it stands, the welfare of the result
+/// is at least as great.
+pub fn a_block_more()
+    ensures { (problem other : ProblemState) (place : ℕ) (block : Block)
+        (selection fewer : List Bool) (welfare less : ℤ) → IsProblem problem → IsProblem other
+        → IsWithoutBlock problem other place block
+        → IsResult problem selection welfare → IsResult other fewer less → less ≤ℤ welfare }
+{}
+
+/// A rejected block may as well not be there: without it, the result is the same selection without its
+/// place, with the same welfare, prices and executions.
+///
+/// A block that has children can't leave a book alone, so that then there is no such other problem.
+pub fn a_rejected_block_withdrawn()
+    ensures result { (problem other : ProblemState) (place : ℕ) (block : Block)
+        (selection : List Bool) (welfare : ℤ) → IsProblem problem → IsProblem other
+        → IsWithoutBlock problem other place block → IsResult problem selection welfare
+        → accepts selection place ≡ false
+        → IsResult other (without_place selection place) welfare }
+    ensures outcome { (problem other : ProblemState) (place : ℕ) (block : Block)
+        (selection : List Bool) (welfare : ℤ) (prices : List ℤ) (executions : List (List ℕ))
+        → IsProblem problem → IsWithoutBlock problem other place block
+        → IsEligible problem selection welfare → IsOutcome problem selection prices executions
+        → accepts selection place ≡ false
+        → IsOutcome other (without_place selection place) prices executions }
+{}
+
+/// A better limit keeps a block: if the result accepts a block, then with a better limit and everything
+/// else the same, the result accepts it too.
+///
+/// Better is higher for a block that buys and lower for one that sells. No price depends on a block's limit
+/// (`outcome`). So there is a worst limit at which a block is accepted, or none.
+pub fn a_better_limit_keeps_a_block()
+    ensures accepted { (problem other : ProblemState) (place : ℕ) (block : Block) (limit : ℤ)
+        (selection changed : List Bool) (welfare after : ℤ)
+        → IsWithLimit problem other place block limit
+        → IsBetter block.order.side limit block.order.price
+        → IsResult problem selection welfare → accepts selection place ≡ true
+        → IsResult other changed after → accepts changed place ≡ true }
+    ensures outcome { (problem other : ProblemState) (place : ℕ) (block : Block) (limit : ℤ)
+        (selection : List Bool) (prices : List ℤ) (executions : List (List ℕ))
+        → IsWithLimit problem other place block limit
+        → IsOutcome problem selection prices executions → IsOutcome other selection prices executions }
+{}
+
+/// A rejected block that asks for worse changes nothing: if the result rejects a block, then with a worse
+/// limit the result is the same selection with the same welfare, and so are its prices and executions
+/// (`outcome` of `a_better_limit_keeps_a_block`, which is of any limit).
+pub fn a_rejected_block_that_asks_for_worse()
+    ensures { (problem other : ProblemState) (place : ℕ) (block : Block) (limit : ℤ)
+        (selection : List Bool) (welfare : ℤ) → IsWithLimit problem other place block limit
+        → IsWorse block.order.side limit block.order.price
+        → IsResult problem selection welfare → accepts selection place ≡ false
+        → IsResult other selection welfare }
+{}

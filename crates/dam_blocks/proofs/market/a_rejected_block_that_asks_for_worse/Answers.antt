@@ -1,0 +1,6 @@
+-- With the worse limit, what accepts the block has less welfare, and the rest is the same.
+use Rattle.dam_blocks.proofs.Repricing.{unchanged}
+use Rattle.dam_blocks.proofs.market.a_rejected_block_that_asks_for_worse.Goals as goal
+
+pub returns : goal.returns
+returns c = unchanged
