@@ -25,3 +25,5 @@ pub mod Participants
 pub mod Transfer
 pub mod Withdrawing
 pub mod Repricing
+pub mod HourlyOrder
+pub mod WorstLimit

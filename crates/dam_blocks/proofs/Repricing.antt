@@ -31,13 +31,20 @@ use Rattle.dam_blocks.proofs.Transfer.{prices_transfer, executions_transfer, wel
 
 -- ---- the block and its fellows
 -- the block with that limit
-abbrev limited : Block → ℤ → Block
+abbrev pub limited : Block → ℤ → Block
 limited b limit = record { who = b.who; name = b.name; order = record b.order { price = limit } }
 
-length-with_limit : (bs : List Block) (i : ℕ) (limit : ℤ) → length (with_limit bs i limit) ≡ length bs
+pub length-with_limit : (bs : List Block) (i : ℕ) (limit : ℤ) → length (with_limit bs i limit) ≡ length bs
 length-with_limit [] i limit = refl
 length-with_limit (b ∷ bs) zero limit = refl
 length-with_limit (b ∷ bs) (suc i) limit = ap suc (length-with_limit bs i limit)
+
+-- of two limits in turn the second stays
+pub limit_again : (bs : List Block) (i : ℕ) (first second : ℤ)
+    → with_limit (with_limit bs i first) i second ≡ with_limit bs i second
+limit_again [] i first second = refl
+limit_again (b ∷ bs) zero first second = refl
+limit_again (b ∷ bs) (suc i) first second = ap (λ (cs : List Block). b ∷ cs) (limit_again bs i first second)
 
 limit_back : (bs : List Block) (i : ℕ) (b : Block) (limit : ℤ) → slice_get bs i ≡ Some b
     → with_limit (with_limit bs i limit) i b.order.price ≡ bs
@@ -46,7 +53,7 @@ limit_back (c ∷ bs) zero b limit at =
     let same : c ≡ b = cc in ap (λ (d : Block). limited c d.order.price ∷ bs) (sym same)
 limit_back (c ∷ bs) (suc i) b limit at = ap (λ (cs : List Block). c ∷ cs) (limit_back bs i b limit at)
 
-get_limited : (bs : List Block) (i : ℕ) (b : Block) (limit : ℤ) → slice_get bs i ≡ Some b
+pub get_limited : (bs : List Block) (i : ℕ) (b : Block) (limit : ℤ) → slice_get bs i ≡ Some b
     → slice_get (with_limit bs i limit) i ≡ Some (limited b limit)
 get_limited [] i b limit at = absurd (cc)
 get_limited (c ∷ bs) zero b limit at = let same : c ≡ b = cc in ap (λ (d : Block). Some (limited d limit)) same

@@ -98,7 +98,7 @@ tried_itself : (problem : ProblemState) (sel : List Bool) (v w : ℤ) → IsElig
 tried_itself problem sel v w e f =
     subst (λ (u : ℤ). RanksAtOrBelow u sel w sel) (one_welfare problem sel w v f e) (ranks_self w sel)
 
-abbrev FindsBest : ProblemState → ℕ → ℕ → Type 0
+abbrev pub FindsBest : ProblemState → ℕ → ℕ → Type 0
 FindsBest problem count number = (sel : List Bool) × (w : ℤ) × IsBestSoFar problem count number sel w
 
 -- an eligible one more
@@ -131,7 +131,7 @@ another_tried problem count number (no fails) found = (
       (λ u h. absurd (fails (u, h))),
 )
 
-best_so_far : (problem : ProblemState) (count : ℕ) → IsAnEligible problem empty_selection
+pub best_so_far : (problem : ProblemState) (count : ℕ) → IsAnEligible problem empty_selection
     → ((k : ℕ) → Dec (IsAnEligible problem (padded (choice count k))))
     → (number : ℕ) → FindsBest problem count number
 best_so_far problem count empty decided zero = (empty_selection, empty.0, none_tried problem count empty_selection empty.0 empty.1)
@@ -140,7 +140,7 @@ best_so_far problem count empty decided (suc number) =
     subst (FindsBest problem count) next
     (another_tried problem count number (decided number) (best_so_far problem count empty decided number))
 
-length-padded : (count k : ℕ) → count ≤ most_blocks → length (padded (choice count k)) ≡ most_blocks
+pub length-padded : (count k : ℕ) → count ≤ most_blocks → length (padded (choice count k)) ≡ most_blocks
 length-padded count k few =
     let rest = replicate (most_blocks - length (choice count k)) false in
     omega (

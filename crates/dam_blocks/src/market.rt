@@ -1,7 +1,7 @@
 //! What the auction promises to those who trade in it, each promise the contract of a function that does
 //! nothing but cite the laws that it rests on.
 
-ghost use Rattle.std.specs.Prelude.{◌≡◌, ℕ, ℤ, pos, ◌+ℤ◌, ◌≤ℤ◌, Bool, true, false, Some, List, length};
+ghost use Rattle.std.specs.Prelude.{◌≡◌, ℕ, ℤ, pos, ◌+ℤ◌, ◌≤ℤ◌, ◌⊎◌, Bool, true, false, Some, List, length, slice_get};
 ghost use Rattle.dam_book.specs.declared.order.Side.TheVariants.{Buy, Sell};
 ghost use Rattle.dam_hour.specs.declared.step.Step.{Step};
 ghost use Rattle.dam_hour.specs.Price.{IsBetter, IsWorse};
@@ -10,10 +10,10 @@ ghost use Rattle.dam_blocks.specs.declared.problem.Block.{Block};
 ghost use Rattle.dam_blocks.specs.declared.problem.Place.TheVariants.{Hour as AtHour};
 ghost use Rattle.dam_blocks.specs.Problem.{ProblemState, IsProblem};
 ghost use Rattle.dam_blocks.specs.Selection.{accepts, net_volume};
-ghost use Rattle.dam_blocks.specs.Eligible.{selection_welfare, IsEligible};
+ghost use Rattle.dam_blocks.specs.Eligible.{ArePrices, selection_welfare, IsEligible};
 ghost use Rattle.dam_blocks.specs.Result.{IsResult};
 ghost use Rattle.dam_blocks.specs.Market.{AreBestExecutions, IsOutcome, traded, money_from, hourly_surplus, accepted_surplus, gain_of, over_orders_of};
-ghost use Rattle.dam_blocks.specs.Changes.{without_place, IsWithoutBlock, IsWithLimit};
+ghost use Rattle.dam_blocks.specs.Changes.{without_place, IsWithoutBlock, IsWithLimit, IsNeverAccepted, IsWorstLimit, IsReordered};
 
 /// Welfare is shared out: the welfare of a selection is what all hourly orders and the accepted blocks
 /// gain at its prices. Other prices would share out the same sum in another way.
@@ -93,7 +93,8 @@ pub fn a_rejected_block_withdrawn()
 /// else the same, the result accepts it too.
 ///
 /// Better is higher for a block that buys and lower for one that sells. No price depends on a block's limit
-/// (`outcome`). So there is a worst limit at which a block is accepted, or none.
+/// (`outcome`). So among the limits of the range there is a worst one at which a block is accepted, or none
+/// at all.
 pub fn a_better_limit_keeps_a_block()
     ensures accepted { (problem other : ProblemState) (place : ℕ) (block : Block) (limit : ℤ)
         (selection changed : List Bool) (welfare after : ℤ)
@@ -105,7 +106,14 @@ pub fn a_better_limit_keeps_a_block()
         (selection : List Bool) (prices : List ℤ) (executions : List (List ℕ))
         → IsWithLimit problem other place block limit
         → IsOutcome problem selection prices executions → IsOutcome other selection prices executions }
-{}
+    ensures worst { (problem : ProblemState) (place : ℕ) (block : Block) → IsProblem problem
+        → slice_get problem.blocks place ≡ Some block → IsNeverAccepted problem place
+        ⊎ ((limit : ℤ) × IsWorstLimit problem place block.order.side limit) }
+{
+    dam_hour::laws::balance();
+    dam_hour::laws::existence();
+    dam_hour::laws::welfare();
+}
 
 /// A rejected block that asks for worse changes nothing: if the result rejects a block, then with a worse
 /// limit the result is the same selection with the same welfare, and so are its prices and executions
@@ -117,3 +125,17 @@ pub fn a_rejected_block_that_asks_for_worse()
         → IsResult problem selection welfare → accepts selection place ≡ false
         → IsResult other selection welfare }
 {}
+
+/// Book order decides ties alone, for hourly orders: in whatever order those of a period stand, the prices
+/// of each selection are the same, and so are the result and its welfare.
+pub fn book_order_of_hourly_orders()
+    ensures prices { (problem other : ProblemState) (selection : List Bool) (prices : List ℤ)
+        → IsReordered problem other
+        → ArePrices problem.blocks selection 1 problem.hours prices
+        → ArePrices other.blocks selection 1 other.hours prices }
+    ensures result { (problem other : ProblemState) (selection : List Bool) (welfare : ℤ)
+        → IsReordered problem other
+        → IsResult problem selection welfare → IsResult other selection welfare }
+{
+    dam_hour::market::book_order();
+}

@@ -1,9 +1,11 @@
--- The better limit raises what accepts the block, and nothing else.
+-- The better limit raises what accepts the block, and nothing else; at each limit there is a result.
+use Rattle.dam_blocks.proofs.EmptySelection.{ExistenceLaws}
 use Rattle.dam_blocks.proofs.Repricing.{kept, same_outcome}
+use Rattle.dam_blocks.proofs.WorstLimit.{worst_limit}
 use Rattle.dam_blocks.proofs.market.a_better_limit_keeps_a_block.Goals as goal
 
-pub returns-clause-accepted : goal.returns-clause-accepted
-returns-clause-accepted c = kept
-
-pub returns-clause-outcome : goal.returns-clause-outcome
-returns-clause-outcome c = same_outcome
+pub returns : goal.returns
+returns c =
+    let laws : ExistenceLaws =
+    record { ends = c.existence.ensures.ends; best = c.existence.ensures.best; welfare = c.welfare.ensures.best } in
+    record { accepted = kept; outcome = same_outcome; worst = worst_limit laws c.balance.ensures.within }
