@@ -27,3 +27,5 @@ pub mod Withdrawing
 pub mod Repricing
 pub mod HourlyOrder
 pub mod WorstLimit
+pub mod Exchanges
+pub mod BlockOrder

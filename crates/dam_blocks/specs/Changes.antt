@@ -7,6 +7,7 @@ use Rattle.dam_hour.specs.declared.step.Step.{Step}
 use Rattle.dam_blocks.specs.declared.problem.Block.{Block}
 use Rattle.dam_blocks.specs.Problem.{ProblemState}
 use Rattle.dam_blocks.specs.Selection.{accepts}
+use Rattle.dam_blocks.specs.Eligible.{ArePrices, IsEligible}
 use Rattle.dam_blocks.specs.Result.{IsResult}
 
 -- the selection without the place; a place is added at the end, which is rejected
@@ -65,3 +66,22 @@ AreReordered (steps ∷ hours) [] = ⊥
 pub record IsReordered (problem other : ProblemState) : Type 0 where
   pub hours : AreReordered problem.hours other.hours
   pub blocks : other.blocks ≡ problem.blocks
+
+-- the other problem has the same hourly orders and the same blocks, perhaps in another order
+pub record HasBlocksReordered (problem other : ProblemState) : Type 0 where
+  pub hours : other.hours ≡ problem.hours
+  pub blocks : IsPermutation problem.blocks other.blocks
+
+-- the two selections accept the same of the blocks that stand in both lists
+abbrev pub AcceptTheSame : List Block → List Block → List Bool → List Bool → Type 0
+AcceptTheSame blocks others selection counterpart =
+    (i j : ℕ) (block : Block) → slice_get blocks i ≡ Some block → slice_get others j ≡ Some block
+    → accepts selection i ≡ accepts counterpart j
+
+-- the other problem's selection of the same blocks: it has the same prices, and is eligible with this welfare
+pub record IsCounterpart (problem other : ProblemState) (selection counterpart : List Bool)
+    (welfare : ℤ) : Type 0 where
+  pub same : AcceptTheSame problem.blocks other.blocks selection counterpart
+  pub prices : (prices : List ℤ) → ArePrices problem.blocks selection 1 problem.hours prices
+      → ArePrices other.blocks counterpart 1 other.hours prices
+  pub eligible : IsEligible other counterpart welfare

@@ -13,7 +13,7 @@ ghost use Rattle.dam_blocks.specs.Selection.{accepts, net_volume};
 ghost use Rattle.dam_blocks.specs.Eligible.{ArePrices, selection_welfare, IsEligible};
 ghost use Rattle.dam_blocks.specs.Result.{IsResult};
 ghost use Rattle.dam_blocks.specs.Market.{AreBestExecutions, IsOutcome, traded, money_from, hourly_surplus, accepted_surplus, gain_of, over_orders_of};
-ghost use Rattle.dam_blocks.specs.Changes.{without_place, IsWithoutBlock, IsWithLimit, IsNeverAccepted, IsWorstLimit, IsReordered};
+ghost use Rattle.dam_blocks.specs.Changes.{without_place, IsWithoutBlock, IsWithLimit, IsNeverAccepted, IsWorstLimit, IsReordered, HasBlocksReordered, IsCounterpart};
 
 /// Welfare is shared out: the welfare of a selection is what all hourly orders and the accepted blocks
 /// gain at its prices. Other prices would share out the same sum in another way.
@@ -139,3 +139,16 @@ pub fn book_order_of_hourly_orders()
 {
     dam_hour::market::book_order();
 }
+
+/// Book order decides ties alone, for blocks: in whatever order they stand, parents before their children,
+/// each eligible selection has its counterpart, which accepts the same blocks at the same prices with the
+/// same welfare. So the welfare of the result is the same.
+pub fn book_order_of_blocks()
+    ensures selections { (problem other : ProblemState) (selection : List Bool) (welfare : ℤ)
+        → IsProblem problem → IsProblem other → HasBlocksReordered problem other
+        → IsEligible problem selection welfare
+        → (counterpart : List Bool) × IsCounterpart problem other selection counterpart welfare }
+    ensures welfare { (problem other : ProblemState) (selection result : List Bool) (v w : ℤ)
+        → IsProblem problem → IsProblem other → HasBlocksReordered problem other
+        → IsResult problem selection v → IsResult other result w → v ≡ w }
+{}
