@@ -158,12 +158,12 @@ one_more f d (c ∷ bs) t (suc k) (a ∷ sel) b apart acc at =
     omega (arith, ints, moved, with_it, without, same)
 
 -- ---- the block without a parent that a chain ends at
-abbrev root_from : ℕ → List Block → ℕ → Option ℕ → ℕ
+abbrev pub root_from : ℕ → List Block → ℕ → Option ℕ → ℕ
 root_from n blocks j None = j
 root_from zero blocks j (Some p) = j
 root_from (suc n) blocks j (Some p) = root_from n blocks p (parent_place blocks p)
 
-abbrev root : List Block → ℕ → ℕ
+abbrev pub root : List Block → ℕ → ℕ
 root blocks j = root_from (length blocks) blocks j (parent_place blocks j)
 
 -- parents stand before their children, and are accepted with them
@@ -173,11 +173,11 @@ pub record AreChains (blocks : List Block) (sel : List Bool) : Type 0 where
   pub within : (j : ℕ) → accepts sel j ≡ true → (b : Block) × (slice_get blocks j ≡ Some b)
 
 -- an accepted place with no parent
-record IsTop (blocks : List Block) (sel : List Bool) (r : ℕ) : Type 0 where
-  accepted : accepts sel r ≡ true
-  top : parent_place blocks r ≡ None
+pub record IsTop (blocks : List Block) (sel : List Bool) (r : ℕ) : Type 0 where
+  pub accepted : accepts sel r ≡ true
+  pub top : parent_place blocks r ≡ None
 
-root_is_top : (blocks : List Block) (sel : List Bool) (n j : ℕ) (o : Option ℕ) → AreChains blocks sel → parent_place blocks j ≡ o
+pub root_is_top : (blocks : List Block) (sel : List Bool) (n j : ℕ) (o : Option ℕ) → AreChains blocks sel → parent_place blocks j ≡ o
     → accepts sel j ≡ true → ((p : ℕ) → o ≡ Some p → p < n) → IsTop blocks sel (root_from n blocks j o) × (root_from n blocks j o ≤ j)
 root_is_top blocks sel n j None chains e acc l = (record { accepted = acc; top = e }, omega arith)
 root_is_top blocks sel zero j (Some p) chains e acc l = absurd (let wrong = l p refl in omega (arith, wrong))
@@ -212,7 +212,7 @@ leads_to_its_root blocks sel r (suc n) j p chains top l =
     (λ q e. (let below = chains.before p q e in leads_to_its_root blocks sel r n p q chains top (omega (arith, l, below))))
 
 -- what stands in the family of a block without a parent
-in_family : (blocks : List Block) (sel : List Bool) (r j : ℕ) (o : Option ℕ) → AreChains blocks sel → parent_place blocks r ≡ None
+pub in_family : (blocks : List Block) (sel : List Bool) (r j : ℕ) (o : Option ℕ) → AreChains blocks sel → parent_place blocks r ≡ None
     → parent_place blocks j ≡ o → j < length blocks
     → (root_from (length blocks) blocks j o == r) ≡ ((j == r) || leads_to (length blocks) blocks r o)
 in_family blocks sel r j None chains top e l = sym (or_false (j == r))

@@ -73,12 +73,12 @@ length_step false s ss = omega arith
 abbrev one_if : Bool → ℕ
 one_if b = cond b 1 0
 
-steps_apart : (t : ℕ) (k : Key) (o : HourTerms) (rs : List Row) → (o.period == t) ≡ false
+pub steps_apart : (t : ℕ) (k : Key) (o : HourTerms) (rs : List Row) → (o.period == t) ≡ false
     → length (steps_in t ((k, Hour o) ∷ rs)) ≡ length (steps_in t rs)
 steps_apart t k o rs e = let l = length_step (o.period == t) (hourly_step o) (steps_in t rs) in
     let c = ap one_if e in omega (arith, l, c)
 
-steps_same : (t : ℕ) (k : Key) (o : HourTerms) (rs : List Row) → (o.period == t) ≡ true
+pub steps_same : (t : ℕ) (k : Key) (o : HourTerms) (rs : List Row) → (o.period == t) ≡ true
     → length (steps_in t ((k, Hour o) ∷ rs)) ≡ 1 + length (steps_in t rs)
 steps_same t k o rs e = let l = length_step (o.period == t) (hourly_step o) (steps_in t rs) in
     let c = ap one_if e in omega (arith, l, c)

@@ -29,3 +29,5 @@ pub mod HourlyOrder
 pub mod WorstLimit
 pub mod Exchanges
 pub mod BlockOrder
+pub mod Orders
+pub mod Heads

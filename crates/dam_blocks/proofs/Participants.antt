@@ -200,12 +200,12 @@ blocks_gain problem sel who prices is admissible none =
     (no_loss_of_mine problem sel who prices is admissible none)
 
 -- ---- row by row
-abbrev where_true : Bool → ℤ → ℤ
+abbrev pub where_true : Bool → ℤ → ℤ
 where_true true x = x
 where_true false x = pos 0
 
 -- the sum over the accepted ones, the list of blocks beginning at place n
-abbrev by_place : (BlockTerms → ℤ) → List Bool → ℕ → List Block → ℤ
+abbrev pub by_place : (BlockTerms → ℤ) → List Bool → ℕ → List Block → ℤ
 by_place f xs n [] = pos 0
 by_place f xs n (b ∷ bs) = where_true (accepts xs n) (f b.order) +ℤ by_place f xs (suc n) bs
 
@@ -218,7 +218,7 @@ by_place-later : (f : BlockTerms → ℤ) (x : Bool) (xs : List Bool) (n : ℕ) 
 by_place-later f x xs n [] = refl
 by_place-later f x xs n (b ∷ bs) = ap (λ (z : ℤ). where_true (accepts xs n) (f b.order) +ℤ z) (by_place-later f x xs (suc n) bs)
 
-by_place-all : (f : BlockTerms → ℤ) (bs : List Block) (xs : List Bool) → over_accepted f bs xs ≡ by_place f xs 0 bs
+pub by_place-all : (f : BlockTerms → ℤ) (bs : List Block) (xs : List Bool) → over_accepted f bs xs ≡ by_place f xs 0 bs
 by_place-all f [] xs = refl
 by_place-all f (b ∷ bs) [] = sym (by_place-none f 0 (b ∷ bs))
 by_place-all f (b ∷ bs) (true ∷ xs) =
@@ -238,12 +238,12 @@ own_part true x h = h
 own_part false x h = omega (arith, ints)
 
 -- the places of the rows agree with the problem's blocks
-abbrev StandFrom : ProblemState → List Row → List Row → Type 0
+abbrev pub StandFrom : ProblemState → List Row → List Row → Type 0
 StandFrom problem front rest = (k : ℕ) (b : Block) → slice_get (blocks_in rest) k ≡ Some b
     → slice_get problem.blocks (length (blocks_in front) + k) ≡ Some b
 
 -- .. with one row more in front
-stand_later : (problem : ProblemState) (front rest : List Row) (r : Row) → blocks_in (r ∷ rest) ≡ blocks_in rest
+pub stand_later : (problem : ProblemState) (front rest : List Row) (r : Row) → blocks_in (r ∷ rest) ≡ blocks_in rest
     → length (blocks_in (front ++ r ∷ [])) ≡ length (blocks_in front) → StandFrom problem front (r ∷ rest)
     → StandFrom problem (front ++ r ∷ []) rest
 stand_later problem front rest r none long stand k b at =

@@ -1,6 +1,6 @@
 -- The outcome of a selection: its prices and executions, what is traded and paid, and what each order and each participant
 -- gains.
-use Rattle.std.specs.Prelude.{ℕ, zero, suc, ◌-◌, ℤ, pos, ◌+ℤ◌, ◌*ℤ◌, Bool, if◌then◌else◌, List, [], ◌∷◌}
+use Rattle.std.specs.Prelude.{◌≡◌, ℕ, zero, suc, ◌-◌, ℤ, pos, ◌+ℤ◌, ◌*ℤ◌, Bool, true, ◌||◌, ◌==◌, None, if◌then◌else◌, List, [], ◌∷◌}
 use Rattle.dam_book.specs.Name.{same_text}
 use Rattle.dam_book.specs.Terms.{BlockTerms}
 use Rattle.dam_book.specs.declared.order.Side.{Side}
@@ -14,6 +14,7 @@ use Rattle.dam_blocks.specs.declared.problem.Place.TheVariants.{Hour as AtHour, 
 use Rattle.dam_blocks.specs.declared.problem.ProblemRow.{ProblemRow}
 use Rattle.dam_blocks.specs.Problem.{ProblemState}
 use Rattle.dam_blocks.specs.Selection.{accepts, volume_in, over_accepted, net_volume}
+use Rattle.dam_blocks.specs.Family.{parent_place, descends}
 use Rattle.dam_blocks.specs.Eligible.{ArePrices, surplus_of, surplus_at}
 
 -- each list of volumes is the best execution of its period under the selection, from period t on
@@ -87,3 +88,14 @@ abbrev pub over_orders_of : List ℕ → (Place → ℤ) → List ProblemRow →
 over_orders_of who gain [] = pos 0
 over_orders_of who gain (row ∷ rows) =
     (if same_text row.who who then gain row.at else pos 0) +ℤ over_orders_of who gain rows
+
+-- the sum over all orders of the book
+abbrev pub over_orders : (Place → ℤ) → List ProblemRow → ℤ
+over_orders gain [] = pos 0
+over_orders gain (row ∷ rows) = gain row.at +ℤ over_orders gain rows
+
+-- the block at place i is accepted and has no parent, and the one at place j is that block or descends from it
+pub record IsHead (blocks : List Block) (selection : List Bool) (i j : ℕ) : Type 0 where
+  pub accepted : accepts selection i ≡ true
+  pub no_parent : parent_place blocks i ≡ None
+  pub family : ((j == i) || descends blocks i j) ≡ true

@@ -9,14 +9,16 @@ ghost use Rattle.dam_hour.specs.Best.{IsBest};
 ghost use Rattle.dam_blocks.specs.declared.problem.Block.{Block};
 ghost use Rattle.dam_blocks.specs.declared.problem.Place.TheVariants.{Hour as AtHour};
 ghost use Rattle.dam_blocks.specs.Problem.{ProblemState, IsProblem};
-ghost use Rattle.dam_blocks.specs.Selection.{accepts, net_volume};
+ghost use Rattle.dam_blocks.specs.Selection.{accepts, net_volume, IsAdmissible};
+ghost use Rattle.dam_blocks.specs.Family.{descends};
 ghost use Rattle.dam_blocks.specs.Eligible.{ArePrices, selection_welfare, IsEligible};
 ghost use Rattle.dam_blocks.specs.Result.{IsResult};
-ghost use Rattle.dam_blocks.specs.Market.{AreBestExecutions, IsOutcome, traded, money_from, hourly_surplus, accepted_surplus, gain_of, over_orders_of};
+ghost use Rattle.dam_blocks.specs.Market.{AreBestExecutions, IsOutcome, traded, money_from, hourly_surplus, accepted_surplus, gain_of, over_orders_of, over_orders, IsHead};
 ghost use Rattle.dam_blocks.specs.Changes.{without_place, IsWithoutBlock, IsWithLimit, IsNeverAccepted, IsWorstLimit, IsReordered, HasBlocksReordered, IsCounterpart};
 
 /// Welfare is shared out: the welfare of a selection is what all hourly orders and the accepted blocks
-/// gain at its prices. Other prices would share out the same sum in another way.
+/// gain at its prices, also summed order by order over the book (`orders`). Other prices would share out
+/// the same sum in another way.
 pub fn welfare_is_shared_out()
     ensures shared { (problem : ProblemState) (selection : List Bool) (prices : List ℤ)
         (executions : List (List ℕ)) → IsOutcome problem selection prices executions
@@ -27,6 +29,10 @@ pub fn welfare_is_shared_out()
         → AreBestExecutions problem.blocks selection 1 problem.hours executions
         → selection_welfare problem selection ≡ Some (hourly_surplus prices problem.hours executions
         +ℤ accepted_surplus prices problem.blocks selection) }
+    ensures orders { (problem : ProblemState) (selection : List Bool) (prices : List ℤ)
+        (executions : List (List ℕ)) → IsProblem problem → IsOutcome problem selection prices executions
+        → selection_welfare problem selection
+        ≡ Some (over_orders (gain_of problem selection prices executions) problem.rows) }
 {
     dam_hour::laws::welfare();
     dam_hour::laws::surplus();
@@ -47,8 +53,9 @@ pub fn money_balances()
 /// Nobody loses: no hourly order has a surplus below 0, and what all orders of a participant gain
 /// together, hourly ones and accepted blocks, is at least 0.
 ///
-/// A single block may lose if its descendants make up for it. They are its participant's: a block and its
-/// parent have one owner.
+/// A single block may lose if its descendants make up for it. Each accepted block stands in the family of
+/// just one accepted block without a parent (`head`), and the blocks of a family are one participant's
+/// (`owner`).
 pub fn nobody_loses()
     ensures order { (problem : ProblemState) (selection : List Bool) (prices : List ℤ)
         (executions : List (List ℕ)) (t i : ℕ) → IsOutcome problem selection prices executions
@@ -57,6 +64,13 @@ pub fn nobody_loses()
         (prices : List ℤ) (executions : List (List ℕ)) (who : List ℕ) → IsProblem problem
         → IsEligible problem selection welfare → IsOutcome problem selection prices executions
         → pos 0 ≤ℤ over_orders_of who (gain_of problem selection prices executions) problem.rows }
+    ensures head { (problem : ProblemState) (selection : List Bool) (j : ℕ) → IsProblem problem
+        → IsAdmissible problem.blocks selection → accepts selection j ≡ true
+        → (i : ℕ) × IsHead problem.blocks selection i j
+        × ((k : ℕ) → IsHead problem.blocks selection k j → k ≡ i) }
+    ensures owner { (problem : ProblemState) (i j : ℕ) (a b : Block) → IsProblem problem
+        → slice_get problem.blocks i ≡ Some a → slice_get problem.blocks j ≡ Some b
+        → descends problem.blocks i j ≡ true → a.who ≡ b.who }
 {
     dam_hour::laws::support();
     dam_hour::laws::surplus();

@@ -1,8 +1,14 @@
 -- No hourly order loses at the price, and a participant's accepted blocks make up whole families.
 use Rattle.dam_blocks.proofs.Participants.{GainLaws, order_at_least_zero, participant_gains}
+use Rattle.dam_blocks.proofs.Heads.{one_head, family_owner}
 use Rattle.dam_blocks.proofs.market.nobody_loses.Goals as goal
 
 pub returns : goal.returns
 returns c =
     let laws : GainLaws = record { support = c.support.ensures; at_least_zero = c.surplus.ensures.at_least_zero } in
-    record { order = order_at_least_zero laws; participant = participant_gains laws }
+    record {
+      order = order_at_least_zero laws;
+      participant = participant_gains laws;
+      head = one_head;
+      owner = family_owner;
+    }

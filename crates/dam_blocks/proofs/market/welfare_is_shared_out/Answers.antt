@@ -1,5 +1,6 @@
 -- Period by period, the price of the net volume cancels.
 use Rattle.dam_blocks.proofs.Sharing.{SharingLaws, shared, length_prices}
+use Rattle.dam_blocks.proofs.Orders.{shared_by_orders}
 use Rattle.dam_blocks.proofs.market.welfare_is_shared_out.Goals as goal
 
 pub returns : goal.returns
@@ -10,4 +11,5 @@ returns c =
           shared laws problem selection prices executions
           (length_prices problem.blocks selection 1 problem.hours prices is.prices_are) is.executions_are;
       any_prices = λ problem selection prices executions long are. shared laws problem selection prices executions long are;
+      orders = shared_by_orders laws;
     }

@@ -1,0 +1,104 @@
+"""Closed books of orders, drawn at random, and the changes of them that the laws of the market speak of."""
+
+import sys
+from pathlib import Path
+from typing import NamedTuple
+
+TESTS = Path(__file__).resolve().parents[1]
+sys.path[:0] = [str(TESTS), str(TESTS / "fuzz")]
+
+import shared  # by which `lib` is found
+import days
+from lib import book, journal, rules
+from lib.journal import Close, Journal, Order, Submit
+
+MOST_BLOCKS = 8
+
+
+class Row(NamedTuple):
+    who: str
+    name: str
+    order: Order
+
+    @property
+    def key(self):
+        return self.who, self.name
+
+    @property
+    def is_block(self):
+        return self.order.kind == "block"
+
+
+class Book(NamedTuple):
+    periods: int
+    rows: tuple  # in book order
+
+    @property
+    def hourly(self):
+        return [row for row in self.rows if not row.is_block]
+
+    @property
+    def blocks(self):
+        return [row for row in self.rows if row.is_block]
+
+    def journal(self):
+        """The journal that submits the rows in their order, and closes the book."""
+        submits = [Submit(row.who, row.name, row.order) for row in self.rows]
+        return journal.journal_text(Journal(self.periods, [*submits, Close()])).encode()
+
+    def children(self, row):
+        return [other for other in self.blocks if (other.who, other.order.parent) == row.key]
+
+    def with_limit(self, row, limit):
+        """The book with another limit for a row."""
+        return self.changed(lambda other: other._replace(order=other.order._replace(price=limit)) if other == row else other)
+
+    def changed(self, change):
+        return self._replace(rows=tuple(change(row) for row in self.rows))
+
+    def without(self, row):
+        return self._replace(rows=tuple(other for other in self.rows if other != row))
+
+    def hourly_shuffled(self, rng):
+        """The book with its hourly orders in another order, at the places of hourly orders."""
+        others = iter(rng.sample(self.hourly, len(self.hourly)))
+        return self.changed(lambda row: row if row.is_block else next(others))
+
+    def blocks_shuffled(self, rng):
+        """The book with its blocks in another order, parents before their children, at the places of blocks."""
+        left, placed = rng.sample(self.blocks, len(self.blocks)), []
+        while left:
+            free = [row for row in left if not any((row.who, row.order.parent) == other.key for other in left)]
+            placed.append(free[0])
+            left.remove(free[0])
+        others = iter(placed)
+        return self.changed(lambda row: next(others) if row.is_block else row)
+
+
+def draw(rng):
+    """A closed book, with blocks, links and groups more often than not, and prices and volumes that meet or tie."""
+    draft = days.Draft(rng)
+    if rng.random() < 0.5:
+        draft.periods = rng.choice([24, 96])
+    if rng.random() < 0.5:
+        draft.meet()
+    days.mixed(draft, draft.hourly, rng.randint(1, MOST_BLOCKS))
+    read = journal.read_journal("".join(f"{line}\n" for line in draft.lines).encode())
+    run, _ = book.run(read)
+    return Book(run.periods, tuple(Row(who, name, order) for (who, name), order in run.rows.items()))
+
+
+def better_limit(rng, order):
+    """A limit that is better than the order's own: higher for a buy, lower for a sell. None if there is none."""
+    return moved(rng, order, 1 if order.side == "buy" else -1)
+
+
+def worse_limit(rng, order):
+    return moved(rng, order, -1 if order.side == "buy" else 1)
+
+
+def moved(rng, order, sign):
+    """A limit in that direction, often near; None if the order's own is at the end of the range."""
+    end = rules.GREATEST_PRICE if sign > 0 else rules.LEAST_PRICE
+    room = abs(end - order.price)
+    return order.price + sign * rng.randint(1, min(room, rng.choice([1, 300, 450_000]))) if room else None

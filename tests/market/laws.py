@@ -1,0 +1,211 @@
+"""The laws of the market, each run on a book: what the program prints for the book and for a change of it is compared with the law's
+conclusion. docs/MARKET.md says each law in words, and names the function whose contract states it."""
+
+from typing import NamedTuple
+
+import books
+
+
+class Printed(NamedTuple):
+    """What the program printed for a book."""
+
+    welfare: int
+    prices: list  # by period, from 1
+    volumes: list
+    orders: dict  # by participant and name: an executed volume, or a pair of whether the block is accepted and its surplus
+
+    def lines_but(self, key):
+        """All of it but the line of one order."""
+        return self._replace(orders={other: value for other, value in self.orders.items() if other != key})
+
+    def accepts(self, row):
+        return self.orders[row.key][0]
+
+    def accepted(self, book):
+        return {row.key for row in book.blocks if self.accepts(row)}
+
+
+class Refused(Exception):
+    """The program printed no results."""
+
+
+def read(text):
+    lines = [line.split(",") for line in text.decode().splitlines()]
+    periods = [line for line in lines if line[0] == "period"]
+    orders = {}
+    for kind, who, name, *values in (line for line in lines if line[0] in ("hour", "block")):
+        orders[who, name] = int(values[0]) if kind == "hour" else (values[0] == "accepted", int(values[1]))
+    (welfare,) = (int(line[1]) for line in lines if line[0] == "welfare")
+    return Printed(welfare, [int(line[2]) for line in periods], [int(line[3]) for line in periods], orders)
+
+
+class Market:
+    """The program, and what it printed for the books so far."""
+
+    def __init__(self, program):
+        self.program, self.kept = program, {}
+
+    def results(self, book):
+        if book not in self.kept:
+            printed = self.program.printed(["clear"], book.journal())
+            if printed.status:
+                raise Refused(printed.stderr.decode())
+            self.kept[book] = read(printed.stdout)
+        return self.kept[book]
+
+
+def side(order, amount):
+    return amount if order.side == "buy" else -amount
+
+
+def surplus(row, printed):
+    """What an order gains: an hourly one by its executed volume, a block if it is accepted, by its limit, volumes and the prices."""
+    if row.is_block:
+        volumes = row.order.volumes if printed.accepts(row) else ()
+    else:
+        volumes = [(row.order.volumes[0][0], printed.orders[row.key])]
+    return sum(side(row.order, (row.order.price - printed.prices[period - 1]) * volume) for period, volume in volumes)
+
+
+def traded(book, printed):
+    """The volume that each side trades in each period: of hourly orders and of accepted blocks."""
+    volumes = {"buy": [0] * book.periods, "sell": [0] * book.periods}
+    for row in book.rows:
+        if row.is_block:
+            own = row.order.volumes if printed.accepts(row) else ()
+        else:
+            own = [(row.order.volumes[0][0], printed.orders[row.key])]
+        for period, volume in own:
+            volumes[row.order.side][period - 1] += volume
+    return volumes
+
+
+# Each law takes the market, a book and what draws its change, and yields what is wrong, if anything is.
+
+
+def welfare_is_shared_out(market, book, _):
+    printed = market.results(book)
+    shares = sum(surplus(row, printed) for row in book.rows)
+    if shares != printed.welfare:
+        yield f"the welfare is {printed.welfare}, and the surpluses add up to {shares}"
+    for row in book.blocks:
+        if printed.accepts(row) and surplus(row, printed) != printed.orders[row.key][1]:
+            yield f"block {row.name} has another surplus"
+
+
+def money_balances(market, book, _):
+    printed = market.results(book)
+    volumes = traded(book, printed)
+    if volumes["buy"] != volumes["sell"] or volumes["buy"] != printed.volumes:
+        yield "buyers and sellers trade different volumes, or the published ones are others"
+
+
+def nobody_loses(market, book, _):
+    printed = market.results(book)
+    gains = {}
+    for row in book.rows:
+        gain = surplus(row, printed)
+        gains[row.who] = gains.get(row.who, 0) + gain
+        if gain < 0 and not row.is_block:
+            yield f"the hourly order {row.name} loses"
+    yield from (f"participant {who} loses" for who, gain in gains.items() if gain < 0)
+
+
+def fair_in_a_period(market, book, _):
+    printed = market.results(book)
+    seen = {}
+    for row in book.hourly:
+        ((period, volume),) = row.order.volumes
+        margin = side(row.order, row.order.price - printed.prices[period - 1])
+        executed = printed.orders[row.key]
+        if margin > 0 and executed != volume or margin < 0 and executed:
+            yield f"the hourly order {row.name} is better than the price and cut, or worse and executed"
+        fellows = period, row.order.side, row.order.price
+        if executed and not seen.get(fellows, True):
+            yield f"the hourly order {row.name} comes before an earlier one"
+        seen[fellows] = executed == volume
+    # a volume in between gains in between, since the surplus grows evenly with it
+
+
+def a_better_limit_keeps_a_block(market, book, rng):
+    printed = market.results(book)
+    for row in book.blocks:
+        limit = books.better_limit(rng, row.order)
+        if printed.accepts(row) and limit is not None:
+            if not market.results(book.with_limit(row, limit)).accepts(row):
+                yield f"block {row.name} is accepted, and with the better limit {limit} it isn't"
+
+
+def there_is_a_worst_limit(market, book, rng):
+    """A few limits of one block, from the worst to the best."""
+    if not book.blocks:
+        return
+    row = rng.choice(book.blocks)
+    drawn = {limit for _ in range(3) for move in (books.better_limit, books.worse_limit) if (limit := move(rng, row.order)) is not None}
+    limits = sorted(drawn, key=lambda limit: side(row.order, limit))
+    accepted = [market.results(other).accepts(book_row(other, row)) for other in (book.with_limit(row, limit) for limit in limits)]
+    if accepted != sorted(accepted):
+        yield f"block {row.name} is accepted with some limit and not with a better one: {limits}"
+
+
+def book_row(book, row):
+    return next(other for other in book.rows if other.key == row.key)
+
+
+def a_rejected_block_that_asks_for_worse(market, book, rng):
+    printed = market.results(book)
+    for row in book.blocks:
+        limit = books.worse_limit(rng, row.order)
+        if not printed.accepts(row) and limit is not None:
+            other = market.results(book.with_limit(row, limit))
+            if other.accepts(row) or other.lines_but(row.key) != printed.lines_but(row.key):
+                yield f"block {row.name} is rejected, and with the worse limit {limit} the results are others"
+
+
+def a_rejected_block_withdrawn(market, book, _):
+    printed = market.results(book)
+    for row in book.blocks:
+        if not printed.accepts(row) and not book.children(row):
+            if market.results(book.without(row)) != printed.lines_but(row.key):
+                yield f"block {row.name} is rejected, and without it the results are others"
+
+
+def a_block_more(market, book, _):
+    printed = market.results(book)
+    for row in book.blocks:
+        if not book.children(row) and market.results(book.without(row)).welfare > printed.welfare:
+            yield f"without block {row.name} the welfare is greater"
+
+
+def book_order_of_hourly_orders(market, book, rng):
+    printed, other = market.results(book), market.results(book.hourly_shuffled(rng))
+    if (other.welfare, other.prices, other.volumes, other.accepted(book)) != (
+        printed.welfare,
+        printed.prices,
+        printed.volumes,
+        printed.accepted(book),
+    ):
+        yield "with the hourly orders in another order the results are others"
+
+
+def book_order_of_blocks(market, book, rng):
+    printed, other = market.results(book), market.results(book.blocks_shuffled(rng))
+    if other.welfare != printed.welfare:
+        yield "with the blocks in another order the welfare is another"
+    if other.accepted(book) == printed.accepted(book) and other != printed:
+        yield "with the blocks in another order the same selection has other prices or executions"
+
+
+LAWS = [
+    welfare_is_shared_out,
+    money_balances,
+    nobody_loses,
+    fair_in_a_period,
+    a_better_limit_keeps_a_block,
+    there_is_a_worst_limit,
+    a_rejected_block_that_asks_for_worse,
+    a_rejected_block_withdrawn,
+    a_block_more,
+    book_order_of_hourly_orders,
+    book_order_of_blocks,
+]
