@@ -2,19 +2,25 @@
 //! nothing but cite the laws that it rests on.
 
 ghost use Rattle.std.specs.Prelude.{◌≡◌, ℕ, ℤ, pos, ◌+ℤ◌, ◌≤ℤ◌, ◌⊎◌, Bool, true, false, Some, List, length, slice_get};
+ghost use Rattle.dam_book.specs.Book.{BookState, IsBook};
 ghost use Rattle.dam_book.specs.declared.order.Side.TheVariants.{Buy, Sell};
 ghost use Rattle.dam_hour.specs.declared.step.Step.{Step};
 ghost use Rattle.dam_hour.specs.Price.{IsBetter, IsWorse};
 ghost use Rattle.dam_hour.specs.Best.{IsBest};
 ghost use Rattle.dam_blocks.specs.declared.problem.Block.{Block};
 ghost use Rattle.dam_blocks.specs.declared.problem.Place.TheVariants.{Hour as AtHour};
-ghost use Rattle.dam_blocks.specs.Problem.{ProblemState, IsProblem};
+ghost use Rattle.dam_blocks.specs.Problem.{ProblemState, problem_of, IsProblem};
 ghost use Rattle.dam_blocks.specs.Selection.{accepts, net_volume, IsAdmissible};
 ghost use Rattle.dam_blocks.specs.Family.{descends};
 ghost use Rattle.dam_blocks.specs.Eligible.{ArePrices, selection_welfare, IsEligible};
 ghost use Rattle.dam_blocks.specs.Result.{IsResult};
 ghost use Rattle.dam_blocks.specs.Market.{AreBestExecutions, IsOutcome, traded, money_from, hourly_surplus, accepted_surplus, gain_of, over_orders_of, over_orders, IsHead};
 ghost use Rattle.dam_blocks.specs.Changes.{without_place, IsWithoutBlock, IsWithLimit, IsNeverAccepted, IsWorstLimit, IsReordered, HasBlocksReordered, IsCounterpart};
+
+/// The problem of a closed book keeps what every problem keeps, so that the laws below hold for it.
+pub fn a_closed_book_is_a_problem()
+    ensures { (book : BookState) → IsBook book → book.closed ≡ true → IsProblem (problem_of book) }
+{}
 
 /// Welfare is shared out: the welfare of a selection is what all hourly orders and the accepted blocks
 /// gain at its prices, also summed order by order over the book (`orders`). Other prices would share out

@@ -16,3 +16,4 @@ pub mod WriterLines
 pub mod ClearingSteps
 pub mod PublishedOnce
 pub mod BestSelections
+pub mod AddingUp

@@ -9,4 +9,5 @@ pub mod Spelling
 pub mod Written
 pub mod Published
 pub mod Clearing
+pub mod Market
 pub mod inside

@@ -26,6 +26,7 @@ mod journal;
 pub mod laws;
 mod limits;
 mod lines;
+pub mod market;
 mod nine_fields;
 mod outcome;
 mod publish;
