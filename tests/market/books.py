@@ -59,6 +59,13 @@ class Book(NamedTuple):
     def without(self, row):
         return self._replace(rows=tuple(other for other in self.rows if other != row))
 
+    def with_one_more(self, rng):
+        """The book with a block more at its end: like another one, with a limit that may be better or worse."""
+        like = rng.choice(self.blocks)
+        limit = rng.choice([better_limit, worse_limit])(rng, like.order)
+        more = like._replace(name="MORE", order=like.order._replace(price=like.order.price if limit is None else limit))
+        return self._replace(rows=(*self.rows, more))
+
     def hourly_shuffled(self, rng):
         """The book with its hourly orders in another order, at the places of hourly orders."""
         others = iter(rng.sample(self.hourly, len(self.hourly)))

@@ -4,6 +4,7 @@ conclusion. docs/MARKET.md says each law in words, and names the function whose 
 from typing import NamedTuple
 
 import books
+from lib import rules
 
 
 class Printed(NamedTuple):
@@ -170,11 +171,15 @@ def a_rejected_block_withdrawn(market, book, _):
                 yield f"block {row.name} is rejected, and without it the results are others"
 
 
-def a_block_more(market, book, _):
+def a_block_more(market, book, rng):
+    """Each block without children is one more than the others; and one like another, with another limit, comes at the end."""
     printed = market.results(book)
     for row in book.blocks:
         if not book.children(row) and market.results(book.without(row)).welfare > printed.welfare:
             yield f"without block {row.name} the welfare is greater"
+    if book.blocks and len(book.blocks) < rules.MOST_BLOCKS:
+        if market.results(book.with_one_more(rng)).welfare < printed.welfare:
+            yield "with a block more at the end the welfare is less"
 
 
 def book_order_of_hourly_orders(market, book, rng):

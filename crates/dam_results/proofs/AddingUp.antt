@@ -1,35 +1,33 @@
 -- What is published of each order adds up: to the welfare, and in each period to the bought and the sold volume.
-use Rattle.std.proofs.Common.{◌≡◌, ℕ, zero, suc, ◌+◌, ◌-◌, ◌<◌, ◌≤◌, ◌==◌, ℤ, pos, ◌+ℤ◌, Bool, true, false, cond, Option, Some, None, List, []}
-use Rattle.std.proofs.Common.{◌∷◌, ◌++◌, length, length-append, drop, get_or, append_assoc, map, inl, inr, ap, ap₂, ◌∙◌, sym, subst, refl, arith}
+use Rattle.std.proofs.Common.{◌≡◌, ℕ, zero, suc, ◌+◌, ◌-◌, ◌≤◌, ◌==◌, ℤ, pos, ◌+ℤ◌, Bool, true, false, cond, Option, Some, None, List, []}
+use Rattle.std.proofs.Common.{◌∷◌, ◌++◌, length, length-append, drop, get_or, append_assoc, ap, ap₂, ◌∙◌, sym, subst, refl, arith}
 use Rattle.std.specs.List.{slice_get, cons_option}
 use Rattle.std.specs.Option.{option_map, unwrap_or}
 use Rattle.std.proofs.lemmas.Int.{ints}
-use Rattle.std.proofs.lemmas.Bool.{cases_eq, eq-eqb, eqb-true, false_from_ne_true}
+use Rattle.std.proofs.lemmas.Bool.{eq-eqb, eqb-true}
 use Rattle.std.proofs.lemmas.List.{append-nil, drop_all}
 use Rattle.std.proofs.lemmas.List.Elements.{filter_map-append}
 use Rattle.dam_book.specs.Terms.{HourTerms, BlockTerms}
 use Rattle.dam_book.specs.Book.{Key, Row, BookState, IsBook}
 use Rattle.dam_book.specs.declared.order.Side.{Side}
 use Rattle.dam_book.specs.declared.order.Side.TheVariants.{Buy, Sell}
-use Rattle.dam_book.specs.declared.order.Order.{Order}
 use Rattle.dam_book.specs.declared.order.Order.TheVariants.{Hour, Block as BlockVariant}
 use Rattle.dam_hour.specs.declared.step.Step.{Step}
-use Rattle.dam_hour.specs.Execution.{IsExecution, executed_volume, volume_on}
-use Rattle.dam_hour.specs.Best.{IsBest, signed}
+use Rattle.dam_hour.specs.Execution.{executed_volume, volume_on}
+use Rattle.dam_hour.specs.Best.{IsBest}
 use Rattle.dam_hour.specs.Market.{order_surplus}
 use Rattle.dam_blocks.specs.declared.problem.Block.{Block}
-use Rattle.dam_blocks.specs.declared.problem.Place.{Place}
 use Rattle.dam_blocks.specs.declared.problem.Place.TheVariants.{Hour as AtHour, Block as AtBlock}
 use Rattle.dam_blocks.specs.Problem.{ProblemState, step_in, steps_in, hours_from, block_under, blocks_in, rows_after, problem_of, IsProblem}
 use Rattle.dam_blocks.specs.Selection.{accepts, over_accepted, net_volume, volume_in}
-use Rattle.dam_blocks.specs.Eligible.{IsClearingPrice, ArePrices, surplus_of, surplus_at, selection_welfare}
+use Rattle.dam_blocks.specs.Eligible.{ArePrices, surplus_of, surplus_at, selection_welfare}
 use Rattle.dam_blocks.specs.Market.{AreBestExecutions, IsOutcome, block_volume_of, traded, order_surplus_at, order_surplus_in, gain_of, over_orders}
 use Rattle.dam_results.specs.declared.published.PeriodResult.{PeriodResult}
 use Rattle.dam_results.specs.declared.published.RowResult.{RowResult}
 use Rattle.dam_results.specs.declared.published.RowResult.TheVariants.{Hour as HourResult, Block as BlockResult}
-use Rattle.dam_results.specs.Published.{prices_of, IsPeriodResult, ArePeriodResults, IsExecuted, HasSurplus, IsRowResult, AreRowResults, ArePublished}
+use Rattle.dam_results.specs.Published.{prices_of, IsPeriodResult, ArePeriodResults, IsExecuted, HasSurplus, AreRowResults}
 use Rattle.dam_results.specs.Clearing.{IsClearing}
-use Rattle.dam_results.specs.Market.{price_in, published_gain, published_gains, published_trade, published_trades}
+use Rattle.dam_results.specs.Market.{price_in, published_gains, published_trades}
 
 -- the laws below
 pub record AddingLaws : Type 0 where

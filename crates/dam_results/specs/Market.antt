@@ -1,5 +1,5 @@
 -- What is published, added up over the orders of the book.
-use Rattle.std.specs.Prelude.{◌≡◌, ℕ, ◌+◌, ◌-◌, ℤ, pos, ◌+ℤ◌, ◌-ℤ◌, ◌*ℤ◌, ◌==◌, if◌then◌else◌, List, ◌∷◌, slice_index_or}
+use Rattle.std.specs.Prelude.{ℕ, ◌+◌, ◌-◌, ℤ, pos, ◌+ℤ◌, ◌-ℤ◌, ◌*ℤ◌, ◌==◌, if◌then◌else◌, List, ◌∷◌, slice_index_or}
 use Rattle.dam_book.specs.Book.{Row}
 use Rattle.dam_book.specs.declared.order.Side.{Side}
 use Rattle.dam_book.specs.declared.order.Order.{Order}

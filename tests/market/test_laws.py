@@ -1,0 +1,132 @@
+"""The tests of the laws: each law finds results that break it, and finds nothing in those that keep it."""
+
+import random
+import unittest
+
+import books
+import laws
+from books import Book, Row
+from laws import Printed
+from lib.journal import Order
+
+UNIT = Row("GEN", "UNIT", Order("block", "sell", 4_000, ((1, 20),)))
+START = Row("GAS", "START", Order("block", "sell", 3_000, ((1, 10),)))
+TOWN = Row("CITY", "TOWN", Order("hour", "buy", 5_000, ((1, 20),)))
+MILL = Row("MILL", "SAW", Order("hour", "buy", 5_000, ((1, 20),)))
+BOOK = Book(1, (UNIT, TOWN))
+RIGHT = Printed(20_000, [5_000], [20], {UNIT.key: (True, 20_000), TOWN.key: 20})
+NOTHING = Printed(0, [5_000], [0], {UNIT.key: (False, 20_000), TOWN.key: 0})
+
+
+class Fixed:
+    """A market whose results are given: for one book, and for every other."""
+
+    def __init__(self, book, printed, others=None):
+        self.book, self.printed, self.others = book, printed, others
+
+    def results(self, book):
+        return self.printed if book == self.book else self.others
+
+
+def wrong(law, printed, others=None, book=BOOK):
+    """What a law finds by several changes of the book."""
+    return [text for seed in range(10) for text in law(Fixed(book, printed, others), book, random.Random(seed))]
+
+
+class Laws(unittest.TestCase):
+    def check(self, law, right, breaking, book=BOOK):
+        """The law holds for the first pair of results, and not for the second."""
+        self.assertEqual(wrong(law, *right, book=book), [])
+        self.assertNotEqual(wrong(law, *breaking, book=book), [])
+
+    def test_welfare_is_shared_out(self):
+        self.check(laws.welfare_is_shared_out, [RIGHT], [RIGHT._replace(welfare=20_001)])
+
+    def test_money_balances(self):
+        self.check(laws.money_balances, [RIGHT], [RIGHT._replace(orders={**RIGHT.orders, TOWN.key: 19})])
+        self.check(laws.money_balances, [RIGHT], [RIGHT._replace(volumes=[40])])
+
+    def test_nobody_loses(self):
+        self.check(laws.nobody_loses, [RIGHT], [RIGHT._replace(prices=[5_001])])
+        self.check(laws.nobody_loses, [RIGHT], [RIGHT._replace(prices=[3_999])])
+
+    def test_fair_in_a_period(self):
+        two = Book(1, (UNIT, TOWN, MILL))
+        first = RIGHT._replace(orders={**RIGHT.orders, MILL.key: 0})
+        self.check(laws.fair_in_a_period, [first], [first._replace(orders={**first.orders, TOWN.key: 0, MILL.key: 20})], two)
+        self.check(laws.fair_in_a_period, [RIGHT], [RIGHT._replace(prices=[4_999], orders={**RIGHT.orders, TOWN.key: 19})])
+        self.check(laws.fair_in_a_period, [RIGHT], [RIGHT._replace(prices=[5_001])])
+
+    def test_a_better_limit_keeps_a_block(self):
+        self.check(laws.a_better_limit_keeps_a_block, [RIGHT, RIGHT], [RIGHT, NOTHING])
+
+    def test_there_is_a_worst_limit(self):
+        class Best(Fixed):
+            def results(self, book):
+                return RIGHT if (book.rows[0].order.price <= 4_000) == self.printed else NOTHING
+
+        self.assertEqual(list(laws.there_is_a_worst_limit(Best(None, True), BOOK, random.Random(1))), [])
+        self.assertNotEqual(list(laws.there_is_a_worst_limit(Best(None, False), BOOK, random.Random(1))), [])
+
+    def test_a_rejected_block_that_asks_for_worse(self):
+        other = NOTHING._replace(orders={**NOTHING.orders, UNIT.key: (False, 10_000)})
+        self.check(laws.a_rejected_block_that_asks_for_worse, [NOTHING, other], [NOTHING, RIGHT])
+        self.check(laws.a_rejected_block_that_asks_for_worse, [NOTHING, other], [NOTHING, other._replace(prices=[4_999])])
+
+    def test_a_rejected_block_withdrawn(self):
+        alone = NOTHING.lines_but(UNIT.key)
+        self.check(laws.a_rejected_block_withdrawn, [NOTHING, alone], [NOTHING, alone._replace(prices=[0])])
+        self.check(laws.a_rejected_block_withdrawn, [NOTHING, alone], [NOTHING, alone._replace(orders={TOWN.key: 1})])
+
+    def test_a_block_more(self):
+        class Sized:
+            """A market in which the welfare depends on the number of blocks alone."""
+
+            def __init__(self, *welfares):
+                self.welfares = welfares
+
+            def results(self, book):
+                return RIGHT._replace(welfare=self.welfares[len(book.blocks)])
+
+        for welfares, is_kept in (((0, 0, 5), True), ((1, 0, 5), False), ((0, 5, 0), False)):
+            found = list(laws.a_block_more(Sized(*welfares), BOOK, random.Random(1)))
+            self.assertEqual(found == [], is_kept)
+
+    def test_book_order(self):
+        hourly = Book(1, (UNIT, TOWN, MILL, START))
+        given = RIGHT._replace(orders={**RIGHT.orders, MILL.key: 0, START.key: (False, 0)})
+        turned = RIGHT._replace(orders={**given.orders, TOWN.key: 0, MILL.key: 20})
+        other = given._replace(orders={**given.orders, UNIT.key: (False, 0), START.key: (True, 0)})
+        self.check(laws.book_order_of_hourly_orders, [given, turned], [given, turned._replace(prices=[4_500])], hourly)
+        self.check(laws.book_order_of_hourly_orders, [given, turned], [given, other], hourly)
+        self.check(laws.book_order_of_blocks, [given, other], [given, other._replace(welfare=1)], hourly)
+        self.check(laws.book_order_of_blocks, [given, given], [given, turned], hourly)
+
+
+class Books(unittest.TestCase):
+    def test_parents_stay_before_their_children(self):
+        parent = Row("A", "K1", Order("block", "sell", 0, ((1, 1),)))
+        child = Row("A", "K2", Order("block", "sell", 0, ((1, 1),), "K1"))
+        book = Book(24, (parent, START, child, TOWN))
+        shuffled = {book.blocks_shuffled(random.Random(seed)).rows for seed in range(50)}
+        self.assertEqual(len(shuffled), 3)
+        self.assertTrue(all(rows.index(parent) < rows.index(child) and rows[3] == TOWN for rows in shuffled))
+
+    def test_limits_move_as_they_should(self):
+        for seed in range(100):
+            rng = random.Random(seed)
+            self.assertLess(books.better_limit(rng, UNIT.order), 4_000)
+            self.assertGreater(books.worse_limit(rng, UNIT.order), 4_000)
+            self.assertGreater(books.better_limit(rng, TOWN.order), 5_000)
+            self.assertIsNone(books.better_limit(rng, UNIT.order._replace(price=-50_000)))
+
+    def test_drawn_books_have_what_the_laws_are_about(self):
+        drawn = [books.draw(random.Random(f"market check {number}")) for number in range(1, 201)]
+        self.assertTrue(any(book.periods == 24 for book in drawn))
+        self.assertTrue(any(book.periods == 96 for book in drawn))
+        for has in ("parent", "group"):
+            self.assertGreater(sum(any(getattr(row.order, has) for row in book.blocks) for book in drawn), 20)
+
+
+if __name__ == "__main__":
+    unittest.main()
