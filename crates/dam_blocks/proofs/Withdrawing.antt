@@ -454,3 +454,10 @@ outcome_without whole rest i gone xs prices executions is_whole without long is 
           subst (λ (hours : List (List Step)). AreBestExecutions rest.blocks (zs ++ false ∷ []) 1 hours executions) (sym without.hours)
           (executions_transfer whole.blocks rest.blocks xs (zs ++ false ∷ []) 1 whole.hours executions net is.executions_are);
     }
+
+pub sums_without : (whole rest : ProblemState) (i : ℕ) (gone : Block) (xs : List Bool) (f : BlockTerms → ℤ) → IsProblem whole
+    → IsWithoutBlock whole rest i gone → length xs ≡ most_blocks → accepts xs i ≡ false
+    → over_accepted f rest.blocks (without_place xs i) ≡ over_accepted f whole.blocks xs
+sums_without whole rest i gone xs f is_whole without long off =
+    sym (over_rest_of whole rest i gone f (remove xs i) without)
+    ∙ ap (λ (us : List Bool). over_accepted f whole.blocks us) (whole_is whole i gone xs is_whole without.stands long off)

@@ -2,6 +2,8 @@
 //! nothing but cite the laws that it rests on.
 
 ghost use Rattle.std.specs.Prelude.{◌≡◌, ℕ, ℤ, pos, ◌+ℤ◌, ◌≤ℤ◌, ◌⊎◌, Bool, true, false, Some, List, length, slice_get};
+ghost use Rattle.dam_book.specs.Limits.{most_blocks};
+ghost use Rattle.dam_book.specs.Terms.{BlockTerms};
 ghost use Rattle.dam_book.specs.Book.{BookState, IsBook};
 ghost use Rattle.dam_book.specs.declared.order.Side.TheVariants.{Buy, Sell};
 ghost use Rattle.dam_hour.specs.declared.step.Step.{Step};
@@ -10,7 +12,7 @@ ghost use Rattle.dam_hour.specs.Best.{IsBest};
 ghost use Rattle.dam_blocks.specs.declared.problem.Block.{Block};
 ghost use Rattle.dam_blocks.specs.declared.problem.Place.TheVariants.{Hour as AtHour};
 ghost use Rattle.dam_blocks.specs.Problem.{ProblemState, problem_of, IsProblem};
-ghost use Rattle.dam_blocks.specs.Selection.{accepts, net_volume, IsAdmissible};
+ghost use Rattle.dam_blocks.specs.Selection.{accepts, over_accepted, net_volume, IsAdmissible};
 ghost use Rattle.dam_blocks.specs.Family.{descends};
 ghost use Rattle.dam_blocks.specs.Eligible.{ArePrices, selection_welfare, IsEligible};
 ghost use Rattle.dam_blocks.specs.Result.{IsResult};
@@ -92,7 +94,7 @@ pub fn a_block_more()
 {}
 
 /// A rejected block may as well not be there: without it, the result is the same selection without its
-/// place, with the same welfare, prices and executions.
+/// place, with the same welfare, prices and executions, and every sum over the accepted blocks is the same.
 ///
 /// A block that has children can't leave a book alone, so that then there is no such other problem.
 pub fn a_rejected_block_withdrawn()
@@ -107,6 +109,12 @@ pub fn a_rejected_block_withdrawn()
         → IsEligible problem selection welfare → IsOutcome problem selection prices executions
         → accepts selection place ≡ false
         → IsOutcome other (without_place selection place) prices executions }
+    ensures sums { (problem other : ProblemState) (place : ℕ) (block : Block)
+        (selection : List Bool) (f : BlockTerms → ℤ) → IsProblem problem
+        → IsWithoutBlock problem other place block → length selection ≡ most_blocks
+        → accepts selection place ≡ false
+        → over_accepted f other.blocks (without_place selection place)
+        ≡ over_accepted f problem.blocks selection }
 {}
 
 /// A better limit keeps a block: if the result accepts a block, then with a better limit and everything

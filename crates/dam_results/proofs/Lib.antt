@@ -17,3 +17,4 @@ pub mod ClearingSteps
 pub mod PublishedOnce
 pub mod BestSelections
 pub mod AddingUp
+pub mod Withdrawn

@@ -1,6 +1,6 @@
 -- What is published, added up over the orders of the book.
-use Rattle.std.specs.Prelude.{ℕ, ◌+◌, ◌-◌, ℤ, pos, ◌+ℤ◌, ◌-ℤ◌, ◌*ℤ◌, ◌==◌, if◌then◌else◌, List, ◌∷◌, slice_index_or}
-use Rattle.dam_book.specs.Book.{Row}
+use Rattle.std.specs.Prelude.{◌≡◌, ℕ, ◌+◌, ◌-◌, ℤ, pos, ◌+ℤ◌, ◌-ℤ◌, ◌*ℤ◌, ◌==◌, if◌then◌else◌, List, ◌∷◌, slice_index_or, remove}
+use Rattle.dam_book.specs.Book.{Row, BookState}
 use Rattle.dam_book.specs.declared.order.Side.{Side}
 use Rattle.dam_book.specs.declared.order.Order.{Order}
 use Rattle.dam_book.specs.declared.order.Order.TheVariants.{Hour as HourOrder, Block as BlockOrder}
@@ -45,3 +45,9 @@ abbrev pub published_trades : Side → ℕ → List Row → List RowResult → �
 published_trades side t (row ∷ rows) (r ∷ results) =
     published_trade side t row.1 r + published_trades side t rows results
 published_trades side t _ _ = 0
+
+-- the other book is this one without the order at a place
+pub record IsWithoutRow (book other : BookState) (place : ℕ) : Type 0 where
+  pub periods : other.periods ≡ book.periods
+  pub closed : other.closed ≡ book.closed
+  pub rows : other.rows ≡ remove book.rows place
