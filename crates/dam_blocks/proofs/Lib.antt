@@ -31,3 +31,4 @@ pub mod Exchanges
 pub mod BlockOrder
 pub mod Orders
 pub mod Heads
+pub mod Outcomes

@@ -39,7 +39,7 @@ decided_within blocks sel t (ss ∷ hours) = decided_both (IsWithinOffers ss (ne
     (decided_within_offers ss (net_volume blocks sel t)) (decided_within blocks sel (suc t) hours)
 
 -- if there are prices, the net volumes are within the offers
-within_from_prices : BalanceLaw → (blocks : List Block) (sel : List Bool) (t : ℕ) (hours : List (List Step)) (prices : List ℤ)
+pub within_from_prices : BalanceLaw → (blocks : List Block) (sel : List Bool) (t : ℕ) (hours : List (List Step)) (prices : List ℤ)
     → ArePrices blocks sel t hours prices → AreWithin blocks sel t hours
 within_from_prices law blocks sel t [] prices are = tt
 within_from_prices law blocks sel t (ss ∷ hours) [] are = absurd are

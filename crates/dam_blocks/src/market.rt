@@ -24,6 +24,22 @@ pub fn a_closed_book_is_a_problem()
     ensures { (book : BookState) → IsBook book → book.closed ≡ true → IsProblem (problem_of book) }
 {}
 
+/// An eligible selection, such as the result, has prices and best executions, and only these.
+pub fn an_eligible_selection_has_an_outcome()
+    ensures some { (problem : ProblemState) (selection : List Bool) (welfare : ℤ) → IsProblem problem
+        → IsEligible problem selection welfare
+        → (prices : List ℤ) × (executions : List (List ℕ))
+        × IsOutcome problem selection prices executions }
+    ensures one { (problem : ProblemState) (selection : List Bool) (prices others : List ℤ)
+        (executions more : List (List ℕ)) → IsOutcome problem selection prices executions
+        → IsOutcome problem selection others more → (prices ≡ others) × (executions ≡ more) }
+{
+    dam_hour::laws::balance();
+    dam_hour::laws::existence();
+    dam_hour::laws::welfare();
+    dam_hour::laws::uniqueness();
+}
+
 /// Welfare is shared out: the welfare of a selection is what all hourly orders and the accepted blocks
 /// gain at its prices, also summed order by order over the book (`orders`). Other prices would share out
 /// the same sum in another way.
