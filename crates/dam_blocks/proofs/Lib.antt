@@ -32,3 +32,4 @@ pub mod BlockOrder
 pub mod Orders
 pub mod Heads
 pub mod Outcomes
+pub mod ChangedBooks

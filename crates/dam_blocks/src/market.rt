@@ -1,17 +1,18 @@
 //! What the auction promises to those who trade in it, each promise the contract of a function that does
 //! nothing but cite the laws that it rests on.
 
-ghost use Rattle.std.specs.Prelude.{◌≡◌, ℕ, ℤ, pos, ◌+ℤ◌, ◌≤ℤ◌, ◌⊎◌, Bool, true, false, Some, List, length, slice_get};
+ghost use Rattle.std.specs.Prelude.{◌≡◌, ℕ, ℤ, pos, ◌+ℤ◌, ◌≤ℤ◌, ◌⊎◌, Bool, true, false, Some, List, ◌∷◌, ◌++◌, length, slice_get};
 ghost use Rattle.dam_book.specs.Limits.{most_blocks};
 ghost use Rattle.dam_book.specs.Terms.{BlockTerms};
-ghost use Rattle.dam_book.specs.Book.{BookState, IsBook};
+ghost use Rattle.dam_book.specs.Book.{Key, Row, BookState, IsBook};
+ghost use Rattle.dam_book.specs.declared.order.Order.TheVariants.{Block as BlockOrder};
 ghost use Rattle.dam_book.specs.declared.order.Side.TheVariants.{Buy, Sell};
 ghost use Rattle.dam_hour.specs.declared.step.Step.{Step};
 ghost use Rattle.dam_hour.specs.Price.{IsBetter, IsWorse};
 ghost use Rattle.dam_hour.specs.Best.{IsBest};
 ghost use Rattle.dam_blocks.specs.declared.problem.Block.{Block};
 ghost use Rattle.dam_blocks.specs.declared.problem.Place.TheVariants.{Hour as AtHour};
-ghost use Rattle.dam_blocks.specs.Problem.{ProblemState, problem_of, IsProblem};
+ghost use Rattle.dam_blocks.specs.Problem.{ProblemState, blocks_in, problem_of, IsProblem};
 ghost use Rattle.dam_blocks.specs.Selection.{accepts, over_accepted, net_volume, IsAdmissible};
 ghost use Rattle.dam_blocks.specs.Family.{descends};
 ghost use Rattle.dam_blocks.specs.Eligible.{ArePrices, selection_welfare, IsEligible};
@@ -22,6 +23,22 @@ ghost use Rattle.dam_blocks.specs.Changes.{without_place, IsWithoutBlock, IsWith
 /// The problem of a closed book keeps what every problem keeps, so that the laws below hold for it.
 pub fn a_closed_book_is_a_problem()
     ensures { (book : BookState) → IsBook book → book.closed ≡ true → IsProblem (problem_of book) }
+{}
+
+/// A change of a book is the same change of its problem: another limit of a block at its place, as an amend
+/// makes it, or a block less, as a cancel does.
+pub fn a_changed_book_is_a_changed_problem()
+    ensures limit { (book other : BookState) (front back : List Row) (key : Key) (order : BlockTerms)
+        (limit : ℤ) → book.rows ≡ front ++ (key, BlockOrder order) ∷ back
+        → other.rows ≡ front ++ (key, BlockOrder (record order { price = limit })) ∷ back
+        → other.periods ≡ book.periods
+        → IsWithLimit (problem_of book) (problem_of other) (length (blocks_in front))
+        (record { who = key.0; name = key.1; order = order }) limit }
+    ensures block { (book other : BookState) (front back : List Row) (key : Key) (order : BlockTerms)
+        → book.rows ≡ front ++ (key, BlockOrder order) ∷ back → other.rows ≡ front ++ back
+        → other.periods ≡ book.periods
+        → IsWithoutBlock (problem_of book) (problem_of other) (length (blocks_in front))
+        (record { who = key.0; name = key.1; order = order }) }
 {}
 
 /// An eligible selection, such as the result, has prices and best executions, and only these.

@@ -1,0 +1,77 @@
+-- Two books that differ in a block, or in its limit, have problems that differ in the same.
+use Rattle.std.proofs.Common.{◌≡◌, ℕ, zero, suc, ℤ, Some, List, [], ◌∷◌, ◌++◌, length, ap, ap₂, ◌∙◌, sym, refl}
+use Rattle.std.specs.List.{slice_get, remove}
+use Rattle.std.proofs.lemmas.List.Elements.{filter_map-append}
+use Rattle.dam_book.specs.Terms.{BlockTerms}
+use Rattle.dam_book.specs.Book.{Key, Row, BookState}
+use Rattle.dam_book.specs.declared.order.Order.TheVariants.{Block as BlockVariant}
+use Rattle.dam_hour.specs.declared.step.Step.{Step}
+use Rattle.dam_blocks.specs.declared.problem.Block.{Block}
+use Rattle.dam_blocks.specs.Problem.{step_in, steps_in, hours_from, blocks_in, problem_of}
+use Rattle.dam_blocks.specs.Changes.{IsWithoutBlock, with_limit, IsWithLimit}
+use Rattle.dam_blocks.proofs.FromBook.{blocks-append, get_seam}
+use Rattle.dam_blocks.proofs.Repricing.{limited}
+
+abbrev pub block_at : Key → BlockTerms → Block
+block_at key order = record { who = key.0; name = key.1; order = order }
+
+-- ---- rows that agree on the steps of each period
+steps_append : (t : ℕ) (front rest : List Row) → steps_in t (front ++ rest) ≡ steps_in t front ++ steps_in t rest
+steps_append t front rest = filter_map-append (λ (r : Row). step_in t r.1) front rest
+
+same_hours : (t n : ℕ) (rows others : List Row) → ((s : ℕ) → steps_in s rows ≡ steps_in s others) → hours_from t n rows ≡ hours_from t n others
+same_hours t zero rows others same = refl
+same_hours t (suc n) rows others same =
+    ap₂ (λ (ss : List Step) (hours : List (List Step)). ss ∷ hours) (same t) (same_hours (suc t) n rows others same)
+
+day_of : (book other : BookState) (front rest more : List Row) → book.rows ≡ front ++ rest → other.rows ≡ front ++ more
+    → other.periods ≡ book.periods → ((s : ℕ) → steps_in s more ≡ steps_in s rest) → (problem_of other).hours ≡ (problem_of book).hours
+day_of book other front rest more rows others periods same =
+    ap₂ (λ (n : ℕ) (rs : List Row). hours_from 1 n rs) periods others
+    ∙ same_hours 1 book.periods (front ++ more) (front ++ rest)
+    (λ s. steps_append s front more ∙ ap (λ (ss : List Step). steps_in s front ++ ss) (same s) ∙ sym (steps_append s front rest))
+    ∙ ap (λ (rs : List Row). hours_from 1 book.periods rs) (sym rows)
+
+blocks_of : (book : BookState) (front back : List Row) (key : Key) (order : BlockTerms) → book.rows ≡ front ++ (key, BlockVariant order) ∷ back
+    → blocks_in book.rows ≡ blocks_in front ++ block_at key order ∷ blocks_in back
+blocks_of book front back key order rows = ap blocks_in rows ∙ blocks-append front ((key, BlockVariant order) ∷ back)
+
+stands : (book : BookState) (front back : List Row) (key : Key) (order : BlockTerms) → book.rows ≡ front ++ (key, BlockVariant order) ∷ back
+    → slice_get (blocks_in book.rows) (length (blocks_in front)) ≡ Some (block_at key order)
+stands book front back key order rows =
+    ap (λ (bs : List Block). slice_get bs (length (blocks_in front))) (blocks_of book front back key order rows)
+    ∙ get_seam (blocks_in front) (blocks_in back) (block_at key order)
+
+-- ---- another limit
+limit_there : (bs cs : List Block) (b : Block) (limit : ℤ) → with_limit (bs ++ b ∷ cs) (length bs) limit ≡ bs ++ limited b limit ∷ cs
+limit_there [] cs b limit = refl
+limit_there (c ∷ bs) cs b limit = ap (λ (ds : List Block). c ∷ ds) (limit_there bs cs b limit)
+
+pub limit_changed : (book other : BookState) (front back : List Row) (key : Key) (order : BlockTerms) (limit : ℤ)
+    → book.rows ≡ front ++ (key, BlockVariant order) ∷ back
+    → other.rows ≡ front ++ (key, BlockVariant (record order { price = limit })) ∷ back → other.periods ≡ book.periods
+    → IsWithLimit (problem_of book) (problem_of other) (length (blocks_in front)) (block_at key order) limit
+limit_changed book other front back key order limit rows others periods = record {
+  stands = stands book front back key order rows;
+  hours = day_of book other front ((key, BlockVariant order) ∷ back) ((key, BlockVariant (record order { price = limit })) ∷ back) rows others
+      periods (λ s. refl);
+  blocks = blocks_of other front back key (record order { price = limit }) others
+      ∙ sym (limit_there (blocks_in front) (blocks_in back) (block_at key order) limit)
+      ∙ ap (λ (bs : List Block). with_limit bs (length (blocks_in front)) limit) (sym (blocks_of book front back key order rows));
+}
+
+-- ---- without the block
+gone : (bs cs : List Block) (b : Block) → remove (bs ++ b ∷ cs) (length bs) ≡ bs ++ cs
+gone [] cs b = refl
+gone (c ∷ bs) cs b = ap (λ (ds : List Block). c ∷ ds) (gone bs cs b)
+
+pub block_gone : (book other : BookState) (front back : List Row) (key : Key) (order : BlockTerms)
+    → book.rows ≡ front ++ (key, BlockVariant order) ∷ back → other.rows ≡ front ++ back → other.periods ≡ book.periods
+    → IsWithoutBlock (problem_of book) (problem_of other) (length (blocks_in front)) (block_at key order)
+block_gone book other front back key order rows others periods = record {
+  stands = stands book front back key order rows;
+  hours = day_of book other front ((key, BlockVariant order) ∷ back) back rows others periods (λ s. refl);
+  blocks = ap blocks_in others ∙ blocks-append front back
+      ∙ sym (gone (blocks_in front) (blocks_in back) (block_at key order))
+      ∙ ap (λ (bs : List Block). remove bs (length (blocks_in front))) (sym (blocks_of book front back key order rows));
+}
