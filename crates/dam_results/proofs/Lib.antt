@@ -18,3 +18,4 @@ pub mod PublishedOnce
 pub mod BestSelections
 pub mod AddingUp
 pub mod Withdrawn
+pub mod OtherLimits

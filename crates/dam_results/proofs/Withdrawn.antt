@@ -82,17 +82,17 @@ gone : {A : Type 0} (xs ys : List A) (y : A) → remove (xs ++ y ∷ ys) (length
 gone [] ys y = refl
 gone {A = A} (x ∷ xs) ys y = ap (λ (zs : List A). x ∷ zs) (gone xs ys y)
 
-parted : {A : Type 0} (xs : List A) (n : ℕ) (x : A) → slice_get xs n ≡ Some x → (xs ≡ take n xs ++ x ∷ drop (suc n) xs) × (length (take n xs) ≡ n)
+pub parted : {A : Type 0} (xs : List A) (n : ℕ) (x : A) → slice_get xs n ≡ Some x → (xs ≡ take n xs ++ x ∷ drop (suc n) xs) × (length (take n xs) ≡ n)
 parted [] n x e = absurd (cc)
 parted {A = A} (y ∷ xs) zero x e = (let same : y ≡ x = cc in ap (λ (z : A). z ∷ xs) same, refl)
 parted {A = A} (y ∷ xs) (suc n) x e =
     let rest = parted xs n x e in (ap (λ (zs : List A). y ∷ zs) rest.0, ap suc rest.1)
 
 -- ---- what the rows with the block and without it have in common
-blocks_split : (front rest : List Row) → blocks_in (front ++ rest) ≡ blocks_in front ++ blocks_in rest
+pub blocks_split : (front rest : List Row) → blocks_in (front ++ rest) ≡ blocks_in front ++ blocks_in rest
 blocks_split front rest = filter_map-append (λ (r : Row). block_under r.0.0 r.0.1 r.1) front rest
 
-steps_split : (t : ℕ) (front rest : List Row) → steps_in t (front ++ rest) ≡ steps_in t front ++ steps_in t rest
+pub steps_split : (t : ℕ) (front rest : List Row) → steps_in t (front ++ rest) ≡ steps_in t front ++ steps_in t rest
 steps_split t front rest = filter_map-append (λ (r : Row). step_in t r.1) front rest
 
 same_steps : (t : ℕ) (front back : List Row) (key : Key) (o : BlockTerms)
@@ -113,7 +113,7 @@ record AreTwo (book other : BookState) (front back : List Row) (key : Key) (o : 
   sums : (f : BlockTerms → ℤ) → over_accepted f (blocks_in other.rows) (without_place sel (length (blocks_in front)))
       ≡ over_accepted f (blocks_in book.rows) sel
 
-abbrev gone_block : Key → BlockTerms → Block
+abbrev pub gone_block : Key → BlockTerms → Block
 gone_block key o = record { who = key.0; name = key.1; order = o }
 
 stands_before : (book other : BookState) (front back : List Row) (key : Key) (o : BlockTerms) (sel : List Bool) (j : ℕ)
@@ -137,7 +137,7 @@ stands_after book other front back key o sel j two l =
     ∙ ap (λ (rows : List Row). slice_get (blocks_in rows) (suc j)) (sym two.rows)
 
 -- ---- the lines of the periods
-same_periods : (blocks others : List Block) (sel tel : List Bool) (t : ℕ) (hours : List (List Step)) (periods : List PeriodResult)
+pub same_periods : (blocks others : List Block) (sel tel : List Bool) (t : ℕ) (hours : List (List Step)) (periods : List PeriodResult)
     → ((f : BlockTerms → ℤ) → over_accepted f others tel ≡ over_accepted f blocks sel) → ArePeriodResults blocks sel t hours periods
     → ArePeriodResults others tel t hours periods
 same_periods blocks others sel tel t [] [] sums are = tt

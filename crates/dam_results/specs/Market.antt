@@ -1,6 +1,7 @@
 -- What is published, added up over the orders of the book.
-use Rattle.std.specs.Prelude.{◌≡◌, ℕ, ◌+◌, ◌-◌, ℤ, pos, ◌+ℤ◌, ◌-ℤ◌, ◌*ℤ◌, ◌==◌, if◌then◌else◌, List, ◌∷◌, slice_index_or, remove}
-use Rattle.dam_book.specs.Book.{Row, BookState}
+use Rattle.std.specs.Prelude.{◌≡◌, ℕ, ◌+◌, ◌-◌, ℤ, pos, ◌+ℤ◌, ◌-ℤ◌, ◌*ℤ◌, ◌==◌, if◌then◌else◌, List, ◌∷◌, ◌++◌, length, slice_index_or, remove}
+use Rattle.dam_book.specs.Terms.{BlockTerms}
+use Rattle.dam_book.specs.Book.{Key, Row, BookState}
 use Rattle.dam_book.specs.declared.order.Side.{Side}
 use Rattle.dam_book.specs.declared.order.Order.{Order}
 use Rattle.dam_book.specs.declared.order.Order.TheVariants.{Hour as HourOrder, Block as BlockOrder}
@@ -51,3 +52,15 @@ pub record IsWithoutRow (book other : BookState) (place : ℕ) : Type 0 where
   pub periods : other.periods ≡ book.periods
   pub closed : other.closed ≡ book.closed
   pub rows : other.rows ≡ remove book.rows place
+
+-- the other book is this one with another limit for the block at a place
+pub record IsWithOtherLimit (book other : BookState) (place : ℕ) (order : BlockTerms) (limit : ℤ)
+    : Type 0 where
+  pub key : Key
+  pub front : List Row
+  pub back : List Row
+  pub place_is : length front ≡ place
+  pub rows : book.rows ≡ front ++ (key, BlockOrder order) ∷ back
+  pub others : other.rows ≡ front ++ (key, BlockOrder (record order { price = limit })) ∷ back
+  pub periods : other.periods ≡ book.periods
+  pub closed : other.closed ≡ book.closed

@@ -1,13 +1,16 @@
 //! What the published results promise to those who trade in the market, each promise the contract of a
 //! function that does nothing but cite the laws that it rests on.
-ghost use Rattle.std.specs.Prelude.{◌≡◌, false, ℕ, ◌+◌, ℤ, pos, List, Some, slice_get, remove};
-ghost use Rattle.dam_book.specs.Book.{BookState, IsBook};
+ghost use Rattle.std.specs.Prelude.{◌≡◌, true, false, ℕ, ◌+◌, ◌≤◌, ℤ, pos, List, Some, slice_get, slice_set, remove};
+ghost use Rattle.dam_book.specs.Terms.{BlockTerms};
+ghost use Rattle.dam_book.specs.Book.{Key, BookState, IsBook};
+ghost use Rattle.dam_book.specs.declared.order.Order.TheVariants.{Block as BlockOrder};
+ghost use Rattle.dam_hour.specs.Price.{IsBetter, IsWorse};
 ghost use Rattle.dam_book.specs.declared.order.Side.TheVariants.{Buy, Sell};
 ghost use Rattle.dam_results.specs.declared.published.PeriodResult.{PeriodResult};
 ghost use Rattle.dam_results.specs.declared.published.RowResult.{RowResult};
 ghost use Rattle.dam_results.specs.declared.published.RowResult.TheVariants.{Block as BlockResult};
 ghost use Rattle.dam_results.specs.Clearing.{IsClearing};
-ghost use Rattle.dam_results.specs.Market.{published_gains, published_trades, IsWithoutRow};
+ghost use Rattle.dam_results.specs.Market.{published_gains, published_trades, IsWithoutRow, IsWithOtherLimit};
 
 /// The published results add up: the welfare is what all orders gain by what is published of them, and
 /// the volume of a period is what they buy there, and what they sell.
@@ -41,4 +44,52 @@ pub fn a_rejected_block_withdrawn()
     crate::publishing_laws::best_selection_is_result();
     dam_blocks::market::a_closed_book_is_a_problem();
     dam_blocks::market::a_rejected_block_withdrawn();
+}
+
+/// More blocks, no less welfare: the welfare that is published of a book is at least that of the same book
+/// without one of its blocks.
+pub fn a_block_more()
+    ensures { (book other : BookState) (place : ℕ) (key : Key) (order : BlockTerms)
+        (welfare less : ℕ) (periods days : List PeriodResult) (rows results : List RowResult)
+        → IsBook book → IsBook other → IsWithoutRow book other place
+        → slice_get book.rows place ≡ Some (key, BlockOrder order)
+        → IsClearing book welfare periods rows → IsClearing other less days results
+        → less ≤ welfare }
+{
+    crate::publishing_laws::best_selection_is_result();
+    dam_blocks::market::a_closed_book_is_a_problem();
+    dam_blocks::market::a_changed_book_is_a_changed_problem();
+    dam_blocks::market::a_block_more();
+}
+
+/// A better limit keeps a block: if a block is published as accepted, then of the same book with a better
+/// limit for it, it is published as accepted too.
+pub fn a_better_limit_keeps_a_block()
+    ensures { (book other : BookState) (place : ℕ) (order : BlockTerms) (limit : ℤ)
+        (welfare after : ℕ) (periods days : List PeriodResult) (rows results : List RowResult)
+        (who name : List ℕ) (surplus : ℤ) → IsWithOtherLimit book other place order limit
+        → IsBetter order.side limit order.price → IsClearing book welfare periods rows
+        → slice_get rows place ≡ Some (BlockResult who name true surplus)
+        → IsClearing other after days results
+        → (gain : ℤ) × (slice_get results place ≡ Some (BlockResult who name true gain)) }
+{
+    crate::publishing_laws::best_selection_is_result();
+    dam_blocks::market::a_changed_book_is_a_changed_problem();
+    dam_blocks::market::a_better_limit_keeps_a_block();
+}
+
+/// A rejected block that asks for worse changes nothing: what is published is the same, but for the block's
+/// own surplus.
+pub fn a_rejected_block_that_asks_for_worse()
+    ensures { (book other : BookState) (place : ℕ) (order : BlockTerms) (limit : ℤ) (welfare : ℕ)
+        (periods : List PeriodResult) (rows : List RowResult) (who name : List ℕ) (surplus : ℤ)
+        → IsWithOtherLimit book other place order limit → IsWorse order.side limit order.price
+        → IsClearing book welfare periods rows
+        → slice_get rows place ≡ Some (BlockResult who name false surplus)
+        → (gain : ℤ)
+        × IsClearing other welfare periods (slice_set rows place (BlockResult who name false gain)) }
+{
+    crate::publishing_laws::best_selection_is_result();
+    dam_blocks::market::a_changed_book_is_a_changed_problem();
+    dam_blocks::market::a_rejected_block_that_asks_for_worse();
 }

@@ -1,0 +1,422 @@
+-- What is published of a book with a block less, or with another limit for one.
+use Rattle.std.proofs.Common.{◌≡◌, ℕ, zero, suc, ◌-◌, ◌<◌, ◌≤◌, ℤ, pos, ◌+ℤ◌, ◌≤ℤ◌, Bool, true, false, Some, List, []}
+use Rattle.std.proofs.Common.{◌∷◌, ◌++◌, length, length-append, take, drop, set, append_assoc, ap, ap₂, ◌∙◌, sym, subst, refl, arith}
+use Rattle.std.specs.List.{slice_get}
+use Rattle.std.proofs.lemmas.Int.{ints}
+use Rattle.std.proofs.lemmas.List.{append-nil}
+use Rattle.dam_book.specs.Terms.{HourTerms, BlockTerms}
+use Rattle.dam_book.specs.Book.{Key, Row, BookState, IsBook}
+use Rattle.dam_book.specs.declared.order.Side.TheVariants.{Buy}
+use Rattle.dam_book.specs.declared.order.Order.{Order}
+use Rattle.dam_book.specs.declared.order.Order.TheVariants.{Hour, Block as BlockVariant}
+use Rattle.dam_hour.specs.declared.step.Step.{Step}
+use Rattle.dam_hour.specs.Execution.{executed_volume}
+use Rattle.dam_hour.specs.Price.{IsBetter, IsWorse}
+use Rattle.dam_hour.specs.Best.{IsBest}
+use Rattle.dam_blocks.specs.declared.problem.Block.{Block}
+use Rattle.dam_blocks.specs.declared.problem.Place.{Place}
+use Rattle.dam_blocks.specs.declared.problem.Place.TheVariants.{Hour as AtHour, Block as AtBlock}
+use Rattle.dam_blocks.specs.declared.problem.ProblemRow.{ProblemRow}
+use Rattle.dam_blocks.specs.Problem.{ProblemState, steps_in, blocks_in, place_after, rows_after, problem_of, IsProblem}
+use Rattle.dam_blocks.specs.Selection.{accepts, over_accepted, net_volume_of, bought_volume_of}
+use Rattle.dam_blocks.specs.Eligible.{IsClearingPrice, surplus_of}
+use Rattle.dam_blocks.specs.Result.{IsResult}
+use Rattle.dam_blocks.specs.Changes.{IsWithoutBlock, IsWithLimit}
+use Rattle.dam_results.specs.declared.published.PeriodResult.{PeriodResult}
+use Rattle.dam_results.specs.declared.published.RowResult.{RowResult}
+use Rattle.dam_results.specs.declared.published.RowResult.TheVariants.{Hour as HourResult, Block as BlockResult}
+use Rattle.dam_results.specs.Published.{prices_of, ArePeriodResults, IsRowResult, AreRowResults}
+use Rattle.dam_results.specs.Clearing.{IsBestSelection, IsClearing}
+use Rattle.dam_results.specs.Market.{IsWithoutRow, IsWithOtherLimit}
+use Rattle.dam_results.proofs.Withdrawn.{parted, blocks_split, steps_split, gone_block}
+
+-- ---- a block less
+pub record OneMoreLaws : Type 0 where
+  pub problem : (book : BookState) → IsBook book → book.closed ≡ true → IsProblem (problem_of book)
+  pub result : (problem : ProblemState) (sel : List Bool) (w : ℤ) → IsBestSelection problem sel w → IsResult problem sel w
+  pub change : (book other : BookState) (front back : List Row) (key : Key) (order : BlockTerms)
+      → book.rows ≡ front ++ (key, BlockVariant order) ∷ back → other.rows ≡ front ++ back → other.periods ≡ book.periods
+      → IsWithoutBlock (problem_of book) (problem_of other) (length (blocks_in front)) (gone_block key order)
+  pub more : (problem other : ProblemState) (place : ℕ) (block : Block) (sel fewer : List Bool) (welfare less : ℤ) → IsProblem problem
+      → IsProblem other → IsWithoutBlock problem other place block → IsResult problem sel welfare → IsResult other fewer less → less ≤ℤ welfare
+
+pub welfare_of_more : OneMoreLaws → (book other : BookState) (place : ℕ) (key : Key) (order : BlockTerms) (welfare less : ℕ)
+    (periods days : List PeriodResult) (rows results : List RowResult) → IsBook book → IsBook other → IsWithoutRow book other place
+    → slice_get book.rows place ≡ Some (key, BlockVariant order) → IsClearing book welfare periods rows → IsClearing other less days results
+    → less ≤ welfare
+welfare_of_more laws book other place key order welfare less periods days rows results is is_other change at first second =
+    let parts = parted book.rows place (key, BlockVariant order) at in
+    let problem = laws.change book other (take place book.rows) (drop (suc place) book.rows) key order parts.0 change.rows change.periods in
+    let fewer = laws.more (problem_of book) (problem_of other) (length (blocks_in (take place book.rows))) (gone_block key order) first.selection
+    second.selection (pos welfare) (pos less) (laws.problem book is first.closed)
+    (laws.problem other is_other (change.closed ∙ first.closed)) problem
+    (laws.result (problem_of book) first.selection (pos welfare) first.best)
+    (laws.result (problem_of other) second.selection (pos less) second.best) in
+    omega (arith, ints, fewer)
+
+-- ---- the line of an order
+line_of : (problem : ProblemState) (sel : List Bool) (prices : List ℤ) (done front back : List Row) (r : Row) (results : List RowResult)
+    → AreRowResults problem sel prices (rows_after done (front ++ r ∷ back)) results
+    → (x : RowResult) × (slice_get results (length front) ≡ Some x)
+    × IsRowResult problem sel prices (record { who = r.0.0; name = r.0.1; at = place_after (done ++ front) r.1 }) x
+line_of problem sel prices done [] back r [] are = absurd are
+line_of problem sel prices done [] back r (x ∷ results) are = (
+  x,
+  refl,
+  subst (λ (rows : List Row). IsRowResult problem sel prices (record { who = r.0.0; name = r.0.1; at = place_after rows r.1 }) x)
+      (sym (append-nil done)) are.0,
+)
+line_of problem sel prices done (s ∷ front) back r [] are = absurd are
+line_of problem sel prices done (s ∷ front) back r (x ∷ results) are =
+    let rest = line_of problem sel prices (done ++ s ∷ []) front back r results are.1 in (
+      rest.0,
+      rest.1,
+      subst (λ (rows : List Row). IsRowResult problem sel prices (record { who = r.0.0; name = r.0.1; at = place_after rows r.1 }) rest.0)
+          (append_assoc done (s ∷ []) front) rest.2,
+    )
+
+-- the line of a block
+record IsBlockLine (sel : List Bool) (who name : List ℕ) (place : ℕ) (x : RowResult) : Type 0 where
+  accepted : Bool
+  surplus : ℤ
+  line : x ≡ BlockResult who name accepted surplus
+  accepted_is : accepted ≡ accepts sel place
+
+block_line : (problem : ProblemState) (sel : List Bool) (prices : List ℤ) (who name : List ℕ) (n : ℕ) (x : RowResult)
+    → IsRowResult problem sel prices (record { who = who; name = name; at = AtBlock n }) x → IsBlockLine sel who name n x
+block_line problem sel prices who name n (HourResult own named executed) is = absurd (let no = is.2.2 in cc)
+block_line problem sel prices who name n (BlockResult own named accepted surplus) is =
+    let place : n ≡ is.2.0 = (let e = is.2.1 in cc) in
+    record {
+      accepted = accepted;
+      surplus = surplus;
+      line = ap₂ (λ (w m : List ℕ). BlockResult w m accepted surplus) is.0 is.1;
+      accepted_is = is.2.2 ∙ ap (λ (k : ℕ). accepts sel k) (sym place);
+    }
+
+same_line : (who name own named : List ℕ) (a b : Bool) (x y : ℤ) → BlockResult who name a x ≡ BlockResult own named b y
+    → (who ≡ own) × (name ≡ named) × (a ≡ b)
+same_line who name own named a b x y e = (cc, cc, cc)
+
+same_some : {A : Type 0} (a b : A) → Some a ≡ Some b → a ≡ b
+same_some a b e = cc
+
+-- the published line of a block in a clearing
+line_in : (book : BookState) (front back : List Row) (key : Key) (order : BlockTerms) (place welfare : ℕ) (periods : List PeriodResult)
+    (rows : List RowResult) → (clearing : IsClearing book welfare periods rows) → book.rows ≡ front ++ (key, BlockVariant order) ∷ back
+    → length front ≡ place
+    → (x : RowResult) × (slice_get rows place ≡ Some x) × IsBlockLine clearing.selection key.0 key.1 (length (blocks_in front)) x
+line_in book front back key order place welfare periods rows clearing whole at =
+    let published = clearing.published in
+    let found = line_of (problem_of book) clearing.selection (prices_of periods) [] front back (key, BlockVariant order) rows
+    (subst (λ (rs : List Row). AreRowResults (problem_of book) clearing.selection (prices_of periods) (rows_after [] rs) rows) whole
+    published.rows_are) in (
+      found.0,
+      ap (λ (n : ℕ). slice_get rows n) (sym at) ∙ found.1,
+      block_line (problem_of book) clearing.selection (prices_of periods) key.0 key.1 (length (blocks_in front)) found.0 found.2,
+    )
+
+-- ---- a better limit
+pub record LimitLaws : Type 0 where
+  pub result : (problem : ProblemState) (sel : List Bool) (w : ℤ) → IsBestSelection problem sel w → IsResult problem sel w
+  pub change : (book other : BookState) (front back : List Row) (key : Key) (order : BlockTerms) (limit : ℤ)
+      → book.rows ≡ front ++ (key, BlockVariant order) ∷ back
+      → other.rows ≡ front ++ (key, BlockVariant (record order { price = limit })) ∷ back → other.periods ≡ book.periods
+      → IsWithLimit (problem_of book) (problem_of other) (length (blocks_in front)) (gone_block key order) limit
+  pub better : (problem other : ProblemState) (place : ℕ) (block : Block) (limit : ℤ) (sel changed : List Bool) (welfare after : ℤ)
+      → IsWithLimit problem other place block limit → IsBetter block.order.side limit block.order.price → IsResult problem sel welfare
+      → accepts sel place ≡ true → IsResult other changed after → accepts changed place ≡ true
+
+pub still_accepted : LimitLaws → (book other : BookState) (place : ℕ) (order : BlockTerms) (limit : ℤ) (welfare after : ℕ)
+    (periods days : List PeriodResult) (rows results : List RowResult) (who name : List ℕ) (surplus : ℤ)
+    → IsWithOtherLimit book other place order limit → IsBetter order.side limit order.price → IsClearing book welfare periods rows
+    → slice_get rows place ≡ Some (BlockResult who name true surplus) → IsClearing other after days results
+    → (gain : ℤ) × (slice_get results place ≡ Some (BlockResult who name true gain))
+still_accepted laws book other place order limit welfare after periods days rows results who name surplus change better first at second =
+    let key = change.key in let front = change.front in let back = change.back in
+    let i = length (blocks_in front) in
+    let old = line_in book front back key order place welfare periods rows first change.rows change.place_is in
+    let new = line_in other front back key (record order { price = limit }) place after days results second change.others change.place_is in
+    let was = same_line who name key.0 key.1 true old.2.accepted surplus old.2.surplus
+    (same_some (BlockResult who name true surplus) (BlockResult key.0 key.1 old.2.accepted old.2.surplus)
+    (sym at ∙ old.1 ∙ ap (λ (x : RowResult). Some x) old.2.line)) in
+    let kept = laws.better (problem_of book) (problem_of other) i (gone_block key order) limit first.selection second.selection (pos welfare)
+    (pos after) (laws.change book other front back key order limit change.rows change.others change.periods) better
+    (laws.result (problem_of book) first.selection (pos welfare) first.best) (sym (was.2 ∙ old.2.accepted_is))
+    (laws.result (problem_of other) second.selection (pos after) second.best) in (
+      new.2.surplus,
+      new.1 ∙ ap (λ (x : RowResult). Some x) (new.2.line
+          ∙ ap (λ (b : Bool). BlockResult key.0 key.1 b new.2.surplus) (new.2.accepted_is ∙ kept)
+          ∙ ap₂ (λ (w m : List ℕ). BlockResult w m true new.2.surplus) (sym was.0) (sym was.1)),
+    )
+
+-- ---- a worse limit of a rejected block
+pub record WorseLaws : Type 0 where
+  pub best : (problem : ProblemState) (sel : List Bool) (w : ℤ) → IsResult problem sel w → IsBestSelection problem sel w
+  pub result : (problem : ProblemState) (sel : List Bool) (w : ℤ) → IsBestSelection problem sel w → IsResult problem sel w
+  pub change : (book other : BookState) (front back : List Row) (key : Key) (order : BlockTerms) (limit : ℤ)
+      → book.rows ≡ front ++ (key, BlockVariant order) ∷ back
+      → other.rows ≡ front ++ (key, BlockVariant (record order { price = limit })) ∷ back → other.periods ≡ book.periods
+      → IsWithLimit (problem_of book) (problem_of other) (length (blocks_in front)) (gone_block key order) limit
+  pub worse : (problem other : ProblemState) (place : ℕ) (block : Block) (limit : ℤ) (sel : List Bool) (welfare : ℤ)
+      → IsWithLimit problem other place block limit → IsWorse block.order.side limit block.order.price → IsResult problem sel welfare
+      → accepts sel place ≡ false → IsResult other sel welfare
+
+-- what reads no limit is the same
+same_sum : (f : BlockTerms → ℤ) (bs cs : List Block) (b c : Block) (sel : List Bool) → f b.order ≡ f c.order
+    → over_accepted f (bs ++ b ∷ cs) sel ≡ over_accepted f (bs ++ c ∷ cs) sel
+same_sum f [] cs b c [] e = refl
+same_sum f [] cs b c (true ∷ sel) e = ap (λ (z : ℤ). z +ℤ over_accepted f cs sel) e
+same_sum f [] cs b c (false ∷ sel) e = refl
+same_sum f (d ∷ bs) cs b c [] e = refl
+same_sum f (d ∷ bs) cs b c (true ∷ sel) e = ap (λ (z : ℤ). f d.order +ℤ z) (same_sum f bs cs b c sel e)
+same_sum f (d ∷ bs) cs b c (false ∷ sel) e = same_sum f bs cs b c sel e
+
+get_elsewhere : (bs cs : List Block) (b c : Block) (n : ℕ) → (n ≡ length bs → ⊥) → slice_get (bs ++ b ∷ cs) n ≡ slice_get (bs ++ c ∷ cs) n
+get_elsewhere [] cs b c zero apart = absurd (apart refl)
+get_elsewhere [] cs b c (suc n) apart = refl
+get_elsewhere (d ∷ bs) cs b c zero apart = refl
+get_elsewhere (d ∷ bs) cs b c (suc n) apart = get_elsewhere bs cs b c n (λ e. apart (ap suc e))
+
+get_here : (bs cs : List Block) (b : Block) → slice_get (bs ++ b ∷ cs) (length bs) ≡ Some b
+get_here [] cs b = refl
+get_here (d ∷ bs) cs b = get_here bs cs b
+
+-- two books with the same orders but for the limit of one block
+record AreAlike (book other : BookState) (front back : List Row) (key : Key) (o p : BlockTerms) : Type 0 where
+  hours : (problem_of other).hours ≡ (problem_of book).hours
+  blocks : blocks_in book.rows ≡ blocks_in front ++ gone_block key o ∷ blocks_in back
+  others : blocks_in other.rows ≡ blocks_in front ++ gone_block key p ∷ blocks_in back
+  net : (t : ℕ) → net_volume_of t o ≡ net_volume_of t p
+  bought : (t : ℕ) → bought_volume_of t o ≡ bought_volume_of t p
+
+sum_of : (book other : BookState) (front back : List Row) (key : Key) (o p : BlockTerms) (sel : List Bool) (f : BlockTerms → ℤ)
+    → AreAlike book other front back key o p → f o ≡ f p
+    → over_accepted f (blocks_in other.rows) sel ≡ over_accepted f (blocks_in book.rows) sel
+sum_of book other front back key o p sel f two e =
+    ap (λ (bs : List Block). over_accepted f bs sel) two.others
+    ∙ same_sum f (blocks_in front) (blocks_in back) (gone_block key p) (gone_block key o) sel (sym e)
+    ∙ ap (λ (bs : List Block). over_accepted f bs sel) (sym two.blocks)
+
+periods_alike : (blocks others : List Block) (sel : List Bool) (t : ℕ) (hours : List (List Step)) (periods : List PeriodResult)
+    → ((s : ℕ) → over_accepted (net_volume_of s) others sel ≡ over_accepted (net_volume_of s) blocks sel)
+    → ((s : ℕ) → over_accepted (bought_volume_of s) others sel ≡ over_accepted (bought_volume_of s) blocks sel)
+    → ArePeriodResults blocks sel t hours periods → ArePeriodResults others sel t hours periods
+periods_alike blocks others sel t [] [] net bought are = tt
+periods_alike blocks others sel t [] (r ∷ periods) net bought are = absurd are
+periods_alike blocks others sel t (ss ∷ hours) [] net bought are = absurd are
+periods_alike blocks others sel t (ss ∷ hours) (r ∷ periods) net bought are = (
+  record {
+    price = subst (λ (z : ℤ). IsClearingPrice ss z r.price) (sym (net t)) are.0.price;
+    executed = are.0.executed;
+    best = subst (λ (z : ℤ). IsBest ss z are.0.executed) (sym (net t)) are.0.best;
+    volume = are.0.volume ∙ ap (λ (z : ℤ). pos (executed_volume Buy ss are.0.executed) +ℤ z) (sym (bought t));
+  },
+  periods_alike blocks others sel (suc t) hours periods net bought are.1,
+)
+
+-- the line of an order that isn't the block
+row_alike : (book other : BookState) (front back : List Row) (key : Key) (o p : BlockTerms) (sel : List Bool) (prices : List ℤ)
+    (row : ProblemRow) (x : RowResult) → AreAlike book other front back key o p → (row.at ≡ AtBlock (length (blocks_in front)) → ⊥)
+    → IsRowResult (problem_of book) sel prices row x → IsRowResult (problem_of other) sel prices row x
+row_alike book other front back key o p sel prices row (HourResult own named executed) two apart is =
+    let e = is.2.3 in (
+      is.0,
+      is.1,
+      (
+        is.2.0,
+        is.2.1,
+        is.2.2,
+        record {
+          from_one = e.from_one;
+          hour = e.hour;
+          stands = ap (λ (hours : List (List Step)). slice_get hours (is.2.0 - 1)) two.hours ∙ e.stands;
+          executed = e.executed;
+          best = subst (λ (z : ℤ). IsBest e.hour z e.executed)
+              (sym (sum_of book other front back key o p sel (net_volume_of is.2.0) two (two.net is.2.0))) e.best;
+          volume_is = e.volume_is;
+        },
+      ),
+    )
+row_alike book other front back key o p sel prices row (BlockResult own named accepted surplus) two apart is =
+    let has = is.2.3 in
+    let elsewhere : is.2.0 ≡ length (blocks_in front) → ⊥ = λ e. apart (is.2.1 ∙ ap (λ (n : ℕ). AtBlock n) e) in (
+      is.0,
+      is.1,
+      (
+        is.2.0,
+        is.2.1,
+        is.2.2,
+        record {
+          block = has.block;
+          stands = ap (λ (bs : List Block). slice_get bs is.2.0) two.others
+              ∙ get_elsewhere (blocks_in front) (blocks_in back) (gone_block key p) (gone_block key o) is.2.0 elsewhere
+              ∙ ap (λ (bs : List Block). slice_get bs is.2.0) (sym two.blocks)
+              ∙ has.stands;
+          surplus_is = has.surplus_is;
+        },
+      ),
+    )
+
+hour_is_no_block : (h : HourTerms) (i n : ℕ) → AtHour h.period i ≡ AtBlock n → ⊥
+hour_is_no_block h i n e = cc
+
+block_place : (m n : ℕ) → AtBlock m ≡ AtBlock n → m ≡ n
+block_place m n e = cc
+
+-- rows before the block
+apart_before : (front done rest : List Row) (r : Row) → done ++ r ∷ rest ≡ front → place_after done r.1 ≡ AtBlock (length (blocks_in front)) → ⊥
+apart_before front done rest (k, Hour h) whole e = hour_is_no_block h (length (steps_in h.period done)) (length (blocks_in front)) e
+apart_before front done rest (k, BlockVariant b) whole e =
+    let same = block_place (length (blocks_in done)) (length (blocks_in front)) e in
+    let a = ap (λ (rows : List Row). length (blocks_in rows)) whole in
+    let c = ap (λ (bs : List Block). length bs) (blocks_split done ((k, BlockVariant b) ∷ rest)) in
+    let d = length-append (blocks_in done) (gone_block k b ∷ blocks_in rest) in
+    let wrong : 0 < 0 = omega (arith, same, a, c, d) in
+    omega (arith, wrong)
+
+-- rows after it
+apart_after : (front more : List Row) (key : Key) (o : BlockTerms) (order : Order)
+    → place_after (front ++ (key, BlockVariant o) ∷ more) order ≡ AtBlock (length (blocks_in front)) → ⊥
+apart_after front more key o (Hour h) e =
+    hour_is_no_block h (length (steps_in h.period (front ++ (key, BlockVariant o) ∷ more))) (length (blocks_in front)) e
+apart_after front more key o (BlockVariant b) e =
+    let same = block_place (length (blocks_in (front ++ (key, BlockVariant o) ∷ more))) (length (blocks_in front)) e in
+    let c = ap (λ (bs : List Block). length bs) (blocks_split front ((key, BlockVariant o) ∷ more)) in
+    let d = length-append (blocks_in front) (gone_block key o ∷ blocks_in more) in
+    let wrong : 0 < 0 = omega (arith, same, c, d) in
+    omega (arith, wrong)
+
+same_place : (front more : List Row) (key : Key) (o p : BlockTerms) (order : Order)
+    → place_after (front ++ (key, BlockVariant o) ∷ more) order ≡ place_after (front ++ (key, BlockVariant p) ∷ more) order
+same_place front more key o p (Hour h) =
+    ap (λ (ss : List Step). AtHour h.period (length ss))
+    (steps_split h.period front ((key, BlockVariant o) ∷ more) ∙ sym (steps_split h.period front ((key, BlockVariant p) ∷ more)))
+same_place front more key o p (BlockVariant b) =
+    let a = ap (λ (bs : List Block). length bs) (blocks_split front ((key, BlockVariant o) ∷ more)) in
+    let c = ap (λ (bs : List Block). length bs) (blocks_split front ((key, BlockVariant p) ∷ more)) in
+    let d = length-append (blocks_in front) (gone_block key o ∷ blocks_in more) in
+    let e = length-append (blocks_in front) (gone_block key p ∷ blocks_in more) in
+    let long : length (blocks_in (front ++ (key, BlockVariant o) ∷ more)) ≡ length (blocks_in (front ++ (key, BlockVariant p) ∷ more)) =
+    omega (arith, a, c, d, e) in
+    ap (λ (n : ℕ). AtBlock n) long
+
+rows_behind : (book other : BookState) (front back : List Row) (key : Key) (o p : BlockTerms) (sel : List Bool) (prices : List ℤ)
+    (more rest : List Row) (results : List RowResult) → AreAlike book other front back key o p
+    → AreRowResults (problem_of book) sel prices (rows_after (front ++ (key, BlockVariant o) ∷ more) rest) results
+    → AreRowResults (problem_of other) sel prices (rows_after (front ++ (key, BlockVariant p) ∷ more) rest) results
+rows_behind book other front back key o p sel prices more [] [] two are = tt
+rows_behind book other front back key o p sel prices more [] (x ∷ results) two are = absurd are
+rows_behind book other front back key o p sel prices more (r ∷ rest) [] two are = absurd are
+rows_behind book other front back key o p sel prices more (r ∷ rest) (x ∷ results) two are =
+    let later = subst (λ (rows : List Row). AreRowResults (problem_of book) sel prices (rows_after rows rest) results)
+    (append_assoc front ((key, BlockVariant o) ∷ more) (r ∷ [])) are.1 in
+    let done = rows_behind book other front back key o p sel prices (more ++ r ∷ []) rest results two later in (
+      subst (λ (at : Place). IsRowResult (problem_of other) sel prices (record { who = r.0.0; name = r.0.1; at = at }) x)
+          (same_place front more key o p r.1)
+          (row_alike book other front back key o p sel prices
+          (record { who = r.0.0; name = r.0.1; at = place_after (front ++ (key, BlockVariant o) ∷ more) r.1 }) x two
+          (apart_after front more key o r.1) are.0),
+      subst (λ (rows : List Row). AreRowResults (problem_of other) sel prices (rows_after rows rest) results)
+          (sym (append_assoc front ((key, BlockVariant p) ∷ more) (r ∷ []))) done,
+    )
+
+-- what the block gains with its other limit
+own_line : (book other : BookState) (front back : List Row) (key : Key) (o p : BlockTerms) (sel : List Bool) (prices : List ℤ)
+    (done : List Row) (who name : List ℕ) (accepted : Bool) (surplus : ℤ) → AreAlike book other front back key o p → done ≡ front
+    → IsRowResult (problem_of book) sel prices (record { who = key.0; name = key.1; at = place_after done (BlockVariant o) })
+    (BlockResult who name accepted surplus)
+    → IsRowResult (problem_of other) sel prices (record { who = key.0; name = key.1; at = place_after done (BlockVariant p) })
+    (BlockResult who name accepted (surplus_of prices p))
+own_line book other front back key o p sel prices done who name accepted surplus two whole is =
+    let place = block_place (length (blocks_in done)) is.2.0 is.2.1 in
+    let here : is.2.0 ≡ length (blocks_in front) = sym place ∙ ap (λ (rows : List Row). length (blocks_in rows)) whole in (
+      is.0,
+      is.1,
+      (
+        is.2.0,
+        is.2.1,
+        is.2.2,
+        record {
+          block = gone_block key p;
+          stands = ap₂ (λ (bs : List Block) (n : ℕ). slice_get bs n) two.others here
+              ∙ get_here (blocks_in front) (blocks_in back) (gone_block key p);
+          surplus_is = refl;
+        },
+      ),
+    )
+
+rows_alike : (book other : BookState) (front back : List Row) (key : Key) (o p : BlockTerms) (sel : List Bool) (prices : List ℤ)
+    (done rest : List Row) (results : List RowResult) (who name : List ℕ) (accepted : Bool) (surplus : ℤ)
+    → AreAlike book other front back key o p → done ++ rest ≡ front
+    → AreRowResults (problem_of book) sel prices (rows_after done (rest ++ (key, BlockVariant o) ∷ back)) results
+    → slice_get results (length rest) ≡ Some (BlockResult who name accepted surplus)
+    → AreRowResults (problem_of other) sel prices (rows_after done (rest ++ (key, BlockVariant p) ∷ back))
+    (set results (length rest) (BlockResult who name accepted (surplus_of prices p)))
+rows_alike book other front back key o p sel prices done [] [] who name accepted surplus two whole are at = absurd are
+rows_alike book other front back key o p sel prices done [] (x ∷ results) who name accepted surplus two whole are at =
+    let here : done ≡ front = sym (append-nil done) ∙ whole in
+    let is : x ≡ BlockResult who name accepted surplus = same_some x (BlockResult who name accepted surplus) at in
+    let later = subst (λ (rows : List Row). AreRowResults (problem_of book) sel prices (rows_after (rows ++ (key, BlockVariant o) ∷ []) back)
+    results) here are.1 in (
+      own_line book other front back key o p sel prices done who name accepted surplus two here
+          (subst (λ (y : RowResult). IsRowResult (problem_of book) sel prices
+          (record { who = key.0; name = key.1; at = place_after done (BlockVariant o) }) y) is are.0),
+      subst (λ (rows : List Row). AreRowResults (problem_of other) sel prices (rows_after (rows ++ (key, BlockVariant p) ∷ []) back) results)
+          (sym here) (rows_behind book other front back key o p sel prices [] back results two later),
+    )
+rows_alike book other front back key o p sel prices done (r ∷ rest) [] who name accepted surplus two whole are at = absurd are
+rows_alike book other front back key o p sel prices done (r ∷ rest) (x ∷ results) who name accepted surplus two whole are at = (
+  row_alike book other front back key o p sel prices (record { who = r.0.0; name = r.0.1; at = place_after done r.1 }) x two
+      (apart_before front done rest r whole) are.0,
+  rows_alike book other front back key o p sel prices (done ++ r ∷ []) rest results who name accepted surplus two
+      (append_assoc done (r ∷ []) rest ∙ whole) are.1 at,
+)
+
+pub published_with_worse : WorseLaws → (book other : BookState) (place : ℕ) (order : BlockTerms) (limit : ℤ) (welfare : ℕ)
+    (periods : List PeriodResult) (rows : List RowResult) (who name : List ℕ) (surplus : ℤ)
+    → IsWithOtherLimit book other place order limit → IsWorse order.side limit order.price → IsClearing book welfare periods rows
+    → slice_get rows place ≡ Some (BlockResult who name false surplus)
+    → (gain : ℤ) × IsClearing other welfare periods (set rows place (BlockResult who name false gain))
+published_with_worse laws book other place order limit welfare periods rows who name surplus change worse clearing at =
+    let key = change.key in let front = change.front in let back = change.back in
+    let p : BlockTerms = record order { price = limit } in
+    let sel = clearing.selection in
+    let published = clearing.published in
+    let prices = prices_of periods in
+    let i = length (blocks_in front) in
+    let problem = laws.change book other front back key order limit change.rows change.others change.periods in
+    let two : AreAlike book other front back key order p = record {
+      hours = problem.hours;
+      blocks = ap blocks_in change.rows ∙ blocks_split front ((key, BlockVariant order) ∷ back);
+      others = ap blocks_in change.others ∙ blocks_split front ((key, BlockVariant p) ∷ back);
+      net = λ t. refl;
+      bought = λ t. refl;
+    } in
+    let old = line_in book front back key order place welfare periods rows clearing change.rows change.place_is in
+    let was = same_line who name key.0 key.1 false old.2.accepted surplus old.2.surplus
+    (same_some (BlockResult who name false surplus) (BlockResult key.0 key.1 old.2.accepted old.2.surplus)
+    (sym at ∙ old.1 ∙ ap (λ (x : RowResult). Some x) old.2.line)) in
+    let after = laws.worse (problem_of book) (problem_of other) i (gone_block key order) limit sel (pos welfare) problem worse
+    (laws.result (problem_of book) sel (pos welfare) clearing.best) (sym (was.2 ∙ old.2.accepted_is)) in
+    let lines = rows_alike book other front back key order p sel prices [] front rows who name false surplus two refl
+    (subst (λ (rs : List Row). AreRowResults (problem_of book) sel prices (rows_after [] rs) rows) change.rows published.rows_are)
+    (ap (λ (n : ℕ). slice_get rows n) change.place_is ∙ at) in (
+      surplus_of prices p,
+      record {
+        closed = change.closed ∙ clearing.closed;
+        selection = sel;
+        best = laws.best (problem_of other) sel (pos welfare) after;
+        published = record {
+          welfare_is = after.eligible.welfare_is;
+          periods_are = subst (λ (hours : List (List Step)). ArePeriodResults (blocks_in other.rows) sel 1 hours periods) (sym two.hours)
+              (periods_alike (blocks_in book.rows) (blocks_in other.rows) sel 1 (problem_of book).hours periods
+              (λ t. sum_of book other front back key order p sel (net_volume_of t) two refl)
+              (λ t. sum_of book other front back key order p sel (bought_volume_of t) two refl) published.periods_are);
+          rows_are = subst (λ (rs : List Row). AreRowResults (problem_of other) sel prices (rows_after [] rs)
+              (set rows place (BlockResult who name false (surplus_of prices p)))) (sym change.others)
+              (subst (λ (n : ℕ). AreRowResults (problem_of other) sel prices (rows_after [] (front ++ (key, BlockVariant p) ∷ back))
+              (set rows n (BlockResult who name false (surplus_of prices p)))) change.place_is lines);
+        };
+      },
+    )
