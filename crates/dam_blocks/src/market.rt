@@ -120,7 +120,7 @@ pub fn nobody_loses()
 /// More blocks, no less welfare: if a book has a block more, wherever it stands, the welfare of the result
 /// is at least as great.
 pub fn a_block_more()
-    ensures { (problem other : ProblemState) (place : ℕ) (block : Block)
+    ensures welfare { (problem other : ProblemState) (place : ℕ) (block : Block)
         (selection fewer : List Bool) (welfare less : ℤ) → IsProblem problem → IsProblem other
         → IsWithoutBlock problem other place block
         → IsResult problem selection welfare → IsResult other fewer less → less ≤ℤ welfare }
@@ -180,7 +180,7 @@ pub fn a_better_limit_keeps_a_block()
 /// limit the result is the same selection with the same welfare, and so are its prices and executions
 /// (`outcome` of `a_better_limit_keeps_a_block`, which is of any limit).
 pub fn a_rejected_block_that_asks_for_worse()
-    ensures { (problem other : ProblemState) (place : ℕ) (block : Block) (limit : ℤ)
+    ensures result { (problem other : ProblemState) (place : ℕ) (block : Block) (limit : ℤ)
         (selection : List Bool) (welfare : ℤ) → IsWithLimit problem other place block limit
         → IsWorse block.order.side limit block.order.price
         → IsResult problem selection welfare → accepts selection place ≡ false

@@ -35,7 +35,7 @@ pub fn published_results_add_up()
 ///
 /// A book that keeps `IsBook` has no block whose parent is missing, so this is of a block without children.
 pub fn a_rejected_block_withdrawn()
-    ensures { (book other : BookState) (place : ℕ) (welfare : ℕ) (periods : List PeriodResult)
+    ensures published { (book other : BookState) (place : ℕ) (welfare : ℕ) (periods : List PeriodResult)
         (rows : List RowResult) (who name : List ℕ) (surplus : ℤ) → IsBook book → IsBook other
         → IsWithoutRow book other place → IsClearing book welfare periods rows
         → slice_get rows place ≡ Some (BlockResult who name false surplus)
@@ -49,7 +49,7 @@ pub fn a_rejected_block_withdrawn()
 /// More blocks, no less welfare: the welfare that is published of a book is at least that of the same book
 /// without one of its blocks.
 pub fn a_block_more()
-    ensures { (book other : BookState) (place : ℕ) (key : Key) (order : BlockTerms)
+    ensures welfare { (book other : BookState) (place : ℕ) (key : Key) (order : BlockTerms)
         (welfare less : ℕ) (periods days : List PeriodResult) (rows results : List RowResult)
         → IsBook book → IsBook other → IsWithoutRow book other place
         → slice_get book.rows place ≡ Some (key, BlockOrder order)
@@ -65,7 +65,7 @@ pub fn a_block_more()
 /// A better limit keeps a block: if a block is published as accepted, then of the same book with a better
 /// limit for it, it is published as accepted too.
 pub fn a_better_limit_keeps_a_block()
-    ensures { (book other : BookState) (place : ℕ) (order : BlockTerms) (limit : ℤ)
+    ensures accepted { (book other : BookState) (place : ℕ) (order : BlockTerms) (limit : ℤ)
         (welfare after : ℕ) (periods days : List PeriodResult) (rows results : List RowResult)
         (who name : List ℕ) (surplus : ℤ) → IsWithOtherLimit book other place order limit
         → IsBetter order.side limit order.price → IsClearing book welfare periods rows
@@ -81,7 +81,7 @@ pub fn a_better_limit_keeps_a_block()
 /// A rejected block that asks for worse changes nothing: what is published is the same, but for the block's
 /// own surplus.
 pub fn a_rejected_block_that_asks_for_worse()
-    ensures { (book other : BookState) (place : ℕ) (order : BlockTerms) (limit : ℤ) (welfare : ℕ)
+    ensures published { (book other : BookState) (place : ℕ) (order : BlockTerms) (limit : ℤ) (welfare : ℕ)
         (periods : List PeriodResult) (rows : List RowResult) (who name : List ℕ) (surplus : ℤ)
         → IsWithOtherLimit book other place order limit → IsWorse order.side limit order.price
         → IsClearing book welfare periods rows

@@ -3,5 +3,7 @@ use Rattle.dam_blocks.proofs.Withdrawing.{more_welfare}
 use Rattle.dam_blocks.proofs.market.a_block_more.Goals as goal
 
 pub returns : goal.returns
-returns c = λ problem other place block selection fewer welfare less is_whole is_rest without all few.
-    more_welfare problem other place block selection fewer less welfare is_whole is_rest without few all
+returns c = record {
+  welfare = λ problem other place block selection fewer welfare less is_whole is_rest without all few.
+      more_welfare problem other place block selection fewer less welfare is_whole is_rest without few all;
+}

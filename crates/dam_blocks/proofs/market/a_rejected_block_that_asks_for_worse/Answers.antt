@@ -3,4 +3,4 @@ use Rattle.dam_blocks.proofs.Repricing.{unchanged}
 use Rattle.dam_blocks.proofs.market.a_rejected_block_that_asks_for_worse.Goals as goal
 
 pub returns : goal.returns
-returns c = unchanged
+returns c = record { result = unchanged }

@@ -9,4 +9,4 @@ returns c =
       change = c.a_changed_book_is_a_changed_problem.ensures.limit;
       better = c.a_better_limit_keeps_a_block.ensures.accepted;
     } in
-    still_accepted laws
+    record { accepted = still_accepted laws }

@@ -8,6 +8,6 @@ returns c =
       problem = c.a_closed_book_is_a_problem.ensures;
       result = c.best_selection_is_result.ensures.result;
       change = c.a_changed_book_is_a_changed_problem.ensures.block;
-      more = c.a_block_more.ensures;
+      more = c.a_block_more.ensures.welfare;
     } in
-    welfare_of_more laws
+    record { welfare = welfare_of_more laws }

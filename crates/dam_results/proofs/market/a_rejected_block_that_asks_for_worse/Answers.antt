@@ -8,6 +8,6 @@ returns c =
       best = c.best_selection_is_result.ensures.best;
       result = c.best_selection_is_result.ensures.result;
       change = c.a_changed_book_is_a_changed_problem.ensures.limit;
-      worse = c.a_rejected_block_that_asks_for_worse.ensures;
+      worse = c.a_rejected_block_that_asks_for_worse.ensures.result;
     } in
-    published_with_worse laws
+    record { published = published_with_worse laws }

@@ -11,4 +11,4 @@ returns c =
       without = c.a_rejected_block_withdrawn.ensures.result;
       sums = c.a_rejected_block_withdrawn.ensures.sums;
     } in
-    cleared_without laws
+    record { published = cleared_without laws }
