@@ -137,7 +137,7 @@ stands_after book other front back key o sel j two l =
     ∙ ap (λ (rows : List Row). slice_get (blocks_in rows) (suc j)) (sym two.rows)
 
 -- ---- the lines of the periods
-pub same_periods : (blocks others : List Block) (sel tel : List Bool) (t : ℕ) (hours : List (List Step)) (periods : List PeriodResult)
+same_periods : (blocks others : List Block) (sel tel : List Bool) (t : ℕ) (hours : List (List Step)) (periods : List PeriodResult)
     → ((f : BlockTerms → ℤ) → over_accepted f others tel ≡ over_accepted f blocks sel) → ArePeriodResults blocks sel t hours periods
     → ArePeriodResults others tel t hours periods
 same_periods blocks others sel tel t [] [] sums are = tt
