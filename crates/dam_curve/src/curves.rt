@@ -146,6 +146,20 @@ impl<A: Allocator> Curves<A> {
         }
     }
 
+    /// The price of a line near the net volume: a hint, of which nothing is promised. It is 0 if there is none.
+    pub fn price_near(&self, curve: Curve, net: i64) -> i64 {
+        let under = i64::from(curve.top).saturating_sub(net).max(0) as u64;
+        let hint = (curve.hints as usize).saturating_add((under >> (curve.shift % 64)) as usize);
+        let place = match self.hints.get(hint) {
+            Some(place) => usize::from(*place),
+            None => 0,
+        };
+        match self.lines.get((curve.first as usize).saturating_add(place)) {
+            Some(line) => i64::from(line.price),
+            None => 0,
+        }
+    }
+
     /// The joint welfare of the curve's periods at the net volume, in cents per MWh times tenths of a MW; `None`
     /// exactly if some of them doesn't balance. Takes no memory.
     pub fn welfare(&self, curve: Curve, net: i64) -> Option<i64>
