@@ -1,0 +1,7 @@
+-- The lemmas that several functions need.
+pub mod Parts
+pub mod Supplying
+pub mod Clearing
+pub mod Removing
+pub mod PeriodLines
+pub mod ListsOfLines
