@@ -5,3 +5,4 @@ pub mod Clearing
 pub mod Removing
 pub mod PeriodLines
 pub mod ListsOfLines
+pub mod Adding

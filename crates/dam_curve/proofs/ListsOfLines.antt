@@ -16,22 +16,22 @@ same_line m n p q s t a b c =
     ap (λ z. line_of_parts z p s) a ∙ ap (λ z. line_of_parts n z s) b ∙ ap (λ z. line_of_parts n q z) c
 
 -- ---- a line more at the end
-end_more : (ls : List Line) (line : Line) (least : ℤ) → end_of (ls ++ line ∷ []) least ≡ end_of ls line.most
+pub end_more : (ls : List Line) (line : Line) (least : ℤ) → end_of (ls ++ line ∷ []) least ≡ end_of ls line.most
 end_more [] line least = refl
 end_more (l ∷ ls) line least = refl
 
-lines_more : (f : ℤ → Option ℤ) (ls : List Line) (line : Line) (least : ℤ) → AreLines f ls line.most → IsLine f line least
+pub lines_more : (f : ℤ → Option ℤ) (ls : List Line) (line : Line) (least : ℤ) → AreLines f ls line.most → IsLine f line least
     → AreLines f (ls ++ line ∷ []) least
 lines_more f [] line least are is = (is, tt)
 lines_more f (l ∷ ls) line least are is =
     (subst (IsLine f l) (sym (end_more ls line least)) are.0, lines_more f ls line least are.1 is)
 
-bottom_more : (ls : List Line) (line : Line) → bottom_of (ls ++ line ∷ []) ≡ line.most
+pub bottom_more : (ls : List Line) (line : Line) → bottom_of (ls ++ line ∷ []) ≡ line.most
 bottom_more [] line = refl
 bottom_more (l ∷ []) line = refl
 bottom_more (l ∷ k ∷ ls) line = bottom_more (k ∷ ls) line
 
-small_more : (n : ℕ) (ls : List Line) (line : Line) → AreSmallLines n ls → IsSmallLine n line → AreSmallLines n (ls ++ line ∷ [])
+pub small_more : (n : ℕ) (ls : List Line) (line : Line) → AreSmallLines n ls → IsSmallLine n line → AreSmallLines n (ls ++ line ∷ [])
 small_more n [] line are is = (is, tt)
 small_more n (l ∷ ls) line are is = (are.0, small_more n ls line are.1 is)
 
@@ -74,7 +74,7 @@ times_sum p q y =
 joined_at : (a b : Line) (most net : ℤ) → line_at a net +ℤ line_at b net ≡ line_at (joined a b most) net
 joined_at a b most net = let t = times_sum a.price b.price net in omega (arith, ints, t)
 
-joined_is : (f g : ℤ → Option ℤ) (a b : Line) (x y most least : ℤ) → IsLine f a x → IsLine g b y → x ≤ℤ least → y ≤ℤ least → least ≤ℤ most
+pub joined_is : (f g : ℤ → Option ℤ) (a b : Line) (x y most least : ℤ) → IsLine f a x → IsLine g b y → x ≤ℤ least → y ≤ℤ least → least ≤ℤ most
     → most ≤ℤ a.most → most ≤ℤ b.most → IsLine (λ net. both (f net) (g net)) (joined a b most) least
 joined_is f g a b x y most least is other lx ly l la lb = record {
   ordered = l;
@@ -84,7 +84,7 @@ joined_is f g a b x y most least is other lx ly l la lb = record {
       ∙ ap (λ (z : ℤ). Some z) (joined_at a b most net);
 }
 
-joined_small : (n m : ℕ) (a b : Line) (most : ℤ) → IsSmallLine n a → IsSmallLine m b → IsSmallLine (n + m) (joined a b most)
+pub joined_small : (n m : ℕ) (a b : Line) (most : ℤ) → IsSmallLine n a → IsSmallLine m b → IsSmallLine (n + m) (joined a b most)
 joined_small n m a b most is other =
     let p = is.price_at_least in let q = is.price_at_most in let s = is.surplus_at_least in let t = is.surplus_at_most in
     let p2 = other.price_at_least in let q2 = other.price_at_most in let s2 = other.surplus_at_least in let t2 = other.surplus_at_most in
@@ -94,40 +94,3 @@ joined_small n m a b most is other =
       surplus_at_least = omega (arith, ints, s, s2);
       surplus_at_most = omega (arith, ints, t, t2);
     }
-
--- ---- two lists of lines, added up so far
--- the last lines that hold at the net volume stand at these places, and the lines of the sum hold down to it
-record AreAdded (f g : ℤ → Option ℤ) (a b sum : List Line) (at : ℤ) (left right : ℕ) : Type 0 where
-  holds_left : (d : Line) → at ≤ℤ (get_or a left d).most
-  holds_right : (d : Line) → at ≤ℤ (get_or b right d).most
-  next_left : (d : Line) → suc left < length a → (get_or a (suc left) d).most ≤ℤ at
-  next_right : (d : Line) → suc right < length b → (get_or b (suc right) d).most ≤ℤ at
-  are_lines : AreLines (λ net. both (f net) (g net)) sum at
-
-pub record IsAdded (a b sum : List Line) (start at : ℤ) (left right : ℕ) : Type 0 where
-  pub inside_left : left < length a
-  pub inside_right : right < length b
-  pub last_left : suc left ≡ length a → bottom_of a ≤ℤ at
-  pub last_right : suc right ≡ length b → bottom_of b ≤ℤ at
-  pub begins : end_of sum at ≡ start
-  pub small : (n m : ℕ) → AreSmallLines n a → AreSmallLines m b → AreSmallLines (n + m) sum
-  pub are_added : (f g : ℤ → Option ℤ) → AreLines f a (bottom_of a) → AreLines g b (bottom_of b) → AreAdded f g a b sum at left right
-
-pub none_added : (a b : List Line) (at : ℤ) (left right : ℕ) → left < length a → right < length b → bottom_of a ≤ℤ at → bottom_of b ≤ℤ at
-    → ((d : Line) → at ≤ℤ (get_or a left d).most) → ((d : Line) → at ≤ℤ (get_or b right d).most)
-    → ((d : Line) → suc left < length a → (get_or a (suc left) d).most ≤ℤ at)
-    → ((d : Line) → suc right < length b → (get_or b (suc right) d).most ≤ℤ at)
-    → IsAdded a b [] at at left right
-none_added a b at left right la lb ea eb ha hb na nb = record {
-  inside_left = la;
-  inside_right = lb;
-  last_left = λ e. ea;
-  last_right = λ e. eb;
-  begins = refl;
-  small = λ n m s t. tt;
-  are_added = λ f g s t. record { holds_left = ha; holds_right = hb; next_left = na; next_right = nb; are_lines = tt };
-}
-
--- the next place, if the line there begins at the net volume
-abbrev pub IsPast : List Line → ℕ → ℤ → ℕ → Type 0
-IsPast ls place at next = ((next ≡ suc place) × ((d : Line) → (get_or ls next d).most ≡ at)) ⊎ (next ≡ place)

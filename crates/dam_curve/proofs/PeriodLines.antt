@@ -1,5 +1,5 @@
 -- The lines of a period's supply are its greatest welfare.
-use Rattle.std.proofs.Common.{◌≡◌, ◌↔◌, ℕ, zero, suc, ◌+◌, ◌-◌, ◌*◌, ◌<◌, ◌≤◌, ℤ, pos, neg_ℤ, ◌+ℤ◌, ◌-ℤ◌, ◌*ℤ◌, ◌≤ℤ◌, ◌<ℤ◌, nat_abs, ◌⊎◌}
+use Rattle.std.proofs.Common.{◌≡◌, ◌↔◌, ℕ, zero, suc, ◌+◌, ◌-◌, ◌*◌, ◌<◌, ◌≤◌, ℤ, pos, negsuc, neg_ℤ, ◌+ℤ◌, ◌-ℤ◌, ◌*ℤ◌, ◌≤ℤ◌, ◌<ℤ◌, nat_abs, ◌⊎◌}
 use Rattle.std.proofs.Common.{Option, Some, None, List, [], ◌∷◌, length, get_or, ap, ◌∙◌, sym, subst, inl, inr, refl, arith}
 use Rattle.std.specs.List.Sorted.{IsNonDecreasingBy}
 use Rattle.std.proofs.lemmas.Int.{ints}
@@ -278,10 +278,10 @@ units_most (s ∷ ss) a = let rest = units_most ss a.2 in let most = a.1.at_most
 
 pub times_small : (h s n : ℕ) (z : ℤ) → h ≤ s → neg_ℤ (pos n) ≤ℤ z → z ≤ℤ pos n
     → (neg_ℤ (pos (s * n)) ≤ℤ (pos h *ℤ z)) × ((pos h *ℤ z) ≤ℤ pos (s * n))
-times_small h s n z l a b =
-    let u = mul-le h (up z) s n l (omega (arith, ints, a, b)) in
-    let d = mul-le h (down z) s n l (omega (arith, ints, a, b)) in
-    (omega (arith, ints, u, d), omega (arith, ints, u, d))
+times_small h s n (pos m) l a b =
+    let t = mul-le h m s n l (omega (arith, ints, b)) in (omega (arith, ints, t), omega (arith, ints, t))
+times_small h s n (negsuc m) l a b =
+    let t = mul-le h (suc m) s n l (omega (arith, ints, a)) in (omega (arith, ints, t), omega (arith, ints, t))
 
 line_small : (v w b c : ℕ) (p : ℤ) → IsPrice p → v ≤ most_steps * greatest_volume → b ≤ most_steps * greatest_volume
     → w ≤ most_steps * (price_span * greatest_volume) → c ≤ most_steps * (price_span * greatest_volume) → IsSmallLine 1 (line_of v w p b c)
@@ -352,10 +352,11 @@ period_curve laws nothing ss rising is =
           rising 0 0 0 range (rises_from rising is.rises) (at_least_zero rising) (all_last rising));
       small = lines_small v w rising 0 0 range (omega (arith, eu, units, count)) (omega arith) (omega (arith, eu, units, count, volume))
           (omega (arith, eu, units, count, worth));
-      outside = λ net o. none_outside nothing ss net v (all_units rising) ev eu (shifted net (outside_is v w 0 0 rising net o) bottom);
+      outside = λ net o. none_outside nothing ss net v (all_units rising) ev eu
+          (shifted net v (all_units rising) (bottom_of (lines_from v w 0 0 rising)) (outside_is v w 0 0 rising net o) bottom);
     }
   where
-    shifted : (net : ℤ) → {v units : ℕ} {z : ℤ} → (net <ℤ z) ⊎ ((pos v -ℤ pos 0) <ℤ net) → z ≡ pos v -ℤ pos (0 + units)
+    shifted : (net : ℤ) (v units : ℕ) (z : ℤ) → (net <ℤ z) ⊎ ((pos v -ℤ pos 0) <ℤ net) → z ≡ pos v -ℤ pos (0 + units)
         → (net <ℤ (pos v -ℤ pos units)) ⊎ ((pos v -ℤ pos 0) <ℤ net)
-    shifted net (inl less) e = inl (omega (arith, ints, less, e))
-    shifted net (inr more) e = inr more
+    shifted net v units z (inl less) e = inl (omega (arith, ints, less, e))
+    shifted net v units z (inr more) e = inr more

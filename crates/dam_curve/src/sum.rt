@@ -8,7 +8,7 @@ ghost use Rattle.dam_curve.specs.declared.line.Line.{Line};
 ghost use Rattle.dam_curve.specs.Supply.{IsSupplyOf};
 ghost use Rattle.dam_curve.specs.Curve.{both, AreLines, bottom_of, IsOutside, AreSmallLines, IsSmallLine, IsCurve};
 ghost use Rattle.dam_curve.specs.inside.Supply.{worth_of};
-ghost use Rattle.dam_curve.specs.inside.Lines.{line_of, lines_from, joined};
+ghost use Rattle.dam_curve.specs.inside.Lines.{line_of, lines_from, joined, IsPast};
 
 use crate::line::Line;
 use crate::row::height;
@@ -172,6 +172,18 @@ fn from_net(lines: &[Line], net: i32) -> usize
     place
 }
 
+/// The next place, if the line there holds up to this net volume, and else the same.
+fn past(lines: &[Line], place: usize, net: i32) -> usize
+    requires { place + 1 < length lines.now }
+    ensures { IsPast lines.now place net result }
+{
+    if lines[place + 1].most == net {
+        place + 1
+    } else {
+        place
+    }
+}
+
 /// Writes the lines of the sum of two curves.
 fn add_lines<A: Allocator>(a: &[Line], b: &[Line], sum: &mut Vec<Line, A>) -> Result<(), AllocError>
     requires { (n : ℕ) × (m : ℕ) × AreSmallLines n a.now × AreSmallLines m b.now
@@ -198,12 +210,8 @@ fn add_lines<A: Allocator>(a: &[Line], b: &[Line], sum: &mut Vec<Line, A>) -> Re
     while left + 1 < a.len() && right + 1 < b.len() {
         sum.push(joined(a[left], b[right], at))?;
         at = a[left + 1].most.max(b[right + 1].most);
-        if a[left + 1].most == at {
-            left += 1;
-        }
-        if b[right + 1].most == at {
-            right += 1;
-        }
+        left = past(a, left, at);
+        right = past(b, right, at);
     }
     sum.push(joined(a[left], b[right], at))?;
     Ok(())
