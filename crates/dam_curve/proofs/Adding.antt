@@ -22,7 +22,7 @@ pub record StandsAt (ls : List Line) (at : ℤ) (place : ℕ) : Type 0 where
   pub holds : (d : Line) → at ≤ℤ (get_or ls place d).most
   pub next : (d : Line) → suc place < length ls → (get_or ls (suc place) d).most ≤ℤ at
 
-line_here : (f : ℤ → Option ℤ) (ls : List Line) (at : ℤ) (place : ℕ) (d : Line) → AreLines f ls (bottom_of ls) → IsPlace ls at place
+pub line_here : (f : ℤ → Option ℤ) (ls : List Line) (at : ℤ) (place : ℕ) (d : Line) → AreLines f ls (bottom_of ls) → IsPlace ls at place
     → StandsAt ls at place → (x : ℤ) × IsLine f (get_or ls place d) x × (x ≤ℤ at)
 line_here f ls at place d are p s = elim (cases_lt (suc place) (length ls)) [
   | inl l ↦ ((get_or ls (suc place) d).most, line_inside f ls (bottom_of ls) place d are l, s.next d l)
@@ -41,7 +41,7 @@ place_from ls at place d l most = record {
 }
 
 pub stands_from : (ls : List Line) (at : ℤ) (place : ℕ) → ((d : Line) → at ≤ℤ (get_or ls place d).most)
-    → ((d : Line) → place + 1 < length ls → (get_or ls (place + 1) d).most <ℤ at) → StandsAt ls at place
+    → ((d : Line) → place + 1 < length ls → (get_or ls (place + 1) d).most ≤ℤ at) → StandsAt ls at place
 stands_from ls at place holds under = record {
   holds = holds;
   next = λ d l.
@@ -187,7 +187,7 @@ some_more [] line = omega arith
 some_more (l ∷ ls) line = omega arith
 
 -- above the lesser of two greatest net volumes one of the two lists doesn't hold
-end_at : (ls : List Line) (d : Line) → 0 < length ls → end_of ls (pos 0) ≡ (get_or ls 0 d).most
+pub end_at : (ls : List Line) (d : Line) → 0 < length ls → end_of ls (pos 0) ≡ (get_or ls 0 d).most
 end_at [] d l = absurd (omega (arith, l))
 end_at (line ∷ ls) d l = refl
 

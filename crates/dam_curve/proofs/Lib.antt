@@ -6,3 +6,5 @@ pub mod Removing
 pub mod PeriodLines
 pub mod ListsOfLines
 pub mod Adding
+pub mod JointWelfare
+pub mod LookingUp

@@ -81,7 +81,6 @@ impl<A: Allocator> Sum<A> {
         laws::welfare();
         laws::surplus();
         laws::balance();
-        laws::magnitude();
         write_lines(&mut self.own, supply.steps())?;
         add_lines(&self.own, &self.lines, &mut self.next)?;
         mem::swap(&mut self.lines, &mut self.next);

@@ -1,6 +1,6 @@
 -- The sum begins at the lesser of the two greatest net volumes, and goes on line by line.
 use Rattle.std.proofs.Common.{◌≡◌, ◌⊎◌, ℕ, suc, ◌+◌, ◌-◌, ◌<◌, ◌≤ℤ◌, ◌<ℤ◌, ℤ, pos, length, get_or, inl, inr, to_z, of_z, w32, rules, arith}
-use Rattle.std.specs.Int.{int_min, int_max}
+use Rattle.std.proofs.lemmas.Int.{ints}
 use Rattle.dam_curve.specs.declared.line.Line.{Line}
 use Rattle.dam_curve.proofs.ListsOfLines.{small_at}
 use Rattle.dam_curve.proofs.Adding.{place_from, stands_from, none_added, next_added, shorter, all_lines, all_small, all_outside, apart_outside}
@@ -27,8 +27,10 @@ loop-left-init g c =
     (record { most = pos 0; price = pos 0; surplus = pos 0 }) c.from_net-left.ensures.inside (search rules))
     (place_from c.args.b.now (to_z w32 (of_z w32 c.min-at.result)) c.from_net-right.result
     (record { most = pos 0; price = pos 0; surplus = pos 0 }) c.from_net-right.ensures.inside (search rules))
-    (stands_from c.args.a.now (to_z w32 (of_z w32 c.min-at.result)) c.from_net-left.result c.from_net-left.ensures.holds c.from_net-left.ensures.last)
-    (stands_from c.args.b.now (to_z w32 (of_z w32 c.min-at.result)) c.from_net-right.result c.from_net-right.ensures.holds c.from_net-right.ensures.last))
+    (stands_from c.args.a.now (to_z w32 (of_z w32 c.min-at.result)) c.from_net-left.result c.from_net-left.ensures.holds
+    (λ d l. (let less = c.from_net-left.ensures.last d l in omega (arith, ints, less))))
+    (stands_from c.args.b.now (to_z w32 (of_z w32 c.min-at.result)) c.from_net-right.result c.from_net-right.ensures.holds
+    (λ d l. (let less = c.from_net-right.ensures.last d l in omega (arith, ints, less)))))
 
 pub joined-requires : goal.joined-requires
 joined-requires g c = (
