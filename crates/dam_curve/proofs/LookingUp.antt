@@ -1,6 +1,6 @@
 -- The lines of one curve among those of many, and the one that holds at a net volume.
 use Rattle.std.proofs.Common.{◌≡◌, ℕ, zero, suc, ◌+◌, ◌-◌, ◌*◌, ◌<◌, ◌≤◌, ℤ, pos, negsuc, neg_ℤ, ◌+ℤ◌, ◌*ℤ◌, ◌≤ℤ◌, ◌<ℤ◌, ◌⊎◌, Option, Some, None}
-use Rattle.std.proofs.Common.{List, [], ◌∷◌, ◌++◌, length, length-append, length-drop, take, drop, get_or, ap, ◌∙◌, sym, subst, inl, inr, refl, arith}
+use Rattle.std.proofs.Common.{FitsSigned, to_z, of_z, w32, w64, List, [], ◌∷◌, ◌++◌, length, length-append, length-drop, take, drop, get_or, ap, ◌∙◌, sym, subst, inl, inr, refl, arith}
 use Rattle.std.specs.List.{slice_range}
 use Rattle.std.proofs.lemmas.Int.{ints}
 use Rattle.std.proofs.lemmas.Nat.{mul-le}
@@ -95,7 +95,7 @@ value_at f ls net place d are within l holds next =
     sym (here.1.each net here.2 (holds d))
 
 -- ---- how large the numbers are
-pub product_small : (x y : ℤ) (n m : ℕ) → neg_ℤ (pos n) ≤ℤ x → x ≤ℤ pos n → neg_ℤ (pos m) ≤ℤ y → y ≤ℤ pos m
+product_small : (x y : ℤ) (n m : ℕ) → neg_ℤ (pos n) ≤ℤ x → x ≤ℤ pos n → neg_ℤ (pos m) ≤ℤ y → y ≤ℤ pos m
     → (neg_ℤ (pos (n * m)) ≤ℤ (x *ℤ y)) × ((x *ℤ y) ≤ℤ pos (n * m))
 product_small (pos h) y n m a b c e = times_small h n m y (omega (arith, ints, b)) c e
 product_small (negsuc h) y n m a b c e =
@@ -104,13 +104,15 @@ product_small (negsuc h) y n m a b c e =
     (omega (arith, ints, t.0, t.1, turned), omega (arith, ints, t.0, t.1, turned))
 
 -- a line of a curve at a net volume
-pub record AreSmallAt (line : Line) (net : ℤ) : Type 0 where
-  pub product_at_least : neg_ℤ (pos ((last_period * greatest_price) * greatest_net)) ≤ℤ (line.price *ℤ net)
-  pub product_at_most : (line.price *ℤ net) ≤ℤ pos ((last_period * greatest_price) * greatest_net)
-  pub surplus_at_least : neg_ℤ (pos (last_period * greatest_line_surplus)) ≤ℤ line.surplus
-  pub surplus_at_most : line.surplus ≤ℤ pos (last_period * greatest_line_surplus)
+record AreSmallAt (line : Line) (net : ℤ) : Type 0 where
+  price_at_least : neg_ℤ (pos (last_period * greatest_price)) ≤ℤ line.price
+  price_at_most : line.price ≤ℤ pos (last_period * greatest_price)
+  product_at_least : neg_ℤ (pos ((last_period * greatest_price) * greatest_net)) ≤ℤ (line.price *ℤ net)
+  product_at_most : (line.price *ℤ net) ≤ℤ pos ((last_period * greatest_price) * greatest_net)
+  surplus_at_least : neg_ℤ (pos (last_period * greatest_line_surplus)) ≤ℤ line.surplus
+  surplus_at_most : line.surplus ≤ℤ pos (last_period * greatest_line_surplus)
 
-pub line_small_at : (ps : List (List Step)) (least most net : ℤ) (ls : List Line) (place : ℕ) (d : Line) → IsCurve ps least most ls
+line_small_at : (ps : List (List Step)) (least most net : ℤ) (ls : List Line) (place : ℕ) (d : Line) → IsCurve ps least most ls
     → least ≤ℤ net → net ≤ℤ most → place < length ls → AreSmallAt (get_or ls place d) net
 line_small_at ps least most net ls place d is low high l =
     let small = small_at (length ps) ls place d is.small l in
@@ -120,8 +122,41 @@ line_small_at ps least most net ls place d is low high l =
     let product = product_small (get_or ls place d).price net (last_period * greatest_price) greatest_net (omega (arith, ints, few, p))
     (omega (arith, ints, few, q)) (omega (arith, ints, low, least_is)) (omega (arith, ints, high, most_is)) in
     record {
+      price_at_least = omega (arith, ints, few, p);
+      price_at_most = omega (arith, ints, few, q);
       product_at_least = product.0;
       product_at_most = product.1;
       surplus_at_least = omega (arith, ints, few, s);
       surplus_at_most = omega (arith, ints, few, t);
     }
+
+-- in the numbers of the machine
+pub record FitsAt (line : Line) (price net : ℤ) : Type 0 where
+  pub product : FitsSigned w64 (price *ℤ net)
+  pub sum : FitsSigned w64 (to_z w64 (of_z w64 line.surplus) +ℤ to_z w64 (of_z w64 (price *ℤ net)))
+  pub value : to_z w64 (of_z w64 (to_z w64 (of_z w64 line.surplus) +ℤ to_z w64 (of_z w64 (price *ℤ net)))) ≡ line_at line net
+
+fits_at : (line : Line) (price net wide : ℤ) → AreSmallAt line net → wide ≡ to_z w32 (of_z w32 line.price) → price ≡ to_z w64 (of_z w64 wide)
+    → FitsAt line price net
+fits_at line price net wide small e k =
+    let p = small.price_at_least in let q = small.price_at_most in
+    let a = small.product_at_least in let b = small.product_at_most in
+    let s = small.surplus_at_least in let t = small.surplus_at_most in
+    let is : price ≡ line.price = omega (arith, ints, p, q, e, k) in
+    let same = ap (λ (z : ℤ). z *ℤ net) is in
+    let surplus : to_z w64 (of_z w64 line.surplus) ≡ line.surplus = omega (arith, ints, s, t) in
+    let product : to_z w64 (of_z w64 (price *ℤ net)) ≡ line.price *ℤ net = omega (arith, ints, a, b, same) in
+    record {
+      product = omega (arith, ints, a, b, same);
+      sum = omega (arith, ints, a, b, s, t, surplus, product);
+      value = omega (arith, ints, a, b, s, t, surplus, product);
+    }
+
+pub looked_up : (lines : List Line) (curve : Curve) (ps : List (List Step)) (least most net at : ℤ) (place : ℕ) (price wide : ℤ) (d : Line)
+    → IsCurveAt lines curve ps least most → least ≤ℤ net → net ≤ℤ most → at ≡ net → place < length (lines_at lines curve)
+    → wide ≡ to_z w32 (of_z w32 (get_or (lines_at lines curve) place d).price) → price ≡ to_z w64 (of_z w64 wide)
+    → FitsAt (get_or (lines_at lines curve) place d) price at
+looked_up lines curve ps least most net at place price wide d is low high same l e k =
+    fits_at (get_or (lines_at lines curve) place d) price at wide
+    (line_small_at ps least most at (lines_at lines curve) place d is.is_curve (omega (arith, ints, low, same)) (omega (arith, ints, high, same)) l)
+    e k
