@@ -27,7 +27,7 @@ pub curve_added : (old ls all : List Line) (curve : Curve) (ps : List (List Step
     → curve.top ≡ (get_or ls 0 d).most → IsCurve ps least most ls → IsCurveAt all curve ps least most
 curve_added old ls all curve ps least most d e first count some bottom top is =
     let at : lines_at all curve ≡ ls = ap (λ ws. lines_at ws curve) e
-        ∙ part_behind old ls curve.first (curve.first + curve.count) first (omega (arith, count)) in
+    ∙ part_behind old ls curve.first (curve.first + curve.count) first (omega (arith, count)) in
     let long = ap length e ∙ length-append old ls in
     record {
       within = omega (arith, first, count, long);

@@ -1,4 +1,4 @@
-ghost use Rattle.std.specs.Prelude.{◌≡◌, ◌⊎◌, ℕ, ◌+◌, ◌*◌, ◌<◌, ◌≤◌, ◌≤ℤ◌, ◌<ℤ◌, ℤ, pos, Option, List, [], ◌∷◌, length, slice_index_or, OnOk};
+ghost use Rattle.std.specs.Prelude.{◌≡◌, ◌⊎◌, ℕ, ◌+◌, ◌*◌, ◌<◌, ◌≤◌, ◌≤ℤ◌, ◌<ℤ◌, ℤ, pos, Option, List, [], ◌∷◌, length, slice_index_or, OnOk, OnErr};
 ghost use Rattle.dam_book.specs.declared.order.Side.TheVariants.{Buy};
 ghost use Rattle.dam_book.specs.Limits.{last_period, greatest_volume};
 ghost use Rattle.dam_hour.specs.Execution.{IsNetVolume, offered_volume};
@@ -68,15 +68,16 @@ impl<A: Allocator> Sum<A> {
         Ok(())
     }
 
-    /// Adds a period, at the same net volumes. The error is out of memory.
+    /// Adds a period, at the same net volumes. The error is out of memory, and nothing is then added.
     pub fn add<B: Allocator>(&mut self, supply: &Supply<B>) -> Result<(), AllocError>
         requires { (periods : List (List Step)) × (least : ℤ) × (most : ℤ) × (steps : List Step)
             × IsCurve periods least most self.old × IsSupplyOf steps supply.now
             × (length periods < last_period) }
-        ensures { (periods : List (List Step)) (least most : ℤ) (steps : List Step)
+        ensures added { (periods : List (List Step)) (least most : ℤ) (steps : List Step)
             → IsCurve periods least most self.old → IsSupplyOf steps supply.now
             → length periods < last_period
             → OnOk result (IsCurve (steps ∷ periods) least most self.new) }
+        ensures err { OnErr result (self.new ≡ self.old) }
     {
         laws::welfare();
         laws::surplus();

@@ -41,8 +41,8 @@ add_lines-requires g c =
       omega (arith, few),
     )
 
-pub returns : goal.returns
-returns g c ps least most ss is supply few =
+pub returns-clause-added : goal.returns-clause-added
+returns-clause-added g c ps least most ss is supply few =
     let laws : Laws = record {
       reached = c.welfare.ensures.reached;
       bound = c.welfare.ensures.bound;
