@@ -1,5 +1,5 @@
 -- The sum of two lists of lines, line by line.
-use Rattle.std.proofs.Common.{◌≡◌, ℕ, zero, suc, ◌+◌, ◌<◌, ◌-◌, ℤ, pos, ◌≤ℤ◌, ◌<ℤ◌, ◌⊎◌, Option, List, [], ◌∷◌, ◌++◌, length, get_or, ap, ◌∙◌, sym, subst}
+use Rattle.std.proofs.Common.{◌≡◌, ℕ, suc, ◌+◌, ◌<◌, ◌-◌, ℤ, pos, ◌≤ℤ◌, ◌<ℤ◌, ◌⊎◌, Option, List, [], ◌∷◌, ◌++◌, length, get_or, ap, ◌∙◌, sym, subst}
 use Rattle.std.proofs.Common.{inl, inr, refl, arith}
 use Rattle.std.specs.Int.{int_min, int_max}
 use Rattle.std.proofs.lemmas.Int.{ints, by_lt_z, int_min_is, int_max_is}
@@ -94,15 +94,15 @@ none_added a b at left right la lb sa sb = record {
 }
 
 -- the two lines that hold at the net volume, in the sum
-small_so : (n m : ℕ) (a b sum : List Line) (start at : ℤ) (left right : ℕ) (d : Line) → IsAdded a b sum start at left right
+pub small_added : (n m : ℕ) (a b sum : List Line) (start at : ℤ) (left right : ℕ) (d : Line) → IsAdded a b sum start at left right
     → AreSmallLines n a → AreSmallLines m b
     → AreSmallLines (n + m) (sum ++ joined (get_or a left d) (get_or b right d) at ∷ [])
-small_so n m a b sum start at left right d is s t =
+small_added n m a b sum start at left right d is s t =
     small_more (n + m) sum (joined (get_or a left d) (get_or b right d) at) (is.small n m s t)
     (joined_small n m (get_or a left d) (get_or b right d) at (small_at n a left d s is.left_is.inside) (small_at m b right d t is.right_is.inside))
 
-begins_so : (sum : List Line) (line : Line) (start at next : ℤ) → end_of sum at ≡ start → line.most ≡ at → end_of (sum ++ line ∷ []) next ≡ start
-begins_so sum line start at next e own = end_more sum line next ∙ ap (end_of sum) own ∙ e
+begins_added : (sum : List Line) (line : Line) (start at next : ℤ) → end_of sum at ≡ start → line.most ≡ at → end_of (sum ++ line ∷ []) next ≡ start
+begins_added sum line start at next e own = end_more sum line next ∙ ap (end_of sum) own ∙ e
 
 max_least : (x y low at : ℤ) → low ≡ int_max x y → x ≤ℤ at → y ≤ℤ at → (x ≤ℤ low) × (y ≤ℤ low) × (low ≤ℤ at)
 max_least x y low at e l m = let is = int_max_is x y in (omega (arith, ints, e, is), omega (arith, ints, e, is), omega (arith, ints, e, is, l, m))
@@ -118,8 +118,8 @@ next_added a b sum start at lower left right next_left next_right d is la lb top
     record {
       left_is = past_place a lower left next_left d sa pa;
       right_is = past_place b lower right next_right d sb pb;
-      begins = begins_so sum (joined (get_or a left d) (get_or b right d) at) start at lower is.begins refl;
-      small = λ n m s t. small_so n m a b sum start at left right d is s t;
+      begins = begins_added sum (joined (get_or a left d) (get_or b right d) at) start at lower is.begins refl;
+      small = λ n m s t. small_added n m a b sum start at left right d is s t;
       are_lines = λ f g s t.
           (let was = is.are_lines f g s t in
           let first = line_inside f a (bottom_of a) left d s sa in
@@ -169,12 +169,7 @@ all_lines f g a b sum start at left right d is s t =
     (joined_is f g (get_or a left d) (get_or b right d) first.0 second.0 at at first.1 second.1 first.2 second.2 (omega (arith, ints))
     (was.0.holds d) (was.1.holds d)))
 
-pub all_small : (n m : ℕ) (a b sum : List Line) (start at : ℤ) (left right : ℕ) (d : Line) → IsAdded a b sum start at left right
-    → AreSmallLines n a → AreSmallLines m b
-    → AreSmallLines (n + m) (sum ++ joined (get_or a left d) (get_or b right d) at ∷ [])
-all_small n m a b sum start at left right d is s t = small_so n m a b sum start at left right d is s t
-
-pub outside_parts : (ls : List Line) (net : ℤ) → 0 < length ls → IsOutside ls net → (net <ℤ bottom_of ls) ⊎ (end_of ls (pos 0) <ℤ net)
+outside_parts : (ls : List Line) (net : ℤ) → 0 < length ls → IsOutside ls net → (net <ℤ bottom_of ls) ⊎ (end_of ls (pos 0) <ℤ net)
 outside_parts [] net l o = absurd (omega (arith, l))
 outside_parts (line ∷ ls) net l o = o
 
@@ -221,7 +216,7 @@ apart_outside a b start net d la lb e (inr less) =
     by_lt_z start net (λ over. above a b start net d la lb e over)
     (λ under. inr (outside_from b net lb (inl (omega (arith, ints, bottom, less, under)))))
 
-pub below_last : (ls : List Line) (at net : ℤ) (place : ℕ) (d : Line) → StandsAt ls at place → suc place ≡ length ls → net <ℤ at → IsOutside ls net
+below_last : (ls : List Line) (at net : ℤ) (place : ℕ) (d : Line) → StandsAt ls at place → suc place ≡ length ls → net <ℤ at → IsOutside ls net
 below_last ls at net place d s e l =
     let bottom = bottom_at ls place d e in let own = s.holds d in
     outside_from ls net (omega (arith, e)) (inl (omega (arith, ints, bottom, own, l)))
@@ -243,6 +238,6 @@ all_outside f g a b sum start at net left right d is s t whole least o =
     parted : (net <ℤ bottom_of (sum ++ line ∷ [])) ⊎ (end_of (sum ++ line ∷ []) (pos 0) <ℤ net) → IsOutside a net ⊎ IsOutside b net
     parted (inl less) = under whole (let e = bottom_more sum line in omega (arith, ints, less, e))
     parted (inr more) =
-        let e = begins_so sum line start at (pos 0) is.begins refl in
+        let e = begins_added sum line start at (pos 0) is.begins refl in
         let la = is.left_is.inside in let lb = is.right_is.inside in
         above a b start net d (omega (arith, la)) (omega (arith, lb)) least (omega (arith, ints, more, e))

@@ -42,7 +42,7 @@ taken_units net x t o b s u e f = omega (arith, ints, u, e, f)
 units_balance : (net : ℤ) (x t o b s : ℕ) → pos x +ℤ net ≡ pos o → t + b ≡ o + s → t ≡ x → pos s +ℤ net ≡ pos b
 units_balance net x t o b s u e f = omega (arith, ints, u, e, f)
 
-pub reaches_supporting : (ss : List Step) (net p : ℤ) (x : ℕ) → AreInRange ss → AreUnitsAt ss net x → IsPrice p → Reaches ss x (height_of p)
+reaches_supporting : (ss : List Step) (net p : ℤ) (x : ℕ) → AreInRange ss → AreUnitsAt ss net x → IsPrice p → Reaches ss x (height_of p)
     → IsSupporting ss net p
 reaches_supporting ss net p x a u r h =
     let found = reached_execution p ss x r a h in

@@ -1,10 +1,10 @@
 -- Lists of lines: one line more, and the line at a place.
-use Rattle.std.proofs.Common.{◌≡◌, ℕ, zero, suc, ◌+◌, ◌-◌, ◌*◌, ◌<◌, ◌≤◌, ℤ, pos, neg_ℤ, ◌+ℤ◌, ◌*ℤ◌, ◌≤ℤ◌, ◌<ℤ◌, ◌⊎◌, Option, Some}
-use Rattle.std.proofs.Common.{List, [], ◌∷◌, ◌++◌, length, get_or, ap, ap₂, ◌∙◌, sym, subst, inl, inr, refl, arith}
+use Rattle.std.proofs.Common.{◌≡◌, ℕ, zero, suc, ◌+◌, ◌*◌, ◌<◌, ℤ, ◌+ℤ◌, ◌*ℤ◌, ◌≤ℤ◌, Option, Some}
+use Rattle.std.proofs.Common.{List, [], ◌∷◌, ◌++◌, length, get_or, ap, ap₂, ◌∙◌, sym, subst, refl, arith}
 use Rattle.std.proofs.lemmas.Int.{ints}
 use borrow.Author.Differences.{up, down}
 use Rattle.dam_curve.specs.declared.line.Line.{Line}
-use Rattle.dam_curve.specs.Curve.{both, line_at, IsLine, end_of, AreLines, bottom_of, IsOutside, IsSmallLine, AreSmallLines}
+use Rattle.dam_curve.specs.Curve.{both, line_at, IsLine, end_of, AreLines, bottom_of, IsSmallLine, AreSmallLines}
 use Rattle.dam_curve.specs.inside.Lines.{joined}
 
 abbrev line_of_parts : ℤ → ℤ → ℤ → Line

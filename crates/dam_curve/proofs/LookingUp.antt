@@ -1,22 +1,20 @@
 -- The lines of one curve among those of many, and the one that holds at a net volume.
-use Rattle.std.proofs.Common.{◌≡◌, ℕ, zero, suc, ◌+◌, ◌-◌, ◌*◌, ◌<◌, ◌≤◌, ℤ, pos, negsuc, neg_ℤ, ◌+ℤ◌, ◌*ℤ◌, ◌≤ℤ◌, ◌<ℤ◌, ◌⊎◌, Option, Some, None}
-use Rattle.std.proofs.Common.{FitsSigned, to_z, of_z, w32, w64, List, [], ◌∷◌, ◌++◌, length, length-append, length-drop, take, drop, get_or, ap, ◌∙◌, sym, subst, inl, inr, refl, arith}
+use Rattle.std.proofs.Common.{◌≡◌, ℕ, suc, ◌+◌, ◌-◌, ◌*◌, ◌<◌, ◌≤◌, ℤ, pos, negsuc, neg_ℤ, ◌+ℤ◌, ◌*ℤ◌, ◌≤ℤ◌, ◌<ℤ◌, ◌⊎◌, Option, Some, None}
+use Rattle.std.proofs.Common.{FitsSigned, to_z, of_z, w32, w64, List, [], ◌∷◌, ◌++◌, length, length-append, length-drop, take, drop, get_or, ap, ◌∙◌, sym, subst, inl, inr, arith}
 use Rattle.std.specs.List.{slice_range}
 use Rattle.std.proofs.lemmas.Int.{ints}
-use Rattle.std.proofs.lemmas.Nat.{mul-le}
 use Rattle.std.proofs.lemmas.Bool.{cases_lt}
 use Rattle.std.proofs.lemmas.List.{take_all, drop_at, length-take-le}
 use Rattle.dam_book.specs.Limits.{last_period}
 use Rattle.dam_hour.specs.declared.step.Step.{Step}
 use Rattle.dam_hour.specs.Limits.{greatest_net, greatest_price}
-use Rattle.dam_hour.specs.Execution.{IsNetVolume}
 use Rattle.dam_curve.specs.declared.line.Line.{Line}
 use Rattle.dam_curve.specs.declared.curves.Curve.{Curve}
-use Rattle.dam_curve.specs.Curve.{joint_welfare, line_at, end_of, AreLines, bottom_of, IsOutside, IsSmallLine, greatest_line_surplus, IsCurve, lines_at}
+use Rattle.dam_curve.specs.Curve.{joint_welfare, line_at, end_of, AreLines, bottom_of, IsOutside, greatest_line_surplus, IsCurve, lines_at}
 use Rattle.dam_curve.specs.Curve.{IsCurveAt}
 use Rattle.dam_curve.proofs.ListsOfLines.{bottom_at, small_at}
 use Rattle.dam_curve.proofs.PeriodLines.{times_small}
-use Rattle.dam_curve.proofs.Adding.{IsPlace, StandsAt, line_here, place_from, stands_from, end_at, outside_from}
+use Rattle.dam_curve.proofs.Adding.{line_here, place_from, stands_from, end_at, outside_from}
 
 -- ---- the lines of one curve
 part_behind : (xs ys : List Line) (n m : ℕ) → n ≡ length xs → m ≡ n + length ys → slice_range (xs ++ ys) n m ≡ ys

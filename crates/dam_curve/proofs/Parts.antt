@@ -41,13 +41,6 @@ pub part_most : (g q : ℕ) → if_any g q ≤ q
 part_most zero q = omega arith
 part_most (suc g) q = omega arith
 
--- what stands up to a height stands under each greater one
-pub up_to_under : (a h k q : ℕ) → h < k → if_any (suc h - a) q ≤ if_any (k - a) q
-up_to_under a h k q l = elim (cases_lt a k) [
-  | inl m ↦ (let u = under_full a k q m in let p = part_most (suc h - a) q in omega (arith, u, p))
-  | inr m ↦ (let v = up_to_none a h q (omega arith) in omega (arith, v))
-]
-
 -- ---- what is taken of a step as supply
 abbrev pub taken_of : Side → ℕ → ℕ → ℕ
 taken_of Buy q x = q - x
@@ -84,17 +77,6 @@ pub worse_none : (side : Side) (limit p c : ℤ) (a h q y : ℕ) → limit ≡ c
 worse_none Buy limit p c a h q y el ep f b w l = let e = b (omega (arith, ints)) in omega (arith, e)
 worse_none Sell limit p c a h q y el ep f b w l = w (omega (arith, ints))
 
--- what is taken lies between the volume under the height and the volume up to it
-pub part_within : (a h q y : ℕ) → y ≤ q → (a < h → y ≡ q) → (h < a → y ≡ 0) → (if_any (h - a) q ≤ y) × (y ≤ if_any (suc h - a) q)
-part_within a h q y f b w = elim (cases_lt a h) [
-  | inl l ↦ (let u = part_most (h - a) q in let v = up_to_full a h q (omega arith) in let e = b l in
-      (omega (arith, u, e), omega (arith, v, e)))
-  | inr m ↦ elim (cases_lt h a) [
-    | inl l ↦ (let u = under_none a h q m in let e = w l in (omega (arith, u), omega (arith, e)))
-    | inr n ↦ (let u = under_none a h q m in let v = up_to_full a h q n in (omega (arith, u), omega (arith, v, f)))
-  ]
-]
-
 -- ---- the cost of what is taken, and its gain
 pub part_cost : (a h q y : ℕ) → (a < h → y ≡ q) → (h < a → y ≡ 0) → a * y + (h - a) * q ≡ h * y
 part_cost a h q y b w = elim (cases_lt a h) [
@@ -124,7 +106,7 @@ minus_times a b x =
     omega (arith, ints, m)
 
 -- a limit times a volume, by the limit's height
-pub limit_times : (limit c : ℤ) (a x : ℕ) → limit ≡ c +ℤ pos a → limit *ℤ pos x ≡ c *ℤ pos x +ℤ pos (a * x)
+limit_times : (limit c : ℤ) (a x : ℕ) → limit ≡ c +ℤ pos a → limit *ℤ pos x ≡ c *ℤ pos x +ℤ pos (a * x)
 limit_times limit c a x e =
     let d : limit -ℤ c ≡ pos a = omega (arith, ints) in
     let t = ap (λ (z : ℤ). z *ℤ pos x) d in

@@ -1,5 +1,5 @@
 -- The lines of a period's supply are its greatest welfare.
-use Rattle.std.proofs.Common.{◌≡◌, ◌↔◌, ℕ, zero, suc, ◌+◌, ◌-◌, ◌*◌, ◌<◌, ◌≤◌, ℤ, pos, negsuc, neg_ℤ, ◌+ℤ◌, ◌-ℤ◌, ◌*ℤ◌, ◌≤ℤ◌, ◌<ℤ◌, nat_abs, ◌⊎◌}
+use Rattle.std.proofs.Common.{◌≡◌, ◌↔◌, ℕ, suc, ◌+◌, ◌-◌, ◌*◌, ◌<◌, ◌≤◌, ℤ, pos, negsuc, neg_ℤ, ◌+ℤ◌, ◌-ℤ◌, ◌*ℤ◌, ◌≤ℤ◌, ◌<ℤ◌, nat_abs, ◌⊎◌}
 use Rattle.std.proofs.Common.{Option, Some, None, List, [], ◌∷◌, length, get_or, ap, ◌∙◌, sym, subst, inl, inr, refl, arith}
 use Rattle.std.specs.List.Sorted.{IsNonDecreasingBy}
 use Rattle.std.proofs.lemmas.Int.{ints}
@@ -11,7 +11,7 @@ use Rattle.dam_book.specs.declared.order.Side.{Side}
 use Rattle.dam_book.specs.declared.order.Side.TheVariants.{Buy, Sell}
 use Rattle.dam_hour.specs.declared.step.Step.{Step}
 use Rattle.dam_hour.specs.Limits.{most_steps, price_span}
-use Rattle.dam_hour.specs.Execution.{AreInRange, IsExecution, Balances, IsHour, IsUnbalanced, IsWithinOffers, offered_volume, volume_on}
+use Rattle.dam_hour.specs.Execution.{AreInRange, IsExecution, Balances, IsUnbalanced, IsWithinOffers, offered_volume, volume_on}
 use Rattle.dam_hour.specs.Best.{greatest_welfare}
 use Rattle.dam_curve.specs.declared.line.Line.{Line}
 use Rattle.dam_curve.specs.Supply.{height_of, total_of, AreAlike, IsSupplyOf}
@@ -245,7 +245,7 @@ in_range_from (s ∷ ss) e = (
   in_range_from ss (omega (arith, e)),
 )
 
-pub rising_in_range : (ss rising : List Step) → IsSupplyOf ss rising → AreInRange rising
+rising_in_range : (ss rising : List Step) → IsSupplyOf ss rising → AreInRange rising
 rising_in_range ss rising is = in_range_from rising (is.same beyond ∙ none_beyond ss is.is_hour.in_range)
 
 piece_alike : (ss rising : List Step) (h b e c : ℕ) → AreAlike ss rising → ArePiece rising h b e c → ArePiece ss h b e c

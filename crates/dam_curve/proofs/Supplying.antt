@@ -56,21 +56,7 @@ all_offered (s ∷ ss) =
     let here = offered_step s.side s.qty (offered_volume Buy ss) (offered_volume Sell ss) in
     omega (arith, rest, here)
 
--- ---- an execution that a price supports takes what is under the price, and nothing above it
-pub supported_reaches : (p : ℤ) (ss : List Step) (xs : List ℕ) → IsPrice p → AreInRange ss → IsExecution ss xs → Supports p ss xs
-    → Reaches ss (taken ss xs) (height_of p)
-supported_reaches p [] [] r a e h = record { under = omega arith; up_to = omega arith }
-supported_reaches p [] (x ∷ xs) r a e h = absurd e
-supported_reaches p (s ∷ ss) [] r a e h = absurd e
-supported_reaches p (s ∷ ss) (x ∷ xs) r a e h =
-    let el = height_is s.price a.0 in let ep = height_is p r in
-    let here = part_within (height_of s.price) (height_of p) s.qty (taken_of s.side s.qty x) (taken_fits s.side s.qty x e.0)
-    (taken_full s.side s.price p lowest_price (height_of s.price) (height_of p) s.qty x el ep e.0 h.0 h.1)
-    (taken_none s.side s.price p lowest_price (height_of s.price) (height_of p) s.qty x el ep e.0 h.0 h.1) in
-    let rest = supported_reaches p ss xs r a.2 e.1 h.2 in
-    let under = rest.under in let up_to = rest.up_to in
-    record { under = omega (arith, here.0, under); up_to = omega (arith, here.1, up_to) }
-
+-- ---- the heights of what an execution takes that a price supports
 pub supported_spent : (p : ℤ) (ss : List Step) (xs : List ℕ) → IsPrice p → AreInRange ss → IsExecution ss xs → Supports p ss xs
     → spent ss xs + gain_under (height_of p) ss ≡ height_of p * taken ss xs
 supported_spent p [] [] r a e h = omega arith
@@ -96,14 +82,14 @@ under_most h (s ∷ ss) =
     let here = under_up_to (height_of s.price) h s.qty in let rest = under_most h ss in omega (arith, here, rest)
 
 -- what a step gives of a number of units
-pub record Part (u v under up_to x : ℕ) : Type 0 where
-  pub y : ℕ
-  pub at_least : u ≤ y
-  pub at_most : y ≤ v
-  pub rest : ℕ
-  pub sum : y + rest ≡ x
-  pub under_rest : under ≤ rest
-  pub up_to_rest : rest ≤ up_to
+record Part (u v under up_to x : ℕ) : Type 0 where
+  y : ℕ
+  at_least : u ≤ y
+  at_most : y ≤ v
+  rest : ℕ
+  sum : y + rest ≡ x
+  under_rest : under ≤ rest
+  up_to_rest : rest ≤ up_to
 
 part_of : (u v under up_to x : ℕ) → u ≤ v → under ≤ up_to → u + under ≤ x → x ≤ v + up_to → Part u v under up_to x
 part_of u v under up_to x l m a b = elim (cases_lt v (x - under)) [

@@ -1,9 +1,8 @@
 -- The sum begins at the lesser of the two greatest net volumes, and goes on line by line.
-use Rattle.std.proofs.Common.{◌≡◌, ◌⊎◌, ℕ, suc, ◌+◌, ◌-◌, ◌<◌, ◌≤ℤ◌, ◌<ℤ◌, ℤ, pos, length, get_or, inl, inr, to_z, of_z, w32, rules, arith}
+use Rattle.std.proofs.Common.{pos, inl, inr, to_z, of_z, w32, rules, arith}
 use Rattle.std.proofs.lemmas.Int.{ints}
-use Rattle.dam_curve.specs.declared.line.Line.{Line}
 use Rattle.dam_curve.proofs.ListsOfLines.{small_at}
-use Rattle.dam_curve.proofs.Adding.{place_from, stands_from, none_added, next_added, shorter, all_lines, all_small, all_outside, apart_outside}
+use Rattle.dam_curve.proofs.Adding.{place_from, stands_from, none_added, next_added, shorter, all_lines, small_added, all_outside, apart_outside}
 use Rattle.dam_curve.proofs.Adding.{under_first}
 use Rattle.dam_curve.proofs.sum.add_lines.Goals.{then-a-at-via-then-a-at, then-a-at-via-else-a-at+then-b-at}
 use Rattle.dam_curve.proofs.sum.add_lines.Goals.{then-loop-left-test+else-right-b, else-loop-left-test}
@@ -72,7 +71,7 @@ returns-clause-lines g c f h s t =
 pub returns-clause-small : goal.returns-clause-small
 returns-clause-small g c n m s t =
     rw (c.in_ok-push-2.ensures.items, c.joined-2.ensures)
-    (all_small n m c.args.a.now c.args.b.now c.loop-left.sum.items (to_z w32 (of_z w32 c.min-at.result)) (to_z w32 c.loop-left.at-bits) c.loop-left.left
+    (small_added n m c.args.a.now c.args.b.now c.loop-left.sum.items (to_z w32 (of_z w32 c.min-at.result)) (to_z w32 c.loop-left.at-bits) c.loop-left.left
     c.loop-left.right (record { most = pos 0; price = pos 0; surplus = pos 0 }) c.loop-left.invariant s t)
 
 pub returns-then-a-at-clause-outside : goal.returns-then-a-at-clause-outside

@@ -1,5 +1,5 @@
 -- The lines stand after those of the other curves.
-use Rattle.std.proofs.Common.{◌≡◌, ◌-◌, pos, length, sym, subst, rules}
+use Rattle.std.proofs.Common.{pos, sym, subst, rules}
 use Rattle.dam_curve.specs.Curve.{IsCurve}
 use Rattle.dam_curve.proofs.LookingUp.{curve_added}
 use Rattle.dam_curve.proofs.curves.Curves.add.Goals as goal

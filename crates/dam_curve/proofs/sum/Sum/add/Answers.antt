@@ -1,9 +1,8 @@
 -- The lines of the period and those of the others, added up.
-use Rattle.std.proofs.Common.{◌≡◌, ◌+◌, ◌≤◌, ℕ, List, ◌∷◌, length, ap, ◌∙◌, sym, subst, rules, arith}
+use Rattle.std.proofs.Common.{◌≡◌, List, ◌∷◌, length, ap, ◌∙◌, sym, subst, rules, arith}
 use Rattle.dam_book.specs.declared.order.Side.TheVariants.{Buy}
 use Rattle.dam_hour.specs.declared.step.Step.{Step}
 use Rattle.dam_hour.specs.Execution.{offered_volume}
-use Rattle.dam_curve.specs.declared.line.Line.{Line}
 use Rattle.dam_curve.specs.Curve.{AreSmallLines, IsCurve}
 use Rattle.dam_curve.specs.inside.Supply.{worth_of}
 use Rattle.dam_curve.specs.inside.Lines.{lines_from}

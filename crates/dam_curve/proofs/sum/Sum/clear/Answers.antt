@@ -1,5 +1,5 @@
 -- The two lines of no period.
-use Rattle.std.proofs.Common.{◌≡◌, to_z, of_z, w32, w64, rules, arith}
+use Rattle.std.proofs.Common.{◌≡◌, to_z, of_z, w32, w64, arith}
 use Rattle.std.proofs.lemmas.Int.{ints}
 use Rattle.dam_curve.proofs.JointWelfare.{flat_curve}
 use Rattle.dam_curve.proofs.sum.Sum.clear.Goals as goal
