@@ -13,7 +13,7 @@ use Rattle.dam_hour.specs.Price.{Supports}
 use Rattle.dam_curve.specs.Supply.{height_of}
 use Rattle.dam_curve.specs.inside.Supply.{if_any, all_units, units_under, units_up_to, gain_under, worth_of, Reaches}
 use Rattle.dam_curve.proofs.Parts.{under_up_to, under_full, up_to_none, part_most, taken_of, taken_back, taken_fits, taken_full, taken_none}
-use Rattle.dam_curve.proofs.Parts.{better_full, worse_none, part_within, part_cost, part_welfare}
+use Rattle.dam_curve.proofs.Parts.{better_full, worse_none, part_cost, part_welfare}
 
 -- the units that an execution takes of the supply: what it sells, and what of the buys isn't served
 abbrev pub taken : List Step → List ℕ → ℕ
