@@ -1,6 +1,6 @@
 -- The steps of a period as one stack of supply: the sells, and the buys, whose units are supply if they aren't served.
 -- Prices are heights: the cents from the least price up.
-use Rattle.std.specs.Prelude.{◌≡◌, ℕ, zero, suc, ◌+◌, ◌-◌, ◌*◌, ℤ, ◌-ℤ◌, nat_abs, List, [], ◌∷◌}
+use Rattle.std.specs.Prelude.{◌≡◌, ℕ, ◌+◌, ℤ, ◌-ℤ◌, nat_abs, List, [], ◌∷◌}
 use Rattle.std.specs.List.Sorted.{IsNonDecreasingBy}
 use Rattle.dam_book.specs.Limits.{lowest_price}
 use Rattle.dam_hour.specs.Execution.{IsHour}

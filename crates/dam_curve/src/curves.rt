@@ -1,4 +1,4 @@
-ghost use Rattle.std.specs.Prelude.{◌≡◌, ◌+◌, ◌-◌, ◌≤◌, ◌<◌, ℤ, pos, neg_ℤ, ◌≤ℤ◌, ◌<ℤ◌, List, [], length, IfOk, IfSome, slice_index_or};
+ghost use Rattle.std.specs.Prelude.{◌≡◌, ◌+◌, ◌-◌, ◌≤◌, ◌<◌, ℤ, pos, neg_ℤ, ◌≤ℤ◌, ◌<ℤ◌, List, [], length, IfOk, OnErr, IfSome, slice_index_or};
 ghost use Rattle.dam_hour.specs.declared.step.Step.{Step};
 ghost use Rattle.dam_curve.specs.declared.line.Line.{Line};
 ghost use Rattle.dam_curve.specs.Curve.{joint_welfare, line_at, lines_at, IsCurve, IsCurveAt, Keeps, greatest_joint_welfare};
@@ -102,6 +102,7 @@ impl<A: Allocator> Curves<A> {
         ensures added { (periods : List (List Step)) (least most : ℤ) → IsCurve periods least most sum.now
             → IfOk result (λ curve. IsCurveAt self.new curve periods least most) }
         ensures kept { Keeps self.old self.new }
+        ensures err { OnErr result (self.new ≡ self.old) }
     {
         let lines = sum.lines();
         let first = narrow(self.lines.len())?;
@@ -119,7 +120,7 @@ impl<A: Allocator> Curves<A> {
         }
         let top = lines[0].most;
         let bottom = lines[lines.len() - 1].most;
-        let range = (i64::from(top) - i64::from(bottom)) as u32;
+        let range = top.abs_diff(bottom);
         let shift = shift_of(range, lines.len());
         self.add_hints(lines, shift, range)?;
         self.lines.extend_from_slice(lines)?;

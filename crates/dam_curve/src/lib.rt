@@ -16,7 +16,7 @@
 //! ```
 //!
 //! A contract sees the lines of all curves, and asks of a curve which periods it is of, and between which net volumes.
-//! Tests alone show that a call reports out of memory only if memory was refused, and how long a look-up takes.
+//! Tests alone show that a call reports out of memory only if memory was refused.
 //!
 //! The crate knows nothing of blocks and books.
 #![tactic(auto)]

@@ -1,4 +1,4 @@
-ghost use Rattle.std.specs.Prelude.{◌≡◌, ◌⊎◌, ℕ, ◌+◌, ◌*◌, ◌<◌, ◌≤◌, ◌≤ℤ◌, ◌<ℤ◌, ℤ, pos, Option, List, [], ◌∷◌, length, slice_index_or, OnOk};
+ghost use Rattle.std.specs.Prelude.{◌≡◌, ◌⊎◌, ℕ, ◌+◌, ◌*◌, ◌<◌, ◌≤◌, ◌≤ℤ◌, ◌<ℤ◌, ℤ, pos, Option, List, [], ◌∷◌, length, slice_index_or, OnOk, OnErr};
 ghost use Rattle.dam_book.specs.declared.order.Side.TheVariants.{Buy};
 ghost use Rattle.dam_book.specs.Limits.{last_period, greatest_volume};
 ghost use Rattle.dam_hour.specs.Execution.{IsNetVolume, offered_volume};
@@ -8,7 +8,7 @@ ghost use Rattle.dam_curve.specs.declared.line.Line.{Line};
 ghost use Rattle.dam_curve.specs.Supply.{IsSupplyOf};
 ghost use Rattle.dam_curve.specs.Curve.{both, AreLines, bottom_of, IsOutside, AreSmallLines, IsSmallLine, IsCurve};
 ghost use Rattle.dam_curve.specs.inside.Supply.{worth_of};
-ghost use Rattle.dam_curve.specs.inside.Lines.{line_of, lines_from, joined};
+ghost use Rattle.dam_curve.specs.inside.Lines.{line_of, lines_from, joined, IsPast};
 
 use crate::line::Line;
 use crate::row::height;
@@ -68,20 +68,20 @@ impl<A: Allocator> Sum<A> {
         Ok(())
     }
 
-    /// Adds a period, at the same net volumes. The error is out of memory.
+    /// Adds a period, at the same net volumes. The error is out of memory, and nothing is then added.
     pub fn add<B: Allocator>(&mut self, supply: &Supply<B>) -> Result<(), AllocError>
         requires { (periods : List (List Step)) × (least : ℤ) × (most : ℤ) × (steps : List Step)
             × IsCurve periods least most self.old × IsSupplyOf steps supply.now
             × (length periods < last_period) }
-        ensures { (periods : List (List Step)) (least most : ℤ) (steps : List Step)
+        ensures added { (periods : List (List Step)) (least most : ℤ) (steps : List Step)
             → IsCurve periods least most self.old → IsSupplyOf steps supply.now
             → length periods < last_period
             → OnOk result (IsCurve (steps ∷ periods) least most self.new) }
+        ensures err { OnErr result (self.new ≡ self.old) }
     {
         laws::welfare();
         laws::surplus();
         laws::balance();
-        laws::magnitude();
         write_lines(&mut self.own, supply.steps())?;
         add_lines(&self.own, &self.lines, &mut self.next)?;
         mem::swap(&mut self.lines, &mut self.next);
@@ -172,6 +172,18 @@ fn from_net(lines: &[Line], net: i32) -> usize
     place
 }
 
+/// The next place, if the line there holds up to this net volume, and else the same.
+fn past(lines: &[Line], place: usize, net: i32) -> usize
+    requires { place + 1 < length lines.now }
+    ensures { IsPast lines.now place net result }
+{
+    if lines[place + 1].most == net {
+        place + 1
+    } else {
+        place
+    }
+}
+
 /// Writes the lines of the sum of two curves.
 fn add_lines<A: Allocator>(a: &[Line], b: &[Line], sum: &mut Vec<Line, A>) -> Result<(), AllocError>
     requires { (n : ℕ) × (m : ℕ) × AreSmallLines n a.now × AreSmallLines m b.now
@@ -198,12 +210,8 @@ fn add_lines<A: Allocator>(a: &[Line], b: &[Line], sum: &mut Vec<Line, A>) -> Re
     while left + 1 < a.len() && right + 1 < b.len() {
         sum.push(joined(a[left], b[right], at))?;
         at = a[left + 1].most.max(b[right + 1].most);
-        if a[left + 1].most == at {
-            left += 1;
-        }
-        if b[right + 1].most == at {
-            right += 1;
-        }
+        left = past(a, left, at);
+        right = past(b, right, at);
     }
     sum.push(joined(a[left], b[right], at))?;
     Ok(())

@@ -1,5 +1,5 @@
 -- The lines of one period, from its demand and what stands under each step of its supply.
-use Rattle.std.specs.Prelude.{◌≡◌, ℕ, ◌+◌, ◌*◌, ℤ, pos, ◌+ℤ◌, ◌-ℤ◌, ◌*ℤ◌, List, [], ◌∷◌}
+use Rattle.std.specs.Prelude.{◌≡◌, ◌⊎◌, ℕ, ◌+◌, ◌*◌, ℤ, pos, ◌+ℤ◌, ◌-ℤ◌, ◌*ℤ◌, List, [], ◌∷◌, slice_index_or}
 use Rattle.dam_book.specs.Limits.{highest_price}
 use Rattle.dam_hour.specs.declared.step.Step.{Step}
 use Rattle.dam_curve.specs.Supply.{height_of}
@@ -23,3 +23,8 @@ lines_from volume worth before cost (step ∷ steps) =
 -- the line that two make where they hold both, up to this net volume
 abbrev pub joined : Line → Line → ℤ → Line
 joined a b most = record { most = most; price = a.price +ℤ b.price; surplus = a.surplus +ℤ b.surplus }
+
+-- the next place, if the line there holds up to this net volume, and else the same
+abbrev pub IsPast : List Line → ℕ → ℤ → ℕ → Type 0
+IsPast lines place net next = ((next ≡ place + 1) × ((d : Line) → (slice_index_or lines next d).most ≡ net))
+    ⊎ ((next ≡ place) × ((d : Line) → ¬ ((slice_index_or lines (place + 1) d).most ≡ net)))

@@ -1,5 +1,5 @@
 -- What stands under and up to a height in a stack of supply, and what the buys of a period ask for.
-use Rattle.std.specs.Prelude.{◌≡◌, ℕ, zero, suc, ◌+◌, ◌-◌, ◌*◌, ◌≤◌, ◌<◌, ℤ, pos, ◌+ℤ◌, List, [], ◌∷◌}
+use Rattle.std.specs.Prelude.{◌≡◌, ℕ, zero, suc, ◌+◌, ◌-◌, ◌*◌, ◌≤◌, ℤ, pos, ◌+ℤ◌, List}
 use Rattle.dam_book.specs.Limits.{greatest_volume}
 use Rattle.dam_book.specs.Price.{IsPrice}
 use Rattle.dam_book.specs.declared.order.Side.TheVariants.{Buy}
