@@ -1,5 +1,5 @@
 -- What the walk reads: the curve of each class at each depth, and what each block is in each of its classes.
-use Rattle.std.specs.Prelude.{◌≡◌, ℕ, ◌+◌, ◌*◌, ◌<◌, ◌≤◌, ◌==◌, ◌&&◌, not, nat_lt, if◌then◌else◌, Bool, ℤ, pos, ◌+ℤ◌, Option, Some, List, [], ◌∷◌, length}
+use Rattle.std.specs.Prelude.{◌≡◌, ℕ, ◌+◌, ◌*◌, ◌<◌, ◌≤◌, ◌==◌, ◌&&◌, not, nat_lt, if◌then◌else◌, Bool, true, false, ℤ, pos, ◌+ℤ◌, Option, Some, List, [], ◌∷◌, length}
 use Rattle.std.specs.Prelude.{take, slice_get, slice_index_or, count_by}
 use Rattle.dam_book.specs.Limits.{last_period, most_blocks}
 use Rattle.dam_book.specs.Terms.{BlockTerms}
@@ -82,6 +82,10 @@ pub record AreTouches (problem : ProblemState) (lines : List Line) (place : ℕ)
     : Type 0 where
   pub one_each : (c : ℕ) → touches_at c touches ≡ (if is_touched problem b c then 1 else 0)
   pub each : (j : ℕ) (touch : Touch) → slice_get touches j ≡ Some touch → IsTouch problem lines place b accept touch
+
+-- the touch, if the block is rejected
+abbrev pub rejected : Touch → Touch
+rejected touch = record touch { net = pos 0; value = pos 0 }
 
 -- the touches of a block by the decision on it
 pub record LotState : Type 0 where

@@ -1,31 +1,69 @@
 //! What a block gains at the prices of a day on which every block is decided.
 
+ghost use Rattle.std.specs.Prelude.{◌≡◌, ◌*◌, ◌<◌, ◌+◌, ◌-ℤ◌, ◌*ℤ◌, pos, ℕ, ℤ, List, Bool, ◌&&◌, Some, length, slice_get};
+ghost use Rattle.dam_book.specs.Limits.{most_blocks};
+ghost use Rattle.dam_blocks.specs.declared.problem.Block.{Block};
+ghost use Rattle.dam_blocks.specs.Selection.{accepts, padded, over_accepted};
+ghost use Rattle.dam_blocks.specs.Eligible.{ArePrices, surplus_of, surplus_at, gain_at};
+ghost use Rattle.dam_blocks.specs.Magnitude.{IsWithin, greatest_surplus};
+ghost use Rattle.dam_bound.specs.Day.{IsDay};
+ghost use Rattle.dam_bound.specs.Relaxed.{without_rows};
+ghost use Rattle.dam_bound.specs.Tables.{AreTablesOf};
+
 use crate::day::Day;
 use crate::tables::Tables;
-use dam_blocks::{Block, Problem, Selection, surplus_at_price};
+use dam_blocks::{Problem, Selection, laws, surplus_at_price};
 use dam_book::{Period, Price};
 use std::alloc::Allocator;
 
-/// The price of a period on the day.
-fn price_of<A: Allocator, B: Allocator>(problem: &Problem<A>, tables: &Tables<B>, day: &Day, at: usize) -> Price {
+/// The price of the period at the place on the day, on which every block is decided.
+fn price_at<A: Allocator, B: Allocator>(
+    problem: &Problem<A>,
+    tables: &Tables<B>,
+    day: &Day,
+    at: usize,
+) -> Price
+    requires tables { AreTablesOf (without_rows problem.now) tables.now }
+    requires day { (prefix : List Bool) × (length prefix ≡ length problem.now.blocks)
+        × IsDay (without_rows problem.now) prefix day.now }
+    requires place { at < length problem.now.hours }
+    ensures { (prefix : List Bool) (prices : List ℤ)
+        → length prefix ≡ length problem.now.blocks
+        → IsDay (without_rows problem.now) prefix day.now
+        → ArePrices problem.now.blocks (padded prefix) 1 problem.now.hours prices
+        → slice_get prices at ≡ Some result }
+{
+    dam_hour::laws::uniqueness();
+    laws::sums();
     let class = tables.firsts[at] as usize;
     let hour = problem.hour(Period::at(at)).unwrap();
     hour.clear(day.classes[class].net).unwrap().price
 }
 
-/// What a block gains by itself at the prices of the day, on which every block is decided. Only the prices of its own
-/// periods are asked for.
+/// What the block at the place gains by itself at the prices of the day, on which every block is
+/// decided. Only the prices of its own periods are asked for.
 fn surplus_of<A: Allocator, B: Allocator>(
     problem: &Problem<A>,
     tables: &Tables<B>,
     day: &Day,
-    block: &Block,
-) -> i64 {
-    let order = &block.order;
+    place: usize,
+) -> i64
+    requires tables { AreTablesOf (without_rows problem.now) tables.now }
+    requires day { (prefix : List Bool) × (length prefix ≡ length problem.now.blocks)
+        × IsDay (without_rows problem.now) prefix day.now }
+    requires place { place < length problem.now.blocks }
+    ensures value { (prefix : List Bool) (prices : List ℤ)
+        → length prefix ≡ length problem.now.blocks
+        → IsDay (without_rows problem.now) prefix day.now
+        → ArePrices problem.now.blocks (padded prefix) 1 problem.now.hours prices
+        → result ≡ surplus_at problem.now.blocks prices place }
+    ensures size { IsWithin greatest_surplus result }
+{
+    let order = &problem.blocks()[place].order;
     let mut total = 0;
     for (period, qty) in order.volumes().pairs() {
         let at = usize::from(period.get()) - 1;
-        total += surplus_at_price(order, price_of(problem, tables, day, at), qty.get());
+        total += surplus_at_price(order, price_at(problem, tables, day, at), qty.get());
     }
     total
 }
@@ -37,11 +75,23 @@ fn surplus_of_family<A: Allocator, B: Allocator>(
     day: &Day,
     selection: Selection,
     family: Selection,
-) -> i64 {
+) -> i64
+    requires tables { AreTablesOf (without_rows problem.now) tables.now }
+    requires day { (prefix : List Bool) × (length prefix ≡ length problem.now.blocks)
+        × IsDay (without_rows problem.now) prefix day.now }
+    ensures value { (prefix members : List Bool) (prices : List ℤ)
+        → length prefix ≡ length problem.now.blocks
+        → IsDay (without_rows problem.now) prefix day.now
+        → ArePrices problem.now.blocks (padded prefix) 1 problem.now.hours prices
+        → ((i : ℕ) → i < length problem.now.blocks
+        → accepts members i ≡ (accepts selection i && accepts family i))
+        → result ≡ over_accepted (surplus_of prices) problem.now.blocks members }
+    ensures size { IsWithin (most_blocks * greatest_surplus) result }
+{
     let mut total = 0;
-    for (place, block) in problem.blocks().iter().enumerate() {
+    for place in 0..problem.block_count() {
         if selection.has(place) && family.has(place) {
-            total += surplus_of(problem, tables, day, block);
+            total += surplus_of(problem, tables, day, place);
         }
     }
     total
@@ -58,8 +108,19 @@ pub(crate) fn gain_of<A: Allocator, B: Allocator>(
     day: &Day,
     selection: Selection,
     place: usize,
-) -> i64 {
-    let own = surplus_of(problem, tables, day, &problem.blocks()[place]);
+) -> i64
+    requires tables { AreTablesOf (without_rows problem.now) tables.now }
+    requires day { (prefix : List Bool) × (length prefix ≡ length problem.now.blocks)
+        × IsDay (without_rows problem.now) prefix day.now }
+    requires place { place < length problem.now.blocks }
+    ensures { (prefix : List Bool) (prices : List ℤ)
+        → length prefix ≡ length problem.now.blocks
+        → IsDay (without_rows problem.now) prefix day.now
+        → ArePrices problem.now.blocks (padded prefix) 1 problem.now.hours prices
+        → result ≡ gain_at problem.now.blocks selection prices place }
+{
+    laws::descendants();
+    let own = surplus_of(problem, tables, day, place);
     match tables.families[place] {
         Some(family) => own + surplus_of_family(problem, tables, day, selection, family),
         None => own,

@@ -1,7 +1,7 @@
 //! The periods of a day while its tables are made, block by block.
 
 ghost use Rattle.std.specs.Prelude.{◌≡◌, ◌<◌, ◌≤◌, ◌+◌, pos, ℕ, Some, List, ◌++◌, length, slice_get, IfOk, ◌≤ℤ◌};
-ghost use Rattle.dam_book.specs.Limits.{last_period};
+ghost use Rattle.dam_book.specs.Limits.{last_period, most_blocks};
 ghost use Rattle.dam_curve.specs.Supply.{IsSupplyOf};
 ghost use Rattle.dam_curve.specs.Curve.{Keeps};
 ghost use Rattle.dam_hour.specs.declared.step.Step.{Step};
@@ -142,10 +142,7 @@ fn widen(ranges: &mut [Range; MOST_PERIODS], order: &BlockOrder)
 
 impl<A: Allocator + Copy> Periods<A> {
     /// The periods of a problem with no block decided. The error is out of memory.
-    pub(crate) fn of<B: Allocator>(
-        alloc: A,
-        problem: &Problem<B>,
-    ) -> Result<Periods<A>, AllocError>
+    pub(crate) fn of<B: Allocator>(alloc: A, problem: &Problem<B>) -> Result<Periods<A>, AllocError>
         ensures { IfOk result (AreDecided (without_rows problem.now) 0) }
     {
         let count = usize::from(problem.periods().get());

@@ -32,12 +32,10 @@ pub struct Relaxed<A: Allocator = Global> {
 }
 
 impl<A: Allocator> Model for Relaxed<A> {
-    ghost use Rattle.std.specs.Prelude.{length, map, []};
+    ghost use Rattle.std.specs.Prelude.{length};
     ghost use Rattle.dam_blocks.specs.Problem.{ProblemState, AreBlocks};
-    ghost use Rattle.dam_bound.specs.Day.{IsDay};
-    ghost use Rattle.dam_bound.specs.inside.Levels.{AreDayLevels, last_steps, problem_kept};
-    ghost use Rattle.dam_bound.specs.inside.Families.{AreFamilies};
-    ghost use Rattle.dam_bound.specs.inside.Tables.{AreTables, ArePlaces};
+    ghost use Rattle.dam_bound.specs.inside.Levels.{AreDayLevels, problem_kept};
+    ghost use Rattle.dam_bound.specs.Tables.{AreTablesOf};
 
     ghost Value = { ProblemState };
 
@@ -45,11 +43,7 @@ impl<A: Allocator> Model for Relaxed<A> {
 
     ghost invariant = { λ r. AreDayLevels r.blocks.items r.periods.items
         × AreBlocks (length r.periods.items) r.blocks.items
-        × AreFamilies r.blocks.items r.families.items
-        × AreTables (map last_steps r.periods.items) r.blocks.items
-        r.tables.stacks r.tables.ends.items r.tables.lots.items
-        × IsDay (problem_kept r.periods.items r.blocks.items) [] r.tables.root
-        × ArePlaces r.blocks.items (length r.blocks.items) r.tables.places };
+        × AreTablesOf (problem_kept r.periods.items r.blocks.items) r.tables };
 }
 
 fn copies_of<A: Allocator>(alloc: A, blocks: &[Block]) -> Result<Vec<Block, A>, AllocError>
@@ -161,6 +155,8 @@ impl<A: Allocator> Relaxed<A> {
 }
 
 impl<A: Allocator> Bounds<A> for Relaxed<A> {
+    ghost bounded = { λ problem. problem };
+
     fn walk<'a, B: Allocator>(&'a self, problem: &'a Problem<B>) -> Walk<'a, B, A> {
         Walk::new(problem, &self.tables)
     }

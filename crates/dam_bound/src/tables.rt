@@ -1,20 +1,18 @@
 //! What the walk reads: the welfare of each class of periods at each depth as a curve over the net volume, and each
 //! block in each of its classes.
 
-ghost use Rattle.std.specs.Prelude.{◌≡◌, ◌<◌, ◌≤◌, ◌+◌, ◌*◌, pos, ℕ, ℤ, Some, List, [], ◌++◌, ◌∷◌, length, slice_get, slice_index_or, IfOk, OnOk, IsPermutation};
+ghost use Rattle.std.specs.Prelude.{◌≡◌, ◌<◌, ◌≤◌, ◌+◌, pos, neg_ℤ, ◌*ℤ◌, ◌≤ℤ◌, ℕ, ℤ, true, Some, List, [], length, map, slice_get, IfOk, IsPermutation};
 ghost use Rattle.dam_book.specs.Limits.{last_period, most_blocks};
-ghost use Rattle.dam_curve.specs.declared.curves.Curve.{Curve};
 ghost use Rattle.dam_curve.specs.Curve.{Keeps};
-ghost use Rattle.dam_hour.specs.declared.step.Step.{Step};
 ghost use Rattle.dam_blocks.specs.declared.problem.Block.{Block};
-ghost use Rattle.dam_blocks.specs.Problem.{ProblemState, AreBlocks};
-ghost use Rattle.dam_bound.specs.Classes.{first_of};
+ghost use Rattle.dam_blocks.specs.Problem.{ProblemState};
 ghost use Rattle.dam_bound.specs.Day.{IsDay};
-ghost use Rattle.dam_bound.specs.Relaxed.{as_steps, without_rows};
-ghost use Rattle.dam_bound.specs.Tables.{IsClassCurve, AreCurves, AreTouches, IsLot, AreLots, AreFirsts, ArePlaces, AreTablesOf, LotState};
-ghost use Rattle.dam_bound.specs.inside.Building.{AreSupplies, AreRanges, class_size};
-ghost use Rattle.dam_bound.specs.declared.touch.Touch.{Touch};
-ghost use Rattle.dam_bound.specs.declared.range.Range.{Range};
+ghost use Rattle.dam_bound.specs.Relaxed.{without_rows};
+ghost use Rattle.dam_bound.specs.Tables.{AreCurves, IsTouch, AreTouches, AreLots, AreFirsts, ArePlaces, AreTablesOf, rejected};
+ghost use Rattle.dam_bound.specs.inside.Building.{IsClass, AreDecided, IsDeciding};
+ghost use Rattle.dam_curve.specs.declared.line.Line.{Line};
+ghost use Rattle.dam_blocks.specs.Selection.{volume_in};
+ghost use Rattle.dam_hour.specs.Best.{signed};
 
 use crate::classes::firsts_of;
 use crate::day::{Day, Position};
@@ -111,6 +109,19 @@ struct Deciding<'a, A: Allocator> {
     row: u32,
 }
 
+impl<'a, A: Allocator> Model for Deciding<'a, A> {
+    ghost use Rattle.dam_bound.specs.inside.Building.{DecidingState};
+
+    ghost Value = { DecidingState };
+
+    ghost view = { λ d. record {
+      periods = d.periods.now;
+      order = d.order.now;
+      places = d.places.now;
+      row = d.row;
+    } };
+}
+
 impl<A: Allocator> Deciding<'_, A> {
     /// The accepted block in the class that begins at the place.
     fn touch<B: Allocator, C: Allocator>(
@@ -119,7 +130,16 @@ impl<A: Allocator> Deciding<'_, A> {
         sum: &mut Sum<C>,
         at: usize,
         qty: Qty,
-    ) -> Result<Touch, AllocError> {
+    ) -> Result<Touch, AllocError>
+        requires { (problem : ProblemState) × (k : ℕ) × (b : Block) × IsDeciding problem k b self.now
+            × IsClass problem at × (volume_in b.order.volumes (at + 1) ≡ qty) }
+        ensures touch { (problem : ProblemState) (k : ℕ) (b : Block)
+            → IsDeciding problem k b self.now → IsClass problem at
+            → volume_in b.order.volumes (at + 1) ≡ qty
+            → IfOk result (IsTouch problem curves.new k b true) }
+        ensures at { IfOk result (λ touch. touch.at ≡ at) }
+        ensures kept { Keeps curves.old curves.new }
+    {
         let curve = self.periods.curve(curves, sum, at)?;
         let value = worth_of(self.order, qty, self.periods.size(at));
         Ok(Touch {
@@ -139,7 +159,14 @@ impl<A: Allocator> Deciding<'_, A> {
         alloc: D,
         curves: &mut Curves<B>,
         sum: &mut Sum<C>,
-    ) -> Result<Vec<Touch, D>, AllocError> {
+    ) -> Result<Vec<Touch, D>, AllocError>
+        requires { (problem : ProblemState) × (k : ℕ) × (b : Block)
+            × IsDeciding problem k b self.now }
+        ensures touches { (problem : ProblemState) (k : ℕ) (b : Block)
+            → IsDeciding problem k b self.now
+            → IfOk result (λ touches. AreTouches problem curves.new k b true touches.items) }
+        ensures kept { Keeps curves.old curves.new }
+    {
         let pairs = self.order.volumes().pairs();
         let mut touches = Vec::with_capacity(alloc, pairs.len())?;
         for (period, qty) in pairs {
@@ -176,7 +203,23 @@ fn by_stake<A: Allocator>(accepted: Vec<Touch, A>, rejected: Vec<Touch, A>) -> L
 }
 
 /// Puts the block's own slots and curves in the place of those that its classes have before it.
-fn take_over(places: &mut [u32; MOST_PERIODS], ends: &mut [Curve], touches: &[Touch]) {
+fn take_over(places: &mut [u32; MOST_PERIODS], ends: &mut [Curve], touches: &[Touch])
+    requires { (problem : ProblemState) × (lines : List Line) × (k : ℕ) × (b : Block)
+        × (slice_get problem.blocks k ≡ Some b) × (k < most_blocks)
+        × (length problem.hours ≤ last_period)
+        × AreTouches problem lines k b true touches.now
+        × (length ends.old ≡ length problem.hours) × (length places.old ≡ last_period) }
+    ensures places { (problem : ProblemState) (lines : List Line) (k : ℕ) (b : Block)
+        → slice_get problem.blocks k ≡ Some b → k < most_blocks
+        → length problem.hours ≤ last_period
+        → AreTouches problem lines k b true touches.now
+        → ArePlaces problem k places.old → ArePlaces problem (k + 1) places.new }
+    ensures ends { (problem : ProblemState) (lines : List Line) (k : ℕ) (b : Block)
+        → slice_get problem.blocks k ≡ Some b
+        → AreTouches problem lines k b true touches.now
+        → AreCurves problem lines k ends.old → AreCurves problem lines (k + 1) ends.new }
+    ensures many { length ends.new ≡ length ends.old }
+{
     for touch in touches {
         let at = touch.at as usize;
         places[at] = touch.to;
@@ -190,7 +233,12 @@ fn first_curves<A: Allocator, B: Allocator, C: Allocator, D: Allocator>(
     periods: &Periods<A>,
     curves: &mut Curves<B>,
     sum: &mut Sum<C>,
-) -> Result<Vec<Curve, D>, AllocError> {
+) -> Result<Vec<Curve, D>, AllocError>
+    requires { (problem : ProblemState) × AreDecided problem 0 periods.now }
+    ensures curves { (problem : ProblemState) → AreDecided problem 0 periods.now
+        → IfOk result (λ ends. AreCurves problem curves.new 0 ends.items) }
+    ensures kept { Keeps curves.old curves.new }
+{
     let mut ends = Vec::with_capacity(alloc, periods.count())?;
     for at in 0..periods.count() {
         let first = periods.firsts[at] as usize;
@@ -205,7 +253,13 @@ fn first_curves<A: Allocator, B: Allocator, C: Allocator, D: Allocator>(
 }
 
 /// The day with no block decided.
-fn root_of<A: Allocator>(curves: &Curves<A>, firsts: &[u32], ends: &[Curve]) -> Day {
+fn root_of<A: Allocator>(curves: &Curves<A>, firsts: &[u32], ends: &[Curve]) -> Day
+    requires { (problem : ProblemState) × AreFirsts problem firsts.now
+        × AreCurves problem curves.now 0 ends.now × (length problem.hours ≤ last_period) }
+    ensures { (problem : ProblemState) → AreFirsts problem firsts.now
+        → AreCurves problem curves.now 0 ends.now → length problem.hours ≤ last_period
+        → IsDay problem [] result }
+{
     let mut root = Day::empty();
     for at in 0..ends.len() {
         if firsts[at] as usize == at {
@@ -237,7 +291,26 @@ fn lots_of<A: Allocator, B: Allocator, C: Allocator + Copy>(
     places: &mut [u32; MOST_PERIODS],
     ends: &mut [Curve],
     blocks: &[Block],
-) -> Result<Vec<Lot<C>, C>, AllocError> {
+) -> Result<Vec<Lot<C>, C>, AllocError>
+    requires { (problem : ProblemState) × (problem.blocks ≡ blocks.now)
+        × AreDecided problem 0 periods.old × AreCurves problem curves.old 0 ends.old
+        × ArePlaces problem 0 places.old }
+    ensures lots { (problem : ProblemState) → problem.blocks ≡ blocks.now
+        → AreDecided problem 0 periods.old → AreCurves problem curves.old 0 ends.old
+        → ArePlaces problem 0 places.old
+        → IfOk result (λ lots. AreLots problem curves.new (length problem.blocks) lots.items) }
+    ensures ends { (problem : ProblemState) → problem.blocks ≡ blocks.now
+        → AreDecided problem 0 periods.old → AreCurves problem curves.old 0 ends.old
+        → ArePlaces problem 0 places.old
+        → IfOk result (λ _. AreCurves problem curves.new (length problem.blocks) ends.new) }
+    ensures places { (problem : ProblemState) → problem.blocks ≡ blocks.now
+        → AreDecided problem 0 periods.old → AreCurves problem curves.old 0 ends.old
+        → ArePlaces problem 0 places.old
+        → IfOk result (λ _. ArePlaces problem (length problem.blocks) places.new) }
+    ensures periods { (problem : ProblemState) → problem.blocks ≡ blocks.now
+        → AreDecided problem 0 periods.old
+        → IfOk result (λ _. AreDecided problem (length problem.blocks) periods.new) }
+{
     let mut sum = Sum::new(alloc);
     let mut lots = Vec::with_capacity(alloc, blocks.len())?;
     let mut row = MOST_PERIODS as u32;
@@ -270,7 +343,14 @@ impl<A: Allocator + Copy> Tables<A> {
         let mut ends = first_curves(alloc, &periods, &mut curves, &mut sum)?;
         let root = root_of(&curves, &periods.firsts, &ends);
         let mut places = first_places();
-        let lots = lots_of(alloc, &mut periods, &mut curves, &mut places, &mut ends, blocks)?;
+        let lots = lots_of(
+            alloc,
+            &mut periods,
+            &mut curves,
+            &mut places,
+            &mut ends,
+            blocks,
+        )?;
         Ok(Tables {
             count: periods.count(),
             curves,

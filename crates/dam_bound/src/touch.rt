@@ -1,4 +1,5 @@
-ghost use Rattle.std.specs.Prelude.{◌≡◌, pos, true, false};
+ghost use Rattle.std.specs.Prelude.{◌≡◌, true, false};
+ghost use Rattle.dam_bound.specs.Tables.{rejected};
 
 use dam_curve::Curve;
 use std::alloc::Allocator;
@@ -26,7 +27,7 @@ pub(crate) struct Touch {
 impl Touch {
     /// The touch, if the block is rejected.
     pub(crate) fn rejected(self) -> Touch
-        ensures { result ≡ record self { net = pos 0; value = pos 0 } }
+        ensures { result ≡ rejected self }
     {
         Touch {
             net: 0,

@@ -1,12 +1,14 @@
 -- What the tables are made from, block by block.
-use Rattle.std.specs.Prelude.{◌≡◌, ℕ, ◌+◌, ◌<◌, ◌≤◌, ℤ, pos, Some, List, ◌++◌, length, drop, slice_get, slice_index_or}
+use Rattle.std.specs.Prelude.{◌≡◌, ℕ, ◌+◌, ◌*◌, ◌<◌, ◌≤◌, ℤ, pos, Some, List, ◌++◌, length, drop, slice_get, slice_index_or}
 use Rattle.dam_book.specs.Limits.{last_period, most_blocks}
+use Rattle.dam_book.specs.Terms.{BlockTerms}
 use Rattle.dam_hour.specs.declared.step.Step.{Step}
 use Rattle.dam_curve.specs.Supply.{IsSupplyOf}
+use Rattle.dam_blocks.specs.declared.problem.Block.{Block}
 use Rattle.dam_blocks.specs.Problem.{ProblemState, AreBlocks}
 use Rattle.dam_bound.specs.Classes.{first_of, over_class}
 use Rattle.dam_bound.specs.Relaxed.{as_steps}
-use Rattle.dam_bound.specs.Tables.{least_net, most_net, AreFirsts}
+use Rattle.dam_bound.specs.Tables.{least_net, most_net, AreFirsts, ArePlaces}
 use Rattle.dam_bound.specs.declared.periods.Range.{Range}
 
 -- the supply of each period: the hourly orders, and after them the blocks that as many decisions leave undecided
@@ -36,6 +38,13 @@ pub record PeriodsState : Type 0 where
   pub firsts : List ℕ
   pub ranges : List Range
 
+-- a block that is decided in the periods, and its slots
+pub record DecidingState : Type 0 where
+  pub periods : PeriodsState
+  pub order : BlockTerms
+  pub places : List ℕ
+  pub row : ℕ
+
 -- the periods of the problem with as many blocks decided
 pub record AreDecided (problem : ProblemState) (depth : ℕ) (periods : PeriodsState) : Type 0 where
   pub few_periods : length problem.hours ≤ last_period
@@ -45,3 +54,11 @@ pub record AreDecided (problem : ProblemState) (depth : ℕ) (periods : PeriodsS
   pub supplies_are : AreSupplies problem depth periods.supplies
   pub firsts_are : AreFirsts problem periods.firsts
   pub ranges_are : AreRanges problem depth periods.ranges
+
+-- the block at the place is the last of those that are decided, with the slots before it and its own row of them
+pub record IsDeciding (problem : ProblemState) (k : ℕ) (b : Block) (deciding : DecidingState) : Type 0 where
+  pub block_is : slice_get problem.blocks k ≡ Some b
+  pub order_is : b.order ≡ deciding.order
+  pub periods_are : AreDecided problem (k + 1) deciding.periods
+  pub places_are : ArePlaces problem k deciding.places
+  pub row_is : deciding.row ≡ (k + 1) * last_period
