@@ -48,14 +48,15 @@ def arguments():
 
 def inputs(args):
     """The days, each with a name."""
+    wanted = slice(args.first - 1, args.first - 1 + args.count)
     if args.families:
-        for words in itertools.product(FAMILIES, ["500", "4000"], ["24"], ["1", "4"]):
+        for words in list(itertools.product(FAMILIES, ["500", "4000"], ["24"], ["1", "4"]))[wanted]:
             yield f"family {' '.join(words)}", made("make_family.py", words)
     elif args.books:
         sys.path.insert(0, str(BENCH))
         import make_blocks
 
-        for drawn in make_blocks.BOOKS:
+        for drawn in make_blocks.BOOKS[wanted]:
             yield f"book {drawn}", made("make_blocks.py", drawn.words)
     else:
         for number in range(args.first, args.first + args.count):
