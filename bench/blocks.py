@@ -63,6 +63,8 @@ class Book:
         ):
             if walls.get(name):
                 ratio(f"{what} compared with {other}", walls["dam"], walls[name], most)
+            elif name in walls:
+                line(f"{what} compared with {other}", "?", detail=f"{other} didn't end in {LIMIT:g} s")
 
     def nodes(self):
         """Counts and times the nodes of one worker without a cut."""

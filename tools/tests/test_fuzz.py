@@ -1,6 +1,7 @@
 """The fuzzer, on a program that is right and on some that aren't."""
 
 import os
+import random
 import re
 import subprocess
 import sys
@@ -9,7 +10,8 @@ import unittest
 from pathlib import Path
 
 import support
-from lib import command
+from lib import command, rules
+from profiles import Profiles, hours_of
 
 
 def fake_program(folder, name, setting=""):
@@ -19,6 +21,32 @@ def fake_program(folder, name, setting=""):
     program.write_text(f'#!/bin/sh\n{setting} PYTHONPATH="{fake.parent}" exec "{sys.executable}" "{fake}" "$@"\n')
     program.chmod(0o755)
     return program
+
+
+class OfBlocks(unittest.TestCase):
+    """The profiles of blocks on random days."""
+
+    def test_the_hours_of_each_day(self):
+        for periods in rules.DAYS:
+            hours = hours_of(periods)
+            self.assertEqual((len(hours), [period for own in hours for period in own]), (periods // len(hours[0]), [*range(1, periods + 1)]))
+            self.assertIn(len(hours), rules.HOURS)
+
+    def test_profiles_lie_in_the_day_and_some_differ_in_one_period(self):
+        differ = whole = 0
+        for seed in range(300):
+            rng = random.Random(seed)
+            periods = rng.choice(list(rules.DAYS))
+            profiles = Profiles(rng, periods, lambda: rng.choice([1, 2, rules.GREATEST_VOLUME]))
+            for _ in range(4):
+                volumes = profiles.draw()
+                self.assertTrue(volumes and 1 <= min(volumes) and max(volumes) <= periods)
+                self.assertTrue(1 <= min(volumes.values()) and max(volumes.values()) <= rules.GREATEST_VOLUME)
+                counts = sorted([*volumes.values()].count(volume) for volume in set(volumes.values()))
+                whole += counts == [periods]
+                differ += counts in ([1, periods - 1], [periods - 1])
+        self.assertGreater(whole, 100)
+        self.assertGreater(differ, 20)
 
 
 class Fuzz(unittest.TestCase):
