@@ -155,7 +155,7 @@ by_within Turn true most z w = w
 by_within Turn false most z w =
     let l = w.at_least in let h = w.at_most in record { at_least = omega (arith, ints, h); at_most = omega (arith, ints, l) }
 
-block_order : (count : ℕ) (blocks : List Block) (k : ℕ) (b : Block) → AreBlocks count blocks → slice_get blocks k ≡ Some b
+pub block_order : (count : ℕ) (blocks : List Block) (k : ℕ) (b : Block) → AreBlocks count blocks → slice_get blocks k ≡ Some b
     → IsBlockOrder b.order
 block_order count [] k b are at = absurd (cc)
 block_order count (x ∷ blocks) zero b are at = let same : x ≡ b = cc in subst (λ (y : Block). IsBlockOrder y.order) same are.0.order
@@ -208,7 +208,7 @@ untouched problem lines place b accept touches c are of none =
     ap (volume_in b.order.volumes) one ∙ zero
 
 -- ---- in the slots
-pub no_position : Position
+abbrev pub no_position : Position
 no_position = record { net = pos 0; welfare = pos 0 }
 
 -- where a class stands: in the block's own row once its touch is done, or if it has none
@@ -383,7 +383,7 @@ extended None p q least before after trail e never m = subst (λ (r : ProblemSta
 ])
 
 -- ---- what is looked up at a touch
-pub no_touch : Touch
+abbrev pub no_touch : Touch
 no_touch = record {
   at = 0;
   from = 0;
