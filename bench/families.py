@@ -2,11 +2,12 @@
 """The search on books that are hard for it, with 24 blocks and 500 or 4,000 hourly orders on days of 24 periods, under three plans,
 compared with a plain twin of the walk, and with HiGHS, which finds the same selection with cuts against losing ones.
 
-A plan is a number of workers and a cut; `2 3` is the default. The twin keeps its days in slots of the same form and goes through a
-block's periods in the same order; links and groups are sets of bits in the twin, and lists of places in `dam`. HiGHS is asked only for
-the greatest welfare, and not for the tie rule, for which every node of `ties` has to be visited. A run ends after 60 s, and HiGHS after
-20 s, or after the seconds of LIMIT and HIGHS_LIMIT in the environment. A piece begins with slots that are filled once, 80 kB: where a
-walk ends after some hundred nodes, as that of `links`, this is most of what eight pieces cost."""
+A plan is a number of workers and a cut; `2 3` is the default. In the twin a bound is a sum of look-ups in
+tables, one for each class of periods in which every block has the same volume; links and groups are sets of bits in the twin, and lists
+of places in `dam`. HiGHS is asked only for the greatest welfare, and not for the tie rule, for which every node of `ties` has to be
+visited. A run ends after 60 s, and HiGHS after 20 s, or after the seconds of LIMIT and HIGHS_LIMIT in the environment. A piece begins
+with slots that are filled once, 80 kB: where a walk ends after some hundred nodes, as that of `links`, this is most of what eight pieces
+cost."""
 
 # families.py [ORDERS [FAMILY..]]: only with this number of orders, and only these families. `bench/run families` builds what it needs.
 
@@ -14,7 +15,8 @@ import statistics
 import sys
 
 import make_family
-from figures import BEFORE, DAM, HIGHS_LIMIT, LIMIT, MEASURES, TWIN, at_most, by_turns, line, ratio, run, seconds, write
+import walks
+from figures import BEFORE, DAM, HIGHS_LIMIT, LIMIT, TWIN, at_most, by_turns, line, ratio, run, seconds, write
 
 ORDERS = ["500", "4000"]
 # Workers, and how many of the first blocks are cut. The first is the default plan.
@@ -23,7 +25,6 @@ CUTS = ["0", "3"]
 SHORT, DOUBLE = 0.15, 0.3  # seconds of the twin, and of dam compared with it
 # Every selection of its books is visited, which takes as long as all other families together.
 LONG = "ties"
-LONG_WALK = 5.0  # seconds of a walk of which one run stands for many
 SPARE = 15.0  # seconds that HiGHS's program may take to be written
 
 
@@ -58,30 +59,11 @@ class Book:
                 at_most(f"{what}, since the twin is within {seconds(SHORT)}", median, DOUBLE)
         return median
 
-    def walks(self, cut):
-        """For one worker of `dam` and of the twin, in turns: the nodes of a walk, and the seconds of many; None if one takes too long."""
-        programs = {"dam": [MEASURES, "nodes", cut], "twin": [TWIN, "1", cut]}
-        once = {name: [run([*words, "1"], self.path)] for name, words in programs.items()}
-        if [None] in once.values():
-            return None
-        walk = once["dam"][0].lap("walk")
-        timed = {name: [*words, str(max(1, min(200, int(0.2 / walk))))] for name, words in programs.items()}
-        runs = once if walk > LONG_WALK else by_turns(timed, self.path, most=5, seconds=1.5)
-        counts = [int(once[name][0].text.split()[-1]) for name in programs]
-        return *counts, *([lap for each in runs[name] for lap in each.laps("walk")] for name in programs)
-
     def nodes(self, cut):
-        """Counts the nodes of one worker, which must be as many as the twin visits, and times a node."""
-        what = f"{self.name}, plan 1 {cut}:"
-        found = self.walks(cut)
-        if found is None:
-            line(f"{what} nodes", "?", detail=f"not counted in {LIMIT:g} s")
-            return
-        count, twins, laps, twins_laps = found
-        line(f"{what} nodes", f"{count:,}", "as the twin", count == twins, f"twin {twins:,}")
-        ratio(f"{what} a node compared with the twin", [lap / count for lap in laps], [lap / twins for lap in twins_laps], 1.2)
-        if cut == "0" and self.family != LONG:
-            self.ends_at(count)
+        """Counts and times the nodes of one worker."""
+        counted = walks.nodes(f"{self.name}, plan 1 {cut}:", self.path, cut)
+        if counted and cut == "0" and self.family != LONG:
+            self.ends_at(counted[0])
 
     def ends_at(self, count):
         """Whether `dam clear` itself visits that many nodes: with one less, it ends unfinished."""

@@ -1,6 +1,6 @@
 #!/usr/bin/env python3
-"""How a search grows with its book: each family with 8 to 24 blocks and 500 hourly orders, on days of 24 and of 96 periods. An enumeration
-would try 2^n selections of n blocks.
+"""How a search grows with its book: each family with 8 to 24 blocks and 500 hourly orders, and `base`, with baseload blocks within 50 cents
+of the mean price and 3,800 hourly orders; on days of 24 and of 96 periods. An enumeration would try 2^n selections of n blocks.
 
 Nodes are those of one worker that walks without a cut. A node stands for the selections that agree in its first blocks, so a walk that
 leaves nothing out visits 2^(n+1) - 1 nodes. Time and memory are those of a whole `dam clear` by the default plan; the time is the median
@@ -11,20 +11,28 @@ import os
 import statistics
 import sys
 
+import enumeration
+import make_blocks
 import make_family
-from figures import DAM, LIMIT, MEASURES, PART, by_turns, line, peak, run, seconds, write
+from figures import DAM, LIMIT, MEASURES, PART, by_turns, line, peak, ratio, run, seconds, write
 
 BLOCKS = (8, 12, 16, 20, 24)
 PERIODS = {"24": "1", "96": "4"}  # and how many of them an hour has
-ORDERS = "500"
-# The seconds within which `dam clear` has to end.
+BASE = "base"
+ORDERS = {**dict.fromkeys(make_family.FAMILIES, 500), BASE: make_blocks.HOURLY}
+# The seconds within which `dam clear` has to end, of books of which not nearly every node is visited.
 MOST = {"24": 0.15, "96": 0.7}
-# Of its books every selection is visited, so it has a target of its own for days of 24 periods, and none for the others.
-LONG = "ties"
-MOST_LONG = {"24": 0.9}
-ENUMERATION = ["../tools/audit", "--best", "--quiet", "--jobs", "4"]
-MISSING = 5  # its status if numpy is missing
+MOST_LONG = {"ties": {"24": 0.9}, BASE: {}}
+# How many times as long as the enumeration it may take.
+MOST_OF_ENUMERATION = {BASE: 0.2}
 PAGE, PICTURE = f"out/{PART}.md", "../docs/growth.svg"
+
+
+def made_by(family, parts, blocks):
+    """The words that print a book of a family."""
+    if family == BASE:
+        return ["./make_blocks.py", BASE, str(make_blocks.USUAL), "1", parts, blocks]
+    return ["./make_family.py", family, str(ORDERS[family]), blocks, parts]
 
 
 class Book:
@@ -32,8 +40,7 @@ class Book:
 
     def __init__(self, family, periods, blocks):
         self.family, self.periods, self.blocks = family, periods, blocks
-        path, words = f"out/{family}-{ORDERS}-{periods}-{blocks}.csv", [family, ORDERS, str(blocks), PERIODS[periods]]
-        self.path = write(path, "./make_family.py", *words)
+        self.path = write(f"out/growth-{family}-{periods}-{blocks}.csv", *made_by(family, PERIODS[periods], str(blocks)))
         self.nodes = self.counted()
         self.seconds, self.memory = self.cleared()
         self.enumeration = self.enumerated() if blocks == BLOCKS[-1] and self.seconds is not None else None
@@ -50,15 +57,13 @@ class Book:
 
     def enumerated(self):
         """The seconds of a trial of all selections; None if it didn't end, or a package is missing."""
-        results = f"{self.path}.txt"
-        with open(results, "wb") as text:
-            text.write(run([DAM, "clear"], self.path).text)
-        tried = run([*ENUMERATION, self.path, results], statuses=(0, MISSING))
-        return tried.wall if tried and not tried.stderr else None
+        words = enumeration.words(self.path)
+        tried = run(words) if words else None
+        return tried and tried.wall
 
     def print(self):
-        most = (MOST_LONG if self.family == LONG else MOST).get(self.periods)
-        what = f"{self.family} {ORDERS}, {self.periods} periods, {self.blocks} blocks: dam clear"
+        most = MOST_LONG.get(self.family, MOST).get(self.periods)
+        what = f"{self.family} {ORDERS[self.family]:,}, {self.periods} periods, {self.blocks} blocks: dam clear"
         detail = f"{amount(self.nodes)} nodes, 2^n is {2 ** self.blocks:,}; {mebibytes(self.memory)}"
         shown = lasted(self.seconds)
         if most is None:
@@ -66,8 +71,8 @@ class Book:
         else:
             line(what, shown, f"at most {seconds(most)}", self.seconds is not None and self.seconds <= most, detail)
         if self.enumeration is not None:
-            is_ahead = None if most is None else self.seconds <= self.enumeration
-            line(f"{what} compared with an enumeration", shown, "" if most is None else "less", is_ahead, seconds(self.enumeration))
+            most = MOST_OF_ENUMERATION.get(self.family, 1)
+            ratio(f"{what} compared with an enumeration", [self.seconds], [self.enumeration], most)
 
 
 def lasted(time):
@@ -132,9 +137,9 @@ def picture(books):
     figure, panels = pyplot.subplots(1, len(PERIODS), figsize=(10, 4.2), sharey=True, layout="constrained")
     for panel, periods in zip(panels, PERIODS):
         panel.plot(BLOCKS, [2**blocks for blocks in BLOCKS], color="#1b1c1d", linestyle="--", linewidth=1, label="2^n")
-        for number, family in enumerate(make_family.FAMILIES):
+        for number, family in enumerate(ORDERS):
             counts = [(book.blocks, book.nodes) for book in books[family, periods] if book.nodes is not None]
-            panel.plot(*zip(*counts), marker="osv^DPX"[number], markersize=4, linewidth=1.2, label=family)
+            panel.plot(*zip(*counts), marker="osv^DPX*"[number], markersize=4, linewidth=1.2, label=family)
         panel.set(title=f"{periods} periods", xlabel="blocks", xticks=BLOCKS, yscale="log")
         panel.grid(color="#d9dbdd", linewidth=0.6)
         panel.spines[["top", "right"]].set_visible(False)
@@ -146,7 +151,7 @@ def picture(books):
 
 def main():
     books = {}
-    for family in make_family.FAMILIES:
+    for family in ORDERS:
         for periods in PERIODS:
             books[family, periods] = [Book(family, periods, blocks) for blocks in BLOCKS]
             for book in books[family, periods]:

@@ -134,10 +134,11 @@ def ties(day, count, _volume):
 FAMILIES = {"market": market, "paradox": paradox, "spread": spread, "nearties": nearties, "links": links, "groups": groups, "ties": ties}
 
 
-def number_of(name, word, allowed, of):
-    """A number on the command line."""
+def number_of(name, word, allowed, of=""):
+    """A number on the command line, one of the allowed ones."""
     if not (word.isascii() and word.isdecimal()) or int(word) not in allowed:
-        sys.exit(f"make_family.py: {name} is '{word}' and should be {of}")
+        program, of = sys.argv[0].rpartition("/")[2], of or f"a number from 0 to {allowed[-1]}"
+        sys.exit(f"{program}: {name} is '{word}' and should be {of}")
     return int(word)
 
 
@@ -145,8 +146,8 @@ def main():
     words = sys.argv[1:]
     if not 2 <= len(words) <= 4 or words[0] not in FAMILIES:
         sys.exit(__doc__)
-    family, orders = words[0], number_of("HOURLY", words[1], range(MOST_HOURLY + 1), f"a number from 0 to {MOST_HOURLY}")
-    count = number_of("BLOCKS", words[2], range(BLOCKS + 1), f"a number from 0 to {BLOCKS}") if len(words) > 2 else BLOCKS
+    family, orders = words[0], number_of("HOURLY", words[1], range(MOST_HOURLY + 1))
+    count = number_of("BLOCKS", words[2], range(BLOCKS + 1)) if len(words) > 2 else BLOCKS
     parts = number_of("PARTS", words[3], (1, 4), "1 or 4") if len(words) > 3 else 1
     day = Day(parts, random.Random(f"{SEED} {family} {orders}"))
     order = flat if family == "ties" else hourly

@@ -10,7 +10,7 @@ import subprocess
 import sys
 
 PAGE = "../docs/MEASURED.md"
-PARTS = ["quick", "families", "growth", "workers", "looks", "quarters"]
+PARTS = ["quick", "families", "blocks", "growth", "workers", "looks", "quarters"]
 COLUMNS = ["What", "Figure", "Target", "Holds", "Details"]
 HEAD = """# Measured figures
 

@@ -9,6 +9,7 @@ stack, and with that the time of the same walk varies by half; so each turn has 
 
 import statistics
 
+import make_blocks
 import make_family
 from figures import LIMIT, MEASURES, by_turns, line, ratio, seconds, write
 
@@ -44,6 +45,12 @@ def ties():
     return f"ties, {blocks} blocks", book
 
 
+def base():
+    """A book of baseload blocks, whose periods are all in one class."""
+    drawn = make_blocks.BOOKS[1]
+    return str(drawn), write(f"out/workers-{'-'.join(drawn.words)}.csv", "./make_blocks.py", *drawn.words)
+
+
 def speed(name, book):
     plans = [(workers, CUT) for workers in ("1", *LEAST)]
     found = searched(plans, book, most=8)
@@ -68,7 +75,7 @@ def default(family, orders):
 
 
 def main():
-    for name, book in (ties(), largest("spread"), largest("paradox")):
+    for name, book in (ties(), base(), largest("spread"), largest("paradox")):
         speed(name, book)
         private(name, book)
     for family in make_family.FAMILIES:

@@ -2,6 +2,7 @@
 their limits, with commands that the book refuses among them. All by docs/FORMATS.md, as lines of text."""
 
 from lib import rules
+from profiles import Profiles
 
 PARTICIPANTS = ["A", "B", "NORD", "STADTWKE"]
 LIMITS = [rules.LEAST_PRICE, rules.LEAST_PRICE + 1, -1, 0, 1, rules.GREATEST_PRICE - 1, rules.GREATEST_PRICE]
@@ -40,11 +41,12 @@ def volume_source(rng):
 class Draft:
     """The lines of a day in the making, and what the next ones are drawn from."""
 
-    def __init__(self, rng):
+    def __init__(self, rng, with_profiles=None):
+        """With profiles, or without; or else by chance."""
         self.rng = rng
         self.periods = rng.choice(list(rules.DAYS))
         self.price, self.volume = price_source(rng), volume_source(rng)
-        self.block_volume = self.volume
+        self.block_price, self.block_volume = self.price, self.volume
         few = rng.sample(range(1, self.periods + 1), rng.choice([1, 1, 2, 3]))
         self.active = few if rng.random() < 0.85 else list(range(1, self.periods + 1))
         self.hourly = rng.choice([0, 1, 2, 3, 4, 6, 9, 15, 40])
@@ -56,21 +58,42 @@ class Draft:
         self.blocks = []  # of these, the blocks
         self.links, self.groups = rng.choice([0, 0.3, 0.8, 0.9]), rng.choice([0, 0, 0.3, 0.8])
         self.lines = [f"day,{self.periods},,,,,,,"]
+        self.profiles = None
+        if rng.random() < 0.1 if with_profiles is None else with_profiles:
+            self.trade_everywhere()
 
     def meet(self):
         """Many small orders at similar prices in few periods, and smaller blocks: there are many ways to accept them, and some would
         lose in the selection of greatest welfare."""
         rng = self.rng
         middle, most = rng.randint(2_000, 9_000), rng.choice([10, 60])
-        self.price = lambda: middle + 50 * rng.randint(-6, 6)
+        self.price = self.block_price = lambda: middle + 50 * rng.randint(-6, 6)
         self.volume, self.block_volume = (lambda: rng.randint(1, most)), (lambda: rng.randint(1, 1 + most // 3))
         self.active = self.active[:2]
         self.hourly = rng.randint(5, 16)
+
+    def trade_everywhere(self):
+        """Orders in all periods, or nearly all, and blocks with profiles as users have them, some of them too large to balance."""
+        rng = self.rng
+        if rng.random() < 0.75:
+            middle, wide, near = rng.randint(2_000, 9_000), rng.choice([5, 50, 500]), rng.choice([0, 1, 10, 100, 500])
+            self.price, self.block_price = (lambda: middle + rng.randint(-wide, wide)), (lambda: middle + rng.randint(-near, near))
+            self.volume, self.block_volume = (lambda: rng.randint(2, 60)), (lambda: rng.randint(1, 4))
+        self.active = list(range(1, self.periods + 1))
+        idle, pairs = rng.choice([0] * 7 + [1, self.periods // 2, self.periods]), rng.choice([1, 2, 4])
+        for period in rng.sample(self.active, self.periods - idle):
+            for side in ["buy", "sell"] * pairs:
+                self.enter_hour(*self.new_name("H"), side, period)
+        self.hourly = rng.choice([0, 5, self.periods])
+        self.profiles = Profiles(rng, self.periods, self.block_volume)
 
     def name(self, prefix):
         """A name that may be taken, now and then by the participant itself."""
         if self.named and self.rng.random() < 0.04:
             return self.rng.choice(self.named)
+        return self.new_name(prefix)
+
+    def new_name(self, prefix):
         who = self.rng.choice(self.participants)
         # A number of the participant's own: others have orders of the same names.
         return who, f"{prefix}{1 + self.numbers[who]}"
@@ -91,6 +114,8 @@ class Draft:
 
     def profile(self):
         """The volumes of a block."""
+        if self.profiles and self.rng.random() < 0.9:
+            return ";".join(f"{period}:{volume}" for period, volume in sorted(self.profiles.draw().items()))
         most = len(self.active)
         periods = set(self.rng.sample(self.active, self.rng.randint(1, most)))
         if self.rng.random() < 0.02:
@@ -101,12 +126,17 @@ class Draft:
     def submit_hour(self):
         who, name = self.name("H")
         side = self.rng.choice(["buy", "sell"])
-        self.lines.append(f"submit,{who},{name},hour,{side},{self.price()},{self.period()}:{self.volume()},,")
+        self.enter_hour(who, name, side, self.period())
+
+    def enter_hour(self, who, name, side, period):
+        self.lines.append(f"submit,{who},{name},hour,{side},{self.price()},{period}:{self.volume()},,")
         self.submitted(who, name)
 
     def limit(self, side, child):
-        """The limit of a block. A child's may be the best of several, so that the child gains while its parent loses."""
-        drawn = [self.price() for _ in range(4 if child and self.rng.random() < 0.6 else 1)]
+        """The limit of a block. A child's may be the best of several, so that the child gains while its parent loses; and with profiles
+        a block's is the best of a few, since it has to gain over many periods."""
+        count = 4 if child and self.rng.random() < 0.6 else self.rng.randint(1, 3) if self.profiles else 1
+        drawn = [self.block_price() for _ in range(count)]
         return max(drawn) if side == "buy" else min(drawn)
 
     def submit_block(self):
@@ -164,6 +194,13 @@ def full(draft):
         draft.lines += ["close,,,,,,,,"] * rng.randint(9_995, 10_005)
 
 
+def with_profiles(rng, blocks):
+    """A closed day with this number of blocks, most of them with profiles as users have them."""
+    draft = Draft(rng, with_profiles=True)
+    mixed(draft, draft.hourly, blocks)
+    return whole([*draft.lines, "close,,,,,,,,"])
+
+
 def lines(rng, most_blocks, closing=True):
     """The lines of a random day."""
     draft = Draft(rng)
@@ -181,4 +218,9 @@ def lines(rng, most_blocks, closing=True):
 
 
 def text(rng, most_blocks, closing=True):
-    return "".join(f"{line}\n" for line in lines(rng, most_blocks, closing)).encode()
+    return whole(lines(rng, most_blocks, closing))
+
+
+def whole(lines):
+    """The text of these lines."""
+    return "".join(f"{line}\n" for line in lines).encode()

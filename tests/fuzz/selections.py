@@ -4,8 +4,9 @@
 The results that the program prints must be as the rules say, and no selection may be better. Then they are altered to those of an
 eligible selection that ranks below, the best one that differs in one block and what hangs on it; and the enumeration must find
 the program's selection above it. Each case is drawn from the seed and its number alone. With --families the days are those of
-bench/make_family.py with 24 blocks, which are hard for a search: of 24 and 96 periods, with 500 and 4,000 hourly orders. The last
-line printed is 'N passed, M failed'."""
+bench/make_family.py with 24 blocks, which are hard for a search: of 24 and 96 periods, with 500 and 4,000 hourly orders. With --books
+they are the 60 of bench/make_blocks.py, with 24 blocks as users have them and 3,800 hourly orders, and with --profiles random days with
+such blocks. The last line printed is 'N passed, M failed'."""
 
 import argparse
 import itertools
@@ -22,7 +23,7 @@ from shared.counts import Counts
 from lib import better, book, check, command, journal, results, selection
 from lib.progress import Progress
 
-MAKE_FAMILY = Path(__file__).resolve().parents[2] / "bench" / "make_family.py"
+BENCH = Path(__file__).resolve().parents[2] / "bench"
 LEAST_BLOCKS, MOST_BLOCKS = 5, 24
 FAMILIES = ["market", "paradox", "spread", "nearties", "links", "groups", "ties"]
 
@@ -37,28 +38,46 @@ def arguments():
     parser.add_argument("--count", type=int, default=200, help="how many cases (200)")
     parser.add_argument("--blocks", type=int, help="how many blocks are submitted (any number up to 24)")
     parser.add_argument("--wait", type=float, default=compare.SECONDS, help="how many seconds the program may take to answer (60)")
-    parser.add_argument("--families", action="store_true", help="the days of bench/make_family.py instead of random ones")
+    kinds = parser.add_mutually_exclusive_group()
+    kinds.add_argument("--families", action="store_true", help="the days of bench/make_family.py instead of random ones")
+    kinds.add_argument("--books", action="store_true", help="the days of bench/make_blocks.py instead of random ones")
+    kinds.add_argument("--profiles", action="store_true", help="random days with blocks as users have them")
+    parser.add_argument("--jobs", type=int, default=1, help="how many threads try the selections (1)")
     return parser.parse_args()
 
 
 def inputs(args):
     """The days, each with a name."""
+    wanted = slice(args.first - 1, args.first - 1 + args.count)
     if args.families:
-        for words in itertools.product(FAMILIES, ["500", "4000"], ["24"], ["1", "4"]):
-            made = subprocess.run([sys.executable, MAKE_FAMILY, *words], capture_output=True, check=True)
-            yield f"family {' '.join(words)}", made.stdout
+        for words in list(itertools.product(FAMILIES, ["500", "4000"], ["24"], ["1", "4"]))[wanted]:
+            yield f"family {' '.join(words)}", made("make_family.py", words)
+    elif args.books:
+        sys.path.insert(0, str(BENCH))
+        import make_blocks
+
+        for drawn in make_blocks.BOOKS[wanted]:
+            yield f"book {drawn}", made("make_blocks.py", drawn.words)
     else:
         for number in range(args.first, args.first + args.count):
-            yield f"case {number} of seed {args.seed}", draw(random.Random(f"selections {args.seed} {number}"), args.blocks)
+            yield f"case {number} of seed {args.seed}", draw(random.Random(f"selections {args.seed} {number}"), args)
 
 
-def draw(rng, blocks):
-    """A closed day with blocks whose prices and volumes meet, or not."""
+def made(script, words):
+    """What a script of the bench prints."""
+    return subprocess.run([sys.executable, BENCH / script, *words], capture_output=True, check=True).stdout
+
+
+def draw(rng, args):
+    """A closed day with blocks whose prices and volumes meet, or not; or with profiles as users have them."""
+    blocks = args.blocks or rng.randint(LEAST_BLOCKS, MOST_BLOCKS)
+    if args.profiles:
+        return days.with_profiles(rng, blocks)
     draft = days.Draft(rng)
     if rng.random() < 0.7:
         draft.meet()
-    days.mixed(draft, draft.hourly, blocks or rng.randint(LEAST_BLOCKS, MOST_BLOCKS))
-    return "".join(f"{line}\n" for line in [*draft.lines, "close,,,,,,,,"]).encode()
+    days.mixed(draft, draft.hourly, blocks)
+    return days.whole([*draft.lines, "close,,,,,,,,"])
 
 
 def lower(problem, accepted, welfare):
@@ -82,13 +101,13 @@ def lower(problem, accepted, welfare):
     return other, value
 
 
-def best_above(problem, said):
+def best_above(problem, said, jobs):
     """The selection that ranks above these results, as a set and its welfare; None if none does."""
-    found, _ = better.enumerate_all(problem, said, Progress("fuzz", 600, quiet=True), jobs=1, few=0)
+    found, _ = better.enumerate_all(problem, said, Progress("fuzz", 600, quiet=True), jobs, few=0)
     return found and (found.accepted, found.welfare)
 
 
-def wrong_of(program, data):
+def wrong_of(program, data, jobs):
     """What is wrong of a day, in words; and to what its results were altered, None if they couldn't be."""
     problem = selection.Problem(book.run(journal.read_journal(data))[0])
     got = program.printed(["clear"], data)
@@ -97,7 +116,7 @@ def wrong_of(program, data):
     said, wrong = check.differences(problem, got.stdout)
     if wrong:
         return wrong[0], None
-    above = best_above(problem, said)
+    above = best_above(problem, said, jobs)
     if above:
         return f"the selection {sorted(above[0])} is better, with {above[1]}", None
     accepted = frozenset(said.accepted)
@@ -109,7 +128,7 @@ def wrong_of(program, data):
     published, wrong = check.differences(problem, text)
     if wrong:
         return f"altered to {sorted(altered[0])} it isn't as the rules say: {wrong[0]}", kind
-    above = best_above(problem, published)
+    above = best_above(problem, published, jobs)
     if above != (accepted, said.welfare):
         return f"altered to {sorted(altered[0])} it finds {above}, and not the program's selection", kind
     return None, kind
@@ -120,7 +139,7 @@ def main():
     command.need("numpy")
     program, counts, altered = compare.Program(args.program, args.wait), Counts(), {}
     for name, data in inputs(args):
-        wrong, kind = wrong_of(program, data)
+        wrong, kind = wrong_of(program, data, args.jobs)
         altered[kind] = altered.get(kind, 0) + 1
         counts.check(f"{name}: {wrong}", wrong is None)
     for kind in sorted(kind for kind in altered if kind):

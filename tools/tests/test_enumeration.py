@@ -15,7 +15,7 @@ from lib import best, book, command, journal, period, rules, selection
 from lib.progress import Progress
 from small_days import ranked, small_problems
 
-MAKE_FAMILY = TOP / "bench" / "make_family.py"
+MAKE_FAMILY, MAKE_BLOCKS = TOP / "bench" / "make_family.py", TOP / "bench" / "make_blocks.py"
 
 
 def family(name, orders, *more):
@@ -37,6 +37,45 @@ class Family(unittest.TestCase):
         for words, periods in (["links", "0", "0"], 24), (["links", "4000", "24", "4"], 96):
             read = journal.read_journal(family(*words))
             self.assertEqual((read.periods, set(book.run(read)[1])), (periods, {None}))
+
+
+class Blocks(unittest.TestCase):
+    """Books with blocks as users have them."""
+
+    def made(self, *words):
+        ran = subprocess.run([sys.executable, MAKE_BLOCKS, *words], capture_output=True, text=True)
+        return ran.returncode, ran.stdout, ran.stderr
+
+    def test_arguments_that_make_no_day_are_refused(self):
+        for words, said in (
+            (["base", "x", "1"], "SPREAD is 'x' and should be a number from 0 to 10000"),
+            (["base", "5", "-1"], "SEED is '-1' and should be a number from 0 to 1000000"),
+            (["base", "5", "1", "2"], "PARTS is '2' and should be 1 or 4"),
+            (["base", "5", "1", "1", "25"], "BLOCKS is '25' and should be a number from 0 to 24"),
+            (["base", "5", "1", "1", "24", "4001"], "HOURLY is '4001' and should be a number from 0 to 4000"),
+        ):
+            self.assertEqual(self.made(*words), (1, "", f"make_blocks.py: {said}\n"))
+
+    def test_the_classes_of_periods(self):
+        """Periods in each of which every block has the same volume."""
+        for kind, hours, quarters in (("base", 1, 1), ("peaks", 2, 2), ("shaped", 24, 24), ("random", 24, 96)):
+            for parts, wanted in (1, hours), (4, quarters):
+                status, text, _ = self.made(kind, "50", "1", str(parts), "24", "100")
+                closed, reasons = book.run(journal.read_journal(text.encode()))
+                self.assertEqual((status, set(reasons), closed.periods), (0, {None}, 24 * parts))
+                blocks = [dict(block.order.volumes) for block in selection.Problem(closed).blocks]
+                columns = {tuple(block.get(period, 0) for block in blocks) for period in range(1, 24 * parts + 1)}
+                self.assertEqual((len(blocks), len(columns)), (24, wanted), kind)
+
+    def test_one_block_is_odd(self):
+        _, text, _ = self.made("odd", "50", "1")
+        blocks = [line.split(",")[6] for line in text.splitlines() if ",block," in line]
+        flat = [len({pair.split(":")[1] for pair in volumes.split(";")}) == 1 for volumes in blocks]
+        self.assertEqual((len(flat), flat.count(False)), (24, 1))
+
+    def test_the_same_hours_without_blocks(self):
+        (_, blocks, _), (_, hours, _) = self.made("peaks", "5", "2"), self.made("peaks", "5", "2", "1", "0")
+        self.assertEqual([line for line in blocks.splitlines() if ",block," not in line], hours.splitlines())
 
 
 @unittest.skipUnless(command.has("numpy"), "numpy is missing (Debian's python3-numpy)")

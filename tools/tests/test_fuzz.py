@@ -1,6 +1,7 @@
 """The fuzzer, on a program that is right and on some that aren't."""
 
 import os
+import random
 import re
 import subprocess
 import sys
@@ -9,7 +10,8 @@ import unittest
 from pathlib import Path
 
 import support
-from lib import command
+from lib import command, rules
+from profiles import Profiles, hours_of
 
 
 def fake_program(folder, name, setting=""):
@@ -19,6 +21,32 @@ def fake_program(folder, name, setting=""):
     program.write_text(f'#!/bin/sh\n{setting} PYTHONPATH="{fake.parent}" exec "{sys.executable}" "{fake}" "$@"\n')
     program.chmod(0o755)
     return program
+
+
+class OfBlocks(unittest.TestCase):
+    """The profiles of blocks on random days."""
+
+    def test_the_hours_of_each_day(self):
+        for periods in rules.DAYS:
+            hours = hours_of(periods)
+            self.assertEqual((len(hours), [period for own in hours for period in own]), (periods // len(hours[0]), [*range(1, periods + 1)]))
+            self.assertIn(len(hours), rules.HOURS)
+
+    def test_profiles_lie_in_the_day_and_some_differ_in_one_period(self):
+        differ = whole = 0
+        for seed in range(300):
+            rng = random.Random(seed)
+            periods = rng.choice(list(rules.DAYS))
+            profiles = Profiles(rng, periods, lambda: rng.choice([1, 2, rules.GREATEST_VOLUME]))
+            for _ in range(4):
+                volumes = profiles.draw()
+                self.assertTrue(volumes and 1 <= min(volumes) and max(volumes) <= periods)
+                self.assertTrue(1 <= min(volumes.values()) and max(volumes.values()) <= rules.GREATEST_VOLUME)
+                counts = sorted([*volumes.values()].count(volume) for volume in set(volumes.values()))
+                whole += counts == [periods]
+                differ += counts in ([1, periods - 1], [periods - 1])
+        self.assertGreater(whole, 100)
+        self.assertGreater(differ, 20)
 
 
 class Fuzz(unittest.TestCase):
@@ -52,7 +80,7 @@ class Fuzz(unittest.TestCase):
         self.assertEqual((status, "status differs" in out, b"" in kept), (1, True, True), out)
 
     def test_a_day_in_another_order_is_found(self):
-        status, out, _ = self.fuzz("--count", "3", "--seed", "c", "--commands", "day", defect="order")
+        status, out, _ = self.fuzz("--count", "3", "--seed", "d", "--commands", "day", defect="order")
         self.assertEqual((status, "in their order" in out), (1, True))
 
     def test_a_program_is_compared_with_another(self):
@@ -62,6 +90,23 @@ class Fuzz(unittest.TestCase):
             self.assertEqual(self.fuzz(*words, "--like", str(same)), (0, "6 passed, 0 failed\n", []))
             status, out, kept = self.fuzz(*words, "--like", str(wrong))
         self.assertEqual((status, "stdout differs" in out, b"" in kept), (1, True, False), out)
+
+    def test_books_with_profiles(self):
+        words = ["--count", "4", "--profiles", "--commands", "clear", "--tries", "3"]
+        self.assertEqual(self.fuzz(*words), (0, "4 passed, 0 failed\n", []))
+        status, out, kept = self.fuzz(*words, "--every-plan", defect="plan")
+        self.assertEqual((status, "clear --workers 8 --cut 8: stdout differs" in out, b",block," in kept[0]), (1, True, True), out)
+
+    def test_the_nodes_of_two_programs_are_compared(self):
+        words = ["--count", "3", "--profiles", "--nodes", "--commands", "clear", "--tries", "3"]
+        with tempfile.TemporaryDirectory() as folder:
+            same, more = fake_program(folder, "same"), fake_program(folder, "more", "DAM_DEFECT=nodes")
+            self.assertEqual(self.fuzz(*words, "--like", str(same)), (0, "3 passed, 0 failed\n", []))
+            status, out, _ = self.fuzz(*words, "--like", str(more))
+        self.assertEqual(status, 1)
+        self.assertRegex(out, r"clear --workers 1 --cut \d --nodes \d+: status differs", out)
+        status, out, _ = self.fuzz("--nodes", "--count", "1")
+        self.assertEqual((status, out), (1, "fuzz: --nodes compares with the program of --like\n"))
 
     def test_a_program_that_takes_too_long_is_ended_and_its_input_kept(self):
         words = ["--count", "1", "--wait", "1", "--seed", "check", "--commands", "replay"]
@@ -74,18 +119,25 @@ class Fuzz(unittest.TestCase):
 class Selections(unittest.TestCase):
     def selections(self, *words, defect=""):
         with tempfile.TemporaryDirectory() as folder:
-            run = [sys.executable, support.TOP / "tests" / "fuzz" / "selections.py", fake_program(folder, "dam"), "--blocks", "7", *words]
+            run = [sys.executable, support.TOP / "tests" / "fuzz" / "selections.py", fake_program(folder, "dam"), *words]
             ran = subprocess.run(run, capture_output=True, text=True, env={**os.environ, "DAM_DEFECT": defect})
             return ran.returncode, ran.stdout + ran.stderr
 
     def test_a_program_that_is_right(self):
-        status, out = self.selections("--count", "10")
+        status, out = self.selections("--blocks", "7", "--count", "10")
         lines = out.splitlines()
         self.assertEqual((status, lines[-1]), (0, "10 passed, 0 failed"))
         self.assertRegex(out, r"\b[1-9]\d* altered to an eligible selection of less welfare\n")
 
+    def test_books_with_profiles(self):
+        words = ["--profiles", "--jobs", "2", "--blocks", "6", "--count", "12"]
+        status, out = self.selections(*words)
+        self.assertEqual((status, out.splitlines()[-1]), (0, "12 passed, 0 failed"), out)
+        status, out = self.selections(*words, defect="lower")
+        self.assertEqual((status, "is better" in out), (1, True), out)
+
     def test_a_lower_selection_is_found(self):
-        status, out = self.selections("--count", "10", defect="lower")
+        status, out = self.selections("--blocks", "7", "--count", "10", defect="lower")
         self.assertEqual(status, 1)
         self.assertRegex(out, r"differs: case \d+ of seed 1: the selection \[.+\] is better, with \d+\n")
         self.assertRegex(out, r"\n\d passed, [1-9]\d* failed\n$")

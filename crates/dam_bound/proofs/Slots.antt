@@ -1,21 +1,23 @@
--- Where a period stands among the slots, and the days in them.
+-- Where a class stands among the slots, and the days in them.
 use Rattle.std.proofs.Common.{◌≡◌, ◌≢◌, ℕ, zero, suc, ◌+◌, ◌*◌, ◌<◌, ◌≤◌, ◌==◌, cond, ℤ, Bool, true, false, Option, Some, None, List, []}
-use Rattle.std.proofs.Common.{length, get_or, ap, ◌∙◌, sym, refl, arith}
+use Rattle.std.proofs.Common.{length, get_or, slice_set, inl, inr, ap, ◌∙◌, sym, subst, refl, arith}
 use Rattle.std.specs.List.{slice_get}
+use Rattle.std.proofs.lemmas.Bool.{cases_lt}
+use Rattle.std.proofs.lemmas.List.{get_or_default, length-set, get_or-set_same, get_or-set_other}
 use Rattle.std.proofs.lemmas.Bool.Decides.{nat_tests}
 use Rattle.dam_book.specs.Limits.{last_period, most_blocks}
-use Rattle.dam_stack.specs.declared.taken.Taken.{Taken}
 use Rattle.dam_blocks.specs.declared.problem.Block.{Block}
 use Rattle.dam_blocks.specs.Problem.{ProblemState}
 use Rattle.dam_blocks.specs.Selection.{volume_in}
 use Rattle.dam_bound.specs.declared.day.Day.{Day}
+use Rattle.dam_bound.specs.declared.day.Position.{Position}
 use Rattle.dam_bound.specs.declared.trail.Trail.{Trail}
-use Rattle.dam_bound.specs.Day.{IsDay}
+use Rattle.dam_bound.specs.Classes.{first_of}
+use Rattle.dam_bound.specs.Day.{IsPosition, IsDay}
 use Rattle.dam_bound.specs.Trail.{slot_count, slot_after, slot_at, IsDayIn, KeepsDays}
-use Rattle.dam_bound.specs.inside.Tables.{ArePlaces}
-use Rattle.dam_bound.proofs.Days.{copied}
+use Rattle.dam_bound.specs.Tables.{ArePlaces}
 
--- ---- where a period stands
+-- ---- where a class stands
 after_none : (b : Block) (i k before : ℕ) → volume_in b.order.volumes (i + 1) ≡ 0 → slot_after (Some b) i k before ≡ before
 after_none b i k before e =
     let none : (volume_in b.order.volumes (i + 1) == 0) ≡ true = grind (arith, nat_tests) in
@@ -70,7 +72,7 @@ slot_below blocks i (suc k) l = below_after (slice_get blocks k) i k (slot_at bl
 pub slot_within : (blocks : List Block) (i k : ℕ) → i < last_period → k ≤ most_blocks → slot_at blocks i k < slot_count
 slot_within blocks i k l few = let h = slot_below blocks i k l in omega (arith, h, few)
 
--- no other period stands in the slot that a block writes for one
+-- no other class stands in the slot that a block writes for one
 pub slot_apart : (blocks : List Block) (i at k : ℕ) (b : Block) → slice_get blocks k ≡ Some b → i < last_period → i ≢ at
     → slot_at blocks i (k + 1) ≢ (k + 1) * last_period + at
 slot_apart blocks i at k b here l apart = still (volume_in b.order.volumes (i + 1)) refl
@@ -82,51 +84,81 @@ slot_apart blocks i at k b here l apart = still (volume_in b.order.volumes (i + 
         let own = slot_own blocks i k b here (omega (arith, e)) in omega (arith, own, apart)
 
 -- ---- the days
+-- a day that has the same of each place
+pub copied : (problem : ProblemState) (prefix : List Bool) (count : ℕ) (from to : Day) → length problem.hours ≤ count
+    → ((i : ℕ) (d : Position) → i < count → get_or to.classes i d ≡ get_or from.classes i d) → to.total ≡ from.total
+    → length to.classes ≡ last_period
+    → IsDay problem prefix from → IsDay problem prefix to
+copied problem prefix count from to few same total long is = record {
+  long = long;
+  each = λ c d inside first. subst (λ (own : Position). IsPosition problem prefix c own) (sym (same c d (omega (arith, inside, few))))
+      (is.each c d inside first);
+  total_is = ap Some total ∙ is.total_is;
+}
+
 -- what stands below a block's row is there for each prefix that doesn't decide it
 pub keeps_days : (problem : ProblemState) (depth : ℕ) (before after : Trail) → length problem.hours ≤ last_period
-    → ((i : ℕ) (d : Taken) → i < (depth + 1) * last_period → get_or after.slots i d ≡ get_or before.slots i d)
+    → ((i : ℕ) (d : Position) → i < (depth + 1) * last_period → get_or after.slots i d ≡ get_or before.slots i d)
     → length after.slots ≡ slot_count → KeepsDays problem depth before after
 keeps_days problem depth before after few below room prefix total l is = record {
   room = room;
   day = is.day;
   day_is = is.day_is;
   total_is = is.total_is;
-  stands = λ i d inside.
-      (let h = slot_below problem.blocks i (length prefix) (omega (arith, inside, few)) in
-      is.stands i d inside ∙ sym (below (slot_at problem.blocks i (length prefix)) d (omega (arith, h, l))));
+  stands = λ c d inside first.
+      (let h = slot_below problem.blocks c (length prefix) (omega (arith, inside, few)) in
+      is.stands c d inside first ∙ sym (below (slot_at problem.blocks c (length prefix)) d (omega (arith, h, l))));
 }
 
 -- the day with no block decided
 pub begun : (problem : ProblemState) (root : Day) (trail : Trail) (count : ℕ) → length problem.hours ≤ count → IsDay problem [] root
-    → ((i : ℕ) (d : Taken) → i < count → get_or trail.slots i d ≡ get_or root.periods i d)
+    → ((i : ℕ) (d : Position) → i < count → get_or trail.slots i d ≡ get_or root.classes i d)
     → length trail.slots ≡ slot_count → IsDayIn problem [] trail root.total
 begun problem root trail count few is same room = record {
   room = room;
   day = root;
   day_is = is;
   total_is = refl;
-  stands = λ i d inside.
-      sym (same i d (omega (arith, inside, few)))
-      ∙ ap (λ (n : ℕ). get_or trail.slots n d) (sym (slot_first problem.blocks i));
+  stands = λ c d inside first.
+      sym (same c d (omega (arith, inside, few)))
+      ∙ ap (λ (n : ℕ). get_or trail.slots n d) (sym (slot_first problem.blocks c));
 }
 
 -- the day with every block decided
 pub day_there : (problem : ProblemState) (prefix : List Bool) (trail : Trail) (total : ℤ) (day : Day) (places : List ℕ) (count : ℕ)
-    → length problem.hours ≤ count → length problem.hours ≤ last_period → length prefix ≡ length problem.blocks
-    → ArePlaces problem.blocks (length problem.blocks) places
-    → ((i : ℕ) (d : Taken) → i < count → get_or day.periods i d ≡ get_or trail.slots (get_or places i 0) d)
-    → day.total ≡ total → length day.periods ≡ last_period
+    → length problem.hours ≤ count → length prefix ≡ length problem.blocks
+    → ArePlaces problem (length problem.blocks) places
+    → ((i : ℕ) (d : Position) → i < count → get_or day.classes i d ≡ get_or trail.slots (get_or places i 0) d)
+    → day.total ≡ total → length day.classes ≡ last_period
     → IsDayIn problem prefix trail total → IsDay problem prefix day
-day_there problem prefix trail total day places count many few all are same sum long is =
-    copied problem prefix (length problem.hours) is.day day (omega arith)
-    (λ i d inside.
-    same i d (omega (arith, inside, many))
-    ∙ ap (λ (n : ℕ). get_or trail.slots n d)
-    (are.each i 0 (omega (arith, inside, few)) ∙ ap (slot_at problem.blocks i) (sym all))
-    ∙ sym (is.stands i d inside))
-    (sum ∙ sym is.total_is) long is.day_is
+day_there problem prefix trail total day places count many all are same sum long is = record {
+  long = long;
+  each = λ c d inside first.
+      subst (λ (own : Position). IsPosition problem prefix c own)
+      (is.stands c d inside first
+      ∙ ap (λ (n : ℕ). get_or trail.slots n d) (ap (slot_at problem.blocks c) all ∙ sym (are.each c 0 inside first))
+      ∙ sym (same c d (omega (arith, inside, many))))
+      (is.day_is.each c d inside first);
+  total_is = ap Some (sum ∙ sym is.total_is) ∙ is.day_is.total_is;
+}
 
-pub places_within : (blocks : List Block) (k : ℕ) (places : List ℕ) → k ≤ most_blocks → ArePlaces blocks k places
-    → (i d : ℕ) → i < last_period → get_or places i d < slot_count
-places_within blocks k places few are i d l =
-    let is = are.each i d l in let h = slot_within blocks i k l few in omega (arith, is, h)
+-- ---- the day that is read out
+pub record AreReadSoFar (count : ℕ) (places : List ℕ) (slots classes : List Position) : Type 0 where
+  pub long : length classes ≡ last_period
+  pub each : (i : ℕ) (d : Position) → i < count → get_or classes i d ≡ get_or slots (get_or places i 0) d
+
+pub read_more : (at : ℕ) (places : List ℕ) (slots classes : List Position) (e : Position) → at < last_period
+    → get_or places at 0 < length slots → AreReadSoFar at places slots classes
+    → AreReadSoFar (at + 1) places slots (slice_set classes at (get_or slots (get_or places at 0) e))
+read_more at places slots classes e inside there so_far = record {
+  long = length-set classes at (get_or slots (get_or places at 0) e) ∙ so_far.long;
+  each = λ i d l. elim (cases_lt i at) [
+    | inl less ↦ get_or-set_other classes at i (get_or slots (get_or places at 0) e) d (omega (arith, less)) ∙ so_far.each i d less
+    | inr more ↦
+        (let same : i ≡ at = omega (arith, l, more) in let long = so_far.long in
+        ap (λ (n : ℕ). get_or (slice_set classes at (get_or slots (get_or places at 0) e)) n d) same
+        ∙ get_or-set_same classes at (get_or slots (get_or places at 0) e) d (omega (arith, inside, long))
+        ∙ get_or_default slots (get_or places at 0) e d there
+        ∙ ap (λ (n : ℕ). get_or slots (get_or places n 0) d) (sym same))
+  ];
+}

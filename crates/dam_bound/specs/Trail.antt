@@ -2,24 +2,25 @@
 use Rattle.std.specs.Prelude.{◌≡◌, ℕ, zero, suc, ◌+◌, ◌*◌, ◌<◌, ◌≤◌, ◌==◌, if◌then◌else◌, Bool, ℤ, Option, Some, None, List, length}
 use Rattle.std.specs.Prelude.{slice_get, slice_index_or}
 use Rattle.dam_book.specs.Limits.{last_period, most_blocks}
-use Rattle.dam_stack.specs.declared.taken.Taken.{Taken}
 use Rattle.dam_blocks.specs.declared.problem.Block.{Block}
 use Rattle.dam_blocks.specs.Problem.{ProblemState}
 use Rattle.dam_blocks.specs.Selection.{volume_in}
 use Rattle.dam_bound.specs.declared.day.Day.{Day}
+use Rattle.dam_bound.specs.declared.day.Position.{Position}
 use Rattle.dam_bound.specs.declared.trail.Trail.{Trail}
+use Rattle.dam_bound.specs.Classes.{first_of}
 use Rattle.dam_bound.specs.Day.{IsDay}
 
 -- a row of slots for the root, and one for each block
 abbrev pub slot_count : ℕ
 slot_count = (most_blocks + 1) * last_period
 
--- a block writes its own row, in its own periods alone
+-- a block writes its own row, in its own classes alone
 abbrev pub slot_after : Option Block → ℕ → ℕ → ℕ → ℕ
 slot_after None i k before = before
 slot_after (Some b) i k before = if volume_in b.order.volumes (i + 1) == 0 then before else suc k * last_period + i
 
--- the slot in which the period at the place stands once that many blocks are decided
+-- the slot in which the class that begins at the place stands once that many blocks are decided
 unfoldable pub slot_at : List Block → ℕ → ℕ → ℕ
 slot_at blocks i zero = i
 slot_at blocks i (suc k) = slot_after (slice_get blocks k) i k (slot_at blocks i k)
@@ -30,8 +31,8 @@ pub record IsDayIn (problem : ProblemState) (prefix : List Bool) (trail : Trail)
   pub day : Day
   pub day_is : IsDay problem prefix day
   pub total_is : day.total ≡ total
-  pub stands : (i : ℕ) (d : Taken) → i < length problem.hours
-      → slice_index_or day.periods i d ≡ slice_index_or trail.slots (slot_at problem.blocks i (length prefix)) d
+  pub stands : (c : ℕ) (d : Position) → c < length problem.hours → first_of problem.blocks c ≡ c
+      → slice_index_or day.classes c d ≡ slice_index_or trail.slots (slot_at problem.blocks c (length prefix)) d
 
 -- the day of each prefix of at most this length is still there
 abbrev pub KeepsDays : ProblemState → ℕ → Trail → Trail → Type 0

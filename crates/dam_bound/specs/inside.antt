@@ -1,5 +1,5 @@
 -- What only contracts inside this crate cite.
 pub mod Levels
-pub mod Tables
 pub mod Change
 pub mod Families
+pub mod Building

@@ -26,7 +26,7 @@ fn step_in(order: &BlockOrder, period: Period) -> Option<Step>
 }
 
 /// The steps, and after them the blocks as steps of the period.
-fn relaxed_steps<A: Allocator>(
+pub(crate) fn relaxed_steps<A: Allocator>(
     alloc: A,
     steps: &[Step],
     blocks: &[Block],
@@ -109,15 +109,6 @@ impl<A: Allocator + Copy> Levels<A> {
 }
 
 impl<A: Allocator> Levels<A> {
-    /// How many rows the stacks of all its hours have: one for each step, and a last one.
-    pub(crate) fn row_count(&self) -> usize {
-        let mut rows = 0usize;
-        for hour in &self.hours {
-            rows = rows.saturating_add(hour.len() + 1);
-        }
-        rows
-    }
-
     /// The hour at a depth.
     pub(crate) fn hour(&self, depth: usize) -> &Hour<A>
         requires { (steps : List Step) × IsAtDepth self.now depth steps }

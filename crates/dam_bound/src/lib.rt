@@ -21,15 +21,22 @@
 //! it knows just which block descends from which.
 #![tactic(auto)]
 
+mod classes;
 mod day;
 mod families;
 mod gain;
 pub mod laws;
 mod levels;
+mod lookup;
+mod periods;
 mod relaxed;
 mod tables;
+mod touch;
 mod trail;
+mod walk;
 
 pub use day::Day;
 pub use relaxed::Relaxed;
+pub use tables::Tables;
 pub use trail::Trail;
+pub use walk::{Bounds, Walk};

@@ -10,12 +10,9 @@ ghost use Rattle.dam_bound.specs.Trail.{IsDayIn, KeepsDays};
 ghost use Rattle.dam_bound.specs.inside.Levels.{AreLevels, AreLevelsAt, last_steps, AreDayLevels};
 ghost use Rattle.dam_bound.specs.inside.Levels.{greatest_period_bound};
 
-use crate::day::{Day, copy_periods, turn_block};
-use crate::families::families_of;
-use crate::gain::gain_of;
 use crate::levels::Levels;
 use crate::tables::Tables;
-use crate::trail::{Trail, day_of, decide_block, write_root};
+use crate::walk::{Bounds, Walk};
 use dam_blocks::{Block, Problem, Selection, block_value, laws, net_volume};
 use dam_book::Period;
 use std::alloc::{AllocError, Allocator, Global};
@@ -30,19 +27,15 @@ use std::marker::Model;
 pub struct Relaxed<A: Allocator = Global> {
     periods: Vec<Levels<A>, A>,
     blocks: Vec<Block, A>,
-    /// For each block those that descend from it.
-    families: Vec<Option<Selection>, A>,
-    /// What the walk reads.
+    /// What a walk reads.
     tables: Tables<A>,
 }
 
 impl<A: Allocator> Model for Relaxed<A> {
-    ghost use Rattle.std.specs.Prelude.{length, map, []};
+    ghost use Rattle.std.specs.Prelude.{length};
     ghost use Rattle.dam_blocks.specs.Problem.{ProblemState, AreBlocks};
-    ghost use Rattle.dam_bound.specs.Day.{IsDay};
-    ghost use Rattle.dam_bound.specs.inside.Levels.{AreDayLevels, last_steps, problem_kept};
-    ghost use Rattle.dam_bound.specs.inside.Families.{AreFamilies};
-    ghost use Rattle.dam_bound.specs.inside.Tables.{AreTables, ArePlaces};
+    ghost use Rattle.dam_bound.specs.inside.Levels.{AreDayLevels, problem_kept};
+    ghost use Rattle.dam_bound.specs.Tables.{AreTablesOf};
 
     ghost Value = { ProblemState };
 
@@ -50,11 +43,7 @@ impl<A: Allocator> Model for Relaxed<A> {
 
     ghost invariant = { λ r. AreDayLevels r.blocks.items r.periods.items
         × AreBlocks (length r.periods.items) r.blocks.items
-        × AreFamilies r.blocks.items r.families.items
-        × AreTables (map last_steps r.periods.items) r.blocks.items
-        r.tables.stacks r.tables.ends.items r.tables.lots.items
-        × IsDay (problem_kept r.periods.items r.blocks.items) [] r.tables.root
-        × ArePlaces r.blocks.items (length r.blocks.items) r.tables.places };
+        × AreTablesOf (problem_kept r.periods.items r.blocks.items) r.tables };
 }
 
 fn copies_of<A: Allocator>(alloc: A, blocks: &[Block]) -> Result<Vec<Block, A>, AllocError>
@@ -107,12 +96,10 @@ impl<A: Allocator + Copy> Relaxed<A> {
     {
         let periods = periods_of(alloc, problem)?;
         let blocks = copies_of(alloc, problem.blocks())?;
-        let families = families_of(alloc, problem.blocks())?;
-        let tables = Tables::of(alloc, &periods, &blocks)?;
+        let tables = Tables::of(alloc, problem)?;
         Ok(Relaxed {
             periods,
             blocks,
-            families,
             tables,
         })
     }
@@ -165,105 +152,12 @@ impl<A: Allocator> Relaxed<A> {
         }
         Some(total)
     }
+}
 
-    /// Begins a walk: makes the day of the prefix that decides nothing, and returns its relaxed welfare.
-    pub fn begin(&self, trail: &mut Trail) -> i64
-        ensures { IsDayIn self.now [] trail.new result }
-    {
-        write_root(&self.tables.root, trail, self.periods.len());
-        self.tables.root.total
-    }
+impl<A: Allocator> Bounds<A> for Relaxed<A> {
+    ghost bounded = { λ problem. problem };
 
-    /// Extends the day of a prefix by the decision on the block at the depth, and returns the relaxed
-    /// welfare of the extension; `None` exactly if it has none or one under `least`. The days of the prefix
-    /// and of shorter ones stay, so that the other decision can be made afterwards.
-    ///
-    /// Only the periods in which the block has a volume are looked at, and no further than until the
-    /// relaxed welfare is seen to be under `least`. Takes no memory.
-    pub fn extend(
-        &self,
-        trail: &mut Trail,
-        depth: usize,
-        accept: bool,
-        total: i64,
-        least: u64,
-    ) -> Option<i64>
-        requires depth { depth < length self.now.blocks }
-        requires day { (prefix : List Bool) × (length prefix ≡ depth)
-            × IsDayIn self.now prefix trail.old total }
-        ensures kept { KeepsDays self.now depth trail.old trail.new }
-        ensures day { (prefix : List Bool) → length prefix ≡ depth
-            → IsDayIn self.now prefix trail.old total
-            → MatchOption result (IsUnder self.now (prefix ++ accept ∷ []) least)
-            (IsDayIn self.now (prefix ++ accept ∷ []) trail.new) }
-        ensures reached { IfSome result (λ welfare. pos least ≤ℤ welfare) }
-    {
-        dam_hour::laws::joining();
-        dam_hour::laws::welfare();
-        dam_hour::laws::magnitude();
-        laws::sums();
-        decide_block(&self.tables, trail, depth, accept, total, least)
-    }
-
-    /// The day of a prefix that decides every block, if it is in the slots with this relaxed welfare.
-    /// Takes no memory.
-    pub fn day_at(&self, trail: &Trail, total: i64) -> Day
-        ensures { (prefix : List Bool) → length prefix ≡ length self.now.blocks
-            → IsDayIn self.now prefix trail.now total → IsDay self.now prefix result }
-    {
-        day_of(trail, &self.tables.places, self.periods.len(), total)
-    }
-
-    /// Makes `to` a day of whichever prefix `from` is the day of. Only what belongs to the problem's
-    /// periods is copied. Takes no memory.
-    pub fn copy_day(&self, from: &Day, to: &mut Day)
-        ensures { (prefix : List Bool) → IsDay self.now prefix from.now
-            → IsDay self.now prefix to.new }
-    {
-        copy_periods(from, to, self.periods.len());
-    }
-
-    /// Turns the decision on the block at the place round into this one, on a day on which every block
-    /// is decided; whether it did. `false` if some period doesn't balance with the new decision;
-    /// nothing is then promised of the day.
-    ///
-    /// Only the periods in which the block has a volume are changed. Takes no memory.
-    pub fn turn(&self, day: &mut Day, place: usize, accept: bool) -> bool
-        requires place { place < length self.now.blocks }
-        requires day { (prefix : List Bool) × (length prefix ≡ length self.now.blocks)
-            × (slice_get prefix place ≡ Some (not accept)) × IsDay self.now prefix day.old }
-        ensures { (prefix : List Bool) → length prefix ≡ length self.now.blocks
-            → slice_get prefix place ≡ Some (not accept) → IsDay self.now prefix day.old
-            → MatchBool result (IsDay self.now (slice_set prefix place accept) day.new)
-            (relaxed_welfare self.now (slice_set prefix place accept) ≡ None) }
-    {
-        turn_block(&self.tables, day, place, accept)
-    }
-
-    /// What the block at a place gains at the prices of a day on which every block is decided, with
-    /// those blocks of the selection that descend from it; in cents per MWh times tenths of a MW, and
-    /// below 0 if they lose together. The selection is the day's.
-    ///
-    /// Only the prices of these blocks' own periods are asked for, each from a row near the last unit
-    /// that the day takes. Takes no memory.
-    pub fn gain(&self, day: &Day, selection: Selection, place: usize) -> i64
-        requires place { place < length self.now.blocks }
-        requires day { (prefix : List Bool) × (length prefix ≡ length self.now.blocks)
-            × IsDay self.now prefix day.now }
-        ensures { (prefix : List Bool) (prices : List ℤ)
-            → length prefix ≡ length self.now.blocks → selection ≡ padded prefix
-            → IsDay self.now prefix day.now
-            → ArePrices self.now.blocks (padded prefix) 1 self.now.hours prices
-            → result ≡ gain_at self.now.blocks (padded prefix) prices place }
-    {
-        gain_of(
-            &self.periods,
-            &self.blocks,
-            &self.families,
-            &self.tables,
-            day,
-            selection,
-            place,
-        )
+    fn walk<'a, B: Allocator>(&'a self, problem: &'a Problem<B>) -> Walk<'a, B, A> {
+        Walk::new(problem, &self.tables)
     }
 }

@@ -1,176 +1,280 @@
-//! What the walk reads: each block in each of its periods, worked out once.
+//! What the walk reads: the welfare of each class of periods at each depth as a curve over the net volume, and each
+//! block in each of its classes.
 
-ghost use Rattle.std.specs.Prelude.{◌≡◌, ◌<◌, ◌≤◌, ◌+◌, ◌-◌, ◌*◌, ℕ, Some, List, [], ◌∷◌, ◌++◌, length, map, slice_get, slice_set, slice_index_or, IfOk, IsPermutation};
+ghost use Rattle.std.specs.Prelude.{◌≡◌, ◌<◌, ◌≤◌, ◌+◌, pos, neg_ℤ, ◌*ℤ◌, ◌≤ℤ◌, ℕ, ℤ, true, Some, List, [], length, map, slice_get, IfOk, IsPermutation};
 ghost use Rattle.dam_book.specs.Limits.{last_period, most_blocks};
-ghost use Rattle.dam_hour.specs.declared.step.Step.{Step};
+ghost use Rattle.dam_curve.specs.Curve.{Keeps};
 ghost use Rattle.dam_blocks.specs.declared.problem.Block.{Block};
-ghost use Rattle.dam_blocks.specs.Problem.{AreBlocks};
-ghost use Rattle.dam_stack.specs.declared.stacks.Span.{Span};
-ghost use Rattle.dam_stack.specs.Rows.{IsStackAt, IsCutOff, Keeps};
+ghost use Rattle.dam_blocks.specs.Problem.{ProblemState};
 ghost use Rattle.dam_bound.specs.Day.{IsDay};
-ghost use Rattle.dam_bound.specs.inside.Levels.{last_steps, AreDayLevels, problem_kept};
-ghost use Rattle.dam_bound.specs.inside.Tables.{LotState, ArePlaces, AreSpans, IsLot, AreLots, AreTables};
+ghost use Rattle.dam_bound.specs.Relaxed.{without_rows};
+ghost use Rattle.dam_bound.specs.Tables.{AreCurves, IsTouch, AreTouches, AreLots, AreFirsts, ArePlaces, AreTablesOf, rejected};
+ghost use Rattle.dam_bound.specs.inside.Building.{IsClass, AreDecided, IsDeciding};
+ghost use Rattle.dam_curve.specs.declared.line.Line.{Line};
+ghost use Rattle.dam_blocks.specs.Selection.{volume_in};
+ghost use Rattle.dam_hour.specs.Best.{signed};
 
-use crate::day::{Day, root_of};
-use crate::levels::Levels;
-use dam_blocks::{Block, MOST_PERIODS};
-use dam_book::{BlockOrder, Period, Qty, Side};
-use dam_hour::Step;
-use dam_stack::{Cut, Span, Stacks};
-use std::alloc::{AllocError, Allocator};
+use crate::classes::firsts_of;
+use crate::day::{Day, Position};
+use crate::families::families_of;
+use crate::periods::Periods;
+use crate::touch::{Lot, Touch};
+use dam_blocks::{Block, MOST_PERIODS, Problem, Selection};
+use dam_book::{BlockOrder, Qty, Side};
+use dam_curve::{Curve, Curves, Sum};
+use std::alloc::{AllocError, Allocator, Global};
 use std::marker::Model;
 
-/// A block in one of its periods.
-#[derive(Clone, Copy)]
-pub(crate) struct Touch {
-    /// The place of the period.
-    pub(crate) at: u32,
-    /// The slot in which the period stands before the block is decided.
-    pub(crate) from: u32,
-    /// The slot in which it stands afterwards.
-    pub(crate) to: u32,
-    /// The block as a step of the period, and the stack without it: with the later blocks undecided.
-    pub(crate) cut: Cut,
-}
-
-/// A block: its side, and what it is in each of its periods.
+/// The curves of all classes, and what each block is in them.
+///
+/// A contract sees their parts, and asks of which problem they are the tables.
 #[derive(Drop)]
-pub(crate) struct Lot<A: Allocator> {
-    side: Side,
-    touches: Vec<Touch, A>,
-}
-
-impl<A: Allocator> Model for Lot<A> {
-    ghost use Rattle.dam_bound.specs.inside.Tables.{LotState};
-
-    ghost Value = { LotState };
-
-    ghost view = { λ l. record { side = l.side; touches = l.touches.items } };
-}
-
-impl<A: Allocator> Lot<A> {
-    /// The side of the block.
-    pub(crate) fn side(&self) -> Side
-        ensures { result ≡ self.now.side }
-    {
-        self.side
-    }
-
-    /// The block in each of its periods, in any order.
-    pub(crate) fn touches(&self) -> &[Touch]
-        ensures { result.now ≡ self.now.touches }
-    {
-        self.touches.as_slice()
-    }
-}
-
-/// The stacks of all periods, and what each block is in them.
-#[derive(Drop)]
-pub(crate) struct Tables<A: Allocator> {
-    pub(crate) stacks: Stacks<A>,
-    /// For each period the stack with every block decided.
-    pub(crate) ends: Vec<Span, A>,
+pub struct Tables<A: Allocator = Global> {
+    /// The number of periods.
+    pub(crate) count: usize,
+    pub(crate) curves: Curves<A>,
+    /// For each period the place of the first one of its class.
+    pub(crate) firsts: [u32; MOST_PERIODS],
+    /// For each class the curve with every block decided, at the place of its first period.
+    pub(crate) ends: Vec<Curve, A>,
     pub(crate) lots: Vec<Lot<A>, A>,
-    /// The slot in which each period stands with every block decided.
+    /// The slot in which each class stands with every block decided.
     pub(crate) places: [u32; MOST_PERIODS],
     /// The day with no block decided.
     pub(crate) root: Day,
+    /// For each block those that descend from it.
+    pub(crate) families: Vec<Option<Selection>, A>,
 }
 
-/// How many rows the stacks of all levels have.
-fn row_count<A: Allocator>(periods: &[Levels<A>]) -> usize {
-    let mut rows = 0usize;
-    for levels in periods {
-        rows = rows.saturating_add(levels.row_count());
-    }
-    rows
+impl<A: Allocator> Model for Tables<A> {
+    ghost use Rattle.dam_bound.specs.Tables.{TablesState};
+
+    ghost Value = { TablesState };
+
+    ghost view = { λ t. record {
+      count = t.count;
+      lines = t.curves;
+      firsts = t.firsts;
+      ends = t.ends.items;
+      lots = t.lots.items;
+      places = t.places;
+      root = t.root;
+      families = t.families.items;
+    } };
 }
 
-/// Adds the stack of each period with no block decided.
-fn first_spans<A: Allocator + Copy>(
-    alloc: A,
-    stacks: &mut Stacks<A>,
-    periods: &[Levels<A>],
-) -> Result<Vec<Span, A>, AllocError>
-    requires { (blocks : List Block) × AreDayLevels blocks periods.now }
-    ensures { (blocks : List Block) → AreDayLevels blocks periods.now → IfOk result
-        (λ spans. AreSpans (map last_steps periods.now) blocks stacks.new 0 spans.items) }
+/// What the accepted block adds to the net volume of a period in which it has this volume, in tenths of a MW.
+fn net_of(side: Side, qty: Qty) -> i32
+    ensures { result ≡ neg_ℤ (signed side (pos qty)) }
 {
-    let mut spans = Vec::with_capacity(alloc, periods.len())?;
-    for levels in periods {
-        let span = stacks.add(alloc, levels.hour(0))?;
-        spans.push(span)?;
+    let volume = qty.get() as i32;
+    match side {
+        Side::Sell => volume,
+        Side::Buy => -volume,
     }
-    Ok(spans)
 }
 
-/// The touch of the block that is decided next in a period, which then goes on with the stack without it.
-fn touch_of<A: Allocator>(
-    stacks: &mut Stacks<A>,
-    spans: &mut Vec<Span, A>,
-    places: &[u32],
+/// What the accepted block is worth in this number of periods in which it has this volume, in cents per MWh times
+/// tenths of a MW.
+fn worth_of(order: &BlockOrder, qty: Qty, periods: i64) -> i64
+    requires some { pos 0 ≤ℤ periods }
+    requires few { periods ≤ℤ pos last_period }
+    ensures { result ≡ signed order.now.side (order.now.price *ℤ pos qty) *ℤ periods }
+{
+    let worth = i64::from(order.price().get()) * i64::from(qty.get());
+    match order.side() {
+        Side::Sell => -worth * periods,
+        Side::Buy => worth * periods,
+    }
+}
+
+/// What is lost by accepting the block, at the prices of the class near this net volume, or below 0 gained. It only
+/// decides which class is looked at first.
+fn stake_of(order: &BlockOrder, qty: Qty, worth: i64, price: i64) -> i64 {
+    let sold = price.saturating_mul(i64::from(qty.get()));
+    match order.side() {
+        Side::Sell => worth.saturating_add(sold).saturating_neg(),
+        Side::Buy => sold.saturating_sub(worth),
+    }
+}
+
+/// A block that is decided in the periods, and its slots.
+#[derive(Drop)]
+struct Deciding<'a, A: Allocator> {
+    periods: &'a Periods<A>,
+    order: &'a BlockOrder,
+    /// The slot of each class before the block is decided.
+    places: &'a [u32; MOST_PERIODS],
+    /// The first slot of the block's row.
     row: u32,
-    order: &BlockOrder,
-    period: Period,
-    qty: Qty,
-) -> Result<Touch, AllocError>
-    requires inside { period ≤ length spans.old.items }
-    requires places { length places.now ≡ last_period }
-    requires row { row ≤ most_blocks * last_period }
-    requires stack { (us : List Step) × (vs : List Step) × (d : Span)
-        × IsStackAt stacks.old (slice_index_or spans.old.items (period - 1) d) (us
-        ++ record { side = order.now.side; price = order.now.price; qty = qty } ∷ vs) }
-    ensures at { IfOk result (λ touch. touch.at + 1 ≡ period) }
-    ensures small { IfOk result (λ touch. touch.at < last_period) }
-    ensures from { IfOk result (λ touch. (d : ℕ)
-        → touch.from ≡ slice_index_or places.now (period - 1) d) }
-    ensures to { IfOk result (λ touch. touch.to + 1 ≡ row + period) }
-    ensures cut { (us vs : List Step) (d : Span)
-        → IsStackAt stacks.old (slice_index_or spans.old.items (period - 1) d) (us
-        ++ record { side = order.now.side; price = order.now.price; qty = qty } ∷ vs)
-        → IfOk result (λ touch. IsCutOff stacks.new
-        (record { side = order.now.side; price = order.now.price; qty = qty })
-        (us ++ vs) touch.cut) }
-    ensures spans { IfOk result (λ touch.
-        spans.new.items ≡ slice_set spans.old.items (period - 1) touch.cut.span) }
-    ensures kept { Keeps stacks.old stacks.new }
-{
-    let at = usize::from(period.get()) - 1;
-    let step = Step {
-        side: order.side(),
-        price: order.price(),
-        qty,
-    };
-    let cut = stacks.without(spans[at], step)?;
-    spans[at] = cut.span();
-    Ok(Touch {
-        at: at as u32,
-        from: places[at],
-        to: row + at as u32,
-        cut,
-    })
 }
 
-/// What the block may lose in the period by its decision, at the price with no block decided.
-fn stake(touch: &Touch, root: &Day) -> u64 {
-    match root.periods.get(touch.at as usize) {
-        Some(taken) => touch.cut.stake(*taken),
-        None => 0,
+impl<'a, A: Allocator> Model for Deciding<'a, A> {
+    ghost use Rattle.dam_bound.specs.inside.Building.{DecidingState};
+
+    ghost Value = { DecidingState };
+
+    ghost view = { λ d. record {
+      periods = d.periods.now;
+      order = d.order.now;
+      places = d.places.now;
+      row = d.row;
+    } };
+}
+
+impl<A: Allocator> Deciding<'_, A> {
+    /// The accepted block in the class that begins at the place.
+    fn touch<B: Allocator, C: Allocator>(
+        &self,
+        curves: &mut Curves<B>,
+        sum: &mut Sum<C>,
+        at: usize,
+        qty: Qty,
+    ) -> Result<Touch, AllocError>
+        requires { (problem : ProblemState) × (k : ℕ) × (b : Block) × IsDeciding problem k b self.now
+            × IsClass problem at × (volume_in b.order.volumes (at + 1) ≡ qty) }
+        ensures touch { (problem : ProblemState) (k : ℕ) (b : Block)
+            → IsDeciding problem k b self.now → IsClass problem at
+            → volume_in b.order.volumes (at + 1) ≡ qty
+            → IfOk result (IsTouch problem curves.new k b true) }
+        ensures at { IfOk result (λ touch. touch.at ≡ at) }
+        ensures kept { Keeps curves.old curves.new }
+    {
+        let curve = self.periods.curve(curves, sum, at)?;
+        let value = worth_of(self.order, qty, self.periods.size(at));
+        Ok(Touch {
+            at: at as u32,
+            from: self.places[at],
+            to: self.row + at as u32,
+            net: net_of(self.order.side(), qty),
+            value,
+            curve,
+            stake: stake_of(self.order, qty, value, curves.price_near(curve, 0)),
+        })
+    }
+
+    /// The accepted block in each of its classes, in the order of its periods.
+    fn touches<B: Allocator, C: Allocator, D: Allocator>(
+        &self,
+        alloc: D,
+        curves: &mut Curves<B>,
+        sum: &mut Sum<C>,
+    ) -> Result<Vec<Touch, D>, AllocError>
+        requires { (problem : ProblemState) × (k : ℕ) × (b : Block)
+            × IsDeciding problem k b self.now }
+        ensures touches { (problem : ProblemState) (k : ℕ) (b : Block)
+            → IsDeciding problem k b self.now
+            → IfOk result (λ touches. AreTouches problem curves.new k b true touches.items) }
+        ensures kept { Keeps curves.old curves.new }
+    {
+        let pairs = self.order.volumes().pairs();
+        let mut touches = Vec::with_capacity(alloc, pairs.len())?;
+        for (period, qty) in pairs {
+            let at = usize::from(period.get()) - 1;
+            if self.periods.firsts[at] as usize == at {
+                touches.push(self.touch(curves, sum, at, *qty)?)?;
+            }
+        }
+        Ok(touches)
     }
 }
 
-/// The touches with the greatest stakes first, so that a day whose bound is too low is given up soon.
-fn by_stake<A: Allocator>(touches: Vec<Touch, A>, root: &Day) -> Vec<Touch, A>
-    ensures { IsPermutation touches.items result.items }
+/// The touches of the block if it is rejected.
+fn rejected<A: Allocator>(alloc: A, touches: &[Touch]) -> Result<Vec<Touch, A>, AllocError>
+    ensures { IfOk result (λ others. others.items ≡ map rejected touches.now) }
 {
-    let mut touches = touches;
-    touches.sort_unstable_by_key(|touch| u64::MAX - stake(touch, root));
-    touches
+    let mut others = Vec::with_capacity(alloc, touches.len())?;
+    for touch in touches {
+        others.push(touch.rejected())?;
+    }
+    Ok(others)
 }
 
-/// The slots in which the periods stand with no block decided.
+/// The lot with what may be lost most at the front of either list.
+fn by_stake<A: Allocator>(accepted: Vec<Touch, A>, rejected: Vec<Touch, A>) -> Lot<A>
+    ensures accepted { IsPermutation accepted.items result.accepted }
+    ensures rejected { IsPermutation rejected.items result.rejected }
+{
+    let mut accepted = accepted;
+    let mut rejected = rejected;
+    accepted.sort_unstable_by_key(|touch| !touch.stake);
+    rejected.sort_unstable_by_key(|touch| touch.stake);
+    Lot { accepted, rejected }
+}
+
+/// Puts the block's own slots and curves in the place of those that its classes have before it.
+fn take_over(places: &mut [u32; MOST_PERIODS], ends: &mut [Curve], touches: &[Touch])
+    requires { (problem : ProblemState) × (lines : List Line) × (k : ℕ) × (b : Block)
+        × (slice_get problem.blocks k ≡ Some b) × (k < most_blocks)
+        × (length problem.hours ≤ last_period)
+        × AreTouches problem lines k b true touches.now
+        × (length ends.old ≡ length problem.hours) × (length places.old ≡ last_period) }
+    ensures places { (problem : ProblemState) (lines : List Line) (k : ℕ) (b : Block)
+        → slice_get problem.blocks k ≡ Some b → k < most_blocks
+        → length problem.hours ≤ last_period
+        → AreTouches problem lines k b true touches.now
+        → ArePlaces problem k places.old → ArePlaces problem (k + 1) places.new }
+    ensures ends { (problem : ProblemState) (lines : List Line) (k : ℕ) (b : Block)
+        → slice_get problem.blocks k ≡ Some b
+        → AreTouches problem lines k b true touches.now
+        → AreCurves problem lines k ends.old → AreCurves problem lines (k + 1) ends.new }
+    ensures many { length ends.new ≡ length ends.old }
+{
+    for touch in touches {
+        let at = touch.at as usize;
+        places[at] = touch.to;
+        ends[at] = touch.curve;
+    }
+}
+
+/// The curve of each class with no block decided, at the place of its first period.
+fn first_curves<A: Allocator, B: Allocator, C: Allocator, D: Allocator>(
+    alloc: D,
+    periods: &Periods<A>,
+    curves: &mut Curves<B>,
+    sum: &mut Sum<C>,
+) -> Result<Vec<Curve, D>, AllocError>
+    requires { (problem : ProblemState) × AreDecided problem 0 periods.now }
+    ensures curves { (problem : ProblemState) → AreDecided problem 0 periods.now
+        → IfOk result (λ ends. AreCurves problem curves.new 0 ends.items) }
+    ensures kept { Keeps curves.old curves.new }
+{
+    let mut ends = Vec::with_capacity(alloc, periods.count())?;
+    for at in 0..periods.count() {
+        let first = periods.firsts[at] as usize;
+        let curve = if first == at {
+            periods.curve(curves, sum, at)?
+        } else {
+            ends[first]
+        };
+        ends.push(curve)?;
+    }
+    Ok(ends)
+}
+
+/// The day with no block decided.
+fn root_of<A: Allocator>(curves: &Curves<A>, firsts: &[u32], ends: &[Curve]) -> Day
+    requires { (problem : ProblemState) × AreFirsts problem firsts.now
+        × AreCurves problem curves.now 0 ends.now × (length problem.hours ≤ last_period) }
+    ensures { (problem : ProblemState) → AreFirsts problem firsts.now
+        → AreCurves problem curves.now 0 ends.now → length problem.hours ≤ last_period
+        → IsDay problem [] result }
+{
+    let mut root = Day::empty();
+    for at in 0..ends.len() {
+        if firsts[at] as usize == at {
+            let welfare = curves.welfare(ends[at], 0).unwrap();
+            root.classes[at] = Position { net: 0, welfare };
+            root.total += welfare;
+        }
+    }
+    root
+}
+
+/// The slots in which the classes stand with no block decided.
 fn first_places() -> [u32; MOST_PERIODS]
-    ensures { (blocks : List Block) → ArePlaces blocks 0 result }
+    ensures { (problem : ProblemState) → length problem.hours ≤ last_period
+        → ArePlaces problem 0 result }
 {
     let mut places = [0; MOST_PERIODS];
     for at in 0..MOST_PERIODS {
@@ -179,121 +283,83 @@ fn first_places() -> [u32; MOST_PERIODS]
     places
 }
 
-/// Puts the block's own row of slots in the place of those in which its periods stand before it.
-fn write_places(places: &mut [u32], row: u32, block: &Block)
-    requires places { length places.old ≡ last_period }
-    requires row { row ≤ most_blocks * last_period }
-    ensures { (blocks : List Block) (k : ℕ) → slice_get blocks k ≡ Some block.now
-        → row ≡ (k + 1) * last_period
-        → ArePlaces blocks k places.old → ArePlaces blocks (k + 1) places.new }
-{
-    for (period, _qty) in block.order.volumes().pairs() {
-        let at = usize::from(period.get()) - 1;
-        places[at] = row + at as u32;
-    }
-}
-
-/// Makes the block's lot, and replaces each stack of the block's periods in `spans` by the stack without it.
-///
-/// The blocks before it are decided in these stacks, and those after it are not.
-fn lot_of<A: Allocator + Copy>(
-    alloc: A,
-    stacks: &mut Stacks<A>,
-    spans: &mut Vec<Span, A>,
-    places: &[u32],
-    row: u32,
-    block: &Block,
-    root: &Day,
-) -> Result<Lot<A>, AllocError>
-    requires day { (hours : List (List Step)) × (blocks : List Block) × (k : ℕ)
-        × (slice_get blocks k ≡ Some block.now) × AreBlocks (length hours) blocks
-        × AreSpans hours blocks stacks.old k spans.old.items }
-    requires places { length places.now ≡ last_period }
-    requires row { row ≤ most_blocks * last_period }
-    ensures lot { (hours : List (List Step)) (blocks : List Block) (k : ℕ)
-        → slice_get blocks k ≡ Some block.now → AreBlocks (length hours) blocks
-        → AreSpans hours blocks stacks.old k spans.old.items
-        → ArePlaces blocks k places.now → row ≡ (k + 1) * last_period
-        → IfOk result (IsLot hours blocks stacks.new k block.now) }
-    ensures spans { (hours : List (List Step)) (blocks : List Block) (k : ℕ)
-        → slice_get blocks k ≡ Some block.now → AreBlocks (length hours) blocks
-        → AreSpans hours blocks stacks.old k spans.old.items
-        → IfOk result (λ lot. AreSpans hours blocks stacks.new (k + 1) spans.new.items) }
-    ensures kept { Keeps stacks.old stacks.new }
-{
-    let order = &block.order;
-    let pairs = order.volumes().pairs();
-    let mut touches = Vec::with_capacity(alloc, pairs.len())?;
-    for (period, qty) in pairs {
-        let touch = touch_of(stacks, spans, places, row, order, *period, *qty)?;
-        touches.push(touch)?;
-    }
-    Ok(Lot {
-        side: order.side(),
-        touches: by_stake(touches, root),
-    })
-}
-
-/// Each block as the walk has it.
-fn lots_of<A: Allocator + Copy>(
-    alloc: A,
-    stacks: &mut Stacks<A>,
-    spans: &mut Vec<Span, A>,
-    places: &mut [u32],
+/// The lots of the blocks, and the slot and the curve of each class after them in the place of those before them.
+fn lots_of<A: Allocator, B: Allocator, C: Allocator + Copy>(
+    alloc: C,
+    periods: &mut Periods<A>,
+    curves: &mut Curves<B>,
+    places: &mut [u32; MOST_PERIODS],
+    ends: &mut [Curve],
     blocks: &[Block],
-    root: &Day,
-) -> Result<Vec<Lot<A>, A>, AllocError>
-    requires day { (hours : List (List Step)) × AreBlocks (length hours) blocks.now
-        × AreSpans hours blocks.now stacks.old 0 spans.old.items }
-    requires places { ArePlaces blocks.now 0 places.old }
-    requires few { length blocks.now ≤ most_blocks }
-    ensures lots { (hours : List (List Step)) → AreBlocks (length hours) blocks.now
-        → AreSpans hours blocks.now stacks.old 0 spans.old.items
-        → IfOk result (λ lots. AreLots hours blocks.now stacks.new (length blocks.now) lots.items) }
-    ensures ends { (hours : List (List Step)) → AreBlocks (length hours) blocks.now
-        → AreSpans hours blocks.now stacks.old 0 spans.old.items → IfOk result (λ lots.
-        AreSpans hours blocks.now stacks.new (length blocks.now) spans.new.items) }
-    ensures places { IfOk result (λ _. ArePlaces blocks.now (length blocks.now) places.new) }
+) -> Result<Vec<Lot<C>, C>, AllocError>
+    requires { (problem : ProblemState) × (problem.blocks ≡ blocks.now)
+        × AreDecided problem 0 periods.old × AreCurves problem curves.old 0 ends.old
+        × ArePlaces problem 0 places.old }
+    ensures lots { (problem : ProblemState) → problem.blocks ≡ blocks.now
+        → AreDecided problem 0 periods.old → AreCurves problem curves.old 0 ends.old
+        → ArePlaces problem 0 places.old
+        → IfOk result (λ lots. AreLots problem curves.new (length problem.blocks) lots.items) }
+    ensures ends { (problem : ProblemState) → problem.blocks ≡ blocks.now
+        → AreDecided problem 0 periods.old → AreCurves problem curves.old 0 ends.old
+        → ArePlaces problem 0 places.old
+        → IfOk result (λ _. AreCurves problem curves.new (length problem.blocks) ends.new) }
+    ensures places { (problem : ProblemState) → problem.blocks ≡ blocks.now
+        → AreDecided problem 0 periods.old → AreCurves problem curves.old 0 ends.old
+        → ArePlaces problem 0 places.old
+        → IfOk result (λ _. ArePlaces problem (length problem.blocks) places.new) }
+    ensures periods { (problem : ProblemState) → problem.blocks ≡ blocks.now
+        → AreDecided problem 0 periods.old
+        → IfOk result (λ _. AreDecided problem (length problem.blocks) periods.new) }
 {
+    let mut sum = Sum::new(alloc);
     let mut lots = Vec::with_capacity(alloc, blocks.len())?;
     let mut row = MOST_PERIODS as u32;
     for block in blocks {
-        let lot = lot_of(alloc, stacks, spans, places, row, block, root)?;
-        lots.push(lot)?;
-        write_places(places, row, block);
+        periods.decide(&block.order);
+        let accepted = Deciding {
+            periods,
+            order: &block.order,
+            places,
+            row,
+        }
+        .touches(alloc, curves, &mut sum)?;
+        take_over(places, ends, &accepted);
+        let rejected = rejected(alloc, &accepted)?;
+        lots.push(by_stake(accepted, rejected))?;
         row += MOST_PERIODS as u32;
     }
     Ok(lots)
 }
 
 impl<A: Allocator + Copy> Tables<A> {
-    /// The tables of a day with these levels and blocks. The error is out of memory.
-    pub(crate) fn of(
-        alloc: A,
-        periods: &[Levels<A>],
-        blocks: &[Block],
-    ) -> Result<Tables<A>, AllocError>
-        requires levels { AreDayLevels blocks.now periods.now }
-        requires blocks { AreBlocks (length periods.now) blocks.now }
-        ensures tables { IfOk result (λ tables. AreTables (map last_steps periods.now)
-            blocks.now tables.stacks tables.ends.items tables.lots.items) }
-        ensures root { IfOk result (λ tables.
-            IsDay (problem_kept periods.now blocks.now) [] tables.root) }
-        ensures places { IfOk result (λ tables.
-            ArePlaces blocks.now (length blocks.now) tables.places) }
+    /// The tables of a problem. The error is out of memory.
+    pub fn of<B: Allocator>(alloc: A, problem: &Problem<B>) -> Result<Tables<A>, AllocError>
+        ensures { IfOk result (AreTablesOf (without_rows problem.now)) }
     {
-        let mut stacks = Stacks::new(alloc);
-        stacks.reserve(row_count(periods))?;
-        let mut spans = first_spans(alloc, &mut stacks, periods)?;
-        let root = root_of(&stacks, &spans, periods);
+        let blocks = problem.blocks();
+        let mut periods = Periods::of(alloc, problem)?;
+        let mut curves = Curves::new(alloc);
+        let mut sum = Sum::new(alloc);
+        let mut ends = first_curves(alloc, &periods, &mut curves, &mut sum)?;
+        let root = root_of(&curves, &periods.firsts, &ends);
         let mut places = first_places();
-        let lots = lots_of(alloc, &mut stacks, &mut spans, &mut places, blocks, &root)?;
+        let lots = lots_of(
+            alloc,
+            &mut periods,
+            &mut curves,
+            &mut places,
+            &mut ends,
+            blocks,
+        )?;
         Ok(Tables {
-            stacks,
-            ends: spans,
+            count: periods.count(),
+            curves,
+            firsts: periods.firsts,
+            ends,
             lots,
             places,
             root,
+            families: families_of(alloc, blocks)?,
         })
     }
 }

@@ -2,20 +2,20 @@
 
 ghost use Rattle.std.specs.Prelude.{◌≡◌, ◌*◌, ◌+◌, ◌<◌, ◌≤◌, ℕ, ℤ, pos, ◌^◌, ◌<ℤ◌, ◌≤ℤ◌, ◌↔◌, List, Bool, length, slice_index_or, IsTrue, IfSome, MatchOption};
 ghost use Rattle.dam_book.specs.Limits.{last_period};
-ghost use Rattle.dam_stack.specs.declared.taken.Taken.{Taken};
 ghost use Rattle.dam_blocks.specs.Problem.{ProblemState};
 ghost use Rattle.dam_blocks.specs.Magnitude.{IsWithin};
 ghost use Rattle.dam_bound.specs.inside.Levels.{greatest_period_bound};
 ghost use Rattle.dam_bound.specs.Trail.{slot_count, IsDayIn};
 ghost use Rattle.dam_bound.specs.inside.Change.{IsChange, IsGivenUp};
 ghost use Rattle.dam_bound.specs.declared.day.Change.TheVariants.{Decide};
-ghost use Rattle.dam_bound.specs.inside.Tables.{AreTables};
+ghost use Rattle.dam_bound.specs.declared.day.Position.{Position};
+ghost use Rattle.dam_bound.specs.Tables.{AreTablesOf};
 
-use crate::day::{Change, Day, is_served, moved};
+use crate::day::{Day, Position};
+use crate::lookup::{moved, touches_of};
 use crate::tables::Tables;
 use dam_blocks::MOST_PERIODS;
 use dam_book::MOST_BLOCKS;
-use dam_stack::Taken;
 use std::alloc::Allocator;
 
 /// A row of slots for the root, and one for each block.
@@ -23,33 +23,33 @@ const SLOTS: usize = (MOST_BLOCKS + 1) * MOST_PERIODS;
 
 /// The days of the prefixes on a walk's way, from the one that decides nothing to the one that it is at.
 ///
-/// What a decision makes of a period is written to a slot of its own, and read if a later block has a
-/// volume in the period; so the days of the shorter prefixes stay, and the other decision on the same block
+/// What a decision makes of a class is written to a slot of its own, and read if a later block has a
+/// volume there; so the days of the shorter prefixes stay, and the other decision on the same block
 /// begins from the same day.
 #[derive(Drop)]
 pub struct Trail {
-    pub(crate) slots: [Taken; SLOTS],
+    pub(crate) slots: [Position; SLOTS],
 }
 
 impl Trail {
-    /// Slots with no supply taken, to be written over; they need not hold the day of any prefix.
+    /// Slots with nothing accepted, to be written over; they need not hold the day of any prefix.
     pub fn empty() -> Trail
         ensures { length result.slots ≡ slot_count }
     {
         Trail {
-            slots: [Taken::none(); SLOTS],
+            slots: [Position::none(); SLOTS],
         }
     }
 }
 
-/// Writes the first `count` periods of the root's day to their slots.
+/// Writes the first `count` places of the root's day to their slots.
 pub(crate) fn write_root(root: &Day, trail: &mut Trail, count: usize)
     requires { count ≤ last_period }
-    ensures periods { (i : ℕ) (own : Taken) → i < count
-        → slice_index_or trail.new.slots i own ≡ slice_index_or root.now.periods i own }
+    ensures classes { (i : ℕ) (own : Position) → i < count
+        → slice_index_or trail.new.slots i own ≡ slice_index_or root.now.classes i own }
     ensures room { length trail.new.slots ≡ slot_count }
 {
-    trail.slots[..count].copy_from_slice(&root.periods[..count]);
+    trail.slots[..count].copy_from_slice(&root.classes[..count]);
 }
 
 /// The least total that isn't under what is asked for.
@@ -69,7 +69,7 @@ fn is_under(total: i64, floor: i64) -> bool
     total < floor
 }
 
-/// Decides the block at the place in each of its periods, and returns the new total, which is at least
+/// Decides the block at the place in each of its classes, and returns the new total, which is at least
 /// `least`; `None` if some period doesn't balance, or if the total is under `least` after one of them. In a
 /// walk no decision raises the relaxed welfare of a period, so a total under `least` stays under it.
 ///
@@ -83,39 +83,31 @@ pub(crate) fn decide_block<A: Allocator>(
     least: u64,
 ) -> Option<i64>
     requires { (problem : ProblemState) × (before : List Bool) × (after : List Bool)
-        × AreTables problem.hours problem.blocks tables.now.stacks
-        tables.now.ends.items tables.now.lots.items
+        × AreTablesOf problem tables.now
         × (place < length problem.blocks)
         × IsChange problem.blocks place Decide accept (place + 1) before after
         × IsDayIn problem before trail.old total }
     ensures day { (problem : ProblemState) (before after : List Bool)
-        → AreTables problem.hours problem.blocks tables.now.stacks
-        tables.now.ends.items tables.now.lots.items
+        → AreTablesOf problem tables.now
         → place < length problem.blocks
         → IsChange problem.blocks place Decide accept (place + 1) before after
         → IsDayIn problem before trail.old total
         → MatchOption result (IsGivenUp problem least before after)
         (IsDayIn problem after trail.new) }
     ensures reached { IfSome result (λ left. pos least ≤ℤ left) }
-    ensures below { (i : ℕ) (own : Taken) → i < (place + 1) * last_period
+    ensures below { (i : ℕ) (own : Position) → i < (place + 1) * last_period
         → slice_index_or trail.new.slots i own ≡ slice_index_or trail.old.slots i own }
     ensures room { length trail.new.slots ≡ slot_count }
 {
+    dam_hour::laws::joining();
     dam_hour::laws::welfare();
-    let lot = &tables.lots[place];
-    let is_served = is_served(lot.side(), accept);
+    dam_hour::laws::magnitude();
+    dam_blocks::laws::sums();
     let floor = floor_of(least);
     let mut left = total;
-    for touch in lot.touches() {
+    for touch in touches_of(tables, place, accept) {
         let own = trail.slots[touch.from as usize];
-        let next = moved(
-            &tables.stacks,
-            tables.ends[touch.at as usize],
-            *touch,
-            own,
-            Change::Decide,
-            is_served,
-        );
+        let next = moved(tables, touch.curve, own, i64::from(touch.net), touch.value);
         let Some((next, gained)) = next else {
             return None;
         };
@@ -128,19 +120,19 @@ pub(crate) fn decide_block<A: Allocator>(
     Some(left)
 }
 
-/// The day that stands in the slots, in which the period at each place stands in the slot of the list.
+/// The day that stands in the slots, in which the class at each place stands in the slot of the list.
 pub(crate) fn day_of(trail: &Trail, places: &[u32], count: usize, total: i64) -> Day
     requires count { count ≤ last_period }
     requires places { (i d : ℕ) → i < count → slice_index_or places.now i d < slot_count }
     requires long { length places.now ≡ last_period }
-    ensures periods { (i : ℕ) (own : Taken) → i < count → slice_index_or result.periods i own
+    ensures classes { (i : ℕ) (own : Position) → i < count → slice_index_or result.classes i own
         ≡ slice_index_or trail.now.slots (slice_index_or places.now i 0) own }
     ensures total { result.total ≡ total }
-    ensures long { length result.periods ≡ last_period }
+    ensures long { length result.classes ≡ last_period }
 {
     let mut day = Day::empty();
     for at in 0..count {
-        day.periods[at] = trail.slots[places[at] as usize];
+        day.classes[at] = trail.slots[places[at] as usize];
     }
     day.total = total;
     day

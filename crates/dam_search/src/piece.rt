@@ -11,7 +11,7 @@ use crate::incumbent::Incumbent;
 use crate::prefix::Prefix;
 use crate::space::{SearchSpace, kept};
 use dam_blocks::{Best, Problem, Selection, ranks_above};
-use dam_bound::{Relaxed, Trail};
+use dam_bound::{Bounds, Trail};
 use std::alloc::Allocator;
 
 /// What a walk has found, read and visited so far.
@@ -80,7 +80,7 @@ impl<A: Allocator, B: Allocator> SearchSpace<'_, A, B> {
         found: &mut Progress,
     )
         requires full { length self.now.problem.now.blocks ≡ length prefix.now }
-        requires day { IsBoundIn self.now.relaxed.now prefix.now found.old.read trail.now total }
+        requires day { IsBoundIn self.now.walk.now prefix.now found.old.read trail.now total }
         requires admissible { IsAdmissible self.now.problem.now.blocks (padded prefix.now) }
         requires best { IsFind self.now.problem.now [] found.old.best }
         requires offered { welfare_found found.old.best ≤ I.greatest_offer incumbent.old }
@@ -103,8 +103,8 @@ impl<A: Allocator, B: Allocator> SearchSpace<'_, A, B> {
         let Some(best) = candidate(prefix.selection(), total, found) else {
             return;
         };
-        let day = self.relaxed.day_at(trail, total);
-        if prefix.has_loss(self.relaxed, &day) {
+        let day = self.walk.day_at(trail, total);
+        if prefix.has_loss(self.walk, &day) {
             return;
         }
         let welfare = best.welfare;
@@ -136,7 +136,7 @@ impl<A: Allocator, B: Allocator> SearchSpace<'_, A, B> {
         found: &mut Progress,
     ) -> bool
         requires depth { length prefix ≤ length self.now.problem.now.blocks }
-        requires day { IsBoundIn self.now.relaxed.now prefix found.old.read trail.old total }
+        requires day { IsBoundIn self.now.walk.now prefix found.old.read trail.old total }
         requires admissible { IsAdmissible self.now.problem.now.blocks (padded prefix) }
         requires going { IsGoing self.now.problem.now nodes
             (I.greatest_read incumbent.old) (I.greatest_offer incumbent.old) found.old }
@@ -145,7 +145,7 @@ impl<A: Allocator, B: Allocator> SearchSpace<'_, A, B> {
             (I.greatest_read incumbent.new) (I.greatest_offer incumbent.new)
             found.old found.new result }
         ensures kept { I.kept incumbent.new ≡ I.kept incumbent.old }
-        ensures days { KeepsDays self.now.relaxed.now (length prefix) trail.old trail.new }
+        ensures days { KeepsDays self.now.walk.now (length prefix) trail.old trail.new }
     {
         dam_blocks::laws::ranking();
         dam_bound::laws::completions();
@@ -184,7 +184,7 @@ impl<A: Allocator, B: Allocator> SearchSpace<'_, A, B> {
         found: &mut Progress,
     ) -> bool
         requires depth { length prefix.now < length self.now.problem.now.blocks }
-        requires day { IsDayIn self.now.relaxed.now prefix.now trail.old total }
+        requires day { IsDayIn self.now.walk.now prefix.now trail.old total }
         requires admissible { IsAdmissible self.now.problem.now.blocks (padded prefix.now) }
         requires going { IsGoing self.now.problem.now nodes
             (I.greatest_read incumbent.old) (I.greatest_offer incumbent.old) found.old }
@@ -193,7 +193,7 @@ impl<A: Allocator, B: Allocator> SearchSpace<'_, A, B> {
             (I.greatest_read incumbent.new) (I.greatest_offer incumbent.new)
             found.old found.new result }
         ensures kept { I.kept incumbent.new ≡ I.kept incumbent.old }
-        ensures days { KeepsDays self.now.relaxed.now (length prefix.now) trail.old trail.new }
+        ensures days { KeepsDays self.now.walk.now (length prefix.now) trail.old trail.new }
     {
         kept(self.problem);
         let extended = prefix.extended(accept);
@@ -201,7 +201,7 @@ impl<A: Allocator, B: Allocator> SearchSpace<'_, A, B> {
             return true;
         }
         let next = self
-            .relaxed
+            .walk
             .extend(trail, prefix.depth(), accept, total, found.read);
         self.explore(nodes, extended, trail, next, incumbent, found)
     }
@@ -216,9 +216,9 @@ impl<A: Allocator, B: Allocator> SearchSpace<'_, A, B> {
 /// its welfare is looked at; otherwise it is passed over without a visit. No node is visited twice, and
 /// the answer isn't `done` if it takes more than `nodes` nodes. The search takes no memory but 80 kB of
 /// the stack, for the days of the walk.
-pub fn search_piece<A: Allocator, B: Allocator, I: Incumbent>(
+pub fn search_piece<A: Allocator, B: Allocator, R: Bounds<B>, I: Incumbent>(
     problem: &Problem<A>,
-    relaxed: &Relaxed<B>,
+    relaxed: &R,
     piece: u32,
     depth: usize,
     nodes: u32,
@@ -257,14 +257,15 @@ pub fn search_piece<A: Allocator, B: Allocator, I: Incumbent>(
             done: true,
         };
     }
+    let walk = &relaxed.walk(problem);
     let mut trail = Trail::empty();
-    let total = prefix.walked(relaxed, &mut trail);
+    let total = prefix.walked(walk, &mut trail);
     let mut found = Progress {
         best: None,
         read: 0,
         visited: 0,
     };
-    let space = SearchSpace { problem, relaxed };
+    let space = SearchSpace { problem, walk };
     let done = space.explore(nodes, prefix, &mut trail, total, incumbent, &mut found);
     PieceAnswer {
         piece,

@@ -13,7 +13,7 @@ ghost use Rattle.dam_search.specs.inside.Walk.{IsBoundIn, IsDayFrom, turned_at};
 
 use crate::space::kept;
 use dam_blocks::{Problem, Selection, admissible, is_allowed};
-use dam_bound::{Day, Relaxed, Trail};
+use dam_bound::{Day, Trail, Walk};
 use std::alloc::Allocator;
 use std::marker::Model;
 
@@ -136,18 +136,18 @@ impl Prefix {
 
     /// Makes the days of the prefix and of the shorter ones, and returns its bound; `None` only if it has
     /// no bound or one below 0.
-    pub(crate) fn walked<A: Allocator>(
+    pub(crate) fn walked<A: Allocator, B: Allocator>(
         &self,
-        relaxed: &Relaxed<A>,
+        walk: &Walk<A, B>,
         trail: &mut Trail,
     ) -> Option<i64>
-        requires { length self.now ≤ length relaxed.now.blocks }
-        ensures { IsBoundIn relaxed.now self.now 0 trail.new result }
+        requires { length self.now ≤ length walk.now.blocks }
+        ensures { IsBoundIn walk.now self.now 0 trail.new result }
     {
         dam_bound::laws::extension();
-        let mut total = relaxed.begin(trail);
+        let mut total = walk.begin(trail);
         for place in 0..self.depth {
-            let next = relaxed.extend(trail, place, self.taken.has(place), total, 0);
+            let next = walk.extend(trail, place, self.taken.has(place), total, 0);
             let Some(next) = next else {
                 return None;
             };
@@ -158,14 +158,14 @@ impl Prefix {
 
     /// The day of the prefix, which decides every block; `None` only if it has no bound or one below 0.
     /// It is made in the slots.
-    pub(crate) fn day<A: Allocator>(&self, relaxed: &Relaxed<A>, trail: &mut Trail) -> Option<Day>
-        requires { length self.now ≡ length relaxed.now.blocks }
-        ensures { IsDayFrom relaxed.now self.now 0 result }
+    pub(crate) fn day<A: Allocator, B: Allocator>(&self, walk: &Walk<A, B>, trail: &mut Trail) -> Option<Day>
+        requires { length self.now ≡ length walk.now.blocks }
+        ensures { IsDayFrom walk.now self.now 0 result }
     {
-        let Some(total) = self.walked(relaxed, trail) else {
+        let Some(total) = self.walked(walk, trail) else {
             return None;
         };
-        Some(relaxed.day_at(trail, total))
+        Some(walk.day_at(trail, total))
     }
 
     /// Whether the block at the place is accepted.
@@ -192,15 +192,15 @@ impl Prefix {
 
     /// Whether some accepted block loses at the prices of the prefix's day, on which every block is
     /// decided, with the accepted ones that descend from it.
-    pub(crate) fn has_loss<A: Allocator>(&self, relaxed: &Relaxed<A>, day: &Day) -> bool
-        requires full { length self.now ≡ length relaxed.now.blocks }
-        requires day { IsDay relaxed.now self.now day.now }
+    pub(crate) fn has_loss<A: Allocator, B: Allocator>(&self, walk: &Walk<A, B>, day: &Day) -> bool
+        requires full { length self.now ≡ length walk.now.blocks }
+        requires day { IsDay walk.now self.now day.now }
         ensures { (prices : List ℤ)
-            → ArePrices relaxed.now.blocks (padded self.now) 1 relaxed.now.hours prices
-            → (result ≡ false) ↔ HasNoLoss relaxed.now.blocks (padded self.now) prices }
+            → ArePrices walk.now.blocks (padded self.now) 1 walk.now.hours prices
+            → (result ≡ false) ↔ HasNoLoss walk.now.blocks (padded self.now) prices }
     {
         for place in 0..self.depth {
-            if self.taken.has(place) && relaxed.gain(day, self.taken, place) < 0 {
+            if self.taken.has(place) && walk.gain(day, self.taken, place) < 0 {
                 return true;
             }
         }

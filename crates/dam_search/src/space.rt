@@ -3,15 +3,15 @@ ghost use Rattle.dam_blocks.specs.Problem.{IsProblem};
 ghost use Rattle.dam_bound.specs.Relaxed.{without_rows};
 
 use dam_blocks::Problem;
-use dam_bound::Relaxed;
+use dam_bound::Walk;
 use std::alloc::Allocator;
 
 /// What a walk reads: a problem, and its bounds with the tables that they are looked up in.
 #[derive(Drop)]
 pub(crate) struct SearchSpace<'a, A: Allocator, B: Allocator> {
     pub(crate) problem: &'a Problem<A>,
-    pub(crate) relaxed: &'a Relaxed<B>,
-    ghost same: { relaxed.now ≡ without_rows problem.now },
+    pub(crate) walk: &'a Walk<'a, A, B>,
+    ghost same: { walk.now ≡ without_rows problem.now },
 }
 
 /// What every problem keeps, for proofs: the call computes nothing.

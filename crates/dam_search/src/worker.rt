@@ -9,7 +9,7 @@ use crate::piece::search_piece;
 use crate::shared::Shared;
 use crate::turnstile::Turnstile;
 use dam_blocks::Problem;
-use dam_bound::Relaxed;
+use dam_bound::Bounds;
 use std::alloc::{AllocError, Allocator};
 
 /// A worker's whole share of a search: it explores each piece that it draws, until a draw finds
@@ -23,10 +23,10 @@ use std::alloc::{AllocError, Allocator};
 /// thread of its own. It gives a fresh seat, made for the pieces of a cutting of this depth, and the
 /// bounds of this very problem. Every piece is answered only if all seats of the words have worked and
 /// none was refused memory. A worker waits for nothing but the turnstile.
-pub fn work<A: Allocator, B: Allocator, C: Allocator, T: Turnstile>(
+pub fn work<A: Allocator, B: Allocator, C: Allocator, R: Bounds<B>, T: Turnstile>(
     alloc: C,
     problem: &Problem<A>,
-    relaxed: &Relaxed<B>,
+    relaxed: &R,
     depth: usize,
     nodes: u32,
     seat: &mut Shared,

@@ -13,12 +13,11 @@ use crate::fault::SearchFault;
 use crate::first::first_selection;
 use crate::incumbent::Incumbent;
 use crate::shared::Shared;
-use crate::space::SearchSpace;
 use crate::turnstile::Turnstile;
 use crate::words::{ClosedWords, close, new_words};
 use crate::worker::work;
 use dam_blocks::{Best, Problem};
-use dam_bound::Relaxed;
+use dam_bound::{Bounds, Tables};
 use dam_plan::Plan;
 use std::alloc::{AllocError, Global};
 use std::thread;
@@ -35,13 +34,14 @@ pub(crate) struct Share<'a> {
 #[derive(Drop)]
 pub(crate) struct Task<'a> {
     pub(crate) alloc: Global,
-    pub(crate) space: SearchSpace<'a, Global, Global>,
+    pub(crate) problem: &'a Problem,
+    pub(crate) tables: &'a Tables,
     pub(crate) depth: usize,
     pub(crate) nodes: u32,
     pub(crate) workers: u8,
     /// The welfare that is offered before any worker starts.
     pub(crate) first: u64,
-    ghost inside: { depth ≤ length space.problem.now.blocks },
+    ghost inside: { depth ≤ length problem.now.blocks },
 }
 
 /// A seat for each worker, split off the first one.
@@ -69,14 +69,14 @@ fn seats_for<'a>(
 /// A worker's work at its seat.
 fn share_of<'a, T: Turnstile>(task: &Task, turnstile: &T, seat: Shared<'a>) -> Share<'a>
     requires new { IsNewSeat seat.seat.table_id (2 ^ task.now.depth) seat }
-    ensures { IsShare task.now.space.problem.now task.now.depth task.now.nodes
+    ensures { IsShare task.now.problem.now task.now.depth task.now.nodes
         seat.entry.seat.table_id result }
 {
     let mut seat = seat;
     let answers = work(
         task.alloc,
-        task.space.problem,
-        task.space.relaxed,
+        task.problem,
+        task.tables,
         task.depth,
         task.nodes,
         &mut seat,
@@ -96,7 +96,7 @@ fn work_all<'a, R: Threads + Sync, T: Turnstile + Sync>(
     ensures many { IfOk result (λ shares. vec_len shares ≡ vec_len seats.entry) }
     ensures shares { (table : TableId)
         → All (λ s. IsNewSeat table (2 ^ task.now.depth) s) seats.entry.items
-        → IfOk result (λ shares. All (λ s. IsShare task.now.space.problem.now task.now.depth
+        → IfOk result (λ shares. All (λ s. IsShare task.now.problem.now task.now.depth
         task.now.nodes table s) shares.items) }
 {
     thread::map_vec(
@@ -104,7 +104,7 @@ fn work_all<'a, R: Threads + Sync, T: Turnstile + Sync>(
         seats,
         &|seat: Shared| -> Share
             requires { IsNewSeat seat.seat.table_id (2 ^ task.now.depth) seat }
-            ensures { IsShare task.entry.now.space.problem.now task.entry.now.depth
+            ensures { IsShare task.entry.now.problem.now task.entry.now.depth
                 task.entry.now.nodes seat.entry.seat.table_id result }
         { share_of(task, turnstile, seat) },
     )
@@ -120,11 +120,11 @@ fn gathered<'a>(
 ) -> Result<Vec<PieceAnswer>, AllocError>
     requires empty { answers.items ≡ [] }
     requires undrawn { (view_of first.old.seat).drawn ≡ [] }
-    requires shares { All (λ s. IsShare task.now.space.problem.now task.now.depth task.now.nodes
+    requires shares { All (λ s. IsShare task.now.problem.now task.now.depth task.now.nodes
         first.old.seat.table_id s) shares.items }
     ensures table { first.new.seat.table_id ≡ first.old.seat.table_id }
     ensures joined { IfOk result (λ answers.
-        AreJoined task.now.space.problem.now task.now.depth task.now.nodes (view_of first.old.seat)
+        AreJoined task.now.problem.now task.now.depth task.now.nodes (view_of first.old.seat)
         (vec_len shares.entry) (view_of first.new.seat) answers.items) }
 {
     while let Some(share) = shares.pop() {
@@ -151,7 +151,7 @@ fn shared_out<'a, R: Threads + Sync, T: Turnstile + Sync>(
     requires left { task.now.workers ≤ (view_of first.old.seat).seats_left }
     ensures table { first.new.seat.table_id ≡ first.old.seat.table_id }
     ensures joined { IfOk result (λ answers.
-        AreJoined task.now.space.problem.now task.now.depth task.now.nodes
+        AreJoined task.now.problem.now task.now.depth task.now.nodes
         (record (view_of first.old.seat) {
           seats_left = (view_of first.old.seat).seats_left - task.now.workers;
         })
@@ -179,7 +179,7 @@ pub(crate) fn explore_all<R: Threads + Sync, T: Turnstile + Sync>(
     requires few { task.now.depth ≤ most_cut }
     requires some_worker { 1 ≤ task.now.workers }
     requires few_workers { task.now.workers ≤ most_workers }
-    ensures { IfOk result (λ explored. AreWhole task.now.space.problem.now task.now.depth
+    ensures { IfOk result (λ explored. AreWhole task.now.problem.now task.now.depth
         task.now.nodes task.now.first explored.answers.items) }
 {
     let count = pieces(task.depth);
@@ -217,17 +217,15 @@ pub fn search<R: Threads + Sync, T: Turnstile + Sync>(
     // Each piece was drawn once: none lacks its answer or has two.
     ensures whole { (piece : ℕ) → ¬ (IsErrOf result (SearchFault.Collected piece)) }
 {
-    let relaxed = Relaxed::build(alloc, problem)?;
+    let tables = Tables::of(alloc, problem)?;
     let task = Task {
         alloc,
-        space: SearchSpace {
-            problem,
-            relaxed: &relaxed,
-        },
+        problem,
+        tables: &tables,
         depth: plan.depth(problem.block_count()),
         nodes: plan.nodes(),
         workers: plan.workers(),
-        first: first_selection(problem, &relaxed).welfare,
+        first: first_selection(problem, &tables).welfare,
     };
     let explored = explore_all(rt, &task, turnstile)?;
     collected(problem, task.depth, task.nodes, &explored.answers)

@@ -1,18 +1,17 @@
 -- What becomes of a day if one block is decided, or decided the other way.
-use Rattle.std.specs.Prelude.{◌≡◌, ◌⊎◌, ℕ, ◌+◌, Bool, true, false, ℤ, pos, neg_ℤ, ◌<◌, ◌+ℤ◌, ◌≤ℤ◌, Some, None, List, ◌++◌, length, drop}
+use Rattle.std.specs.Prelude.{◌≡◌, ◌⊎◌, ℕ, ◌+◌, ◌*◌, Bool, true, false, ℤ, pos, neg_ℤ, ◌+ℤ◌, ◌≤ℤ◌, Some, None, List, ◌++◌, length, drop}
 use Rattle.std.specs.Prelude.{slice_get}
+use Rattle.dam_book.specs.Limits.{last_period, most_blocks}
+use Rattle.dam_hour.specs.Limits.{greatest_value}
 use Rattle.dam_hour.specs.declared.step.Step.{Step}
-use Rattle.dam_stack.specs.declared.row.Row.{Row}
-use Rattle.dam_stack.specs.declared.stacks.Span.{Span}
-use Rattle.dam_stack.specs.declared.taken.Taken.{Taken}
-use Rattle.dam_stack.specs.Rows.{IsStackAt, IsCutOff}
+use Rattle.dam_curve.specs.Curve.{greatest_joint_welfare}
 use Rattle.dam_blocks.specs.declared.problem.Block.{Block}
 use Rattle.dam_blocks.specs.Problem.{ProblemState}
 use Rattle.dam_blocks.specs.Selection.{volume_in, net_volume_of, value_of, net_volume, block_value}
 use Rattle.dam_blocks.specs.Eligible.{period_welfare}
-use Rattle.dam_bound.specs.Relaxed.{step_of, as_steps, relaxed_welfare}
-use Rattle.dam_bound.specs.Day.{IsPeriodOfDay, IsUnder}
-use Rattle.dam_bound.specs.declared.tables.Touch.{Touch}
+use Rattle.dam_bound.specs.Relaxed.{as_steps, relaxed_welfare}
+use Rattle.dam_bound.specs.Day.{IsUnder}
+use Rattle.dam_bound.specs.inside.Levels.{greatest_period_bound}
 use Rattle.dam_bound.specs.declared.day.Change.{Change}
 use Rattle.dam_bound.specs.declared.day.Change.TheVariants.{Decide, Turn}
 
@@ -51,32 +50,13 @@ abbrev pub IsGivenUp : ProblemState → ℕ → List Bool → List Bool → Type
 IsGivenUp problem least before after = (relaxed_welfare problem after ≡ None)
     ⊎ (NeverRises problem.blocks before after → IsUnder problem after least)
 
--- ---- one of the block's periods
--- what is changed: these steps of the period, this block and its decision, and the decisions before and after
-pub record Move : Type 0 where
-  pub steps : List Step
-  pub period : ℕ
-  pub blocks : List Block
-  pub place : ℕ
-  pub block : Block
-  pub accept : Bool
-  pub depth : ℕ
-  pub before : List Bool
-  pub after : List Bool
+-- the size of a class's welfare, apart from what the accepted blocks are worth; of what a block is worth in a class; and of
+-- what a change of the block makes of the total
+abbrev pub greatest_position : ℕ
+greatest_position = last_period * (greatest_period_bound + most_blocks * greatest_value)
 
--- the steps of the period before the change, and after it
-abbrev pub steps_before : Move → List Step
-steps_before m = m.steps ++ as_steps m.period (drop (length m.before) m.blocks)
+abbrev pub greatest_class_value : ℕ
+greatest_class_value = last_period * greatest_value
 
-abbrev pub steps_after : Move → List Step
-steps_after m = m.steps ++ as_steps m.period (drop (length m.after) m.blocks)
-
--- the touch and the stack with every block decided are those of the block in the period, and this is taken there before
--- the change
-pub record IsMove (rows : List Row) (end : Span) (touch : Touch) (change : Change) (own : Taken) (m : Move) : Type 0 where
-  pub block_is : slice_get m.blocks m.place ≡ Some m.block
-  pub some : 0 < volume_in m.block.order.volumes m.period
-  pub cut_is : IsCutOff rows (step_of m.period m.block.order) (m.steps ++ as_steps m.period (drop (m.place + 1) m.blocks)) touch.cut
-  pub end_is : IsStackAt rows end m.steps
-  pub change_is : IsChange m.blocks m.place change m.accept m.depth m.before m.after
-  pub own_is : IsPeriodOfDay m.blocks m.before m.period (steps_before m) own
+abbrev pub greatest_move : ℕ
+greatest_move = greatest_joint_welfare + (greatest_position + greatest_class_value)

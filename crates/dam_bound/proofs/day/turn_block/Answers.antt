@@ -1,124 +1,212 @@
 -- A touch more, and all of them.
-use Rattle.std.proofs.Common.{◌+◌, List, length, drop, get_or, slice_set, ap, ◌∙◌, sym, subst, refl, arith}
-use Rattle.std.proofs.lemmas.Int.{ints}
-use Rattle.std.proofs.lemmas.List.{length-set, length-map, drop_all}
+use Rattle.std.proofs.Common.{◌≡◌, ℕ, ◌+◌, ◌<◌, true, ℤ, pos, ◌+ℤ◌, List, length, drop, get_or, slice_set, ap, ◌∙◌, sym, subst, refl, rules, arith}
+use Rattle.std.proofs.lemmas.Int.{ints, to_z-of_z}
+use Rattle.std.proofs.lemmas.List.{length-set, drop_all}
+use mir.Syntax.{w64}
+use mir.Val.{to_z, of_z, SFits}
+use Rattle.dam_blocks.specs.Selection.{net_volume_of}
+use Rattle.dam_blocks.specs.Magnitude.{IsWithin}
 use Rattle.dam_bound.specs.declared.day.Change.TheVariants.{Turn}
-use Rattle.dam_bound.specs.declared.tables.Touch.{Touch}
-use Rattle.dam_blocks.specs.Selection.{volume_in}
-use Rattle.dam_bound.specs.inside.Tables.{pair_of, pairs_of}
-use Rattle.dam_bound.proofs.Tabling.{block_at}
-use Rattle.dam_bound.proofs.Volumes.{volume_ordered}
-use Rattle.dam_bound.proofs.Periods.{one_at}
+use Rattle.dam_bound.specs.declared.day.Position.{Position}
+use Rattle.dam_bound.specs.inside.Change.{by, greatest_class_value}
+use Rattle.dam_bound.specs.Classes.{class_hours}
+use Rattle.dam_bound.specs.Tables.{class_value, least_net, most_net}
+use Rattle.dam_bound.proofs.Changing.{IsChangedSoFar, total_within}
+use Rattle.dam_bound.proofs.Covering.{Laws}
+use Rattle.dam_bound.proofs.DayLevels.{one_at}
 use Rattle.dam_bound.proofs.Sizes.{added_up}
-use Rattle.dam_bound.proofs.Deciding.{IsChangedSoFar, nothing_changed, all_changed, total_within, still_own}
-use Rattle.dam_bound.proofs.Touching.{no_touch_there, nothing_taken, lot_at, touched_now, serves, is_move_at, touch_changed}
-use Rattle.dam_bound.proofs.Touching.{touch_unbalanced}
+use Rattle.dam_bound.proofs.Walking.{no_position, no_touch, touch_now, own_class, on_curve, looked_none, class_turned, all_turned, unturned}
+use Rattle.dam_bound.proofs.Walking.{sized, position_within, class_value_within, by_within, block_order, moved_within}
 use Rattle.dam_bound.proofs.day.turn_block.Goals as goal
 
-pub index-lot-requires : goal.index-lot-requires
-index-lot-requires g c =
-    let ok = c.args.tables.now.lots.ok.0 in let many = c.requires.3.lots_are.as_many in let inside = c.requires.4 in
-    omega (arith, ok, many, inside)
+-- the number as it is passed on
+passed : (z : ℤ) → SFits w64 z → to_z w64 (of_z w64 z) ≡ z
+passed z fits = to_z-of_z w64 z fits
 
 pub loop-touch-init : goal.loop-touch-init
 loop-touch-init g c = record {
   long = c.requires.6.long;
-  so_far = λ problem before after b are at is of. (
-    λ i d some. refl,
-    nothing_changed problem c.args.place (length problem.blocks) Turn c.args.accept before after b c.args.day.now
-        (pairs_of c.touches-touch-items.result.now) at
-        (λ t. (let lot = lot_at problem c.args.tables.now.stacks c.args.tables.now.ends.items c.args.tables.now.lots.items
-        c.index-lot.result.now c.args.place b are at c.index-lot.ensures in
-        ap (λ (ts : List Touch). volume_in (pairs_of ts) t) c.touches-touch-items.ensures
-        ∙ volume_ordered t b.order.volumes (pairs_of c.index-lot.result.now.touches)
-        (block_at (length problem.hours) problem.blocks c.args.place b are.blocks_are at).order.volumes.increasing lot.1.pairs_are)) is of,
-  );
+  so_far = λ problem before after b are at is of.
+      unturned problem c.args.tables.now.lines c.args.place (length problem.blocks) Turn c.args.accept true before after b
+      c.touches_of-touch-items.result.now c.args.day.now is at (c.touches_of-touch-items.ensures problem b are at) of;
 }
 
 pub bounds-day-at : goal.bounds-day-at
 bounds-day-at g c =
-    let r = c.requires in let block = one_at r.0.blocks c.args.place r.4 in
+    let r = c.requires in let j = c.loop-touch.touch-index in
+    let block = one_at r.0.blocks c.args.place r.4 in
+    let touches = c.touches_of-touch-items.result.now in let touch = get_or touches j no_touch in
+    let are = c.touches_of-touch-items.ensures r.0 block.0 r.3 block.1 in
+    let t = touch_now r.0 c.args.tables.now.lines c.args.place block.0 true touches j are c.loop-touch-test.true in
+    let inside = t.is.inside in let few = r.3.few_periods in omega (arith, inside, few)
+
+pub turned-net-requires : goal.turned-net-requires
+turned-net-requires g c =
+    let r = c.requires in let j = c.loop-touch.touch-index in
+    let block = one_at r.0.blocks c.args.place r.4 in
+    let touches = c.touches_of-touch-items.result.now in let touch = get_or touches j no_touch in
+    let are = c.touches_of-touch-items.ensures r.0 block.0 r.3 block.1 in
+    let t = touch_now r.0 c.args.tables.now.lines c.args.place block.0 true touches j are c.loop-touch-test.true in
+    subst (IsWithin greatest_class_value) (sym t.is.value_is)
+    (class_value_within r.0 block.0.order touch.at (sized r.3) (block_order (length r.0.hours) r.0.blocks c.args.place block.0 r.3.blocks_are block.1))
+
+pub end_of-requires : goal.end_of-requires
+end_of-requires g c =
+    let r = c.requires in let j = c.loop-touch.touch-index in
+    let block = one_at r.0.blocks c.args.place r.4 in
+    let touches = c.touches_of-touch-items.result.now in let touch = get_or touches j no_touch in
+    let are = c.touches_of-touch-items.ensures r.0 block.0 r.3 block.1 in
+    let t = touch_now r.0 c.args.tables.now.lines c.args.place block.0 true touches j are c.loop-touch-test.true in
+    (r.0, r.3, t.is.inside)
+
+pub moved-requires-clause-curve : goal.moved-requires-clause-curve
+moved-requires-clause-curve g c =
+    let r = c.requires in let j = c.loop-touch.touch-index in
+    let block = one_at r.0.blocks c.args.place r.4 in
+    let touches = c.touches_of-touch-items.result.now in let touch = get_or touches j no_touch in
+    let are = c.touches_of-touch-items.ensures r.0 block.0 r.3 block.1 in
+    let t = touch_now r.0 c.args.tables.now.lines c.args.place block.0 true touches j are c.loop-touch-test.true in
     let so_far = c.loop-touch.invariant.so_far r.0 r.1 r.2 block.0 r.3 block.1 r.5 r.6 in
-    let t = touched_now r.3 block.1 c.index-lot.ensures c.touches-touch-items.ensures c.loop-touch-test.true r.5 r.6 so_far.0 in
-    let inside = t.inside in let few = r.3.few_periods in omega (arith, inside, few)
+    let inside = t.is.inside in let few = r.3.few_periods in let long = c.loop-touch.invariant.long in
+    let own = own_class c.loop-touch.day.classes no_position t (omega (arith, inside, few, long)) so_far in
+    on_curve r.0 c.args.tables.now.lines c.args.place (length r.0.blocks) Turn c.args.accept r.1 r.2 touch.at block.0
+    (get_or c.loop-touch.day.classes touch.at no_position) (to_z w64 (of_z w64 c.turned-net.result.0)) c.end_of.result r.5 block.1 own
+    (passed c.turned-net.result.0 (search rules) ∙ c.turned-net.ensures.net ∙ ap (by Turn c.args.accept) t.is.net_is)
+    (c.end_of.ensures r.0 r.3 t.is.inside t.is.first)
+
+pub moved-requires-clause-welfare : goal.moved-requires-clause-welfare
+moved-requires-clause-welfare g c =
+    let r = c.requires in let j = c.loop-touch.touch-index in
+    let block = one_at r.0.blocks c.args.place r.4 in
+    let touches = c.touches_of-touch-items.result.now in let touch = get_or touches j no_touch in
+    let are = c.touches_of-touch-items.ensures r.0 block.0 r.3 block.1 in
+    let t = touch_now r.0 c.args.tables.now.lines c.args.place block.0 true touches j are c.loop-touch-test.true in
+    let so_far = c.loop-touch.invariant.so_far r.0 r.1 r.2 block.0 r.3 block.1 r.5 r.6 in
+    let inside = t.is.inside in let few = r.3.few_periods in let long = c.loop-touch.invariant.long in
+    let own = own_class c.loop-touch.day.classes no_position t (omega (arith, inside, few, long)) so_far in
+    let laws : Laws = record {
+      joined = c.joining.ensures.joined;
+      parted = c.joining.ensures.parted;
+      volume = c.joining.ensures.volume;
+      welfare = c.joining.ensures.welfare;
+      reached = c.welfare.ensures.reached;
+      bound = c.welfare.ensures.bound;
+      some = c.welfare.ensures.some;
+      small = c.magnitude.ensures;
+      sums = record { parted = c.sums.ensures.parted; padded = c.sums.ensures.padded };
+    } in
+    position_within laws r.0 r.1 touch.at (get_or c.loop-touch.day.classes touch.at no_position) (sized r.3) own
+
+pub moved-requires-clause-value : goal.moved-requires-clause-value
+moved-requires-clause-value g c =
+    let r = c.requires in let j = c.loop-touch.touch-index in
+    let block = one_at r.0.blocks c.args.place r.4 in
+    let touches = c.touches_of-touch-items.result.now in let touch = get_or touches j no_touch in
+    let are = c.touches_of-touch-items.ensures r.0 block.0 r.3 block.1 in
+    let t = touch_now r.0 c.args.tables.now.lines c.args.place block.0 true touches j are c.loop-touch-test.true in
+    subst (IsWithin greatest_class_value)
+    (sym (passed c.turned-net.result.1 (search rules) ∙ c.turned-net.ensures.value ∙ ap (by Turn c.args.accept) t.is.value_is))
+    (by_within Turn c.args.accept greatest_class_value (class_value r.0 block.0.order touch.at)
+    (class_value_within r.0 block.0.order touch.at (sized r.3) (block_order (length r.0.hours) r.0.blocks c.args.place block.0 r.3.blocks_are block.1)))
+
+pub returns-in_default : goal.returns-in_default
+returns-in_default g c problem before after are_tables inside_blocks is of =
+    let j = c.loop-touch.touch-index in
+    let block = one_at problem.blocks c.args.place inside_blocks in
+    let touches = c.touches_of-touch-items.result.now in let touch = get_or touches j no_touch in
+    let are = c.touches_of-touch-items.ensures problem block.0 are_tables block.1 in
+    let t = touch_now problem c.args.tables.now.lines c.args.place block.0 true touches j are c.loop-touch-test.true in
+    let so_far = c.loop-touch.invariant.so_far problem before after block.0 are_tables block.1 is of in
+    let inside = t.is.inside in let few = are_tables.few_periods in let long = c.loop-touch.invariant.long in
+    let own = own_class c.loop-touch.day.classes no_position t (omega (arith, inside, few, long)) so_far in
+    let net = passed c.turned-net.result.0 (search rules) ∙ c.turned-net.ensures.net ∙ ap (by Turn c.args.accept) t.is.net_is in
+    let found = c.end_of.ensures problem are_tables t.is.inside t.is.first in
+    let within = moved_within problem c.args.place (length problem.blocks) Turn c.args.accept before after touch.at block.0
+    (get_or c.loop-touch.day.classes touch.at no_position) (to_z w64 (of_z w64 c.turned-net.result.0)) is block.1 own net in
+    looked_none problem c.args.place (length problem.blocks) Turn c.args.accept before after touch.at block.0
+    (get_or c.loop-touch.day.classes touch.at no_position) (to_z w64 (of_z w64 c.turned-net.result.0)) is block.1 own net
+    (c.in_default.ensures.moved (class_hours problem (length problem.blocks) touch.at)
+    (least_net problem.blocks (length problem.blocks) touch.at) (most_net problem.blocks (length problem.blocks) touch.at) found within.0 within.1)
 
 pub bounds-day-at-in-loop-touch : goal.bounds-day-at-in-loop-touch
 bounds-day-at-in-loop-touch g c =
-    let r = c.requires in let block = one_at r.0.blocks c.args.place r.4 in
-    let so_far = c.loop-touch.invariant.so_far r.0 r.1 r.2 block.0 r.3 block.1 r.5 r.6 in
-    let t = touched_now r.3 block.1 c.index-lot.ensures c.touches-touch-items.ensures c.loop-touch-test.true r.5 r.6 so_far.0 in
-    let inside = t.inside in let few = r.3.few_periods in omega (arith, inside, few)
-
-pub index-requires : goal.index-requires
-index-requires g c =
-    let r = c.requires in let block = one_at r.0.blocks c.args.place r.4 in
-    let so_far = c.loop-touch.invariant.so_far r.0 r.1 r.2 block.0 r.3 block.1 r.5 r.6 in
-    let t = touched_now r.3 block.1 c.index-lot.ensures c.touches-touch-items.ensures c.loop-touch-test.true r.5 r.6 so_far.0 in
-    let inside = t.inside in let many = r.3.ends_are.as_many in let ok = c.args.tables.now.ends.ok.0 in
-    omega (arith, inside, many, ok)
-
-pub moved-next-requires : goal.moved-next-requires
-moved-next-requires g c =
-    let r = c.requires in let block = one_at r.0.blocks c.args.place r.4 in
-    let so_far = c.loop-touch.invariant.so_far r.0 r.1 r.2 block.0 r.3 block.1 r.5 r.6 in
-    let t = touched_now r.3 block.1 c.index-lot.ensures c.touches-touch-items.ensures c.loop-touch-test.true r.5 r.6 so_far.0 in (
-      t.move,
-      is_move_at t c.index.ensures,
-    )
-
-pub returns-in_default : goal.returns-in_default
-returns-in_default g c problem before after are inside is of =
-    let block = one_at problem.blocks c.args.place inside in
-    let so_far = c.loop-touch.invariant.so_far problem before after block.0 are block.1 is of in
-    let t = touched_now are block.1 c.index-lot.ensures c.touches-touch-items.ensures c.loop-touch-test.true is of so_far.0 in
-    let move = is_move_at t c.index.ensures in
-    let served = serves are block.1 c.index-lot.ensures c.is_served-is_served.ensures c.side.ensures t in
-    (touch_unbalanced (λ ss net none. (c.welfare.ensures.none ss net).1 none) t (c.in_default.ensures t.move move served))
+    let r = c.requires in let j = c.loop-touch.touch-index in
+    let block = one_at r.0.blocks c.args.place r.4 in
+    let touches = c.touches_of-touch-items.result.now in let touch = get_or touches j no_touch in
+    let are = c.touches_of-touch-items.ensures r.0 block.0 r.3 block.1 in
+    let t = touch_now r.0 c.args.tables.now.lines c.args.place block.0 true touches j are c.loop-touch-test.true in
+    let inside = t.is.inside in let few = r.3.few_periods in omega (arith, inside, few)
 
 pub overflow_add-day : goal.overflow_add-day
 overflow_add-day g c =
-    let r = c.requires in let block = one_at r.0.blocks c.args.place r.4 in
+    let r = c.requires in let j = c.loop-touch.touch-index in
+    let block = one_at r.0.blocks c.args.place r.4 in
     let so_far = c.loop-touch.invariant.so_far r.0 r.1 r.2 block.0 r.3 block.1 r.5 r.6 in
-    let t = touched_now r.3 block.1 c.index-lot.ensures c.touches-touch-items.ensures c.loop-touch-test.true r.5 r.6 so_far.0 in
-    let move = is_move_at t c.index.ensures in
-    let served = serves r.3 block.1 c.index-lot.ensures c.is_served-is_served.ensures c.side.ensures t in
-    let m = c.in-Some.ensures t.move move served in
-    let size = total_within (length r.0.hours) r.3.blocks_are r.3.few_blocks r.3.few_periods r.6 so_far.1 in
-    let low = size.at_least in let high = size.at_most in let least = m.at_least in let most = m.at_most in
-    let sum = added_up c.loop-touch.day.total c.in-Some.gained (omega (arith, ints, low, high)) (omega (arith, ints, least, most))
-    (omega (arith, ints, low, high, least, most)) in
-    sum.0
+    let laws : Laws = record {
+      joined = c.joining.ensures.joined;
+      parted = c.joining.ensures.parted;
+      volume = c.joining.ensures.volume;
+      welfare = c.joining.ensures.welfare;
+      reached = c.welfare.ensures.reached;
+      bound = c.welfare.ensures.bound;
+      some = c.welfare.ensures.some;
+      small = c.magnitude.ensures;
+      sums = record { parted = c.sums.ensures.parted; padded = c.sums.ensures.padded };
+    } in
+    let size = total_within laws r.0 r.1 r.2 (drop j c.touches_of-touch-items.result.now) (λ n. get_or c.loop-touch.day.classes n no_position)
+    c.loop-touch.day.total (sized r.3) so_far in
+    let low = size.at_least in let high = size.at_most in
+    let m = c.in-Some.ensures.size in let least = m.at_least in let most = m.at_most in
+    (added_up c.loop-touch.day.total c.in-Some.gained (omega (arith, ints, low, high)) (omega (arith, ints, least, most))
+    (omega (arith, ints, low, high, least, most))).0
 
 pub loop-touch-preserved : goal.loop-touch-preserved
 loop-touch-preserved g c = record {
-  long = length-set c.loop-touch.day.periods _ c.in-Some.next ∙ c.loop-touch.invariant.long;
-  so_far = λ problem before after b are at is of.
-      (let so_far = c.loop-touch.invariant.so_far problem before after b are at is of in
-      let touch = get_or c.touches-touch-items.result.now c.loop-touch.touch-index no_touch_there in
-      let pairs = pairs_of c.touches-touch-items.result.now in
-      let t = touched_now are at c.index-lot.ensures c.touches-touch-items.ensures c.loop-touch-test.true is of so_far.0 in
-      let move = is_move_at t c.index.ensures in
-      let served = serves are at c.index-lot.ensures c.is_served-is_served.ensures c.side.ensures t in
-      let m = c.in-Some.ensures t.move move served in
-      let size = total_within (length problem.hours) are.blocks_are are.few_blocks are.few_periods of so_far.1 in
-      let low = size.at_least in let high = size.at_most in let least = m.at_least in let most = m.at_most in
+  long = length-set c.loop-touch.day.classes _ c.in-Some.next ∙ c.loop-touch.invariant.long;
+  so_far = λ problem before after b are_tables at is of.
+      (let j = c.loop-touch.touch-index in
+      let touches = c.touches_of-touch-items.result.now in let touch = get_or touches j no_touch in
+      let are = c.touches_of-touch-items.ensures problem b are_tables at in
+      let t = touch_now problem c.args.tables.now.lines c.args.place b true touches j are c.loop-touch-test.true in
+      let so_far = c.loop-touch.invariant.so_far problem before after b are_tables at is of in
+      let inside = t.is.inside in let few = are_tables.few_periods in let long = c.loop-touch.invariant.long in
+      let own = own_class c.loop-touch.day.classes no_position t (omega (arith, inside, few, long)) so_far in
+      let net = passed c.turned-net.result.0 (search rules) ∙ c.turned-net.ensures.net ∙ ap (by Turn c.args.accept) t.is.net_is in
+      let value = passed c.turned-net.result.1 (search rules) ∙ c.turned-net.ensures.value ∙ ap (by Turn c.args.accept) t.is.value_is in
+      let found = c.end_of.ensures problem are_tables t.is.inside t.is.first in
+      let within = moved_within problem c.args.place (length problem.blocks) Turn c.args.accept before after touch.at b
+      (get_or c.loop-touch.day.classes touch.at no_position) (to_z w64 (of_z w64 c.turned-net.result.0)) is at own net in
+      let m = c.in-Some.ensures.moved (class_hours problem (length problem.blocks) touch.at)
+      (least_net problem.blocks (length problem.blocks) touch.at) (most_net problem.blocks (length problem.blocks) touch.at) found within.0 within.1 in
+      let laws : Laws = record {
+        joined = c.joining.ensures.joined;
+      parted = c.joining.ensures.parted;
+      volume = c.joining.ensures.volume;
+      welfare = c.joining.ensures.welfare;
+      reached = c.welfare.ensures.reached;
+      bound = c.welfare.ensures.bound;
+      some = c.welfare.ensures.some;
+      small = c.magnitude.ensures;
+      sums = record { parted = c.sums.ensures.parted; padded = c.sums.ensures.padded };
+      } in
+      let size = total_within laws problem before after (drop j touches) (λ n. get_or c.loop-touch.day.classes n no_position)
+      c.loop-touch.day.total (sized are_tables) so_far in
+      let low = size.at_least in let high = size.at_most in
+      let s = c.in-Some.ensures.size in let least = s.at_least in let most = s.at_most in
       let sum = added_up c.loop-touch.day.total c.in-Some.gained (omega (arith, ints, low, high)) (omega (arith, ints, least, most))
       (omega (arith, ints, low, high, least, most)) in
-      let in_day = t.inside in let few = are.few_periods in let long = c.loop-touch.invariant.long in
-      let changed = touch_changed nothing_taken c.index.result.now t (omega (arith, in_day, few, long)) m so_far.1 in (
-        still_own pairs c.loop-touch.touch-index touch.at t.pair c.args.day.now.periods c.loop-touch.day.periods
-            c.in-Some.next t.past t.pair_is t.some t.number so_far.0,
-        subst (IsChangedSoFar problem.blocks problem.hours (drop (c.loop-touch.touch-index + 1) pairs) before after
-            (slice_set c.loop-touch.day.periods touch.at c.in-Some.next))
-            (sym sum.1) changed,
-      ));
+      subst (IsChangedSoFar problem before after (drop (j + 1) touches)
+      (λ n. get_or (slice_set c.loop-touch.day.classes touch.at c.in-Some.next) n no_position)) (sym sum.1)
+      (class_turned c.loop-touch.day.classes (get_or c.loop-touch.day.classes touch.at no_position) c.in-Some.next
+      (to_z w64 (of_z w64 c.turned-net.result.0)) (to_z w64 (of_z w64 c.turned-net.result.1)) c.in-Some.gained is at t
+      (omega (arith, inside, few, long)) own net value m.0 m.1 m.2 so_far));
 }
 
 pub returns : goal.returns
-returns g c problem before after are inside is of =
-    let block = one_at problem.blocks c.args.place inside in
-    let so_far = c.loop-touch.invariant.so_far problem before after block.0 are block.1 is of in
-    let pairs = pairs_of c.touches-touch-items.result.now in
-    let many = length-map c.touches-touch-items.result.now pair_of in let past = c.loop-touch-test.false in
-    all_changed problem before after (drop c.loop-touch.touch-index pairs) c.loop-touch.day c.loop-touch.invariant.long
-    (drop_all c.loop-touch.touch-index pairs (omega (arith, many, past))) so_far.1
+returns g c problem before after are_tables inside_blocks is of =
+    let block = one_at problem.blocks c.args.place inside_blocks in
+    let so_far = c.loop-touch.invariant.so_far problem before after block.0 are_tables block.1 is of in
+    let past = c.loop-touch-test.false in
+    all_turned problem before after (drop c.loop-touch.touch-index c.touches_of-touch-items.result.now) c.loop-touch.day
+    c.loop-touch.invariant.long (drop_all c.loop-touch.touch-index c.touches_of-touch-items.result.now (omega (arith, past)))
+    are_tables.few_periods so_far

@@ -3,7 +3,7 @@ use Rattle.std.proofs.Common.{◌≡◌, ◌-◌, ap, ◌∙◌, sym, arith}
 use Rattle.std.specs.List.{slice_get}
 use Rattle.std.specs.Option.{option_copied}
 use Rattle.dam_book.specs.Limits.{most_hourly}
-use Rattle.dam_bound.proofs.Periods.{few_in_period, made_at}
+use Rattle.dam_bound.proofs.DayLevels.{few_in_period, made_at}
 use Rattle.dam_bound.proofs.relaxed.levels_at.Goals as goal
 
 pub of-requires-clause-steps : goal.of-requires-clause-steps

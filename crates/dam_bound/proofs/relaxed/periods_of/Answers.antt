@@ -1,6 +1,6 @@
 -- A period more, and all of them.
 use Rattle.std.proofs.Common.{◌≡◌, length, arith}
-use Rattle.dam_bound.proofs.Periods.{one_period, all_periods, all_hours, all_blocks}
+use Rattle.dam_bound.proofs.DayLevels.{one_period, all_periods, all_hours, all_blocks}
 use Rattle.dam_bound.proofs.relaxed.periods_of.Goals as goal
 
 pub loop-place-preserved : goal.loop-place-preserved

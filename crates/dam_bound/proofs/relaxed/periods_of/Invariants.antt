@@ -1,5 +1,5 @@
 -- The periods so far have their levels.
-use Rattle.dam_bound.proofs.Periods.{AreDaySoFar}
+use Rattle.dam_bound.proofs.DayLevels.{AreDaySoFar}
 use Rattle.dam_bound.proofs.relaxed.periods_of.Given as goal
 
 abbrev pub invariant-loop-place : goal.invariant-loop-place

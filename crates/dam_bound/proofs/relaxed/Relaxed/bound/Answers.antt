@@ -12,7 +12,7 @@ use Rattle.dam_bound.specs.Relaxed.{as_steps}
 use Rattle.dam_bound.specs.inside.Levels.{last_steps}
 use Rattle.dam_bound.proofs.Bounding.{one_bound, none_bound, all_bound}
 use Rattle.dam_bound.proofs.Covering.{padded_welfare}
-use Rattle.dam_bound.proofs.Periods.{hour_of}
+use Rattle.dam_bound.proofs.DayLevels.{hour_of}
 use Rattle.dam_bound.proofs.relaxed.Relaxed.bound.Goals as goal
 
 pub loop-place-preserved : goal.loop-place-preserved

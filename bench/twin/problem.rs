@@ -1,0 +1,148 @@
+//! A closed book as the search sees it: the hourly orders of each period, and the blocks.
+
+use std::collections::HashMap;
+
+pub const LOWEST: i64 = -50_000;
+pub const HIGHEST: i64 = 400_000;
+
+#[derive(Clone, Copy, PartialEq)]
+pub enum Side {
+    Buy,
+    Sell,
+}
+
+/// An order in one period.
+#[derive(Clone, Copy)]
+pub struct Step {
+    pub side: Side,
+    pub price: i64,
+    pub volume: i64,
+}
+
+pub struct Block {
+    pub side: Side,
+    pub price: i64,
+    /// Each of its periods, counted from 0, with the volume there.
+    pub volumes: Vec<(usize, i64)>,
+    /// The parent, as a set of blocks by bits.
+    pub parent: u32,
+    /// The blocks whose chain of parents leads to it, in the same way.
+    pub descendants: u32,
+    /// The earlier blocks of its group, in the same way.
+    pub rivals: u32,
+}
+
+impl Block {
+    /// The volume of this block in a period, 0 if it has none there.
+    pub fn volume(&self, at: usize) -> i64 {
+        self.volumes.iter().find(|pair| pair.0 == at).map_or(0, |pair| pair.1)
+    }
+
+    /// What the net volume gains in a period by this block, if it is accepted.
+    pub fn change(&self, volume: i64) -> i64 {
+        if self.side == Side::Sell { volume } else { -volume }
+    }
+
+    /// The block in a period in which it has this volume.
+    pub fn step(&self, volume: i64) -> Step {
+        Step { side: self.side, price: self.price, volume }
+    }
+}
+
+pub struct Problem {
+    pub hours: Vec<Vec<Step>>,
+    pub blocks: Vec<Block>,
+}
+
+impl Problem {
+    /// Reads a journal of a closed day whose records are all submits that are accepted.
+    pub fn read(text: &str) -> Problem {
+        let mut lines = text.lines().map(|line| line.split(',').collect::<Vec<_>>());
+        let periods = lines.next().expect("a day")[1].parse().expect("periods");
+        let mut problem = Problem { hours: vec![Vec::new(); periods], blocks: Vec::new() };
+        let mut names = Names::default();
+        for fields in lines.filter(|fields| fields[0] == "submit") {
+            let side = if fields[4] == "buy" { Side::Buy } else { Side::Sell };
+            let price = fields[5].parse().expect("a price");
+            let volumes = volumes_of(fields[6]);
+            if fields[3] == "hour" {
+                let (at, volume) = volumes[0];
+                problem.hours[at].push(Step { side, price, volume });
+            } else {
+                let (parent, rivals) = names.enter(&fields, 1 << problem.blocks.len());
+                problem.add(Block { side, price, volumes, parent, descendants: 0, rivals });
+            }
+        }
+        problem
+    }
+
+    /// Adds a block, as a descendant of its parent and of those above.
+    fn add(&mut self, block: Block) {
+        let own = 1 << self.blocks.len();
+        let mut above = block.parent;
+        while above != 0 {
+            let ancestor = &mut self.blocks[above.trailing_zeros() as usize];
+            ancestor.descendants |= own;
+            above = ancestor.parent;
+        }
+        self.blocks.push(block);
+    }
+
+    /// Whether links and groups admit a block next to the blocks accepted before it.
+    pub fn admits(&self, accepted: u32, place: usize) -> bool {
+        let block = &self.blocks[place];
+        accepted & block.parent == block.parent && accepted & block.rivals == 0
+    }
+
+    /// Whether links and groups admit a selection.
+    pub fn admits_all(&self, accepted: u32) -> bool {
+        (0..self.blocks.len()).all(|place| accepted >> place & 1 == 0 || self.admits(accepted & ((1 << place) - 1), place))
+    }
+
+    /// Whether an accepted block loses at these prices of the periods: its surplus and those of its accepted descendants are below 0.
+    pub fn loses(&self, prices: &[i64], accepted: u32) -> bool {
+        let surplus = |block: &Block| -> i64 {
+            block.volumes.iter().map(|(at, volume)| block.change(*volume) * (prices[*at] - block.price)).sum()
+        };
+        among(accepted).any(|place| {
+            let block = &self.blocks[place];
+            surplus(block) + among(block.descendants & accepted).map(|other| surplus(&self.blocks[other])).sum::<i64>() < 0
+        })
+    }
+}
+
+/// The places of a set's blocks.
+pub fn among(set: u32) -> impl Iterator<Item = usize> {
+    (0..u32::BITS as usize).filter(move |place| set >> place & 1 == 1)
+}
+
+/// The blocks that later ones may name, as sets of blocks by bits.
+#[derive(Default)]
+struct Names<'a> {
+    blocks: HashMap<(&'a str, &'a str), u32>,
+    groups: HashMap<(&'a str, &'a str), u32>,
+}
+
+impl<'a> Names<'a> {
+    /// Enters a block, and returns its parent and the earlier blocks of its group.
+    fn enter(&mut self, fields: &[&'a str], own: u32) -> (u32, u32) {
+        self.blocks.insert((fields[1], fields[2]), own);
+        let parent = self.blocks.get(&(fields[1], fields[7])).copied().unwrap_or(0);
+        if fields[8].is_empty() {
+            return (parent, 0);
+        }
+        let members = self.groups.entry((fields[1], fields[8])).or_default();
+        let rivals = *members;
+        *members |= own;
+        (parent, rivals)
+    }
+}
+
+/// Reads `PERIOD:VOLUME;..`.
+fn volumes_of(text: &str) -> Vec<(usize, i64)> {
+    let pair = |text: &str| {
+        let (period, volume) = text.split_once(':').expect("a pair");
+        (period.parse::<usize>().expect("a period") - 1, volume.parse().expect("a volume"))
+    };
+    text.split(';').map(pair).collect()
+}

@@ -1,0 +1,42 @@
+-- The classes of a day's periods: two periods are in one class if every block has the same volume in both. So the net
+-- volume of a selection is the same in all periods of a class, and their welfare is a function of one number.
+use Rattle.std.specs.Prelude.{ℕ, zero, suc, ◌==◌, Bool, true, ◌&&◌, if◌then◌else◌, ℤ, pos, ◌+ℤ◌, Option, List, [], ◌∷◌, drop}
+use Rattle.dam_hour.specs.declared.step.Step.{Step}
+use Rattle.dam_curve.specs.Curve.{joint_welfare}
+use Rattle.dam_blocks.specs.declared.problem.Block.{Block}
+use Rattle.dam_blocks.specs.Problem.{ProblemState}
+use Rattle.dam_blocks.specs.Selection.{volume_in}
+use Rattle.dam_bound.specs.Relaxed.{relaxed_hours}
+
+-- whether every block has the same volume in the periods at both places
+abbrev pub are_alike : List Block → ℕ → ℕ → Bool
+are_alike [] i j = true
+are_alike (b ∷ bs) i j = (volume_in b.order.volumes (suc i) == volume_in b.order.volumes (suc j)) && are_alike bs i j
+
+-- the first of so many places from j on whose period is like the one at i; the place after them if none is
+abbrev pub first_from : List Block → ℕ → ℕ → ℕ → ℕ
+first_from blocks i j zero = j
+first_from blocks i j (suc left) = if are_alike blocks j i then j else first_from blocks i (suc j) left
+
+-- the place of the first period of the class of the one at i
+unfoldable pub first_of : List Block → ℕ → ℕ
+first_of blocks i = first_from blocks i 0 i
+
+-- of the periods from the place i on, those whose class begins at c
+abbrev pub members : List Block → ℕ → ℕ → List (List Step) → List (List Step)
+members blocks c i [] = []
+members blocks c i (steps ∷ hours) =
+    if first_of blocks i == c then steps ∷ members blocks c (suc i) hours else members blocks c (suc i) hours
+
+-- a number of each of the periods from the place i on whose class begins at c, added up
+abbrev pub over_class : (ℕ → ℤ) → List Block → ℕ → ℕ → ℕ → ℤ
+over_class f blocks c i zero = pos 0
+over_class f blocks c i (suc n) = (if first_of blocks i == c then f (suc i) else pos 0) +ℤ over_class f blocks c (suc i) n
+
+-- the periods of a class with the hourly orders, and after them of the blocks that as many decisions leave undecided
+abbrev pub class_hours : ProblemState → ℕ → ℕ → List (List Step)
+class_hours problem depth c = members problem.blocks c 0 (relaxed_hours (drop depth problem.blocks) 1 problem.hours)
+
+-- their greatest welfares at the same net volume, added up; None if one of them doesn't balance
+abbrev pub class_welfare : ProblemState → ℕ → ℕ → ℤ → Option ℤ
+class_welfare problem depth c net = joint_welfare (class_hours problem depth c) net

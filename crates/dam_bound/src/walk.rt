@@ -1,0 +1,160 @@
+//! The walk down the tree of prefixes, over the tables of a problem.
+
+ghost use Rattle.std.specs.Prelude.{ℕ, ℤ, pos, ◌≡◌, not, ◌<◌, ◌≤ℤ◌, [], ◌∷◌, ◌++◌, List, Bool, Some, None, length, slice_get, slice_set, IfSome, MatchBool, MatchOption};
+ghost use Rattle.dam_blocks.specs.Problem.{ProblemState};
+ghost use Rattle.dam_blocks.specs.Selection.{padded};
+ghost use Rattle.dam_blocks.specs.Eligible.{ArePrices, gain_at};
+ghost use Rattle.dam_bound.specs.Relaxed.{relaxed_welfare, without_rows};
+ghost use Rattle.dam_bound.specs.Day.{IsDay, IsUnder};
+ghost use Rattle.dam_bound.specs.Trail.{IsDayIn, KeepsDays};
+ghost use Rattle.dam_bound.specs.Tables.{AreTablesOf};
+
+use crate::day::{Day, copy_classes, turn_block};
+use crate::gain::gain_of;
+use crate::tables::Tables;
+use crate::trail::{Trail, day_of, decide_block, write_root};
+use dam_blocks::{Problem, Selection, laws};
+use std::alloc::Allocator;
+use std::marker::Model;
+
+/// A walk down the tree of prefixes of a problem: its tables give the relaxed welfare of each, and its hourly
+/// orders the prices of one that decides every block.
+///
+/// A contract sees the problem, without its rows.
+#[derive(Drop)]
+pub struct Walk<'a, A: Allocator, B: Allocator> {
+    problem: &'a Problem<A>,
+    tables: &'a Tables<B>,
+    ghost fit: { AreTablesOf (without_rows problem.now) tables.now },
+}
+
+impl<'a, A: Allocator, B: Allocator> Model for Walk<'a, A, B> {
+    ghost use Rattle.dam_blocks.specs.Problem.{ProblemState};
+    ghost use Rattle.dam_bound.specs.Relaxed.{without_rows};
+
+    ghost Value = { ProblemState };
+
+    ghost view = { λ w. without_rows w.problem.now };
+}
+
+/// What a walk can be made of: the bounds of a problem's prefixes.
+pub trait Bounds<A: Allocator> {
+    /// The problem, without its rows.
+    ghost bounded: { Self → ProblemState };
+
+    /// The walk over the problem that these bounds are of.
+    fn walk<'a, B: Allocator>(&'a self, problem: &'a Problem<B>) -> Walk<'a, B, A>
+        requires { bounded self.now ≡ without_rows problem.now }
+        ensures { result ≡ without_rows problem.now };
+}
+
+impl<'a, A: Allocator, B: Allocator> Walk<'a, A, B> {
+    /// The walk over a problem by its tables.
+    pub fn new(problem: &'a Problem<A>, tables: &'a Tables<B>) -> Walk<'a, A, B>
+        requires { AreTablesOf (without_rows problem.now) tables.now }
+        ensures { result ≡ without_rows problem.now }
+    {
+        Walk { problem, tables }
+    }
+
+    /// Begins a walk: makes the day of the prefix that decides nothing, and returns its relaxed welfare.
+    pub fn begin(&self, trail: &mut Trail) -> i64
+        ensures { IsDayIn self.now [] trail.new result }
+    {
+        write_root(&self.tables.root, trail, self.tables.count);
+        self.tables.root.total
+    }
+
+    /// Extends the day of a prefix by the decision on the block at the depth, and returns the relaxed
+    /// welfare of the extension; `None` exactly if it has none or one under `least`. The days of the prefix
+    /// and of shorter ones stay, so that the other decision can be made afterwards.
+    ///
+    /// Only the classes of periods in which the block has a volume are looked at, and no further than until the
+    /// relaxed welfare is seen to be under `least`. Takes no memory.
+    pub fn extend(
+        &self,
+        trail: &mut Trail,
+        depth: usize,
+        accept: bool,
+        total: i64,
+        least: u64,
+    ) -> Option<i64>
+        requires depth { depth < length self.now.blocks }
+        requires day { (prefix : List Bool) × (length prefix ≡ depth)
+            × IsDayIn self.now prefix trail.old total }
+        ensures kept { KeepsDays self.now depth trail.old trail.new }
+        ensures day { (prefix : List Bool) → length prefix ≡ depth
+            → IsDayIn self.now prefix trail.old total
+            → MatchOption result (IsUnder self.now (prefix ++ accept ∷ []) least)
+            (IsDayIn self.now (prefix ++ accept ∷ []) trail.new) }
+        ensures reached { IfSome result (λ welfare. pos least ≤ℤ welfare) }
+    {
+        dam_hour::laws::joining();
+        dam_hour::laws::welfare();
+        dam_hour::laws::magnitude();
+        laws::sums();
+        decide_block(self.tables, trail, depth, accept, total, least)
+    }
+
+    /// The day of a prefix that decides every block, if it is in the slots with this relaxed welfare.
+    /// Takes no memory.
+    pub fn day_at(&self, trail: &Trail, total: i64) -> Day
+        ensures { (prefix : List Bool) → length prefix ≡ length self.now.blocks
+            → IsDayIn self.now prefix trail.now total → IsDay self.now prefix result }
+    {
+        day_of(trail, &self.tables.places, self.tables.count, total)
+    }
+
+    /// Makes `to` a day of whichever prefix `from` is the day of. Only what belongs to the problem's
+    /// periods is copied. Takes no memory.
+    pub fn copy_day(&self, from: &Day, to: &mut Day)
+        ensures { (prefix : List Bool) → IsDay self.now prefix from.now
+            → IsDay self.now prefix to.new }
+    {
+        copy_classes(from, to, self.tables.count);
+    }
+
+    /// Turns the decision on the block at the place round into this one, on a day on which every block
+    /// is decided; whether it did. `false` if some period doesn't balance with the new decision;
+    /// nothing is then promised of the day.
+    ///
+    /// Only the classes of periods in which the block has a volume are changed. Takes no memory.
+    pub fn turn(&self, day: &mut Day, place: usize, accept: bool) -> bool
+        requires place { place < length self.now.blocks }
+        requires day { (prefix : List Bool) × (length prefix ≡ length self.now.blocks)
+            × (slice_get prefix place ≡ Some (not accept)) × IsDay self.now prefix day.old }
+        ensures { (prefix : List Bool) → length prefix ≡ length self.now.blocks
+            → slice_get prefix place ≡ Some (not accept) → IsDay self.now prefix day.old
+            → MatchBool result (IsDay self.now (slice_set prefix place accept) day.new)
+            (relaxed_welfare self.now (slice_set prefix place accept) ≡ None) }
+    {
+        turn_block(self.tables, day, place, accept)
+    }
+
+    /// What the block at a place gains at the prices of a day on which every block is decided, with
+    /// those blocks of the selection that descend from it; in cents per MWh times tenths of a MW, and
+    /// below 0 if they lose together. The selection is the day's.
+    ///
+    /// Only the prices of these blocks' own periods are asked for, each of the period's hourly orders at the
+    /// net volume of its class. Takes no memory.
+    pub fn gain(&self, day: &Day, selection: Selection, place: usize) -> i64
+        requires place { place < length self.now.blocks }
+        requires day { (prefix : List Bool) × (length prefix ≡ length self.now.blocks)
+            × IsDay self.now prefix day.now }
+        ensures { (prefix : List Bool) (prices : List ℤ)
+            → length prefix ≡ length self.now.blocks → selection ≡ padded prefix
+            → IsDay self.now prefix day.now
+            → ArePrices self.now.blocks (padded prefix) 1 self.now.hours prices
+            → result ≡ gain_at self.now.blocks (padded prefix) prices place }
+    {
+        gain_of(self.problem, self.tables, day, selection, place)
+    }
+}
+
+impl<A: Allocator, B: Allocator> Bounds<B> for Walk<'_, A, B> {
+    ghost bounded = { λ problem. problem };
+
+    fn walk<'a, C: Allocator>(&'a self, problem: &'a Problem<C>) -> Walk<'a, C, B> {
+        Walk::new(problem, self.tables)
+    }
+}

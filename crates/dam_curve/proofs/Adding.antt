@@ -1,0 +1,243 @@
+-- The sum of two lists of lines, line by line.
+use Rattle.std.proofs.Common.{◌≡◌, ℕ, suc, ◌+◌, ◌<◌, ◌-◌, ℤ, pos, ◌≤ℤ◌, ◌<ℤ◌, ◌⊎◌, Option, List, [], ◌∷◌, ◌++◌, length, get_or, ap, ◌∙◌, sym, subst}
+use Rattle.std.proofs.Common.{inl, inr, refl, arith}
+use Rattle.std.specs.Int.{int_min, int_max}
+use Rattle.std.proofs.lemmas.Int.{ints, by_lt_z, int_min_is, int_max_is}
+use Rattle.std.proofs.lemmas.Bool.{cases_lt}
+use Rattle.std.proofs.lemmas.List.{get_or_default}
+use Rattle.dam_curve.specs.declared.line.Line.{Line}
+use Rattle.dam_curve.specs.Curve.{both, IsLine, end_of, AreLines, bottom_of, IsOutside, AreSmallLines}
+use Rattle.dam_curve.specs.inside.Lines.{joined, IsPast}
+use Rattle.dam_curve.proofs.ListsOfLines.{end_more, lines_more, bottom_more, small_more, line_inside, line_last, bottom_at, small_at, joined_is}
+use Rattle.dam_curve.proofs.ListsOfLines.{joined_small}
+
+-- ---- the place of a line
+-- a place among the lines; if it is the last one, they hold down to no more than the net volume
+pub record IsPlace (ls : List Line) (at : ℤ) (place : ℕ) : Type 0 where
+  pub inside : place < length ls
+  pub last : suc place ≡ length ls → bottom_of ls ≤ℤ at
+
+-- the line there holds up to at least the net volume, and the next one up to no more
+pub record StandsAt (ls : List Line) (at : ℤ) (place : ℕ) : Type 0 where
+  pub holds : (d : Line) → at ≤ℤ (get_or ls place d).most
+  pub next : (d : Line) → suc place < length ls → (get_or ls (suc place) d).most ≤ℤ at
+
+pub line_here : (f : ℤ → Option ℤ) (ls : List Line) (at : ℤ) (place : ℕ) (d : Line) → AreLines f ls (bottom_of ls) → IsPlace ls at place
+    → StandsAt ls at place → (x : ℤ) × IsLine f (get_or ls place d) x × (x ≤ℤ at)
+line_here f ls at place d are p s = elim (cases_lt (suc place) (length ls)) [
+  | inl l ↦ ((get_or ls (suc place) d).most, line_inside f ls (bottom_of ls) place d are l, s.next d l)
+  | inr m ↦
+      (let inside = p.inside in let e : suc place ≡ length ls = omega (arith, m, inside) in
+      (bottom_of ls, line_last f ls (bottom_of ls) place d are e, p.last e))
+]
+
+-- in the forms of the code
+pub place_from : (ls : List Line) (at : ℤ) (place : ℕ) (d : Line) → place < length ls → (get_or ls (length ls - 1) d).most ≤ℤ at → IsPlace ls at place
+place_from ls at place d l most = record {
+  inside = l;
+  last = λ e.
+      (let last : suc (length ls - 1) ≡ length ls = omega (arith, l) in
+      let bottom = bottom_at ls (length ls - 1) d last in omega (arith, ints, bottom, most));
+}
+
+pub stands_from : (ls : List Line) (at : ℤ) (place : ℕ) → ((d : Line) → at ≤ℤ (get_or ls place d).most)
+    → ((d : Line) → place + 1 < length ls → (get_or ls (place + 1) d).most ≤ℤ at) → StandsAt ls at place
+stands_from ls at place holds under = record {
+  holds = holds;
+  next = λ d l.
+      (let one : place + 1 ≡ suc place = omega arith in
+      let same = ap (λ (n : ℕ). (get_or ls n d).most) one in
+      let less = under d (omega (arith, l)) in omega (arith, ints, same, less));
+}
+
+most_at : (ls : List Line) (place next : ℕ) (d e : Line) → place < length ls → next ≡ place
+    → (get_or ls next e).most ≡ (get_or ls place d).most
+most_at ls place next d e l same =
+    ap (λ (n : ℕ). (get_or ls n e).most) same ∙ ap (λ (line : Line). line.most) (get_or_default ls place e d l)
+
+past_place : (ls : List Line) (at : ℤ) (place next : ℕ) (d : Line) → suc place < length ls → IsPast ls place at next → IsPlace ls at next
+past_place ls at place next d l (inl (e, is)) = record {
+  inside = omega (arith, e, l);
+  last = λ whole. (let bottom = bottom_at ls next d whole in let own = is d in omega (arith, ints, bottom, own));
+}
+past_place ls at place next d l (inr (e, differs)) = record { inside = omega (arith, e, l); last = λ whole. absurd (omega (arith, e, l, whole)) }
+
+past_stands : (f : ℤ → Option ℤ) (ls : List Line) (at lower : ℤ) (place next : ℕ) → AreLines f ls (bottom_of ls) → StandsAt ls at place
+    → lower ≤ℤ at → ((d : Line) → (get_or ls (suc place) d).most ≤ℤ lower) → IsPast ls place lower next → StandsAt ls lower next
+past_stands f ls at lower place next are s l under (inl (e, is)) = record {
+  holds = λ d. (let own = is d in omega (arith, ints, own));
+  next = λ d more. (let own = is d in let order = (line_inside f ls (bottom_of ls) next d are more).ordered in omega (arith, ints, own, order));
+}
+past_stands f ls at lower place next are s l under (inr (e, differs)) = record {
+  holds = λ d. (let own = s.holds d in let same = ap (λ (n : ℕ). (get_or ls n d).most) e in omega (arith, ints, own, same, l));
+  next = λ d more. (let own = under d in let same = ap (λ (n : ℕ). (get_or ls (suc n) d).most) e in omega (arith, ints, own, same));
+}
+
+-- ---- the sum so far
+-- from this net volume on down to that one
+pub record IsAdded (a b sum : List Line) (start at : ℤ) (left right : ℕ) : Type 0 where
+  pub left_is : IsPlace a at left
+  pub right_is : IsPlace b at right
+  pub begins : end_of sum at ≡ start
+  pub small : (n m : ℕ) → AreSmallLines n a → AreSmallLines m b → AreSmallLines (n + m) sum
+  pub are_lines : (f g : ℤ → Option ℤ) → AreLines f a (bottom_of a) → AreLines g b (bottom_of b)
+      → StandsAt a at left × StandsAt b at right × AreLines (λ net. both (f net) (g net)) sum at
+
+pub none_added : (a b : List Line) (at : ℤ) (left right : ℕ) → IsPlace a at left → IsPlace b at right → StandsAt a at left → StandsAt b at right
+    → IsAdded a b [] at at left right
+none_added a b at left right la lb sa sb = record {
+  left_is = la;
+  right_is = lb;
+  begins = refl;
+  small = λ n m s t. tt;
+  are_lines = λ f g s t. (sa, sb, tt);
+}
+
+-- the two lines that hold at the net volume, in the sum
+pub small_added : (n m : ℕ) (a b sum : List Line) (start at : ℤ) (left right : ℕ) (d : Line) → IsAdded a b sum start at left right
+    → AreSmallLines n a → AreSmallLines m b
+    → AreSmallLines (n + m) (sum ++ joined (get_or a left d) (get_or b right d) at ∷ [])
+small_added n m a b sum start at left right d is s t =
+    small_more (n + m) sum (joined (get_or a left d) (get_or b right d) at) (is.small n m s t)
+    (joined_small n m (get_or a left d) (get_or b right d) at (small_at n a left d s is.left_is.inside) (small_at m b right d t is.right_is.inside))
+
+begins_added : (sum : List Line) (line : Line) (start at next : ℤ) → end_of sum at ≡ start → line.most ≡ at → end_of (sum ++ line ∷ []) next ≡ start
+begins_added sum line start at next e own = end_more sum line next ∙ ap (end_of sum) own ∙ e
+
+max_least : (x y low at : ℤ) → low ≡ int_max x y → x ≤ℤ at → y ≤ℤ at → (x ≤ℤ low) × (y ≤ℤ low) × (low ≤ℤ at)
+max_least x y low at e l m = let is = int_max_is x y in (omega (arith, ints, e, is), omega (arith, ints, e, is), omega (arith, ints, e, is, l, m))
+
+pub next_added : (a b sum : List Line) (start at lower : ℤ) (left right next_left next_right : ℕ) (d : Line)
+    → IsAdded a b sum start at left right → left + 1 < length a → right + 1 < length b
+    → lower ≡ int_max (get_or a (left + 1) d).most (get_or b (right + 1) d).most
+    → IsPast a left lower next_left → IsPast b right lower next_right
+    → IsAdded a b (sum ++ joined (get_or a left d) (get_or b right d) at ∷ []) start lower next_left next_right
+next_added a b sum start at lower left right next_left next_right d is la lb top pa pb =
+    let sa : suc left < length a = omega (arith, la) in
+    let sb : suc right < length b = omega (arith, lb) in
+    record {
+      left_is = past_place a lower left next_left d sa pa;
+      right_is = past_place b lower right next_right d sb pb;
+      begins = begins_added sum (joined (get_or a left d) (get_or b right d) at) start at lower is.begins refl;
+      small = λ n m s t. small_added n m a b sum start at left right d is s t;
+      are_lines = λ f g s t.
+          (let was = is.are_lines f g s t in
+          let first = line_inside f a (bottom_of a) left d s sa in
+          let second = line_inside g b (bottom_of b) right d t sb in
+          let x = most_at a (left + 1) (suc left) d d la (omega arith) in
+          let y = most_at b (right + 1) (suc right) d d lb (omega arith) in
+          let under_a = was.0.next d sa in let under_b = was.1.next d sb in
+          let falls = max_least (get_or a (left + 1) d).most (get_or b (right + 1) d).most lower at top (omega (arith, ints, under_a, x))
+          (omega (arith, ints, under_b, y)) in (
+            past_stands f a at lower left next_left s was.0 falls.2
+                (λ e. (let m = most_at a (left + 1) (suc left) d e la (omega arith) in omega (arith, ints, m, falls.0))) pa,
+            past_stands g b at lower right next_right t was.1 falls.2
+                (λ e. (let m = most_at b (right + 1) (suc right) d e lb (omega arith) in omega (arith, ints, m, falls.1))) pb,
+            lines_more (λ net. both (f net) (g net)) sum (joined (get_or a left d) (get_or b right d) at) lower was.2
+                (joined_is f g (get_or a left d) (get_or b right d) (get_or a (suc left) d).most (get_or b (suc right) d).most at lower first
+                second
+                (omega (arith, ints, x, falls.0)) (omega (arith, ints, y, falls.1)) falls.2 (was.0.holds d) (was.1.holds d)),
+          ));
+    }
+
+-- fewer lines are left
+pub shorter : (a b : List Line) (lower : ℤ) (left right next_left next_right : ℕ) (d : Line) → left + 1 < length a → right + 1 < length b
+    → lower ≡ int_max (get_or a (left + 1) d).most (get_or b (right + 1) d).most
+    → IsPast a left lower next_left → IsPast b right lower next_right
+    → (length a - next_left) + (length b - next_right) < (length a - left) + (length b - right)
+shorter a b lower left right next_left next_right d la lb top (inl (e, is)) (inl (k, are)) = omega (arith, la, lb, e, k)
+shorter a b lower left right next_left next_right d la lb top (inl (e, is)) (inr (k, differs)) = omega (arith, la, lb, e, k)
+shorter a b lower left right next_left next_right d la lb top (inr (e, differs)) (inl (k, is)) = omega (arith, la, lb, e, k)
+shorter a b lower left right next_left next_right d la lb top (inr (e, differs)) (inr (k, apart)) =
+    let is = int_max_is (get_or a (left + 1) d).most (get_or b (right + 1) d).most in
+    absurd (by_lt_z (get_or a (left + 1) d).most (get_or b (right + 1) d).most
+    (λ less. apart d (omega (arith, ints, top, is, less)))
+    (λ more. differs d (omega (arith, ints, top, is, more))))
+
+-- ---- the whole sum
+pub all_lines : (f g : ℤ → Option ℤ) (a b sum : List Line) (start at : ℤ) (left right : ℕ) (d : Line) → IsAdded a b sum start at left right
+    → AreLines f a (bottom_of a) → AreLines g b (bottom_of b)
+    → AreLines (λ net. both (f net) (g net)) (sum ++ joined (get_or a left d) (get_or b right d) at ∷ [])
+    (bottom_of (sum ++ joined (get_or a left d) (get_or b right d) at ∷ []))
+all_lines f g a b sum start at left right d is s t =
+    let line = joined (get_or a left d) (get_or b right d) at in
+    let was = is.are_lines f g s t in
+    let first = line_here f a at left d s is.left_is was.0 in
+    let second = line_here g b at right d t is.right_is was.1 in
+    subst (AreLines (λ net. both (f net) (g net)) (sum ++ line ∷ [])) (sym (bottom_more sum line))
+    (lines_more (λ net. both (f net) (g net)) sum line at was.2
+    (joined_is f g (get_or a left d) (get_or b right d) first.0 second.0 at at first.1 second.1 first.2 second.2 (omega (arith, ints))
+    (was.0.holds d) (was.1.holds d)))
+
+outside_parts : (ls : List Line) (net : ℤ) → 0 < length ls → IsOutside ls net → (net <ℤ bottom_of ls) ⊎ (end_of ls (pos 0) <ℤ net)
+outside_parts [] net l o = absurd (omega (arith, l))
+outside_parts (line ∷ ls) net l o = o
+
+pub outside_from : (ls : List Line) (net : ℤ) → 0 < length ls → (net <ℤ bottom_of ls) ⊎ (end_of ls (pos 0) <ℤ net) → IsOutside ls net
+outside_from [] net l o = absurd (omega (arith, l))
+outside_from (line ∷ ls) net l o = o
+
+some_more : (ls : List Line) (line : Line) → 0 < length (ls ++ line ∷ [])
+some_more [] line = omega arith
+some_more (l ∷ ls) line = omega arith
+
+-- above the lesser of two greatest net volumes one of the two lists doesn't hold
+pub end_at : (ls : List Line) (d : Line) → 0 < length ls → end_of ls (pos 0) ≡ (get_or ls 0 d).most
+end_at [] d l = absurd (omega (arith, l))
+end_at (line ∷ ls) d l = refl
+
+pub above : (a b : List Line) (start net : ℤ) (d : Line) → 0 < length a → 0 < length b → start ≡ int_min (get_or a 0 d).most (get_or b 0 d).most
+    → start <ℤ net
+    → IsOutside a net ⊎ IsOutside b net
+above a b start net d la lb e l =
+    let x = end_at a d la in let y = end_at b d lb in let is = int_min_is (get_or a 0 d).most (get_or b 0 d).most in
+    by_lt_z (end_of a (pos 0)) net (λ less. inl (outside_from a net la (inr less)))
+    (λ more. inr (outside_from b net lb (inr (omega (arith, ints, e, l, more, x, y, is)))))
+
+-- the lesser of two greatest net volumes is no greater than either
+pub under_first : (a b : List Line) (start : ℤ) (d e : Line) → 0 < length a → 0 < length b
+    → start ≡ int_min (get_or a 0 d).most (get_or b 0 d).most
+    → (start ≤ℤ (get_or a 0 e).most) × (start ≤ℤ (get_or b 0 e).most)
+under_first a b start d e la lb s =
+    let x = most_at a 0 0 d e la refl in let y = most_at b 0 0 d e lb refl in
+    let is = int_min_is (get_or a 0 d).most (get_or b 0 d).most in
+    (omega (arith, ints, s, x, is), omega (arith, ints, s, y, is))
+
+-- where the one list ends above the greatest net volume of the other, one of the two holds nowhere
+pub apart_outside : (a b : List Line) (start net : ℤ) (d : Line) → 0 < length a → 0 < length b
+    → start ≡ int_min (get_or a 0 d).most (get_or b 0 d).most
+    → (start <ℤ (get_or a (length a - 1) d).most) ⊎ (start <ℤ (get_or b (length b - 1) d).most) → IsOutside a net ⊎ IsOutside b net
+apart_outside a b start net d la lb e (inl less) =
+    let bottom = bottom_at a (length a - 1) d (omega (arith, la)) in
+    by_lt_z start net (λ over. above a b start net d la lb e over)
+    (λ under. inl (outside_from a net la (inl (omega (arith, ints, bottom, less, under)))))
+apart_outside a b start net d la lb e (inr less) =
+    let bottom = bottom_at b (length b - 1) d (omega (arith, lb)) in
+    by_lt_z start net (λ over. above a b start net d la lb e over)
+    (λ under. inr (outside_from b net lb (inl (omega (arith, ints, bottom, less, under)))))
+
+below_last : (ls : List Line) (at net : ℤ) (place : ℕ) (d : Line) → StandsAt ls at place → suc place ≡ length ls → net <ℤ at → IsOutside ls net
+below_last ls at net place d s e l =
+    let bottom = bottom_at ls place d e in let own = s.holds d in
+    outside_from ls net (omega (arith, e)) (inl (omega (arith, ints, bottom, own, l)))
+
+pub all_outside : (f g : ℤ → Option ℤ) (a b sum : List Line) (start at net : ℤ) (left right : ℕ) (d : Line) → IsAdded a b sum start at left right
+    → AreLines f a (bottom_of a) → AreLines g b (bottom_of b) → (suc left ≡ length a) ⊎ (suc right ≡ length b)
+    → start ≡ int_min (get_or a 0 d).most (get_or b 0 d).most
+    → IsOutside (sum ++ joined (get_or a left d) (get_or b right d) at ∷ []) net → IsOutside a net ⊎ IsOutside b net
+all_outside f g a b sum start at net left right d is s t whole least o =
+    parted (outside_parts (sum ++ line ∷ []) net (some_more sum line) o)
+  where
+    line : Line
+    line = joined (get_or a left d) (get_or b right d) at
+
+    under : (suc left ≡ length a) ⊎ (suc right ≡ length b) → net <ℤ at → IsOutside a net ⊎ IsOutside b net
+    under (inl e) l = inl (below_last a at net left d (is.are_lines f g s t).0 e l)
+    under (inr e) l = inr (below_last b at net right d (is.are_lines f g s t).1 e l)
+
+    parted : (net <ℤ bottom_of (sum ++ line ∷ [])) ⊎ (end_of (sum ++ line ∷ []) (pos 0) <ℤ net) → IsOutside a net ⊎ IsOutside b net
+    parted (inl less) = under whole (let e = bottom_more sum line in omega (arith, ints, less, e))
+    parted (inr more) =
+        let e = begins_added sum line start at (pos 0) is.begins refl in
+        let la = is.left_is.inside in let lb = is.right_is.inside in
+        above a b start net d (omega (arith, la)) (omega (arith, lb)) least (omega (arith, ints, more, e))

@@ -1,0 +1,114 @@
+-- The joint welfare of periods: with none, with one more, and how large it is.
+use Rattle.std.proofs.Common.{◌≡◌, ℕ, suc, ◌+◌, ◌*◌, ◌<◌, ℤ, pos, neg_ℤ, ◌+ℤ◌, ◌*ℤ◌, ◌≤ℤ◌, ◌<ℤ◌, ◌⊎◌, Option, Some, None, List, [], ◌∷◌}
+use Rattle.std.proofs.Common.{length, ap, subst, inl, inr, refl, arith}
+use Rattle.std.proofs.lemmas.Int.{ints}
+use Rattle.dam_book.specs.Limits.{last_period}
+use Rattle.dam_book.specs.declared.order.Side.TheVariants.{Buy, Sell}
+use Rattle.dam_hour.specs.declared.step.Step.{Step}
+use Rattle.dam_hour.specs.Limits.{most_steps, greatest_value}
+use Rattle.dam_hour.specs.Execution.{AreInRange, IsExecution, Balances, IsHour, IsNetVolume, executed_volume}
+use Rattle.dam_hour.specs.Best.{greatest_welfare, welfare_of, AreSmall}
+use Rattle.dam_curve.specs.declared.line.Line.{Line}
+use Rattle.dam_curve.specs.Curve.{both, joint_welfare, IsLine, AreLines, bottom_of, IsOutside, AreHours, IsSmallLine, AreSmallLines, IsCurve}
+use Rattle.dam_curve.proofs.PeriodLines.{IsPeriodCurve}
+
+-- ---- no period
+flat_is : (most least : ℤ) → least ≤ℤ most → IsLine (joint_welfare []) (record { most = most; price = pos 0; surplus = pos 0 }) least
+flat_is most least l = record {
+  ordered = l;
+  each = λ net low high. ap (λ (z : ℤ). Some z) (let same : pos 0 ≡ pos 0 +ℤ pos 0 *ℤ net = omega (arith, ints) in same);
+}
+
+flat_small : (most : ℤ) → IsSmallLine 0 (record { most = most; price = pos 0; surplus = pos 0 })
+flat_small most = record {
+  price_at_least = omega (arith, ints);
+  price_at_most = omega (arith, ints);
+  surplus_at_least = omega (arith, ints);
+  surplus_at_most = omega (arith, ints);
+}
+
+pub flat_curve : (least most : ℤ) → IsNetVolume least → IsNetVolume most → least ≤ℤ most
+    → IsCurve [] least most
+    (record { most = most; price = pos 0; surplus = pos 0 } ∷ record { most = least; price = pos 0; surplus = pos 0 } ∷ [])
+flat_curve least most a b l = record {
+  few = omega arith;
+  are_hours = tt;
+  least_is = a;
+  most_is = b;
+  are_lines = (flat_is most least l, (flat_is least least (omega (arith, ints)), tt));
+  small = (flat_small most, (flat_small least, tt));
+  outside = λ net low high o. absurd (beyond net low high o);
+}
+  where
+    beyond : (net : ℤ) → least ≤ℤ net → net ≤ℤ most → (net <ℤ least) ⊎ (most <ℤ net) → ⊥
+    beyond net low high (inl less) = absurd (omega (arith, ints, low, less))
+    beyond net low high (inr more) = absurd (omega (arith, ints, high, more))
+
+-- ---- a period more
+no_left : (x y : Option ℤ) → x ≡ None → both x y ≡ None
+no_left None y e = refl
+no_left (Some x) y e = absurd (cc)
+
+no_right : (x y : Option ℤ) → y ≡ None → both x y ≡ None
+no_right None None e = refl
+no_right (Some x) None e = refl
+no_right None (Some y) e = refl
+no_right (Some x) (Some y) e = absurd (cc)
+
+pub curve_more : (ss : List Step) (ps : List (List Step)) (least most : ℤ) (own old new : List Line) → IsHour ss → IsPeriodCurve ss own
+    → IsCurve ps least most old → length ps < last_period
+    → AreLines (λ net. both (greatest_welfare ss net) (joint_welfare ps net)) new (bottom_of new)
+    → ((net : ℤ) → IsOutside new net → IsOutside own net ⊎ IsOutside old net) → AreSmallLines (1 + length ps) new
+    → IsCurve (ss ∷ ps) least most new
+curve_more ss ps least most own old new hour period curve few lines outside small = record {
+  few = omega (arith, few);
+  are_hours = (hour, curve.are_hours);
+  least_is = curve.least_is;
+  most_is = curve.most_is;
+  are_lines = lines;
+  small = subst (λ n. AreSmallLines n new) (let same : 1 + length ps ≡ suc (length ps) = omega arith in same) small;
+  outside = λ net low high o. none net low high (outside net o);
+}
+  where
+    none : (net : ℤ) → least ≤ℤ net → net ≤ℤ most → IsOutside own net ⊎ IsOutside old net → joint_welfare (ss ∷ ps) net ≡ None
+    none net low high (inl o) = no_left (greatest_welfare ss net) (joint_welfare ps net) (period.outside net o)
+    none net low high (inr o) = no_right (greatest_welfare ss net) (joint_welfare ps net) (curve.outside net low high o)
+
+-- ---- how large it is
+-- what the laws say of the size of a welfare
+pub record SizeLaws : Type 0 where
+  pub reached : (ss : List Step) (net w : ℤ) → greatest_welfare ss net ≡ Some w
+      → (xs : List ℕ) × IsExecution ss xs × Balances ss net xs × (welfare_of ss xs ≡ w)
+  pub small : (ss : List Step) (xs : List ℕ) → AreInRange ss → IsExecution ss xs
+      → AreSmall (length ss) (executed_volume Buy ss xs) (executed_volume Sell ss xs) (welfare_of ss xs)
+
+one_small : SizeLaws → (ss : List Step) (net w : ℤ) → IsHour ss → greatest_welfare ss net ≡ Some w
+    → (neg_ℤ (pos (most_steps * greatest_value)) ≤ℤ w) × (w ≤ℤ pos (most_steps * greatest_value))
+one_small laws ss net w hour e =
+    let best = laws.reached ss net w e in
+    let small = laws.small ss best.0 hour.in_range best.1 in
+    let few = hour.few in let low = small.welfare_at_least in let high = small.welfare_at_most in let is = best.3 in
+    (omega (arith, ints, few, low, is), omega (arith, ints, few, high, is))
+
+record AreParts (x y : Option ℤ) (w : ℤ) : Type 0 where
+  left : ℤ
+  right : ℤ
+  left_is : x ≡ Some left
+  right_is : y ≡ Some right
+  sum : w ≡ left +ℤ right
+
+parts_of : (x y : Option ℤ) (w : ℤ) → both x y ≡ Some w → AreParts x y w
+parts_of None None w e = absurd (cc)
+parts_of (Some x) None w e = absurd (cc)
+parts_of None (Some y) w e = absurd (cc)
+parts_of (Some x) (Some y) w e = record { left = x; right = y; left_is = refl; right_is = refl; sum = cc }
+
+pub joint_small : SizeLaws → (ps : List (List Step)) (net w : ℤ) → AreHours ps → joint_welfare ps net ≡ Some w
+    → (neg_ℤ (pos (length ps * (most_steps * greatest_value))) ≤ℤ w) × (w ≤ℤ pos (length ps * (most_steps * greatest_value)))
+joint_small laws [] net w hours e = let is : pos 0 ≡ w = cc in (omega (arith, ints, is), omega (arith, ints, is))
+joint_small laws (ss ∷ ps) net w hours e =
+    let parts = parts_of (greatest_welfare ss net) (joint_welfare ps net) w e in
+    let one = one_small laws ss net parts.left hours.0 parts.left_is in
+    let rest = joint_small laws ps net parts.right hours.1 parts.right_is in
+    let sum = parts.sum in
+    (omega (arith, ints, one.0, rest.0, sum), omega (arith, ints, one.1, rest.1, sum))

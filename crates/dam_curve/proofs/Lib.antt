@@ -1,0 +1,10 @@
+-- The lemmas that several functions need.
+pub mod Parts
+pub mod Supplying
+pub mod Clearing
+pub mod Removing
+pub mod PeriodLines
+pub mod ListsOfLines
+pub mod Adding
+pub mod JointWelfare
+pub mod LookingUp

@@ -1,0 +1,95 @@
+-- The sum begins at the lesser of the two greatest net volumes, and goes on line by line.
+use Rattle.std.proofs.Common.{pos, inl, inr, to_z, of_z, w32, rules, arith}
+use Rattle.std.proofs.lemmas.Int.{ints}
+use Rattle.dam_curve.proofs.ListsOfLines.{small_at}
+use Rattle.dam_curve.proofs.Adding.{place_from, stands_from, none_added, next_added, shorter, all_lines, small_added, all_outside, apart_outside}
+use Rattle.dam_curve.proofs.Adding.{under_first}
+use Rattle.dam_curve.proofs.sum.add_lines.Goals.{then-a-at-via-then-a-at, then-a-at-via-else-a-at+then-b-at}
+use Rattle.dam_curve.proofs.sum.add_lines.Goals.{then-loop-left-test+else-right-b, else-loop-left-test}
+use Rattle.dam_curve.proofs.sum.add_lines.Goals as goal
+
+pub from_net-left-requires-clause-first : goal.from_net-left-requires-clause-first
+from_net-left-requires-clause-first g c d =
+    (under_first c.args.a.now c.args.b.now (to_z w32 (of_z w32 c.min-at.result)) (record { most = pos 0; price = pos 0; surplus = pos 0 }) d
+    (search rules) (search rules) (search rules)).0
+
+pub from_net-right-requires-clause-first : goal.from_net-right-requires-clause-first
+from_net-right-requires-clause-first g c d =
+    (under_first c.args.a.now c.args.b.now (to_z w32 (of_z w32 c.min-at.result)) (record { most = pos 0; price = pos 0; surplus = pos 0 }) d
+    (search rules) (search rules) (search rules)).1
+
+pub loop-left-init : goal.loop-left-init
+loop-left-init g c =
+    rw c.clear.ensures.items
+    (none_added c.args.a.now c.args.b.now (to_z w32 (of_z w32 c.min-at.result)) c.from_net-left.result c.from_net-right.result
+    (place_from c.args.a.now (to_z w32 (of_z w32 c.min-at.result)) c.from_net-left.result
+    (record { most = pos 0; price = pos 0; surplus = pos 0 }) c.from_net-left.ensures.inside (search rules))
+    (place_from c.args.b.now (to_z w32 (of_z w32 c.min-at.result)) c.from_net-right.result
+    (record { most = pos 0; price = pos 0; surplus = pos 0 }) c.from_net-right.ensures.inside (search rules))
+    (stands_from c.args.a.now (to_z w32 (of_z w32 c.min-at.result)) c.from_net-left.result c.from_net-left.ensures.holds
+    (λ d l. (let less = c.from_net-left.ensures.last d l in omega (arith, ints, less))))
+    (stands_from c.args.b.now (to_z w32 (of_z w32 c.min-at.result)) c.from_net-right.result c.from_net-right.ensures.holds
+    (λ d l. (let less = c.from_net-right.ensures.last d l in omega (arith, ints, less)))))
+
+pub joined-requires : goal.joined-requires
+joined-requires g c = (
+  c.requires.0,
+  c.requires.1,
+  small_at c.requires.0 c.args.a.now c.loop-left.left _ c.requires.2 c.loop-left.invariant.left_is.inside,
+  small_at c.requires.1 c.args.b.now c.loop-left.right _ c.requires.3 c.loop-left.invariant.right_is.inside,
+  c.requires.4,
+)
+
+pub joined-requires-2 : goal.joined-requires-2
+joined-requires-2 g c = (
+  c.requires.0,
+  c.requires.1,
+  small_at c.requires.0 c.args.a.now c.loop-left.left _ c.requires.2 c.loop-left.invariant.left_is.inside,
+  small_at c.requires.1 c.args.b.now c.loop-left.right _ c.requires.3 c.loop-left.invariant.right_is.inside,
+  c.requires.4,
+)
+
+pub loop-left-smaller : goal.loop-left-smaller
+loop-left-smaller g c =
+    shorter c.args.a.now c.args.b.now (to_z w32 (of_z w32 c.max-at.result)) c.loop-left.left c.loop-left.right c.past-left.result c.past-right.result
+    (record { most = pos 0; price = pos 0; surplus = pos 0 }) (search rules) (search rules) (search rules) c.past-left.ensures c.past-right.ensures
+
+pub loop-left-preserved : goal.loop-left-preserved
+loop-left-preserved g c =
+    rw (c.in_ok-push.ensures.items, c.joined.ensures)
+    (next_added c.args.a.now c.args.b.now c.loop-left.sum.items (to_z w32 (of_z w32 c.min-at.result)) (to_z w32 c.loop-left.at-bits)
+    (to_z w32 (of_z w32 c.max-at.result)) c.loop-left.left c.loop-left.right c.past-left.result c.past-right.result
+    (record { most = pos 0; price = pos 0; surplus = pos 0 }) c.loop-left.invariant (search rules) (search rules) (search rules)
+    c.past-left.ensures c.past-right.ensures)
+
+pub returns-clause-lines : goal.returns-clause-lines
+returns-clause-lines g c f h s t =
+    rw (c.in_ok-push-2.ensures.items, c.joined-2.ensures)
+    (all_lines f h c.args.a.now c.args.b.now c.loop-left.sum.items (to_z w32 (of_z w32 c.min-at.result)) (to_z w32 c.loop-left.at-bits) c.loop-left.left
+    c.loop-left.right (record { most = pos 0; price = pos 0; surplus = pos 0 }) c.loop-left.invariant s t)
+
+pub returns-clause-small : goal.returns-clause-small
+returns-clause-small g c n m s t =
+    rw (c.in_ok-push-2.ensures.items, c.joined-2.ensures)
+    (small_added n m c.args.a.now c.args.b.now c.loop-left.sum.items (to_z w32 (of_z w32 c.min-at.result)) (to_z w32 c.loop-left.at-bits) c.loop-left.left
+    c.loop-left.right (record { most = pos 0; price = pos 0; surplus = pos 0 }) c.loop-left.invariant s t)
+
+pub returns-then-a-at-clause-outside : goal.returns-then-a-at-clause-outside
+returns-then-a-at-clause-outside g c f h net s t o =
+    apart_outside c.args.a.now c.args.b.now (to_z w32 (of_z w32 c.min-at.result)) net (record { most = pos 0; price = pos 0; surplus = pos 0 })
+    (search rules) (search rules) (search rules)
+    (elim c.then-a-at.branch [
+      | then-a-at-via-then-a-at w ↦ inl (search rules)
+      | then-a-at-via-else-a-at+then-b-at w ↦ inr (search rules)
+    ])
+
+pub returns-clause-outside : goal.returns-clause-outside
+returns-clause-outside g c f h net s t o =
+    all_outside f h c.args.a.now c.args.b.now c.loop-left.sum.items (to_z w32 (of_z w32 c.min-at.result)) (to_z w32 c.loop-left.at-bits) net
+    c.loop-left.left c.loop-left.right (record { most = pos 0; price = pos 0; surplus = pos 0 }) c.loop-left.invariant s t
+    (elim c.loop-left-test.branch [
+      | then-loop-left-test+else-right-b w ↦ inr (let inside = c.loop-left.invariant.right_is.inside in search rules)
+      | else-loop-left-test w ↦ inl (let inside = c.loop-left.invariant.left_is.inside in search rules)
+    ])
+    (search rules)
+    (rw (← c.joined-2.ensures, ← c.in_ok-push-2.ensures.items) o)

@@ -1,0 +1,35 @@
+-- The numbers of a line fit their types.
+use Rattle.std.proofs.Common.{◌≡◌, ℤ, pos, ◌-ℤ◌, ◌*ℤ◌, ◌*◌, ℕ, ap, ap₂, to_z, of_z, w64, rules, arith}
+use Rattle.std.proofs.lemmas.Int.{ints}
+use Rattle.dam_book.specs.Limits.{greatest_volume}
+use Rattle.dam_hour.specs.Limits.{most_steps, price_span}
+use Rattle.dam_curve.specs.Supply.{height_of}
+use Rattle.dam_curve.proofs.ListsOfLines.{same_line}
+use Rattle.dam_curve.proofs.PeriodLines.{times_small}
+use Rattle.dam_curve.proofs.sum.line_of.Goals as goal
+
+pub overflow_sub-result-2 : goal.overflow_sub-result-2
+overflow_sub-result-2 c =
+    let volume = c.requires.volume in let worth = c.requires.worth in let before = c.requires.before in let cost = c.requires.cost in
+    let small = c.height.ensures.small in
+    let high : to_z w64 (of_z w64 c.from.result) ≡ pos c.height.result = search rules in
+    let most : to_z w64 (of_z w64 (to_z w64 c.args.demand.volume -ℤ to_z w64 c.args.before)) ≡ pos c.args.demand.volume -ℤ pos c.args.before
+    = omega (arith, ints, volume, before) in
+    let t = times_small c.height.result price_span (most_steps * greatest_volume) (pos c.args.demand.volume -ℤ pos c.args.before) small
+    (omega (arith, ints, volume, before)) (omega (arith, ints, volume, before)) in
+    let same = ap₂ (λ (x y : ℤ). x *ℤ y) high most in
+    omega (arith, ints, same, t.0, t.1, worth, cost)
+
+pub returns : goal.returns
+returns c =
+    let volume = c.requires.volume in let worth = c.requires.worth in let before = c.requires.before in let cost = c.requires.cost in
+    let small = c.height.ensures.small in let range = c.get.ensures.range in
+    let low = range.at_least in let top = range.at_most in
+    let high : to_z w64 (of_z w64 c.from.result) ≡ pos (height_of c.args.price) = search rules in
+    let most : to_z w64 (of_z w64 (to_z w64 c.args.demand.volume -ℤ to_z w64 c.args.before)) ≡ pos c.args.demand.volume -ℤ pos c.args.before
+    = omega (arith, ints, volume, before) in
+    let t = times_small c.height.result price_span (most_steps * greatest_volume) (pos c.args.demand.volume -ℤ pos c.args.before) small
+    (omega (arith, ints, volume, before)) (omega (arith, ints, volume, before)) in
+    let own = ap (λ (n : ℕ). pos n *ℤ (pos c.args.demand.volume -ℤ pos c.args.before)) c.height.ensures.value in
+    let same = ap₂ (λ (x y : ℤ). x *ℤ y) high most in
+    same_line _ _ _ _ _ _ (omega (arith, ints, volume, before)) (search rules) (omega (arith, ints, same, t.0, t.1, own, worth, cost))

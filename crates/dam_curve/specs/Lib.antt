@@ -1,0 +1,3 @@
+pub mod Supply
+pub mod Curve
+pub mod inside

@@ -1,0 +1,3 @@
+-- What only contracts inside this crate cite.
+pub mod Supply
+pub mod Lines

@@ -1,0 +1,10 @@
+/// A straight piece of a curve. It holds from its greatest net volume down to the next line's.
+#[derive(Clone, Copy)]
+pub(crate) struct Line {
+    /// The greatest net volume at which it holds, in tenths of a MW.
+    pub(crate) most: i32,
+    /// The prices of the periods, added up, in cents per MWh.
+    pub(crate) price: i32,
+    /// What all orders of the periods gain at these prices, in cents per MWh times tenths of a MW.
+    pub(crate) surplus: i64,
+}
