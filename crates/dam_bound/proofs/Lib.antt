@@ -12,3 +12,4 @@ pub mod Classing
 pub mod Volumes
 pub mod Gains
 pub mod Members
+pub mod BuildingClasses
