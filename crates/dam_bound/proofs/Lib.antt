@@ -13,3 +13,9 @@ pub mod Volumes
 pub mod Gains
 pub mod Members
 pub mod BuildingClasses
+pub mod BuildingPairs
+pub mod BuildingSupplies
+pub mod BuildingRanges
+pub mod BuildingCurves
+pub mod BuildingTouches
+pub mod BuildingWrites
