@@ -1,6 +1,6 @@
 -- The periods of a class, from the last to the first, and how many they are.
 use Rattle.std.proofs.Common.{◌≡◌, ◌≢◌, ℕ, zero, suc, ◌+◌, ◌-◌, ◌<◌, ◌≤◌, ◌==◌, cond, Bool, true, false, ℤ, pos, ◌+ℤ◌, ◌≤ℤ◌, Some, List, []}
-use Rattle.std.proofs.Common.{◌∷◌, ◌++◌, length, drop, get_or, inl, inr, ap, ◌∙◌, sym, subst, refl, arith}
+use Rattle.std.proofs.Common.{◌∷◌, ◌++◌, length, drop, get_or, slice_index_or, inl, inr, ap, ◌∙◌, sym, subst, refl, arith}
 use Rattle.std.specs.List.{slice_get}
 use Rattle.std.proofs.lemmas.Int.{ints}
 use Rattle.std.proofs.lemmas.Bool.Decides.{nat_tests}
@@ -16,9 +16,10 @@ use Rattle.dam_blocks.specs.Problem.{ProblemState}
 use Rattle.dam_bound.specs.Classes.{first_of, members, over_class, class_hours}
 use Rattle.dam_bound.specs.Relaxed.{as_steps, relaxed_hours}
 use Rattle.dam_bound.specs.Tables.{least_net, most_net, AreFirsts}
-use Rattle.dam_bound.specs.inside.Building.{AreSupplies, class_size, AreDecided}
+use Rattle.dam_bound.specs.inside.Building.{AreSupplies, class_size, AreDecided, PeriodsState}
 use Rattle.dam_bound.proofs.DayLevels.{one_at}
 use Rattle.dam_bound.proofs.Levelling.{drop_at}
+use Rattle.dam_bound.proofs.BuildingRanges.{AreEndsOf}
 use Rattle.dam_bound.proofs.Classing.{class_here, class_elsewhere}
 
 -- ---- the relaxed hours, one by one
@@ -92,8 +93,8 @@ few_members blocks c i (ss ∷ hours) =
     ]
 
 length_drop : {X : Type 0} (xs : List X) (n : ℕ) → length (drop n xs) ≡ length xs - n
-length_drop xs zero = refl
-length_drop [] (suc n) = refl
+length_drop xs zero = omega arith
+length_drop [] (suc n) = omega arith
 length_drop (x ∷ xs) (suc n) = let rest = length_drop xs n in omega (arith, rest)
 
 pub few_from : (problem : ProblemState) (depth c at : ℕ) → at < length problem.hours → length problem.hours ≤ last_period
@@ -129,11 +130,13 @@ period_before problem depth c at supplies l short are =
       few = few_from problem depth c at (omega (arith, l, long)) short;
     }
 
-pub curve_begun : (problem : ProblemState) (depth c at : ℕ) (lines : List Line) → length problem.hours ≤ at
-    → IsCurve [] (least_net problem.blocks depth c) (most_net problem.blocks depth c) lines → IsCurveSoFar problem depth c at lines
-curve_begun problem depth c at lines all is =
+pub curve_begun : (problem : ProblemState) (depth c at : ℕ) (least most : ℤ) (lines : List Line) → length problem.hours ≤ at
+    → AreEndsOf problem depth c least most → IsCurve [] least most lines → IsCurveSoFar problem depth c at lines
+curve_begun problem depth c at least most lines all ends is =
     subst (λ (hs : List (List Step)). IsCurve hs (least_net problem.blocks depth c) (most_net problem.blocks depth c) lines)
-    (sym (none_from problem depth c at all)) is
+    (sym (none_from problem depth c at all))
+    (subst (λ (z : ℤ). IsCurve [] (least_net problem.blocks depth c) z lines) ends.most_is
+    (subst (λ (z : ℤ). IsCurve [] z most lines) ends.least_is is))
 
 pub curve_kept : (problem : ProblemState) (depth c at : ℕ) (lines : List Line) (supplies : List (List Step))
     → IsPeriodBefore problem depth c at supplies → first_of problem.blocks at ≢ c
@@ -152,14 +155,17 @@ curve_more problem depth c at lines supplies before same is =
     (sym (member_here problem depth c at before.steps before.there same)) is
 
 -- ---- the number of periods
-pub record IsSizeSoFar (problem : ProblemState) (c at : ℕ) (size : ℤ) : Type 0 where
-  pub sum : size +ℤ over_class (λ t. pos 1) problem.blocks c at (length problem.hours - at) ≡ class_size problem c
+pub record IsSizeSoFar (problem : ProblemState) (c at size : ℕ) : Type 0 where
+  pub sum : pos size +ℤ over_class (λ t. pos 1) problem.blocks c at (length problem.hours - at) ≡ class_size problem c
 
-pub size_begun : (problem : ProblemState) (c : ℕ) → IsSizeSoFar problem c 0 (pos 0)
-size_begun problem c = record { sum = let z = over_class (λ t. pos 1) problem.blocks c 0 (length problem.hours) in omega (arith, ints) }
+pub size_begun : (problem : ProblemState) (c : ℕ) → IsSizeSoFar problem c 0 0
+size_begun problem c =
+    let all : length problem.hours - 0 ≡ length problem.hours = omega arith in
+    let same = ap (over_class (λ t. pos 1) problem.blocks c 0) all in
+    record { sum = omega (arith, ints, same) }
 
-pub size_more : (problem : ProblemState) (c at : ℕ) (size : ℤ) → at < length problem.hours → first_of problem.blocks at ≡ c
-    → IsSizeSoFar problem c at size → IsSizeSoFar problem c (at + 1) (size +ℤ pos 1)
+pub size_more : (problem : ProblemState) (c at size : ℕ) → at < length problem.hours → first_of problem.blocks at ≡ c
+    → IsSizeSoFar problem c at size → IsSizeSoFar problem c (at + 1) (size + 1)
 size_more problem c at size l same so_far =
     let left : length problem.hours - at ≡ suc (length problem.hours - (at + 1)) = omega (arith, l) in
     let next : suc at ≡ at + 1 = omega arith in
@@ -169,7 +175,7 @@ size_more problem c at size l same so_far =
     let sum = so_far.sum in
     record { sum = omega (arith, ints, here, rest, sum) }
 
-pub size_kept : (problem : ProblemState) (c at : ℕ) (size : ℤ) → at < length problem.hours → first_of problem.blocks at ≢ c
+pub size_kept : (problem : ProblemState) (c at size : ℕ) → at < length problem.hours → first_of problem.blocks at ≢ c
     → IsSizeSoFar problem c at size → IsSizeSoFar problem c (at + 1) size
 size_kept problem c at size l apart so_far =
     let left : length problem.hours - at ≡ suc (length problem.hours - (at + 1)) = omega (arith, l) in
@@ -180,10 +186,25 @@ size_kept problem c at size l apart so_far =
     let sum = so_far.sum in
     record { sum = omega (arith, ints, here, rest, sum) }
 
-pub size_ended : (problem : ProblemState) (c at : ℕ) (size : ℤ) → length problem.hours ≤ at
-    → IsSizeSoFar problem c at size → size ≡ class_size problem c
+pub size_ended : (problem : ProblemState) (c at size : ℕ) → length problem.hours ≤ at
+    → IsSizeSoFar problem c at size → pos size ≡ class_size problem c
 size_ended problem c at size all so_far =
     let none : length problem.hours - at ≡ 0 = omega (arith, all) in
     let rest = ap (over_class (λ t. pos 1) problem.blocks c at) none in
     let sum = so_far.sum in
     omega (arith, ints, rest, sum)
+
+-- the first period of the class of a period that is read from the periods
+pub first_read : (problem : ProblemState) (depth at d : ℕ) (periods inside : PeriodsState) → periods ≡ inside
+    → AreDecided problem depth periods → at < length inside.supplies
+    → (at < length problem.hours) × (slice_index_or inside.firsts at d ≡ first_of problem.blocks at)
+first_read problem depth at d periods inside same are l =
+    let decided = subst (AreDecided problem depth) same are in
+    let long = decided.supplies_are.as_many in
+    let within : at < length problem.hours = omega (arith, l, long) in
+    (within, decided.firsts_are.each at d within)
+
+pub all_read : (problem : ProblemState) (depth : ℕ) (periods inside : PeriodsState) → periods ≡ inside → AreDecided problem depth periods
+    → (length inside.supplies ≡ length problem.hours) × (length problem.hours ≤ last_period)
+all_read problem depth periods inside same are =
+    let decided = subst (AreDecided problem depth) same are in (decided.supplies_are.as_many, decided.few_periods)

@@ -1,10 +1,12 @@
 -- The net volumes that the decided blocks can make, pair by pair and block by block.
 use Rattle.std.proofs.Common.{◌≡◌, ◌≢◌, ℕ, zero, suc, ◌+◌, ◌*◌, ◌<◌, ◌≤◌, ◌==◌, cond, ℤ, pos, neg_ℤ, ◌+ℤ◌, ◌≤ℤ◌, true, false, Some, List, []}
-use Rattle.std.proofs.Common.{◌∷◌, length, drop, take, get_or, slice_set, inl, inr, ap, ◌∙◌, sym, subst, refl, arith}
+use Rattle.std.proofs.Common.{◌∷◌, length, replicate, drop, take, get_or, slice_index_or, slice_set, inl, inr, ap, ◌∙◌, sym, subst, refl, arith}
 use Rattle.std.specs.List.{slice_get}
-use Rattle.std.proofs.lemmas.Int.{ints}
+use Rattle.std.proofs.lemmas.Int.{ints, to_z-of_z}
+use mir.Syntax.{w64}
+use mir.Val.{to_z, of_z}
 use Rattle.std.proofs.lemmas.Bool.{cases_lt}
-use Rattle.std.proofs.lemmas.List.{length-set, get_or-set_same, get_or-set_other, drop_all}
+use Rattle.std.proofs.lemmas.List.{length-set, length-replicate, get_or-set_same, get_or-set_other, drop_all}
 use Rattle.std.proofs.lemmas.Option.{slice_get_within}
 use Rattle.dam_book.specs.Limits.{last_period, greatest_volume, most_blocks}
 use Rattle.dam_book.specs.Terms.{BlockTerms}
@@ -17,7 +19,7 @@ use Rattle.dam_blocks.specs.declared.problem.Block.{Block}
 use Rattle.dam_blocks.specs.Problem.{ProblemState, AreBlocks}
 use Rattle.dam_blocks.specs.Selection.{volume_in, net_volume_of}
 use Rattle.dam_bound.specs.Tables.{if_of, net_of_side, least_net, most_net}
-use Rattle.dam_bound.specs.inside.Building.{side_net, AreRanges}
+use Rattle.dam_bound.specs.inside.Building.{side_net, AreRanges, PeriodsState, AreDecided}
 use Rattle.dam_bound.specs.declared.periods.Range.{Range}
 use Rattle.dam_bound.proofs.BuildingPairs.{IsNextPair}
 
@@ -225,3 +227,58 @@ is_small problem k j place b p before ranges d at blocks short few next number s
     let a = are.least_is place d l in let c = are.most_is place d l in
     let e = ends.least_is.at_least in let f = ends.most_is.at_most in
     (omega (arith, ints, low, low', a, e), omega (arith, ints, high, high', c, f))
+
+-- with no block decided
+abbrev none : Range
+none = record { least = pos 0; most = pos 0 }
+
+pub no_range : (problem : ProblemState) (ranges : List Range) → length problem.hours ≤ last_period
+    → ranges ≡ replicate last_period (record { least = pos 0; most = pos 0 }) → AreRanges problem 0 ranges
+no_range problem ranges short same =
+    subst (AreRanges problem 0) (sym same) (record {
+      long = length-replicate last_period none;
+      least_is = λ i d l. ap (λ (r : Range). r.least) (read i d (omega (arith, l, short)));
+      most_is = λ i d l. ap (λ (r : Range). r.most) (read i d (omega (arith, l, short)));
+    })
+  where
+    read_in : (n i : ℕ) (d : Range) → i < n → get_or (replicate n none) i d ≡ none
+    read_in zero i d l = absurd (omega (arith, l))
+    read_in (suc n) zero d l = refl
+    read_in (suc n) (suc i) d l = read_in n i d (omega (arith, l))
+
+    read : (i : ℕ) (d : Range) → i < last_period → get_or (replicate last_period none) i d ≡ none
+    read i d l = read_in last_period i d l
+
+-- ---- the ends of a class's net volumes, as they are read from the periods
+pub record AreEndsOf (problem : ProblemState) (depth c : ℕ) (least most : ℤ) : Type 0 where
+  pub least_is : least ≡ least_net problem.blocks depth c
+  pub most_is : most ≡ most_net problem.blocks depth c
+  pub least_valid : IsNetVolume least
+  pub most_valid : IsNetVolume most
+  pub ordered : least ≤ℤ most
+
+net_read : (z : ℤ) → IsNetVolume z → to_z w64 (of_z w64 z) ≡ z
+net_read z is = let a = is.at_least in let b = is.at_most in to_z-of_z w64 z (omega (arith, ints, a, b))
+
+pub ends_read : (problem : ProblemState) (depth c : ℕ) (d : Range) (periods inside : PeriodsState) → periods ≡ inside
+    → AreDecided problem depth periods → c < length problem.hours
+    → AreEndsOf problem depth c (to_z w64 (of_z w64 (slice_index_or inside.ranges c d).least))
+    (to_z w64 (of_z w64 (slice_index_or inside.ranges c d).most))
+ends_read problem depth c d periods inside same are l =
+    let decided = subst (AreDecided problem depth) same are in
+    let deep = decided.inside in let few = decided.few_blocks in
+    let ends = are_ends (length problem.hours) depth c problem.blocks decided.blocks_are (omega (arith, deep, few)) in
+    let least = decided.ranges_are.least_is c d l in
+    let most = decided.ranges_are.most_is c d l in
+    let low = subst IsNetVolume (sym least) ends.least_is in
+    let high = subst IsNetVolume (sym most) ends.most_is in
+    let low_read = net_read (slice_index_or inside.ranges c d).least low in
+    let high_read = net_read (slice_index_or inside.ranges c d).most high in
+    let below = ends.below in let above = ends.above in
+    record {
+      least_is = low_read ∙ least;
+      most_is = high_read ∙ most;
+      least_valid = subst IsNetVolume (sym low_read) low;
+      most_valid = subst IsNetVolume (sym high_read) high;
+      ordered = omega (arith, ints, low_read, least, high_read, most, below, above);
+    }

@@ -10,22 +10,24 @@ use Rattle.std.proofs.lemmas.List.{drop_all}
 use Rattle.std.proofs.lemmas.List.Sums.{sum_by-cons, sum_by_push}
 use Rattle.std.proofs.lemmas.List.Sorted.{sum_by-IsPermutation, All-permutation}
 use Rattle.std.proofs.lemmas.Option.{slice_get_within, slice_get-get_or, get_or_from_slice_get}
-use Rattle.std.proofs.Math.Nat.{mul-suc}
+use Rattle.std.proofs.Math.Nat.{mul-suc, mul-le-mul}
 use Rattle.dam_book.specs.Limits.{last_period, most_blocks}
 use Rattle.dam_book.specs.Terms.{BlockTerms}
 use Rattle.dam_book.specs.Volumes.{Pair}
 use Rattle.dam_hour.specs.Best.{signed}
+use Rattle.dam_hour.specs.Limits.{greatest_value}
 use Rattle.dam_hour.specs.declared.step.Step.{Step}
 use Rattle.dam_curve.specs.Curve.{bottom_of, end_of, IsCurve, IsCurveAt, Keeps}
 use Rattle.dam_curve.specs.declared.line.Line.{Line}
 use Rattle.dam_curve.specs.declared.curves.Curve.{Curve}
 use Rattle.dam_blocks.specs.declared.problem.Block.{Block}
 use Rattle.dam_blocks.specs.Problem.{ProblemState}
+use Rattle.dam_blocks.specs.Magnitude.{IsWithin}
 use Rattle.dam_blocks.specs.Selection.{volume_in, net_volume_of, value_of}
 use Rattle.dam_bound.specs.Classes.{first_of, over_class}
 use Rattle.dam_bound.specs.Tables.{IsClassCurve, AreCurves, class_value, IsTouch, is_touched, touches_at, AreTouches, rejected, LotState}
 use Rattle.dam_bound.specs.Tables.{IsLot, AreLots, ArePlaces}
-use Rattle.dam_bound.specs.inside.Building.{class_size, IsClass, IsDeciding}
+use Rattle.dam_bound.specs.inside.Building.{class_size, IsClass, DecidingState, IsDeciding}
 use Rattle.dam_bound.specs.Trail.{slot_at}
 use Rattle.dam_bound.specs.declared.touch.Touch.{Touch}
 use Rattle.dam_bound.proofs.DayLevels.{of_pushed}
@@ -153,7 +155,11 @@ pub record AreTouchesSoFar (problem : ProblemState) (lines : List Line) (k : ℕ
   pub each : (j : ℕ) (touch : Touch) → slice_get touches j ≡ Some touch → IsTouch problem lines k b true touch
 
 pub no_touch : (problem : ProblemState) (lines : List Line) (k : ℕ) (b : Block) → AreTouchesSoFar problem lines k b b.order.volumes []
-no_touch problem lines k b = record { one_each = λ c. refl; each = λ j touch e. absurd (cc) }
+no_touch problem lines k b = record {
+  one_each = λ c. (let own : ℕ = cond (touched problem c (volume_in b.order.volumes (c + 1))) 1 0 in
+      let none : 0 + own ≡ own = omega arith in none);
+  each = λ j touch e. absurd (cc);
+}
 
 pub touch_more : (problem : ProblemState) (old new : List Line) (k j place : ℕ) (b : Block) (p : Pair) (touches touches' : List Touch)
     (touch : Touch) → Keeps old new → IsNextPair (length problem.hours) b.order.volumes j p → p.0 ≡ place + 1 → touch.at ≡ place
@@ -182,8 +188,8 @@ touch_more problem old new k j place b p touches touches' touch keeps next numbe
         let away : touch.at ≢ c = omega (arith, here, apart) in
         let test : (touch.at == c) ≡ false = grind (arith, nat_tests) in
         let last = at_last c touches touch in
-        let none = ap (λ (t : Bool). cond t 1 0) test in
-        let rest = ap (λ (v : ℕ). cond (touched problem c v) 1 0) (next.others (c + 1) apart') in
+        let none = ap {B = ℕ} (λ (t : Bool). cond t 1 0) test in
+        let rest = ap {B = ℕ} (λ (v : ℕ). cond (touched problem c v) 1 0) (next.others (c + 1) apart') in
         let before = so_far.one_each c in
         omega (arith, last, none, rest, before)
 
@@ -195,14 +201,14 @@ touch_more problem old new k j place b p touches touches' touch keeps next numbe
         let at : touch.at ≡ c = omega (arith, here, equal) in
         let test : (touch.at == c) ≡ true = grind (arith, nat_tests) in
         let last = at_last c touches touch in
-        let one = ap (λ (t : Bool). cond t 1 0) test in
+        let one = ap {B = ℕ} (λ (t : Bool). cond t 1 0) test in
         let first = subst (λ (n : ℕ). first_of problem.blocks n ≡ n) at is.first in
         let most = next.most in let some = next.quantity.at_least in
         let left = ap (volume_in (drop j b.order.volumes)) t ∙ next.left in
         let past = ap (volume_in (drop (j + 1) b.order.volumes)) t ∙ next.past in
-        let was = ap (λ (t : Bool). cond t 1 0)
+        let was = ap {B = ℕ} (λ (t : Bool). cond t 1 0)
         (touched_some problem c (volume_in (drop j b.order.volumes) (c + 1)) (omega (arith, t, most)) first (omega (arith, left, some))) in
-        let gone = ap (λ (t : Bool). cond t 1 0) (touched_none problem c (volume_in (drop (j + 1) b.order.volumes) (c + 1)) past) in
+        let gone = ap {B = ℕ} (λ (t : Bool). cond t 1 0) (touched_none problem c (volume_in (drop (j + 1) b.order.volumes) (c + 1)) past) in
         let before = so_far.one_each c in
         omega (arith, last, one, was, gone, before)
 
@@ -224,7 +230,7 @@ touch_same problem lines k j place b p touches next number later so_far = record
     other : (c : ℕ) → p.0 ≢ c + 1 → touches_at c touches + cond (touched problem c (volume_in (drop (j + 1) b.order.volumes) (c + 1))) 1 0
         ≡ cond (touched problem c (volume_in b.order.volumes (c + 1))) 1 0
     other c apart =
-        let rest = ap (λ (v : ℕ). cond (touched problem c v) 1 0) (next.others (c + 1) apart) in
+        let rest = ap {B = ℕ} (λ (v : ℕ). cond (touched problem c v) 1 0) (next.others (c + 1) apart) in
         let before = so_far.one_each c in
         omega (arith, rest, before)
 
@@ -232,8 +238,8 @@ touch_same problem lines k j place b p touches next number later so_far = record
         ≡ cond (touched problem c (volume_in b.order.volumes (c + 1))) 1 0
     own c equal =
         let apart = subst (λ (n : ℕ). first_of problem.blocks n ≢ n) (sym equal) later in
-        let was = ap (λ (t : Bool). cond t 1 0) (touched_later problem c (volume_in (drop j b.order.volumes) (c + 1)) apart) in
-        let gone = ap (λ (t : Bool). cond t 1 0) (touched_later problem c (volume_in (drop (j + 1) b.order.volumes) (c + 1)) apart) in
+        let was = ap {B = ℕ} (λ (t : Bool). cond t 1 0) (touched_later problem c (volume_in (drop j b.order.volumes) (c + 1)) apart) in
+        let gone = ap {B = ℕ} (λ (t : Bool). cond t 1 0) (touched_later problem c (volume_in (drop (j + 1) b.order.volumes) (c + 1)) apart) in
         let before = so_far.one_each c in
         omega (arith, was, gone, before)
 
@@ -242,7 +248,7 @@ pub all_touched : (problem : ProblemState) (lines : List Line) (k j : ℕ) (b : 
 all_touched problem lines k j b touches all so_far = record {
   one_each = λ c.
       (let none = ap (λ (v : List Pair). volume_in v (c + 1)) (drop_all j b.order.volumes all) in
-      let gone = ap (λ (t : Bool). cond t 1 0) (touched_none problem c (volume_in (drop j b.order.volumes) (c + 1)) none) in
+      let gone = ap {B = ℕ} (λ (t : Bool). cond t 1 0) (touched_none problem c (volume_in (drop j b.order.volumes) (c + 1)) none) in
       let before = so_far.one_each c in
       omega (arith, gone, before));
   each = so_far.each;
@@ -255,6 +261,18 @@ times_more (negsuc n) m = let e = mul-suc (suc n) m in omega (arith, ints, e)
 
 times_none : (v : ℤ) → v *ℤ pos 0 ≡ pos 0
 times_none v = omega (arith, ints)
+
+pub within_times : (z : ℤ) (n most : ℕ) → IsWithin greatest_value z → n ≤ most → IsWithin (most * greatest_value) (z *ℤ pos n)
+within_times (pos a) n most is l =
+    let high = is.at_most in
+    let m : a * n ≤ greatest_value * most =
+    mul-le-mul {n₁ = a} {m₁ = n} {n₂ = greatest_value} {m₂ = most} (omega (arith, ints, high)) l in
+    record { at_least = omega (arith, ints, m); at_most = omega (arith, ints, m) }
+within_times (negsuc a) n most is l =
+    let low = is.at_least in
+    let m : suc a * n ≤ greatest_value * most =
+    mul-le-mul {n₁ = suc a} {m₁ = n} {n₂ = greatest_value} {m₂ = most} (omega (arith, ints, low)) l in
+    record { at_least = omega (arith, ints, m); at_most = omega (arith, ints, m) }
 
 -- the same number of each member, and 1 of each
 scaled : (v : ℤ) (blocks : List Block) (c i n : ℕ)
@@ -296,7 +314,7 @@ rejected_is problem lines k b touch is = record {
 rejected_at : (c : ℕ) (touches : List Touch) → touches_at c (map rejected touches) ≡ touches_at c touches
 rejected_at c [] = refl
 rejected_at c (touch ∷ touches) =
-    at_first c (rejected touch) (map rejected touches) ∙ ap (λ (n : ℕ). cond (touch.at == c) 1 0 + n) (rejected_at c touches)
+    at_first c (rejected touch) (map rejected touches) ∙ ap {B = ℕ} (λ (n : ℕ). cond (touch.at == c) 1 0 + n) (rejected_at c touches)
     ∙ sym (at_first c touch touches)
 
 rejected_each : (problem : ProblemState) (lines : List Line) (k : ℕ) (b : Block) (touches : List Touch)
@@ -327,3 +345,35 @@ in_any_order problem lines k b accept touches others same are =
           subst (λ (x : Touch). IsTouch problem lines k b accept x) (get_or_from_slice_get others j touch touch at)
           (each j touch (slice_get_within others j touch at));
     }
+
+-- ---- one touch
+pub made_touch : (problem : ProblemState) (lines : List Line) (k at from to : ℕ) (b : Block) (net value stake : ℤ) (curve : Curve)
+    (deciding : DecidingState) → IsDeciding problem k b deciding → IsClass problem at → 0 < volume_in b.order.volumes (at + 1)
+    → from ≡ get_or deciding.places at 0 → to ≡ deciding.row + at → net ≡ net_volume_of (at + 1) b.order
+    → value ≡ class_value problem b.order at → IsClassCurve problem lines (k + 1) at curve
+    → IsTouch problem lines k b true
+    (record { at = at; from = from; to = to; net = net; value = value; curve = curve; stake = stake })
+made_touch problem lines k at from to b net value stake curve deciding is class some from_is to_is net_is value_is curve_is =
+    let row = is.row_is in
+    record {
+      inside = class.inside;
+      first = class.first;
+      some = some;
+      from_is = from_is ∙ is.places_are.each at 0 class.inside class.first;
+      to_is = omega (arith, to_is, row);
+      net_is = net_is;
+      value_is = value_is;
+      curve_is = curve_is;
+    }
+
+-- the sizes of what a touch is made of
+pub record AreSmallIn (problem : ProblemState) (k at : ℕ) (deciding : DecidingState) : Type 0 where
+  pub period : at < last_period
+  pub slot : deciding.row + at < 2500
+
+pub small_in : (problem : ProblemState) (k at : ℕ) (b : Block) (deciding : DecidingState) → IsDeciding problem k b deciding
+    → IsClass problem at → AreSmallIn problem k at deciding
+small_in problem k at b deciding is class =
+    let row = is.row_is in let inside = class.inside in let short = is.periods_are.few_periods in
+    let place = slice_get_within problem.blocks k b is.block_is in let few = is.periods_are.few_blocks in
+    record { period = omega (arith, inside, short); slot = omega (arith, row, inside, short, place, few) }

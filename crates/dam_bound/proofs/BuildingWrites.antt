@@ -28,8 +28,20 @@ use Rattle.dam_bound.proofs.BuildingSupplies.{same_steps}
 use Rattle.dam_bound.proofs.BuildingRanges.{side_none, one_of_side}
 use Rattle.dam_bound.proofs.BuildingTouches.{touched_some, touched_none, at_first}
 
+-- the touch of nothing
+abbrev pub blank : Touch
+blank = record {
+  at = 0;
+  from = 0;
+  to = 0;
+  net = pos 0;
+  value = pos 0;
+  curve = record { first = 0; count = 0; bottom = pos 0; top = pos 0; hints = 0; shift = 0 };
+  stake = pos 0;
+}
+
 -- ---- what is written for each touch, at its place
-pub written : {X : Type 0} → (Touch → X) → List X → List Touch → List X
+abbrev pub written : {X : Type 0} → (Touch → X) → List X → List Touch → List X
 written f xs [] = xs
 written f xs (touch ∷ touches) = written f (slice_set xs touch.at (f touch)) touches
 
@@ -38,11 +50,11 @@ written_long f xs [] = refl
 written_long f xs (touch ∷ touches) =
     written_long f (slice_set xs touch.at (f touch)) touches ∙ length-set xs touch.at (f touch)
 
-same_at : (c : ℕ) (touch : Touch) → touch.at ≡ c → cond (touch.at == c) 1 0 ≡ 1
-same_at c touch e = let t : (touch.at == c) ≡ true = grind (arith, nat_tests) in ap (λ (b : Bool). cond b 1 0) t
+same_at : (c : ℕ) (touch : Touch) → touch.at ≡ c → ◌≡◌ {A = ℕ} (cond (touch.at == c) 1 0) 1
+same_at c touch e = let t : (touch.at == c) ≡ true = grind (arith, nat_tests) in ap {B = ℕ} (λ (b : Bool). cond b 1 0) t
 
-other_at : (c : ℕ) (touch : Touch) → touch.at ≢ c → cond (touch.at == c) 1 0 ≡ 0
-other_at c touch e = let t : (touch.at == c) ≡ false = grind (arith, nat_tests) in ap (λ (b : Bool). cond b 1 0) t
+other_at : (c : ℕ) (touch : Touch) → touch.at ≢ c → ◌≡◌ {A = ℕ} (cond (touch.at == c) 1 0) 0
+other_at c touch e = let t : (touch.at == c) ≡ false = grind (arith, nat_tests) in ap {B = ℕ} (λ (b : Bool). cond b 1 0) t
 
 -- the place of no touch has what it had
 pub written_other : {X : Type 0} (f : Touch → X) (xs : List X) (touches : List Touch) (c : ℕ) (d : X) → touches_at c touches ≡ 0
@@ -159,13 +171,13 @@ volume_cases (suc n) f g = g (omega arith)
 count_none : (problem : ProblemState) (lines : List Line) (k c : ℕ) (b : Block) (touches : List Touch)
     → AreTouches problem lines k b true touches → volume_in b.order.volumes (c + 1) ≡ 0 → touches_at c touches ≡ 0
 count_none problem lines k c b touches are none =
-    are.one_each c ∙ ap (λ (t : Bool). cond t 1 0) (touched_none problem c (volume_in b.order.volumes (c + 1)) none)
+    are.one_each c ∙ ap {B = ℕ} (λ (t : Bool). cond t 1 0) (touched_none problem c (volume_in b.order.volumes (c + 1)) none)
 
 count_one : (problem : ProblemState) (lines : List Line) (k c : ℕ) (b : Block) (touches : List Touch)
     → AreTouches problem lines k b true touches → c < length problem.hours → first_of problem.blocks c ≡ c
     → 0 < volume_in b.order.volumes (c + 1) → touches_at c touches ≡ 1
 count_one problem lines k c b touches are l first some =
-    are.one_each c ∙ ap (λ (t : Bool). cond t 1 0) (touched_some problem c (volume_in b.order.volumes (c + 1)) l first some)
+    are.one_each c ∙ ap {B = ℕ} (λ (t : Bool). cond t 1 0) (touched_some problem c (volume_in b.order.volumes (c + 1)) l first some)
 
 pub places_after : (problem : ProblemState) (lines : List Line) (k : ℕ) (b : Block) (touches : List Touch) (places places' : List ℕ)
     → slice_get problem.blocks k ≡ Some b → k < most_blocks → length problem.hours ≤ last_period

@@ -19,3 +19,5 @@ pub mod BuildingRanges
 pub mod BuildingCurves
 pub mod BuildingTouches
 pub mod BuildingWrites
+pub mod BuildingDay
+pub mod BuildingLots

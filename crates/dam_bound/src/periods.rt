@@ -216,12 +216,12 @@ impl<A: Allocator> Periods<A> {
         ensures some { pos 0 ≤ℤ result }
         ensures few { result ≤ℤ pos last_period }
     {
-        let mut size = 0;
+        let mut size = 0usize;
         for at in 0..self.supplies.len() {
             if self.firsts[at] as usize == class {
                 size += 1;
             }
         }
-        size
+        size as i64
     }
 }

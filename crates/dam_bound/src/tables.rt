@@ -9,6 +9,7 @@ ghost use Rattle.dam_blocks.specs.Problem.{ProblemState};
 ghost use Rattle.dam_bound.specs.Day.{IsDay};
 ghost use Rattle.dam_bound.specs.Relaxed.{without_rows};
 ghost use Rattle.dam_bound.specs.Tables.{AreCurves, class_value, IsTouch, AreTouches, AreLots, AreFirsts, ArePlaces, AreTablesOf, rejected};
+ghost use Rattle.dam_bound.specs.inside.Change.{greatest_class_value};
 ghost use Rattle.dam_bound.specs.inside.Building.{IsClass, AreDecided, IsDeciding};
 ghost use Rattle.dam_curve.specs.declared.line.Line.{Line};
 ghost use Rattle.dam_blocks.specs.Selection.{volume_in};
@@ -24,6 +25,7 @@ use crate::touch::{Lot, Touch};
 use dam_blocks::{Block, MOST_PERIODS, Problem, Selection, value_of};
 use dam_book::{BlockOrder, Period, Qty, Side};
 use dam_curve::{Curve, Curves, Sum};
+use dam_hour::laws;
 use std::alloc::{AllocError, Allocator, Global};
 use std::marker::Model;
 
@@ -81,7 +83,8 @@ fn times(worth: i64, periods: i64) -> i64
     requires worth { IsWithin greatest_value worth }
     requires some { pos 0 ≤ℤ periods }
     requires few { periods ≤ℤ pos last_period }
-    ensures { result ≡ worth *ℤ periods }
+    ensures value { result ≡ worth *ℤ periods }
+    ensures size { IsWithin greatest_class_value result }
 {
     worth * periods
 }
@@ -125,9 +128,10 @@ impl<A: Allocator> Deciding<'_, A> {
     fn value(&self, at: usize) -> i64
         requires { (problem : ProblemState) × (k : ℕ) × (b : Block) × IsDeciding problem k b self.now
             × IsClass problem at }
-        ensures { (problem : ProblemState) (k : ℕ) (b : Block)
+        ensures value { (problem : ProblemState) (k : ℕ) (b : Block)
             → IsDeciding problem k b self.now → IsClass problem at
             → result ≡ class_value problem b.order at }
+        ensures size { IsWithin greatest_class_value result }
     {
         times(value_of(self.order, Period::at(at)), self.periods.size(at))
     }
@@ -269,6 +273,8 @@ fn root_of<A: Allocator>(curves: &Curves<A>, firsts: &[u32], ends: &[Curve]) -> 
         → AreCurves problem curves.now 0 ends.now → length problem.hours ≤ last_period
         → IsDay problem [] result }
 {
+    laws::balance();
+    laws::welfare();
     let mut root = Day::empty();
     for at in 0..ends.len() {
         if firsts[at] as usize == at {

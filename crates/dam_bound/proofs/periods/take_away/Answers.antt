@@ -1,10 +1,11 @@
 -- A period more, and all of them.
-use Rattle.std.proofs.Common.{◌≡◌, ℕ, ℤ, ◌+◌, ◌-◌, ◌∷◌, List, length, drop, ap, ap₂, ◌∙◌, sym, refl, rules, arith}
+use Rattle.std.proofs.Common.{◌≡◌, ℕ, ℤ, ◌+◌, ◌-◌, ◌∷◌, ◌++◌, List, length, drop, ap, ap₂, ◌∙◌, sym, subst, refl, rules, arith}
 use Rattle.std.specs.List.{slice_get}
 use Rattle.std.proofs.lemmas.Option.{slice_get_read}
 use Rattle.dam_book.specs.Terms.{BlockTerms}
 use Rattle.dam_book.specs.Volumes.{Pair}
 use Rattle.dam_book.specs.declared.order.Side.{Side}
+use Rattle.dam_curve.specs.Supply.{IsSupplyOf}
 use Rattle.dam_hour.specs.declared.step.Step.{Step}
 use Rattle.dam_bound.specs.Relaxed.{as_steps}
 use Rattle.dam_bound.proofs.BuildingPairs.{next_pair}
@@ -14,8 +15,8 @@ use Rattle.dam_bound.proofs.periods.take_away.Goals as goal
 pub loop-period-init : goal.loop-period-init
 loop-period-init g c problem k b at same blocks are = none_taken problem k b c.args.supplies.now.items at are
 
-pub bounds-supplies-at : goal.bounds-supplies-at
-bounds-supplies-at g c =
+pub index_mut-requires : goal.index_mut-requires
+index_mut-requires g c =
     let pairs = c.pairs-period-items.ensures.value ∙ c.volumes.ensures in
     let read = slice_get_read _ _ c.loop-period.period-index _ (search rules) c.loop-period-test.true c.loop-period-item.is in
     let pair = ap (λ (o : BlockTerms). slice_get o.volumes c.loop-period.period-index) c.requires.4
@@ -43,7 +44,7 @@ remove-requires g c =
     let step = next_step c.requires.0 c.requires.1 c.loop-period.period-index (c.from-at.result - 1) c.requires.2 c.loop-period-item.result
     (record { side = c.side.result; price = c.price.result; qty = c.loop-period-item.result.1 }) c.loop-period.supplies.items c.requires.3 next
     number same so_far in
-    (step.steps, as_steps ((c.from-at.result - 1) + 1) (drop (c.requires.1 + 1) c.requires.0.blocks), step.supply _)
+    (step.steps, as_steps ((c.from-at.result - 1) + 1) (drop (c.requires.1 + 1) c.requires.0.blocks), subst (IsSupplyOf (step.steps ++ (record { side = c.side.result; price = c.price.result; qty = c.loop-period-item.result.1 }) ∷ as_steps ((c.from-at.result - 1) + 1) (drop (c.requires.1 + 1) c.requires.0.blocks))) (sym c.index_mut.ensures.value) (step.supply c.index_mut.result.now))
 
 pub loop-period-preserved : goal.loop-period-preserved
 loop-period-preserved g c problem k b at is blocks are =
@@ -62,7 +63,9 @@ loop-period-preserved g c problem k b at is blocks are =
     c.loop-period.supplies.items at next number same so_far in
     taken_more problem k c.loop-period.period-index (c.from-at.result - 1) b c.loop-period-item.result taken c.loop-period.supplies.items _
     c.remove.new.self next number step
-    (c.remove.ensures step.steps (as_steps ((c.from-at.result - 1) + 1) (drop (k + 1) problem.blocks)) (step.supply _)) refl so_far
+    (c.remove.ensures step.steps (as_steps ((c.from-at.result - 1) + 1) (drop (k + 1) problem.blocks)) 
+    (subst (IsSupplyOf (step.steps ++ taken ∷ as_steps ((c.from-at.result - 1) + 1) (drop (k + 1) problem.blocks)))
+    (sym c.index_mut.ensures.value) (step.supply c.index_mut.result.now))) refl so_far
 
 pub returns : goal.returns
 returns g c problem k b at is blocks are =
