@@ -231,3 +231,39 @@ root_ended law problem at day all long so_far = record {
 -- the curve of nothing
 abbrev pub no_line : Curve
 no_line = record { first = 0; count = 0; bottom = pos 0; top = pos 0; hints = 0; shift = 0 }
+
+-- a class more, as the code has it
+pub root_step : Zero → (problem : ProblemState) (at : ℕ) (root root' : Day) (w w' total' : ℤ)
+    → root' ≡ record { classes = slice_set root.classes at (record { net = pos 0; welfare = w' }); total = total' }
+    → w' ≡ w → total' ≡ root.total +ℤ w → at < length root.classes → Some w ≡ class_welfare problem 0 at (pos 0)
+    → IsRootSoFar problem at root.classes root.total → IsRootSoFar problem (at + 1) root'.classes root'.total
+root_step law problem at root root' w w' total' same is sum inside welfare so_far =
+    subst (λ (day : Day). IsRootSoFar problem (at + 1) day.classes day.total) (sym same)
+    (subst (λ (z : ℤ). IsRootSoFar problem (at + 1) (slice_set root.classes at (record { net = pos 0; welfare = z })) total') (sym is)
+    (root_more law problem at root.classes w root.total total' inside welfare sum so_far))
+
+pub root_long : (at : ℕ) (root root' : Day) (own : Position) (total' : ℤ)
+    → root' ≡ record { classes = slice_set root.classes at own; total = total' } → length root'.classes ≡ length root.classes
+root_long at root root' own total' same = ap (λ (day : Day). length day.classes) same ∙ length-set root.classes at own
+
+pub root_within : (at : ℕ) (root root' : Day) (own : Position) (w total' : ℤ)
+    → root' ≡ record { classes = slice_set root.classes at own; total = total' } → total' ≡ root.total +ℤ w
+    → IsWithin greatest_joint_welfare w
+    → IsWithin (at * greatest_joint_welfare) root.total → IsWithin ((at + 1) * greatest_joint_welfare) root'.total
+root_within at root root' own w total' same sum small within =
+    let total = ap (λ (day : Day). day.total) same in
+    let a = small.at_least in let b = small.at_most in let c = within.at_least in let d = within.at_most in
+    record { at_least = omega (arith, ints, total, sum, a, c); at_most = omega (arith, ints, total, sum, b, d) }
+
+-- a day that is what it was
+pub root_same : (problem : ProblemState) (at : ℕ) (root root' : Day) → root' ≡ root → first_of problem.blocks at ≢ at
+    → IsRootSoFar problem at root.classes root.total → IsRootSoFar problem (at + 1) root'.classes root'.total
+root_same problem at root root' same apart so_far =
+    subst (λ (day : Day). IsRootSoFar problem (at + 1) day.classes day.total) (sym same)
+    (root_kept problem at root.classes root.total apart so_far)
+
+pub same_within : (at : ℕ) (root root' : Day) → root' ≡ root → IsWithin (at * greatest_joint_welfare) root.total
+    → IsWithin ((at + 1) * greatest_joint_welfare) root'.total
+same_within at root root' same within =
+    let total = ap (λ (day : Day). day.total) same in let c = within.at_least in let d = within.at_most in
+    record { at_least = omega (arith, ints, total, c); at_most = omega (arith, ints, total, d) }

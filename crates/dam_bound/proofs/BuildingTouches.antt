@@ -377,3 +377,10 @@ small_in problem k at b deciding is class =
     let row = is.row_is in let inside = class.inside in let short = is.periods_are.few_periods in
     let place = slice_get_within problem.blocks k b is.block_is in let few = is.periods_are.few_blocks in
     record { period = omega (arith, inside, short); slot = omega (arith, row, inside, short, place, few) }
+
+pub worth_in_all : (problem : ProblemState) (k c t : ℕ) (b : Block) (o : BlockTerms) (z x y : ℤ) → slice_get problem.blocks k ≡ Some b
+    → b.order ≡ o → t ≡ c + 1 → z ≡ x *ℤ y → x ≡ value_of t o → y ≡ class_size problem c → z ≡ class_value problem b.order c
+worth_in_all problem k c t b o z x y at same number is worth size =
+    is ∙ ap₂ (λ (u v : ℤ). u *ℤ v)
+    (worth ∙ ap (λ (n : ℕ). value_of n o) number ∙ ap (λ (p : BlockTerms). value_of (c + 1) p) (sym same)) size
+    ∙ sym (class_worth problem k c b at)
