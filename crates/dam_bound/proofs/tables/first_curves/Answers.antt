@@ -23,7 +23,8 @@ index-requires g c =
     let least = first_most c.requires.0.blocks c.loop-at.at in
     let apart : slice_index_or c.periods.inside.firsts c.loop-at.at 0 ≢ c.loop-at.at = search (rules, c.if-first-at.false) in
     let long = c.loop-at.invariant.long in
-    let below : slice_index_or c.periods.inside.firsts c.loop-at.at 0 < length c.loop-at.ends.items = omega (arith, is, least, apart, long) in
+    let below : slice_index_or c.periods.inside.firsts c.loop-at.at 0 < c.loop-at.ends.len =
+    omega (arith, is, least, apart, long, c.loop-at.ends.ok) in
     below
 
 pub returns-in_err-push-clause-kept : goal.returns-in_err-push-clause-kept
@@ -49,7 +50,7 @@ loop-at-preserved g c =
                 (omega (arith, c.loop-at-test.true, c.count-at-end.ensures, ap (λ p. length p.supplies) c.periods.view_is)) in
                 curve_pushed problem c.loop-at.curves c.if-first-at.curves c.loop-at.at c.loop-at.ends.items _ c.if-first-at.curve keeps
                 (λ first. subst (λ (x : Curve). IsClassCurve problem c.if-first-at.curves 0 c.loop-at.at x) (sym w.curve-is)
-                (subst (λ (ls : List Line). IsClassCurve problem ls 0 c.loop-at.at _) (sym w.curves-is)
+                (subst (λ (ls : List Line). IsClassCurve problem ls 0 c.loop-at.at w.in_ok-curve.curve) (sym w.curves-is)
                 (w.in_ok-curve.ensures.curve problem 0 are (record { inside = read.0; first = first }))))
                 c.in_ok-push.ensures.items (c.loop-at.invariant.so_far problem are));
           })
