@@ -180,11 +180,12 @@ impl<A: Allocator> Deciding<'_, A> {
             → IfOk result (λ touches. AreTouches problem curves.new k b true touches.items) }
         ensures kept { Keeps curves.old curves.new }
     {
+        let periods = self.periods;
         let pairs = self.order.volumes().pairs();
         let mut touches = Vec::with_capacity(alloc, pairs.len())?;
         for (period, qty) in pairs {
             let at = usize::from(period.get()) - 1;
-            if self.periods.firsts[at] as usize == at {
+            if periods.firsts[at] as usize == at {
                 touches.push(self.touch(curves, sum, at, *qty)?)?;
             }
         }
