@@ -1,8 +1,9 @@
 -- The tables, block by block.
-use Rattle.std.proofs.Common.{◌≡◌, ℕ, ◌+◌, ◌*◌, ◌<◌, ◌≤◌, true, false, Some, List, [], ◌∷◌, ◌++◌, length, length-append, map, inl, inr, ap, ◌∙◌}
+use Rattle.std.proofs.Common.{◌≡◌, ℕ, zero, suc, take, drop, ◌+◌, ◌*◌, ◌<◌, ◌≤◌, true, false, Some, List, [], ◌∷◌, ◌++◌, length, length-append, map, inl, inr, ap, ◌∙◌}
 use Rattle.std.proofs.Common.{sym, subst, refl, arith}
 use Rattle.std.specs.List.{slice_get}
 use Rattle.std.specs.Prelude.{IsPermutation}
+use Rattle.std.proofs.lemmas.List.{drop_all, append-nil}
 use Rattle.dam_book.specs.Limits.{last_period, most_blocks}
 use Rattle.dam_curve.specs.Curve.{Keeps}
 use Rattle.dam_curve.specs.declared.line.Line.{Line}
@@ -62,3 +63,14 @@ built_more problem old new k b ends ends' places places' lots lots' accepted oth
         rejected = in_any_order problem new k b false others lot.rejected other (rejected_are problem new k b accepted others turned are);
       }) same (lots_stay problem old new k lots keeps so_far.lots_are);
     }
+
+-- a list that is written over a vector of the same length is all that the vector then holds
+take_whole : {X : Type 0} (xs : List X) (n : ℕ) → length xs ≡ n → take n xs ≡ xs
+take_whole [] zero e = refl
+take_whole [] (suc n) e = absurd (omega (arith, e))
+take_whole (x ∷ xs) zero e = absurd (omega (arith, e))
+take_whole (x ∷ xs) (suc n) e = ap (λ (ys : _). x ∷ ys) (take_whole xs n (omega (arith, e)))
+
+pub whole : {X : Type 0} (xs ys : List X) (n : ℕ) → length xs ≡ n → length ys ≡ n → take n (xs ++ drop (length xs) ys) ≡ xs
+whole xs ys n e f =
+    ap (λ (zs : _). take n (xs ++ zs)) (drop_all (length xs) ys (omega (arith, e, f))) ∙ ap (take n) (append-nil xs) ∙ take_whole xs n e

@@ -8,6 +8,7 @@ use Rattle.dam_bound.specs.Relaxed.{without_rows}
 use Rattle.dam_bound.specs.Tables.{AreCurves, AreLots}
 use Rattle.dam_bound.specs.inside.Building.{AreDecided}
 use Rattle.dam_bound.specs.inside.Families.{AreFamilies}
+use Rattle.dam_bound.proofs.BuildingLots.{whole}
 use Rattle.dam_bound.proofs.tables.Tables.of.Goals as goal
 
 pub first_curves-requires : goal.first_curves-requires
@@ -39,14 +40,20 @@ returns g c =
     let places = c.first_places-places.ensures problem are.few_periods in
     let decided = c.in_ok-lots.ensures.periods problem blocks are in
     let after = subst (AreDecided problem (length problem.blocks)) (sym c.periods-2.view_is) decided in
+    let ends = c.in_ok-lots.ensures.ends problem blocks are curves places in
+    let long = first.as_many in let many = ends.as_many in
+    let all = whole c.lots_of.new.ends c.in_ok-ends.ends.items c.in_ok-ends.ends.len (omega (arith, long, many, c.in_ok-ends.ends.ok))
+    (omega (arith, c.in_ok-ends.ends.ok)) in
     record {
       count_is = c.count.ensures ∙ decided.supplies_are.as_many;
       few_periods = are.few_periods;
       few_blocks = are.few_blocks;
       blocks_are = are.blocks_are;
+      hours_are = c.blocks-blocks.ensures.valid.hours;
+      few_hourly = c.blocks-blocks.ensures.valid.few_hourly;
       firsts_are = after.firsts_are;
-      ends_are = subst (λ (ls : List Line). AreCurves problem ls (length problem.blocks) c.lots_of.new.ends) (sym c.curves-2.view_is)
-          (c.in_ok-lots.ensures.ends problem blocks are curves places);
+      ends_are = subst (AreCurves problem _ (length problem.blocks)) (sym all)
+          (subst (λ (ls : List Line). AreCurves problem ls (length problem.blocks) c.lots_of.new.ends) (sym c.curves-2.view_is) ends);
       lots_are = subst (λ (ls : List Line). AreLots problem ls (length problem.blocks) c.in_ok-lots.lots.items) (sym c.curves-2.view_is)
           (c.in_ok-lots.ensures.lots problem blocks are curves places);
       places_are = c.in_ok-lots.ensures.places problem blocks are curves places;
