@@ -1,22 +1,18 @@
 -- A prefix with one more decision, period by period.
 use Rattle.std.proofs.Common.{◌≡◌, ℕ, zero, suc, ◌+◌, ℤ, pos, neg_ℤ, ◌+ℤ◌, ◌*ℤ◌, Bool, true, false, not, Some, List, [], ◌∷◌, ◌++◌, length}
-use Rattle.std.proofs.Common.{length-append, drop, slice_set, ap, ◌∙◌, sym, subst, refl, arith}
+use Rattle.std.proofs.Common.{length-append, drop, slice_set, ap, ◌∙◌, sym, refl, arith}
 use Rattle.std.specs.List.{slice_get}
 use Rattle.std.proofs.lemmas.Int.{ints}
 use Rattle.std.proofs.lemmas.List.{length-set}
 use Rattle.dam_book.specs.declared.order.Side.{Side}
 use Rattle.dam_book.specs.declared.order.Side.TheVariants.{Buy, Sell}
 use Rattle.dam_book.specs.Terms.{BlockTerms}
-use Rattle.dam_hour.specs.declared.step.Step.{Step}
 use Rattle.dam_hour.specs.Best.{signed}
 use Rattle.dam_blocks.specs.declared.problem.Block.{Block}
 use Rattle.dam_blocks.specs.Selection.{volume_in, over_accepted, net_volume_of, value_of, net_volume, block_value}
-use Rattle.dam_stack.specs.declared.taken.Taken.{Taken}
-use Rattle.dam_stack.specs.Taken.{IsTakenAt}
 use Rattle.dam_bound.specs.declared.day.Change.{Change}
 use Rattle.dam_bound.specs.declared.day.Change.TheVariants.{Decide, Turn}
 use Rattle.dam_bound.specs.Relaxed.{as_steps}
-use Rattle.dam_bound.specs.Day.{IsPeriodOfDay}
 use Rattle.dam_bound.specs.inside.Change.{by, IsChange}
 use Rattle.dam_bound.proofs.Covering.{SumLaws}
 use Rattle.dam_bound.proofs.Levelling.{drop_at, no_step}
@@ -82,17 +78,6 @@ pub same_value : (blocks : List Block) (place depth : ℕ) (change : Change) (ac
     → block_value blocks after t ≡ block_value blocks before t
 same_value blocks place depth change accept before after t b is at none =
     no_change change accept _ _ (value_of t b.order) (is.value t b at) (no_value t b.order none)
-
-pub same_period : (blocks : List Block) (place depth : ℕ) (change : Change) (accept : Bool) (before after : List Bool) (t : ℕ) (b : Block)
-    (ss : List Step)
-    (own : Taken) → IsChange blocks place change accept depth before after → slice_get blocks place ≡ Some b
-    → volume_in b.order.volumes t ≡ 0
-    → IsPeriodOfDay blocks before t (ss ++ as_steps t (drop (length before) blocks)) own
-    → IsPeriodOfDay blocks after t (ss ++ as_steps t (drop (length after) blocks)) own
-same_period blocks place depth change accept before after t b ss own is at none period =
-    subst (λ (ts : List Step). IsTakenAt (ss ++ ts) (net_volume blocks after t) own) (is.steps t b at none)
-    (subst (λ (net : ℤ). IsTakenAt (ss ++ as_steps t (drop (length before) blocks)) net own)
-    (sym (same_net blocks place depth change accept before after t b is at none)) period)
 
 -- ---- the decision on the next block, and one turned round
 by_decision : (accept : Bool) (z : ℤ) → if_accepted accept z ≡ by Decide accept z

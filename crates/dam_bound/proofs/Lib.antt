@@ -11,3 +11,4 @@ pub mod Worth
 pub mod Volumes
 pub mod Gains
 pub mod Members
+pub mod Steering
