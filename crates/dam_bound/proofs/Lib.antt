@@ -8,6 +8,7 @@ pub mod DayLevels
 pub mod Extending
 pub mod Sizes
 pub mod Worth
+pub mod Classing
 pub mod Volumes
 pub mod Gains
 pub mod Members

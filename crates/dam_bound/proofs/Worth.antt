@@ -5,15 +5,12 @@ use Rattle.std.specs.List.{slice_get}
 use Rattle.std.proofs.lemmas.Bool.{cases_lt}
 use Rattle.std.proofs.lemmas.Int.{ints}
 use Rattle.std.proofs.lemmas.Option.{get_or_from_slice_get}
-use Rattle.dam_stack.specs.declared.taken.Taken.{Taken}
 use Rattle.dam_hour.specs.declared.step.Step.{Step}
 use Rattle.dam_blocks.specs.declared.problem.Block.{Block}
 use Rattle.dam_blocks.specs.Selection.{net_volume, block_value}
 use Rattle.dam_blocks.specs.Eligible.{added, period_welfare, welfare_from}
 use Rattle.dam_blocks.specs.Magnitude.{IsWithin}
 use Rattle.dam_bound.specs.Relaxed.{as_steps, relaxed_hours}
-use Rattle.dam_bound.specs.Day.{IsPeriodOfDay}
-use Rattle.dam_bound.proofs.Bounding.{cleared_period}
 use Rattle.dam_bound.proofs.Covering.{added_some}
 use Rattle.dam_bound.proofs.Levelling.{relaxed_at}
 
@@ -41,21 +38,6 @@ pub part_some : (blocks : List Block) (hours : List (List Step)) (prefix : List 
     → slice_get hours i ≡ Some ss
     → t ≡ i + 1 → Some w ≡ period_welfare blocks prefix t (relaxed_at ss t blocks (length prefix)) → part blocks hours prefix t ≡ w
 part_some blocks hours prefix i t ss w at e is = ap worth (steps_at blocks hours prefix i t ss at e ∙ sym is)
-
-pub worth_is : (blocks : List Block) (prefix : List Bool) (t : ℕ) (ss : List Step) (own : Taken) (p : IsPeriodOfDay blocks prefix t ss own)
-    → Some (p.welfare +ℤ block_value blocks prefix t) ≡ period_welfare blocks prefix t ss
-worth_is blocks prefix t ss own p =
-    cleared_period blocks prefix t ss ss (net_volume blocks prefix t) p.welfare (block_value blocks prefix t)
-    (p.welfare +ℤ block_value blocks prefix t)
-    refl refl p.welfare_is refl refl
-
-pub part_is : (blocks : List Block) (hours : List (List Step)) (prefix : List Bool) (i t : ℕ) (ss : List Step) (own : Taken)
-    → slice_get hours i ≡ Some ss
-    → t ≡ i + 1 → (p : IsPeriodOfDay blocks prefix t (relaxed_at ss t blocks (length prefix)) own)
-    → part blocks hours prefix t ≡ p.welfare +ℤ block_value blocks prefix t
-part_is blocks hours prefix i t ss own at e p =
-    part_some blocks hours prefix i t ss (p.welfare +ℤ block_value blocks prefix t) at e
-    (worth_is blocks prefix t (relaxed_at ss t blocks (length prefix)) own p)
 
 -- ---- a sum over the periods
 -- f of each of n numbers from t on, added up

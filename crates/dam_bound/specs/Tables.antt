@@ -1,7 +1,7 @@
 -- What the walk reads: the curve of each class at each depth, and what each block is in each of its classes.
 use Rattle.std.specs.Prelude.{◌≡◌, ℕ, ◌+◌, ◌*◌, ◌<◌, ◌≤◌, ◌==◌, ◌&&◌, not, nat_lt, if◌then◌else◌, Bool, true, false, ℤ, pos, ◌+ℤ◌, Option, Some, List, [], ◌∷◌, length}
 use Rattle.std.specs.Prelude.{take, slice_get, slice_index_or, count_by}
-use Rattle.dam_book.specs.Limits.{last_period, most_blocks}
+use Rattle.dam_book.specs.Limits.{last_period, most_hourly, most_blocks}
 use Rattle.dam_book.specs.Terms.{BlockTerms}
 use Rattle.dam_book.specs.declared.order.Side.{Side}
 use Rattle.dam_book.specs.declared.order.Side.TheVariants.{Buy, Sell}
@@ -9,7 +9,7 @@ use Rattle.dam_curve.specs.declared.line.Line.{Line}
 use Rattle.dam_curve.specs.declared.curves.Curve.{Curve}
 use Rattle.dam_curve.specs.Curve.{IsCurveAt}
 use Rattle.dam_blocks.specs.declared.problem.Block.{Block}
-use Rattle.dam_blocks.specs.Problem.{ProblemState, AreBlocks}
+use Rattle.dam_blocks.specs.Problem.{ProblemState, AreBlocks, AreHours, hourly_orders}
 use Rattle.dam_blocks.specs.Selection.{volume_in, net_volume_of, value_of}
 use Rattle.dam_bound.specs.Classes.{first_of, over_class, class_hours}
 use Rattle.dam_bound.specs.Day.{IsDay}
@@ -130,6 +130,8 @@ pub record AreTablesOf (problem : ProblemState) (tables : TablesState) : Type 0 
   pub few_periods : length problem.hours ≤ last_period
   pub few_blocks : length problem.blocks ≤ most_blocks
   pub blocks_are : AreBlocks (length problem.hours) problem.blocks
+  pub hours_are : AreHours problem.hours
+  pub few_hourly : hourly_orders problem.hours ≤ most_hourly
   pub firsts_are : AreFirsts problem tables.firsts
   pub ends_are : AreCurves problem tables.lines (length problem.blocks) tables.ends
   pub lots_are : AreLots problem tables.lines (length problem.blocks) tables.lots
