@@ -13,3 +13,4 @@ pub mod Volumes
 pub mod Gains
 pub mod Members
 pub mod Steering
+pub mod Pricing
