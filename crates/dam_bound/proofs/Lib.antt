@@ -9,6 +9,7 @@ pub mod Extending
 pub mod Sizes
 pub mod Worth
 pub mod Classing
+pub mod Changing
 pub mod Volumes
 pub mod Gains
 pub mod Members
