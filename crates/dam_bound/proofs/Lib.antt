@@ -10,6 +10,8 @@ pub mod Sizes
 pub mod Worth
 pub mod Classing
 pub mod Changing
+pub mod Slots
+pub mod Walking
 pub mod Volumes
 pub mod Gains
 pub mod Members

@@ -1,3 +1,4 @@
 -- test
-use Rattle.dam_bound.proofs.Changing.{total_at_least, total_within}
+use Rattle.dam_bound.proofs.Slots.{day_there}
+use Rattle.dam_bound.proofs.Walking.{sized}
 use Rattle.dam_bound.proofs.trail.write_root.Goals as goal
