@@ -3,6 +3,7 @@ use Rattle.std.proofs.Common.{◌≡◌, ◌<◌, List, Bool, [], ◌∷◌, ◌
 use Rattle.dam_blocks.specs.Problem.{ProblemState}
 use Rattle.dam_bound.specs.Relaxed.{without_rows}
 use Rattle.dam_bound.proofs.Extending.{decision}
+use Rattle.dam_bound.proofs.Slots.{keeps_days}
 use Rattle.dam_bound.proofs.Steering.{never_rises, extended, as_passed}
 use Rattle.dam_bound.proofs.walk.Walk.extend.Goals as goal
 
@@ -45,3 +46,9 @@ returns-clause-day g c prefix is day =
     c.args.depth is)
     (as_passed problem c.args.self.now prefix c.args.trail.now c.args.total
     c.self.view_is (search rules) day))
+
+pub returns-clause-kept : goal.returns-clause-kept
+returns-clause-kept g c =
+    let hours = ap (λ (p : ProblemState). length p.hours) c.self.view_is in let few = c.self.invariant.few_periods in
+    keeps_days c.args.self.now c.args.depth c.args.trail.now c.decide_block.new.trail (omega (arith, hours, few))
+    c.decide_block.ensures.below c.decide_block.ensures.room
