@@ -71,7 +71,7 @@ joint_elsewhere blocks left c i net ss rest e =
     ap (λ (t : Bool). joint_welfare (cond t ((ss ++ as_steps (suc i) left) ∷ members blocks c (suc i) (relaxed_hours left (suc (suc i)) rest))
     (members blocks c (suc i) (relaxed_hours left (suc (suc i)) rest))) net) apart
 
-equal_or : (m n : ℕ) → (m ≡ n) ⊎ (m ≢ n)
+pub equal_or : (m n : ℕ) → (m ≡ n) ⊎ (m ≢ n)
 equal_or m n = elim (cases_lt m n) [
   | inl less ↦ inr (omega (arith, less))
   | inr more ↦ elim (cases_lt n m) [ | inl less ↦ inr (omega (arith, less)) | inr same ↦ inl (omega (arith, more, same)) ]
@@ -321,7 +321,7 @@ chosen_after : (rest : List Touch) (before after : List Bool) (c : ℕ) → touc
 chosen_after rest before after c e =
     let none : (touches_at c rest == 0) ≡ true = grind (arith, nat_tests) in ap (λ (t : Bool). cond t after before) none
 
-chosen_before : (rest : List Touch) (before after : List Bool) (c : ℕ) → 0 < touches_at c rest → chosen rest before after c ≡ before
+pub chosen_before : (rest : List Touch) (before after : List Bool) (c : ℕ) → 0 < touches_at c rest → chosen rest before after c ≡ before
 chosen_before rest before after c e =
     let some : (touches_at c rest == 0) ≡ false = grind (arith, nat_tests) in ap (λ (t : Bool). cond t after before) some
 
@@ -423,12 +423,12 @@ touches_more : (touch : Touch) (rest : List Touch) (c : ℕ)
     → touches_at c (touch ∷ rest) ≡ cond (touch.at == c) 1 0 + touches_at c rest
 touches_more touch rest c = sum_by-cons (λ (t : Touch). cond (t.at == c) 1 0) touch rest
 
-touches_here : (touch : Touch) (rest : List Touch) → touches_at touch.at (touch ∷ rest) ≡ 1 + touches_at touch.at rest
+pub touches_here : (touch : Touch) (rest : List Touch) → touches_at touch.at (touch ∷ rest) ≡ 1 + touches_at touch.at rest
 touches_here touch rest =
     let same : (touch.at == touch.at) ≡ true = grind (arith, nat_tests) in
     touches_more touch rest touch.at ∙ ap (λ (t : Bool). cond t 1 0 + touches_at touch.at rest) same
 
-touches_elsewhere : (touch : Touch) (rest : List Touch) (c : ℕ) → c ≢ touch.at → touches_at c (touch ∷ rest) ≡ touches_at c rest
+pub touches_elsewhere : (touch : Touch) (rest : List Touch) (c : ℕ) → c ≢ touch.at → touches_at c (touch ∷ rest) ≡ touches_at c rest
 touches_elsewhere touch rest c apart =
     let other : (touch.at == c) ≡ false = grind (arith, nat_tests) in
     let more = touches_more touch rest c ∙ ap (λ (t : Bool). cond t 1 0 + touches_at c rest) other in
@@ -477,7 +477,7 @@ all_changed problem before after rest at total none so_far =
     )
 
 -- ---- how large the total can be
-over_within : (f : ℕ → ℤ) (blocks : List Block) (c i n most : ℕ) (mosts : ℤ) → mosts ≡ pos most
+pub over_within : (f : ℕ → ℤ) (blocks : List Block) (c i n most : ℕ) (mosts : ℤ) → mosts ≡ pos most
     → ((k : ℕ) → i ≤ k → k < i + n → first_of blocks k ≡ c → IsWithin most (f (suc k)))
     → (neg_ℤ (over_class (λ t. mosts) blocks c i n) ≤ℤ over_class f blocks c i n)
     × (over_class f blocks c i n ≤ℤ over_class (λ t. mosts) blocks c i n)
@@ -533,7 +533,7 @@ part_within laws problem prefix i ss u sized at e =
     record { at_least = omega (arith, ints, l, few, blocks); at_most = omega (arith, ints, h, few, blocks) }
 
 -- a class that stands somewhere is worth no more than its periods can be
-class_within : Laws → (problem : ProblemState) (prefix : List Bool) (c : ℕ) (own : Position) → IsSized problem → IsPosition problem prefix c own
+pub class_within : Laws → (problem : ProblemState) (prefix : List Bool) (c : ℕ) (own : Position) → IsSized problem → IsPosition problem prefix c own
     → (neg_ℤ (over_class (λ t. pos greatest_period_bound) problem.blocks c 0 (length problem.hours)) ≤ℤ class_part problem prefix c)
     × (class_part problem prefix c ≤ℤ over_class (λ t. pos greatest_period_bound) problem.blocks c 0 (length problem.hours))
 class_within laws problem prefix c own sized is =

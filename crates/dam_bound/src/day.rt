@@ -1,13 +1,13 @@
 ghost use Rattle.std.specs.Prelude.{◌≡◌, ◌<◌, ◌≤◌, pos, ℕ, ℤ, ◌+ℤ◌, ◌-ℤ◌, ◌≤ℤ◌, List, Bool, Some, None, length, slice_index_or, IfSome, MatchBool, MatchOption};
 ghost use Rattle.dam_book.specs.Limits.{last_period};
 ghost use Rattle.dam_hour.specs.declared.step.Step.{Step};
-ghost use Rattle.dam_curve.specs.Curve.{IsCurveAt, joint_welfare, greatest_joint_welfare};
+ghost use Rattle.dam_curve.specs.Curve.{IsCurveAt, joint_welfare};
 ghost use Rattle.dam_blocks.specs.Magnitude.{IsWithin};
 ghost use Rattle.dam_blocks.specs.Problem.{ProblemState};
 ghost use Rattle.dam_bound.specs.Day.{IsDay};
 ghost use Rattle.dam_bound.specs.Relaxed.{relaxed_welfare};
 ghost use Rattle.dam_bound.specs.Tables.{AreTablesOf};
-ghost use Rattle.dam_bound.specs.inside.Change.{IsChange, greatest_class_value, greatest_move};
+ghost use Rattle.dam_bound.specs.inside.Change.{IsChange, greatest_position, greatest_class_value, greatest_move};
 ghost use Rattle.dam_bound.specs.declared.day.Change.TheVariants.{Turn};
 ghost use Rattle.dam_bound.specs.declared.day.Position.{Position};
 
@@ -94,7 +94,7 @@ pub(crate) fn moved<A: Allocator>(
     requires curve { (periods : List (List Step)) × (least : ℤ) × (most : ℤ)
         × IsCurveAt curves.now curve periods least most
         × (least ≤ℤ (own.net +ℤ net)) × ((own.net +ℤ net) ≤ℤ most) }
-    requires welfare { IsWithin greatest_joint_welfare own.welfare }
+    requires welfare { IsWithin greatest_position own.welfare }
     requires value { IsWithin greatest_class_value value }
     ensures moved { (periods : List (List Step)) (least most : ℤ)
         → IsCurveAt curves.now curve periods least most
@@ -130,6 +130,10 @@ pub(crate) fn turn_block<A: Allocator>(
         → IsDay problem before day.old
         → MatchBool result (IsDay problem after day.new) (relaxed_welfare problem after ≡ None) }
 {
+    dam_hour::laws::joining();
+    dam_hour::laws::welfare();
+    dam_hour::laws::magnitude();
+    dam_blocks::laws::sums();
     for touch in tables.lots[place].touches(true) {
         let at = touch.at as usize;
         let own = day.classes[at];

@@ -98,6 +98,10 @@ pub(crate) fn decide_block<A: Allocator>(
         → slice_index_or trail.new.slots i own ≡ slice_index_or trail.old.slots i own }
     ensures room { length trail.new.slots ≡ slot_count }
 {
+    dam_hour::laws::joining();
+    dam_hour::laws::welfare();
+    dam_hour::laws::magnitude();
+    dam_blocks::laws::sums();
     let floor = floor_of(least);
     let mut left = total;
     for touch in tables.lots[place].touches(accept) {
