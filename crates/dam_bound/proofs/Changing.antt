@@ -74,7 +74,7 @@ joint_elsewhere blocks left c i net ss rest e =
 pub equal_or : (m n : ℕ) → (m ≡ n) ⊎ (m ≢ n)
 equal_or m n = elim (cases_lt m n) [
   | inl less ↦ inr (omega (arith, less))
-  | inr more ↦ elim (cases_lt n m) [ | inl less ↦ inr (omega (arith, less)) | inr same ↦ inl (omega (arith, more, same)) ]
+  | inr more ↦ elim (cases_lt n m) [ inl less ↦ inr (omega (arith, less)) | inr same ↦ inl (omega (arith, more, same)) ]
 ]
 
 -- if the class has a welfare, each of its periods has one

@@ -1,20 +1,22 @@
 -- A decision in the slots, and a decision turned round on a day, touch by touch.
 use Rattle.std.proofs.Common.{◌≡◌, ◌≢◌, ℕ, zero, suc, ◌+◌, ◌*◌, ◌<◌, ◌≤◌, ◌==◌, ◌&&◌, not, nat_lt, cond, ℤ, pos, neg_ℤ, ◌+ℤ◌, ◌-ℤ◌, ◌≤ℤ◌, Bool, true, false, Option}
-use Rattle.std.proofs.Common.{Some, None, MatchOption, MatchBool, List, [], ◌∷◌, length, take, drop, get_or, slice_set, inl, inr, ap, ap₂, ◌∙◌, sym, subst, refl, arith}
+use Rattle.std.proofs.Common.{Some, None, MatchOption, List, [], ◌∷◌, length, take, drop, get_or, slice_set, inl, inr, ap, ap₂, ◌∙◌, sym, subst, refl, arith}
 use Rattle.std.specs.List.{slice_get}
 use Rattle.std.proofs.lemmas.Int.{ints}
 use Rattle.std.proofs.lemmas.Bool.{cases_lt}
 use Rattle.std.proofs.lemmas.Bool.Decides.{nat_tests}
 use Rattle.std.proofs.lemmas.List.{get_or_default, get_or-set_same, get_or-set_other}
-use Rattle.std.proofs.lemmas.List.Sums.{sum_by-take-drop}
-use Rattle.std.proofs.lemmas.Option.{slice_get_within}
+use Rattle.std.proofs.lemmas.List.Sums.{sum_by-take-drop, count_by-le-length}
+use Rattle.std.proofs.lemmas.Option.{slice_get_within, slice_get-get_or}
 use Rattle.dam_book.specs.Limits.{last_period, most_blocks}
 use Rattle.dam_book.specs.Terms.{BlockTerms, IsBlockOrder}
 use Rattle.dam_book.specs.declared.order.Side.{Side}
 use Rattle.dam_book.specs.declared.order.Side.TheVariants.{Buy, Sell}
 use Rattle.dam_hour.specs.Best.{signed}
 use Rattle.dam_hour.specs.Limits.{greatest_value}
-use Rattle.dam_curve.specs.Curve.{joint_welfare}
+use Rattle.dam_hour.specs.declared.step.Step.{Step}
+use Rattle.dam_curve.specs.Curve.{joint_welfare, IsCurveAt}
+use Rattle.dam_curve.specs.declared.curves.Curve.{Curve}
 use Rattle.dam_curve.specs.declared.line.Line.{Line}
 use Rattle.dam_blocks.specs.declared.problem.Block.{Block}
 use Rattle.dam_blocks.specs.Problem.{ProblemState, AreBlocks}
@@ -27,7 +29,7 @@ use Rattle.dam_bound.specs.declared.trail.Trail.{Trail}
 use Rattle.dam_bound.specs.Relaxed.{relaxed_welfare}
 use Rattle.dam_bound.specs.Classes.{first_of, over_class, class_hours, class_welfare}
 use Rattle.dam_bound.specs.Day.{IsPosition, IsDay, IsUnder}
-use Rattle.dam_bound.specs.Tables.{AreTablesOf, AreTouches, IsTouch, is_touched, touches_at, if_of, net_of_side, least_net, most_net, class_value}
+use Rattle.dam_bound.specs.Tables.{AreTablesOf, AreTouches, IsTouch, is_touched, touches_at, if_of, net_of_side, least_net, most_net, class_value, IsClassCurve}
 use Rattle.dam_bound.specs.Trail.{slot_count, slot_at, IsDayIn}
 use Rattle.dam_bound.specs.inside.Change.{by, IsChange, NeverRises, IsGivenUp, greatest_position, greatest_class_value}
 use Rattle.dam_bound.specs.inside.Levels.{greatest_period_bound}
@@ -36,7 +38,7 @@ use Rattle.dam_bound.specs.declared.day.Change.TheVariants.{Decide, Turn}
 use Rattle.dam_bound.proofs.Changing.{IsClassOf, IsChangedSoFar, IsSized, chosen, chosen_before, class_part, class_blocks, position_part}
 use Rattle.dam_bound.proofs.Changing.{class_within, over_within, class_gain, class_unbalanced, nothing_changed, touches_here, touches_elsewhere}
 use Rattle.dam_bound.proofs.Changing.{touch_changed, all_changed, equal_or}
-use Rattle.dam_bound.proofs.Classing.{class_here, class_elsewhere}
+use Rattle.dam_bound.proofs.Classing.{class_here, class_elsewhere, class_volume, first_first, first_most}
 use Rattle.dam_bound.proofs.Covering.{Laws}
 use Rattle.dam_bound.proofs.Sizes.{value_small}
 use Rattle.dam_blocks.proofs.Magnitudes.{value_within}
@@ -153,7 +155,7 @@ by_within Turn true most z w = w
 by_within Turn false most z w =
     let l = w.at_least in let h = w.at_most in record { at_least = omega (arith, ints, h); at_most = omega (arith, ints, l) }
 
-block_order : (count : ℕ) (blocks : List Block) (k : ℕ) (b : Block) → AreBlocks count blocks → slice_get blocks k ≡ Some b
+pub block_order : (count : ℕ) (blocks : List Block) (k : ℕ) (b : Block) → AreBlocks count blocks → slice_get blocks k ≡ Some b
     → IsBlockOrder b.order
 block_order count [] k b are at = absurd (cc)
 block_order count (x ∷ blocks) zero b are at = let same : x ≡ b = cc in subst (λ (y : Block). IsBlockOrder y.order) same are.0.order
@@ -206,7 +208,7 @@ untouched problem lines place b accept touches c are of none =
     ap (volume_in b.order.volumes) one ∙ zero
 
 -- ---- in the slots
-pub no_position : Position
+abbrev pub no_position : Position
 no_position = record { net = pos 0; welfare = pos 0 }
 
 -- where a class stands: in the block's own row once its touch is done, or if it has none
@@ -379,3 +381,168 @@ extended None p q least before after trail e never m = subst (λ (r : ProblemSta
   | inl none ↦ (λ w is. absurd (some_none (relaxed_welfare p after) w none is))
   | inr under ↦ under never
 ])
+
+-- ---- what is looked up at a touch
+abbrev pub no_touch : Touch
+no_touch = record {
+  at = 0;
+  from = 0;
+  to = 0;
+  net = pos 0;
+  value = pos 0;
+  curve = record { first = 0; count = 0; bottom = pos 0; top = pos 0; hints = 0; shift = 0 };
+  stake = pos 0;
+}
+
+-- the touch that the loop is at
+pub touch_now : (problem : ProblemState) (lines : List Line) (place : ℕ) (b : Block) (accept : Bool) (touches : List Touch) (j : ℕ)
+    → AreTouches problem lines place b accept touches → j < length touches
+    → Touched problem lines place b accept touches j (get_or touches j no_touch)
+touch_now problem lines place b accept touches j are inside =
+    touched problem lines place b accept touches j (get_or touches j no_touch) are (slice_get-get_or touches j no_touch inside)
+
+-- where its class stands on a day
+pub own_class : {problem : ProblemState} {lines : List Line} {place j : ℕ} {b : Block} {accept : Bool} {touches : List Touch} {touch : Touch}
+    {before after : List Bool} {total : ℤ} (classes : List Position) (d : Position) → Touched problem lines place b accept touches j touch
+    → touch.at < length classes
+    → IsChangedSoFar problem before after (drop j touches) (λ c. get_or classes c no_position) total
+    → IsPosition problem before touch.at (get_or classes touch.at d)
+own_class {problem} {lines} {place} {j} {b} {accept} {touches} {touch} {before} {after} {total} classes d t inside so_far =
+    let here = ap (touches_at touch.at) t.rest_is ∙ touches_here touch (drop (j + 1) touches) in
+    let some : 0 < touches_at touch.at (drop j touches) = omega (arith, here) in
+    subst (λ (p : Position). IsPosition problem before touch.at p) (get_or_default classes touch.at no_position d inside)
+    (subst (λ (p : List Bool). IsPosition problem p touch.at (get_or classes touch.at no_position))
+    (chosen_before (drop j touches) before after touch.at some)
+    (so_far.each touch.at (record { inside = t.is.inside; first = t.is.first })))
+
+-- the curve, and the net volume on it
+pub on_curve : (problem : ProblemState) (lines : List Line) (place depth : ℕ) (change : Change) (accept : Bool) (before after : List Bool) (c : ℕ)
+    (b : Block) (own : Position) (net : ℤ) (curve : Curve) → IsChange problem.blocks place change accept depth before after
+    → slice_get problem.blocks place ≡ Some b → IsPosition problem before c own → net ≡ by change accept (net_volume_of (c + 1) b.order)
+    → IsClassCurve problem lines depth c curve
+    → (periods : List (List Step)) × (least : ℤ) × (most : ℤ) × IsCurveAt lines curve periods least most × (least ≤ℤ (own.net +ℤ net))
+    × ((own.net +ℤ net) ≤ℤ most)
+on_curve problem lines place depth change accept before after c b own net curve is at was e found =
+    let within = moved_within problem place depth change accept before after c b own net is at was e in
+    (class_hours problem depth c, least_net problem.blocks depth c, most_net problem.blocks depth c, found, within.0, within.1)
+
+-- what a look-up answers
+abbrev pub Looked : List (List Step) → Position → ℤ → ℤ → Option (Position × ℤ) → Type 0
+Looked periods own net value answer = MatchOption answer (joint_welfare periods (own.net +ℤ net) ≡ None)
+    (λ d. (d.0.net ≡ own.net +ℤ net) × (joint_welfare periods (own.net +ℤ net) ≡ Some d.0.welfare)
+    × (d.1 ≡ (d.0.welfare -ℤ own.welfare) +ℤ value))
+
+-- a class that doesn't balance after the change
+pub looked_none : (problem : ProblemState) (place depth : ℕ) (change : Change) (accept : Bool) (before after : List Bool) (c : ℕ)
+    (b : Block) (own : Position) (net : ℤ) → IsChange problem.blocks place change accept depth before after
+    → slice_get problem.blocks place ≡ Some b → IsPosition problem before c own → net ≡ by change accept (net_volume_of (c + 1) b.order)
+    → joint_welfare (class_hours problem depth c) (own.net +ℤ net) ≡ None → relaxed_welfare problem after ≡ None
+looked_none problem place depth change accept before after c b own net is at was e none =
+    let one : c + 1 ≡ suc c = omega arith in
+    class_unbalanced problem after c (own.net +ℤ net)
+    (moved_net problem place depth change accept before after c b own net is at was e ∙ ap (net_volume problem.blocks after) one)
+    (ap (λ (k : ℕ). class_welfare problem k c (own.net +ℤ net)) is.long ∙ none)
+
+-- a touch more on a day
+pub class_turned : {problem : ProblemState} {lines : List Line} {place j depth : ℕ} {b : Block} {change : Change} {accept listed : Bool}
+    {touches : List Touch} {touch : Touch} {before after : List Bool} {total : ℤ} (classes : List Position) (own next : Position)
+    (net value gained : ℤ) → IsChange problem.blocks place change accept depth before after → slice_get problem.blocks place ≡ Some b
+    → Touched problem lines place b listed touches j touch → touch.at < length classes → IsPosition problem before touch.at own
+    → net ≡ by change accept (net_volume_of (touch.at + 1) b.order) → value ≡ by change accept (class_value problem b.order touch.at)
+    → next.net ≡ own.net +ℤ net → joint_welfare (class_hours problem depth touch.at) (own.net +ℤ net) ≡ Some next.welfare
+    → gained ≡ (next.welfare -ℤ own.welfare) +ℤ value
+    → IsChangedSoFar problem before after (drop j touches) (λ c. get_or classes c no_position) total
+    → IsChangedSoFar problem before after (drop (j + 1) touches) (λ c. get_or (slice_set classes touch.at next) c no_position) (total +ℤ gained)
+class_turned {problem} {lines} {place} {j} {depth} {b} {change} {accept} {listed} {touches} {touch} {before} {after} {total} classes own next net
+    value gained is at t inside was e f sum found gain so_far =
+    let now = now_position problem place depth change accept before after touch.at b own next net is at was e sum found in
+    touch_changed problem before after touch (drop (j + 1) touches) (λ c. get_or classes c no_position)
+    (λ c. get_or (slice_set classes touch.at next) c no_position) total gained t.is.inside t.past
+    (subst (λ (p : Position). IsPosition problem after touch.at p) (sym (get_or-set_same classes touch.at next no_position inside)) now)
+    (λ c apart of. get_or-set_other classes touch.at c next no_position apart)
+    (class_gain problem place depth change accept before after touch.at b own next gained is at was now
+    (gain ∙ ap (λ (z : ℤ). (next.welfare -ℤ own.welfare) +ℤ z) f))
+    (subst (λ (ts : List Touch). IsChangedSoFar problem before after ts (λ c. get_or classes c no_position) total) t.rest_is so_far)
+
+-- a touch more in the slots
+pub class_decided : {problem : ProblemState} {lines : List Line} {place j depth : ℕ} {b : Block} {accept : Bool}
+    {touches : List Touch} {touch : Touch} {before after : List Bool} {total : ℤ} (slots : List Position) (own next : Position)
+    (net value gained : ℤ) → IsChange problem.blocks place Decide accept depth before after → slice_get problem.blocks place ≡ Some b
+    → Touched problem lines place b accept touches j touch → length problem.hours ≤ last_period → touch.to < length slots
+    → IsPosition problem before touch.at own
+    → net ≡ by Decide accept (net_volume_of (touch.at + 1) b.order) → value ≡ by Decide accept (class_value problem b.order touch.at)
+    → next.net ≡ own.net +ℤ net → joint_welfare (class_hours problem depth touch.at) (own.net +ℤ net) ≡ Some next.welfare
+    → gained ≡ (next.welfare -ℤ own.welfare) +ℤ value
+    → IsChangedSoFar problem before after (drop j touches) (in_slots problem.blocks place slots (drop j touches)) total
+    → IsChangedSoFar problem before after (drop (j + 1) touches)
+    (in_slots problem.blocks place (slice_set slots touch.to next) (drop (j + 1) touches)) (total +ℤ gained)
+class_decided {problem} {lines} {place} {j} {depth} {b} {accept} {touches} {touch} {before} {after} {total} slots own next net
+    value gained is at t few inside was e f sum found gain so_far =
+    let now = now_position problem place depth Decide accept before after touch.at b own next net is at was e sum found in
+    touch_changed problem before after touch (drop (j + 1) touches) (in_slots problem.blocks place slots (touch ∷ drop (j + 1) touches))
+    (in_slots problem.blocks place (slice_set slots touch.to next) (drop (j + 1) touches)) total gained t.is.inside t.past
+    (subst (λ (p : Position). IsPosition problem after touch.at p) (sym (next_slot slots next t at inside)) now)
+    (λ c apart of. other_slot slots next c t at few apart of.inside)
+    (class_gain problem place depth Decide accept before after touch.at b own next gained is at was now
+    (gain ∙ ap (λ (z : ℤ). (next.welfare -ℤ own.welfare) +ℤ z) f))
+    (subst (λ (ts : List Touch). IsChangedSoFar problem before after ts (in_slots problem.blocks place slots ts) total) t.rest_is so_far)
+
+-- all touches, on a day
+pub all_turned : (problem : ProblemState) (before after : List Bool) (rest : List Touch) (day : Day) → length day.classes ≡ last_period
+    → rest ≡ [] → length problem.hours ≤ last_period
+    → IsChangedSoFar problem before after rest (λ c. get_or day.classes c no_position) day.total → IsDay problem after day
+all_turned problem before after rest day long none few so_far =
+    let all = all_changed problem before after rest (λ c. get_or day.classes c no_position) day.total none so_far in
+    record {
+      long = long;
+      each = λ c d inside first.
+          subst (λ (p : Position). IsPosition problem after c p)
+          (get_or_default day.classes c no_position d (omega (arith, inside, few, long)))
+          (all.0 c (record { inside = inside; first = first }));
+      total_is = all.1;
+    }
+
+-- no touch yet, on a day
+pub unturned : (problem : ProblemState) (lines : List Line) (place depth : ℕ) (change : Change) (accept listed : Bool) (before after : List Bool)
+    (b : Block) (touches : List Touch) (day : Day) → IsChange problem.blocks place change accept depth before after
+    → slice_get problem.blocks place ≡ Some b → AreTouches problem lines place b listed touches → IsDay problem before day
+    → IsChangedSoFar problem before after touches (λ c. get_or day.classes c no_position) day.total
+unturned problem lines place depth change accept listed before after b touches day is at are of =
+    nothing_changed problem place depth change accept before after b touches (λ c. get_or day.classes c no_position) day.total is at
+    (λ c inside none. untouched problem lines place b listed touches c are inside none)
+    (λ c inside. of.each c no_position inside.inside inside.first) of.total_is
+
+-- no touch yet, in the slots
+pub undecided : (problem : ProblemState) (lines : List Line) (place depth : ℕ) (accept : Bool) (before after : List Bool)
+    (b : Block) (touches : List Touch) (trail : Trail) (total : ℤ) → IsChange problem.blocks place Decide accept depth before after
+    → slice_get problem.blocks place ≡ Some b → AreTouches problem lines place b accept touches → IsDayIn problem before trail total
+    → IsChangedSoFar problem before after touches (in_slots problem.blocks place trail.slots touches) total
+undecided problem lines place depth accept before after b touches trail total is at are of =
+    nothing_changed problem place depth Decide accept before after b touches (in_slots problem.blocks place trail.slots touches) total is at
+    (λ c inside none. untouched problem lines place b accept touches c are inside none)
+    (first_slots are at is.kind.0 of) (ap (λ (z : ℤ). Some z) (sym of.total_is) ∙ of.day_is.total_is)
+
+-- ---- a block has a touch, since it has a volume
+pub some_touch : (problem : ProblemState) (lines : List Line) (place : ℕ) (b : Block) (accept : Bool) (touches : List Touch) (t : ℕ)
+    → AreTouches problem lines place b accept touches → slice_get problem.blocks place ≡ Some b → t < length problem.hours
+    → 0 < volume_in b.order.volumes (suc t) → 0 < length touches
+some_touch problem lines place b accept touches t are at inside some =
+    let c = first_of problem.blocks t in
+    let first = first_first problem.blocks t in
+    let most = first_most problem.blocks t in
+    let same = class_volume problem.blocks t c place b refl at in
+    let one : suc c ≡ c + 1 = omega arith in
+    let here = same ∙ ap (volume_in b.order.volumes) one in
+    let x : nat_lt c (length problem.hours) ≡ true = grind (arith, nat_tests, inside, most) in
+    let y : (first_of problem.blocks c == c) ≡ true = grind (arith, nat_tests, first) in
+    let z : (volume_in b.order.volumes (c + 1) == 0) ≡ false = grind (arith, nat_tests, here, some) in
+    let count = are.one_each c ∙ touched_one (nat_lt c (length problem.hours)) (first_of problem.blocks c == c)
+    (volume_in b.order.volumes (c + 1) == 0) x y z in
+    let least = count_by-le-length (λ (u : Touch). u.at == c) touches in
+    omega (arith, count, least)
+  where
+    touched_one : (x y z : Bool) → x ≡ true → y ≡ true → z ≡ false → ◌≡◌ {A = ℕ} (cond (x && (y && not z)) 1 0) 1
+    touched_one true true false e f g = refl
+    touched_one true true true e f g = absurd (cc)
+    touched_one true false z e f g = absurd (cc)
+    touched_one false y z e f g = absurd (cc)
