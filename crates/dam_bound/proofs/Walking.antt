@@ -1,8 +1,8 @@
 -- A decision in the slots, and a decision turned round on a day, touch by touch.
-use Rattle.std.proofs.Common.{◌≡◌, ◌≢◌, ℕ, zero, suc, ◌+◌, ◌*◌, ◌<◌, ◌≤◌, ◌==◌, ◌&&◌, not, nat_lt, cond, ℤ, pos, neg_ℤ, ◌+ℤ◌, ◌-ℤ◌, ◌≤ℤ◌, Bool, true, false, Option}
+use Rattle.std.proofs.Common.{◌≡◌, ◌≢◌, ℕ, zero, suc, ◌+◌, ◌-◌, ◌*◌, ◌<◌, ◌≤◌, ◌==◌, ◌&&◌, not, nat_lt, cond, ℤ, pos, neg_ℤ, ◌+ℤ◌, ◌-ℤ◌, ◌≤ℤ◌, ◌<ℤ◌, ◌↔◌, IsTrue, Bool, true, false, true≢false, Option}
 use Rattle.std.proofs.Common.{Some, None, MatchOption, List, [], ◌∷◌, length, take, drop, get_or, slice_set, inl, inr, ap, ap₂, ◌∙◌, sym, subst, refl, arith}
 use Rattle.std.specs.List.{slice_get}
-use Rattle.std.proofs.lemmas.Int.{ints}
+use Rattle.std.proofs.lemmas.Int.{ints, by_lt_z}
 use Rattle.std.proofs.lemmas.Bool.{cases_lt}
 use Rattle.std.proofs.lemmas.Bool.Decides.{nat_tests}
 use Rattle.std.proofs.lemmas.List.{get_or_default, get_or-set_same, get_or-set_other}
@@ -10,6 +10,7 @@ use Rattle.std.proofs.lemmas.List.Sums.{sum_by-take-drop, count_by-le-length}
 use Rattle.std.proofs.lemmas.Option.{slice_get_within, slice_get-get_or}
 use Rattle.dam_book.specs.Limits.{last_period, most_blocks}
 use Rattle.dam_book.specs.Terms.{BlockTerms, IsBlockOrder}
+use Rattle.dam_book.specs.Volumes.{Pair, IsVolumes, have_beyond}
 use Rattle.dam_book.specs.declared.order.Side.{Side}
 use Rattle.dam_book.specs.declared.order.Side.TheVariants.{Buy, Sell}
 use Rattle.dam_hour.specs.Best.{signed}
@@ -19,7 +20,7 @@ use Rattle.dam_curve.specs.Curve.{joint_welfare, IsCurveAt}
 use Rattle.dam_curve.specs.declared.curves.Curve.{Curve}
 use Rattle.dam_curve.specs.declared.line.Line.{Line}
 use Rattle.dam_blocks.specs.declared.problem.Block.{Block}
-use Rattle.dam_blocks.specs.Problem.{ProblemState, AreBlocks}
+use Rattle.dam_blocks.specs.Problem.{ProblemState, AreBlocks, IsBlock}
 use Rattle.dam_blocks.specs.Selection.{volume_in, net_volume_of, value_of, net_volume, block_value}
 use Rattle.dam_blocks.specs.Magnitude.{IsWithin}
 use Rattle.dam_bound.specs.declared.day.Day.{Day}
@@ -43,6 +44,7 @@ use Rattle.dam_bound.proofs.Covering.{Laws}
 use Rattle.dam_bound.proofs.Sizes.{value_small}
 use Rattle.dam_blocks.proofs.Magnitudes.{value_within}
 use Rattle.dam_bound.proofs.Levelling.{drop_at}
+use Rattle.dam_bound.proofs.Volumes.{own_volume}
 use Rattle.dam_bound.proofs.Slots.{slot_kept, slot_own, slot_below, slot_within, slot_apart}
 
 -- ---- what all tables tell
@@ -155,11 +157,14 @@ by_within Turn true most z w = w
 by_within Turn false most z w =
     let l = w.at_least in let h = w.at_most in record { at_least = omega (arith, ints, h); at_most = omega (arith, ints, l) }
 
+block_in : (count : ℕ) (blocks : List Block) (k : ℕ) (b : Block) → AreBlocks count blocks → slice_get blocks k ≡ Some b → IsBlock count b
+block_in count [] k b are at = absurd (cc)
+block_in count (x ∷ blocks) zero b are at = let same : x ≡ b = cc in subst (IsBlock count) same are.0
+block_in count (x ∷ blocks) (suc k) b are at = block_in count blocks k b are.1 at
+
 pub block_order : (count : ℕ) (blocks : List Block) (k : ℕ) (b : Block) → AreBlocks count blocks → slice_get blocks k ≡ Some b
     → IsBlockOrder b.order
-block_order count [] k b are at = absurd (cc)
-block_order count (x ∷ blocks) zero b are at = let same : x ≡ b = cc in subst (λ (y : Block). IsBlockOrder y.order) same are.0.order
-block_order count (x ∷ blocks) (suc k) b are at = block_order count blocks k b are.1 at
+block_order count blocks k b are at = (block_in count blocks k b are at).order
 
 -- ---- one touch of the list
 -- no class is touched twice
@@ -546,3 +551,44 @@ some_touch problem lines place b accept touches t are at inside some =
     touched_one true true true e f g = absurd (cc)
     touched_one true false z e f g = absurd (cc)
     touched_one false y z e f g = absurd (cc)
+
+-- ---- giving up
+pub under : (problem : ProblemState) (least : ℕ) (before after : List Bool) (total shown floor bound : ℤ) (r : Bool) → shown ≡ total
+    → bound ≡ floor
+    → IsWithin (last_period * greatest_period_bound) total → r ≡ true → IsTrue r ↔ (shown <ℤ bound)
+    → ((z : ℤ) → IsWithin (last_period * greatest_period_bound) z → (z <ℤ floor) ↔ (z <ℤ pos least))
+    → (NeverRises problem.blocks before after → (w : ℤ) → relaxed_welfare problem after ≡ Some w → w ≤ℤ total)
+    → IsGivenUp problem least before after
+under problem least before after total shown floor bound r same level within e below m f =
+    inr (λ never w is. (let less = (m total within).0 (subst (λ z. total <ℤ z) level (subst (λ z. z <ℤ bound) same (below.0 e))) in
+    let most = f never w is in omega (arith, ints, less, most)))
+
+-- what isn't under the floor is at least as great
+pub not_under : (shown bound : ℤ) (r : Bool) → r ≡ false → IsTrue r ↔ (shown <ℤ bound) → bound ≤ℤ shown
+not_under shown bound r e below =
+    by_lt_z shown bound (λ less. absurd (let yes : r ≡ true = below.1 less in true≢false (sym yes ∙ e))) (λ more. more)
+
+-- a total that isn't under the floor is at least what was asked for
+pub asked : (least : ℕ) (total floor bound : ℤ) → bound ≡ floor → IsWithin (last_period * greatest_period_bound) total
+    → ((z : ℤ) → IsWithin (last_period * greatest_period_bound) z → (z <ℤ floor) ↔ (z <ℤ pos least))
+    → bound ≤ℤ total → pos least ≤ℤ total
+asked least total floor bound level within m high =
+    by_lt_z total (pos least) (λ less. absurd (let low = (m total within).1 less in omega (arith, ints, low, level, high))) (λ more. more)
+
+-- ---- a block has a volume in some period of the day
+first_pair : (count : ℕ) (pairs : List Pair) → IsVolumes pairs → have_beyond count pairs ≡ false
+    → (t : ℕ) × (t < count) × (0 < volume_in pairs (suc t))
+first_pair count [] are none = absurd (let some = are.nonempty in omega (arith, some))
+first_pair count (p ∷ ps) are none =
+    let increasing = are.increasing in
+    let above : 0 < p.0 = grind (arith, nat_tests, increasing) in
+    let most : p.0 ≤ count = grind (arith, nat_tests, none) in
+    let number : p.0 ≡ suc (p.0 - 1) = omega (arith, above) in
+    let own = own_volume p ps (suc (p.0 - 1)) number in
+    let some = are.ranges.1.at_least in
+    (p.0 - 1, omega (arith, above, most), omega (arith, own, some))
+
+pub some_volume : (count : ℕ) (blocks : List Block) (k : ℕ) (b : Block) → AreBlocks count blocks → slice_get blocks k ≡ Some b
+    → (t : ℕ) × (t < count) × (0 < volume_in b.order.volumes (suc t))
+some_volume count blocks k b are at =
+    let block = block_in count blocks k b are at in first_pair count b.order.volumes block.order.volumes block.in_day
