@@ -69,9 +69,11 @@ welfare_there blocks left sel t zero (hour ∷ hours) ss w e at =
     let parts = added_some (period_welfare blocks sel t (hour ++ as_steps t left))
     (welfare_from blocks sel (suc t) (relaxed_hours left (suc t) hours)) w e in
     let same : hour ≡ ss = cc in
-    let number : t ≡ t + zero = omega arith in
-    (parts.0, subst (λ (n : ℕ). period_welfare blocks sel n (ss ++ as_steps n left) ≡ Some parts.0) number
-    (subst (λ (hs : List Step). period_welfare blocks sel t (hs ++ as_steps t left) ≡ Some parts.0) same parts.2))
+    let number : t ≡ t + zero = omega arith in (
+      parts.0,
+      subst (λ (n : ℕ). period_welfare blocks sel n (ss ++ as_steps n left) ≡ Some parts.0) number
+          (subst (λ (hs : List Step). period_welfare blocks sel t (hs ++ as_steps t left) ≡ Some parts.0) same parts.2),
+    )
 welfare_there blocks left sel t (suc i) (hour ∷ hours) ss w e at =
     let parts = added_some (period_welfare blocks sel t (hour ++ as_steps t left))
     (welfare_from blocks sel (suc t) (relaxed_hours left (suc t) hours)) w e in
