@@ -15,3 +15,5 @@ pub mod Walking
 pub mod Volumes
 pub mod Gains
 pub mod Members
+pub mod Steering
+pub mod Pricing
