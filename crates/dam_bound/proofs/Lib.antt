@@ -9,9 +9,14 @@ pub mod Extending
 pub mod Sizes
 pub mod Worth
 pub mod Classing
+pub mod Changing
+pub mod Slots
+pub mod Walking
 pub mod Volumes
 pub mod Gains
 pub mod Members
+pub mod Steering
+pub mod Pricing
 pub mod BuildingClasses
 pub mod BuildingPairs
 pub mod BuildingSupplies

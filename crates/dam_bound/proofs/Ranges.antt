@@ -53,7 +53,7 @@ both_in_range (x ∷ ss) ts r s = (r.0, r.1, both_in_range ss ts r.2 s)
 
 -- ---- the welfare
 -- the decided blocks stand as steps too, so that there is one step for each hourly order and each block
-period_size : Laws → (periods t : ℕ) (bs : List Block) (prefix : List Bool) (ss : List Step) (u : ℤ) → AreBlocks periods bs → AreInRange ss
+pub period_size : Laws → (periods t : ℕ) (bs : List Block) (prefix : List Bool) (ss : List Step) (u : ℤ) → AreBlocks periods bs → AreInRange ss
     → period_welfare bs prefix t (ss ++ as_steps t (drop (length prefix) bs)) ≡ Some u
     → IsWithin ((length ss + length bs) * greatest_value) u
 period_size laws periods t bs prefix ss u are range e =

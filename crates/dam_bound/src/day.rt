@@ -1,19 +1,20 @@
 ghost use Rattle.std.specs.Prelude.{◌≡◌, ◌<◌, ◌≤◌, pos, ℕ, ℤ, ◌+ℤ◌, ◌-ℤ◌, ◌≤ℤ◌, List, Bool, Some, None, length, slice_index_or, IfSome, MatchBool, MatchOption};
 ghost use Rattle.dam_book.specs.Limits.{last_period};
 ghost use Rattle.dam_hour.specs.declared.step.Step.{Step};
-ghost use Rattle.dam_curve.specs.Curve.{IsCurveAt, joint_welfare, greatest_joint_welfare};
+ghost use Rattle.dam_curve.specs.Curve.{IsCurveAt, joint_welfare};
 ghost use Rattle.dam_blocks.specs.Magnitude.{IsWithin};
 ghost use Rattle.dam_blocks.specs.Problem.{ProblemState};
 ghost use Rattle.dam_bound.specs.Day.{IsDay};
 ghost use Rattle.dam_bound.specs.Relaxed.{relaxed_welfare};
 ghost use Rattle.dam_bound.specs.Tables.{AreTablesOf};
-ghost use Rattle.dam_bound.specs.inside.Change.{IsChange, greatest_class_value, greatest_move};
+ghost use Rattle.dam_bound.specs.inside.Change.{by, IsChange, greatest_position, greatest_class_value, greatest_move};
 ghost use Rattle.dam_bound.specs.declared.day.Change.TheVariants.{Turn};
 ghost use Rattle.dam_bound.specs.declared.day.Position.{Position};
 
+use crate::lookup::{end_of, moved, touches_of};
 use crate::tables::Tables;
+use crate::touch::Touch;
 use dam_blocks::MOST_PERIODS;
-use dam_curve::{Curve, Curves};
 use std::alloc::Allocator;
 
 /// Where a class of periods stands under a prefix.
@@ -81,33 +82,18 @@ pub(crate) enum Change {
     Turn,
 }
 
-/// Where a class stands after a change that adds this net volume and this value, on the curve that it then has; and
-/// what the total gains by it. `None` if some period doesn't balance.
-#[inline(always)]
-pub(crate) fn moved<A: Allocator>(
-    curves: &Curves<A>,
-    curve: Curve,
-    own: Position,
-    net: i64,
-    value: i64,
-) -> Option<(Position, i64)>
-    requires curve { (periods : List (List Step)) × (least : ℤ) × (most : ℤ)
-        × IsCurveAt curves.now curve periods least most
-        × (least ≤ℤ (own.net +ℤ net)) × ((own.net +ℤ net) ≤ℤ most) }
-    requires welfare { IsWithin greatest_joint_welfare own.welfare }
-    requires value { IsWithin greatest_class_value value }
-    ensures moved { (periods : List (List Step)) (least most : ℤ)
-        → IsCurveAt curves.now curve periods least most
-        → least ≤ℤ (own.net +ℤ net) → (own.net +ℤ net) ≤ℤ most
-        → MatchOption result (joint_welfare periods (own.net +ℤ net) ≡ None)
-        (λ d. (d.0.net ≡ own.net +ℤ net)
-        × (joint_welfare periods (own.net +ℤ net) ≡ Some d.0.welfare)
-        × (d.1 ≡ (d.0.welfare -ℤ own.welfare) +ℤ value)) }
-    ensures size { IfSome result (λ d. IsWithin greatest_move d.1) }
+/// The net volume and the value that a class gains if the block is accepted, or loses if it was and is rejected.
+fn turned(touch: &Touch, accept: bool) -> (i64, i64)
+    requires { IsWithin greatest_class_value touch.now.value }
+    ensures net { result.0 ≡ by Turn accept touch.now.net }
+    ensures value { result.1 ≡ by Turn accept touch.now.value }
 {
-    let net = own.net + net;
-    let welfare = curves.welfare(curve, net)?;
-    Some((Position { net, welfare }, welfare - own.welfare + value))
+    let net = i64::from(touch.net);
+    if accept {
+        (net, touch.value)
+    } else {
+        (-net, -touch.value)
+    }
 }
 
 /// Turns the decision on the block at the place round in each of its classes; it is then accepted or
@@ -130,15 +116,15 @@ pub(crate) fn turn_block<A: Allocator>(
         → IsDay problem before day.old
         → MatchBool result (IsDay problem after day.new) (relaxed_welfare problem after ≡ None) }
 {
-    for touch in tables.lots[place].touches(true) {
+    dam_hour::laws::joining();
+    dam_hour::laws::welfare();
+    dam_hour::laws::magnitude();
+    dam_blocks::laws::sums();
+    for touch in touches_of(tables, place, true) {
         let at = touch.at as usize;
         let own = day.classes[at];
-        let (net, value) = if accept {
-            (i64::from(touch.net), touch.value)
-        } else {
-            (-i64::from(touch.net), -touch.value)
-        };
-        let Some((next, gained)) = moved(&tables.curves, tables.ends[at], own, net, value) else {
+        let (net, value) = turned(touch, accept);
+        let Some((next, gained)) = moved(tables, end_of(tables, at), own, net, value) else {
             return false;
         };
         day.classes[at] = next;

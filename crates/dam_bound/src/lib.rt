@@ -27,6 +27,7 @@ mod families;
 mod gain;
 pub mod laws;
 mod levels;
+mod lookup;
 mod periods;
 mod relaxed;
 mod tables;

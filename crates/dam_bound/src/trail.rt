@@ -11,7 +11,8 @@ ghost use Rattle.dam_bound.specs.declared.day.Change.TheVariants.{Decide};
 ghost use Rattle.dam_bound.specs.declared.day.Position.{Position};
 ghost use Rattle.dam_bound.specs.Tables.{AreTablesOf};
 
-use crate::day::{Day, Position, moved};
+use crate::day::{Day, Position};
+use crate::lookup::{moved, touches_of};
 use crate::tables::Tables;
 use dam_blocks::MOST_PERIODS;
 use dam_book::MOST_BLOCKS;
@@ -98,17 +99,15 @@ pub(crate) fn decide_block<A: Allocator>(
         → slice_index_or trail.new.slots i own ≡ slice_index_or trail.old.slots i own }
     ensures room { length trail.new.slots ≡ slot_count }
 {
+    dam_hour::laws::joining();
+    dam_hour::laws::welfare();
+    dam_hour::laws::magnitude();
+    dam_blocks::laws::sums();
     let floor = floor_of(least);
     let mut left = total;
-    for touch in tables.lots[place].touches(accept) {
+    for touch in touches_of(tables, place, accept) {
         let own = trail.slots[touch.from as usize];
-        let next = moved(
-            &tables.curves,
-            touch.curve,
-            own,
-            i64::from(touch.net),
-            touch.value,
-        );
+        let next = moved(tables, touch.curve, own, i64::from(touch.net), touch.value);
         let Some((next, gained)) = next else {
             return None;
         };

@@ -1,17 +1,17 @@
 -- What becomes of a day if one block is decided, or decided the other way.
 use Rattle.std.specs.Prelude.{◌≡◌, ◌⊎◌, ℕ, ◌+◌, ◌*◌, Bool, true, false, ℤ, pos, neg_ℤ, ◌+ℤ◌, ◌≤ℤ◌, Some, None, List, ◌++◌, length, drop}
 use Rattle.std.specs.Prelude.{slice_get}
-use Rattle.dam_book.specs.Limits.{last_period}
+use Rattle.dam_book.specs.Limits.{last_period, most_blocks}
 use Rattle.dam_hour.specs.Limits.{greatest_value}
 use Rattle.dam_hour.specs.declared.step.Step.{Step}
 use Rattle.dam_curve.specs.Curve.{greatest_joint_welfare}
-use Rattle.dam_blocks.specs.Magnitude.{IsWithin}
 use Rattle.dam_blocks.specs.declared.problem.Block.{Block}
 use Rattle.dam_blocks.specs.Problem.{ProblemState}
 use Rattle.dam_blocks.specs.Selection.{volume_in, net_volume_of, value_of, net_volume, block_value}
 use Rattle.dam_blocks.specs.Eligible.{period_welfare}
 use Rattle.dam_bound.specs.Relaxed.{as_steps, relaxed_welfare}
 use Rattle.dam_bound.specs.Day.{IsUnder}
+use Rattle.dam_bound.specs.inside.Levels.{greatest_period_bound}
 use Rattle.dam_bound.specs.declared.day.Change.{Change}
 use Rattle.dam_bound.specs.declared.day.Change.TheVariants.{Decide, Turn}
 
@@ -50,9 +50,13 @@ abbrev pub IsGivenUp : ProblemState → ℕ → List Bool → List Bool → Type
 IsGivenUp problem least before after = (relaxed_welfare problem after ≡ None)
     ⊎ (NeverRises problem.blocks before after → IsUnder problem after least)
 
--- the size of what a block is worth in a class, and of what a change of it makes of the total
+-- the size of a class's welfare, apart from what the accepted blocks are worth; of what a block is worth in a class; and of
+-- what a change of the block makes of the total
+abbrev pub greatest_position : ℕ
+greatest_position = last_period * (greatest_period_bound + most_blocks * greatest_value)
+
 abbrev pub greatest_class_value : ℕ
 greatest_class_value = last_period * greatest_value
 
 abbrev pub greatest_move : ℕ
-greatest_move = 2 * greatest_joint_welfare + greatest_class_value
+greatest_move = greatest_joint_welfare + (greatest_position + greatest_class_value)
