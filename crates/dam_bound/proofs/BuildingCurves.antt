@@ -1,11 +1,10 @@
 -- The periods of a class, from the last to the first, and how many they are.
-use Rattle.std.proofs.Common.{◌≡◌, ◌≢◌, ℕ, zero, suc, ◌+◌, ◌-◌, ◌<◌, ◌≤◌, ◌==◌, cond, Bool, true, false, ℤ, pos, ◌+ℤ◌, ◌≤ℤ◌, Some, List, []}
-use Rattle.std.proofs.Common.{◌∷◌, ◌++◌, length, drop, get_or, slice_index_or, inl, inr, ap, ◌∙◌, sym, subst, refl, arith}
+use Rattle.std.proofs.Common.{◌≡◌, ◌≢◌, ℕ, zero, suc, ◌+◌, ◌-◌, ◌<◌, ◌≤◌, ◌==◌, cond, Bool, true, false, ℤ, pos, ◌+ℤ◌, Some, List, []}
+use Rattle.std.proofs.Common.{◌∷◌, ◌++◌, length, drop, get_or, slice_index_or, ap, ◌∙◌, sym, subst, refl, arith}
 use Rattle.std.specs.List.{slice_get}
 use Rattle.std.proofs.lemmas.Int.{ints}
 use Rattle.std.proofs.lemmas.Bool.Decides.{nat_tests}
 use Rattle.std.proofs.lemmas.List.{drop_all}
-use Rattle.std.proofs.lemmas.Option.{slice_get_within}
 use Rattle.dam_book.specs.Limits.{last_period}
 use Rattle.dam_hour.specs.declared.step.Step.{Step}
 use Rattle.dam_curve.specs.Supply.{IsSupplyOf}
@@ -13,9 +12,9 @@ use Rattle.dam_curve.specs.Curve.{IsCurve}
 use Rattle.dam_curve.specs.declared.line.Line.{Line}
 use Rattle.dam_blocks.specs.declared.problem.Block.{Block}
 use Rattle.dam_blocks.specs.Problem.{ProblemState}
-use Rattle.dam_bound.specs.Classes.{first_of, members, over_class, class_hours}
+use Rattle.dam_bound.specs.Classes.{first_of, members, over_class}
 use Rattle.dam_bound.specs.Relaxed.{as_steps, relaxed_hours}
-use Rattle.dam_bound.specs.Tables.{least_net, most_net, AreFirsts}
+use Rattle.dam_bound.specs.Tables.{least_net, most_net}
 use Rattle.dam_bound.specs.inside.Building.{AreSupplies, class_size, AreDecided, PeriodsState}
 use Rattle.dam_bound.proofs.DayLevels.{one_at}
 use Rattle.dam_bound.proofs.Levelling.{drop_at}
@@ -157,12 +156,6 @@ curve_more problem depth c at lines supplies before same is =
 -- ---- the number of periods
 pub record IsSizeSoFar (problem : ProblemState) (c at size : ℕ) : Type 0 where
   pub sum : pos size +ℤ over_class (λ t. pos 1) problem.blocks c at (length problem.hours - at) ≡ class_size problem c
-
-pub size_begun : (problem : ProblemState) (c : ℕ) → IsSizeSoFar problem c 0 0
-size_begun problem c =
-    let all : length problem.hours - 0 ≡ length problem.hours = omega arith in
-    let same = ap (over_class (λ t. pos 1) problem.blocks c 0) all in
-    record { sum = omega (arith, ints, same) }
 
 pub size_more : (problem : ProblemState) (c at size : ℕ) → at < length problem.hours → first_of problem.blocks at ≡ c
     → IsSizeSoFar problem c at size → IsSizeSoFar problem c (at + 1) (size + 1)

@@ -1,11 +1,10 @@
 -- The curves and the day with no block decided.
-use Rattle.std.proofs.Common.{◌≡◌, ◌≢◌, ℕ, zero, suc, ◌+◌, ◌-◌, ◌*◌, ◌<◌, ◌≤◌, ◌==◌, cond, Bool, true, false, ℤ, pos, neg_ℤ, ◌+ℤ◌, ◌≤ℤ◌, Option}
-use Rattle.std.proofs.Common.{Some, List, [], ◌∷◌, ◌++◌, length, length-append, drop, get_or, slice_set, inl, inr, ap, ap₂, ◌∙◌, sym, subst, refl, arith}
+use Rattle.std.proofs.Common.{◌≡◌, ◌≢◌, ℕ, zero, suc, ◌+◌, ◌-◌, ◌*◌, ◌<◌, ◌==◌, cond, Bool, true, false, ℤ, pos, ◌+ℤ◌, Option}
+use Rattle.std.proofs.Common.{Some, List, [], ◌∷◌, ◌++◌, length, length-append, get_or, slice_set, inl, inr, ap, ap₂, ◌∙◌, sym, subst, refl, arith}
 use Rattle.std.specs.List.{slice_get}
 use Rattle.std.specs.Option.{option_map}
 use Rattle.std.proofs.lemmas.Int.{ints}
 use Rattle.std.proofs.lemmas.Bool.{cases_lt}
-use Rattle.std.proofs.lemmas.Bool.Decides.{nat_tests}
 use Rattle.std.proofs.lemmas.List.{length-set, get_or-set_same, get_or-set_other, get_or_append_left, get_or_push}
 use Rattle.std.proofs.lemmas.Option.{get_or_from_slice_get}
 use Rattle.dam_book.specs.Limits.{last_period}
@@ -18,13 +17,13 @@ use Rattle.dam_curve.specs.declared.line.Line.{Line}
 use Rattle.dam_curve.specs.declared.curves.Curve.{Curve}
 use Rattle.dam_blocks.specs.declared.problem.Block.{Block}
 use Rattle.dam_blocks.specs.Problem.{ProblemState}
-use Rattle.dam_blocks.specs.Selection.{over_accepted, net_volume_of, value_of, net_volume, block_value}
+use Rattle.dam_blocks.specs.Selection.{over_accepted, net_volume_of, value_of, block_value}
 use Rattle.dam_blocks.specs.Eligible.{added, period_welfare, welfare_from}
 use Rattle.dam_blocks.specs.Magnitude.{IsWithin}
-use Rattle.dam_bound.specs.Classes.{first_of, members, over_class, class_hours, class_welfare}
+use Rattle.dam_bound.specs.Classes.{first_of, members, over_class, class_welfare}
 use Rattle.dam_bound.specs.Day.{IsPosition, IsDay}
-use Rattle.dam_bound.specs.Relaxed.{relaxed_hours, relaxed_welfare}
-use Rattle.dam_bound.specs.Tables.{IsClassCurve, AreCurves}
+use Rattle.dam_bound.specs.Relaxed.{relaxed_hours}
+use Rattle.dam_bound.specs.Tables.{IsClassCurve}
 use Rattle.dam_bound.specs.declared.day.Day.{Day}
 use Rattle.dam_bound.specs.declared.day.Position.{Position}
 use Rattle.dam_bound.proofs.Worth.{worth, sum_from}
@@ -36,9 +35,6 @@ use Rattle.dam_bound.proofs.BuildingTouches.{class_curve_stays}
 pub record AreFirstCurves (problem : ProblemState) (lines : List Line) (count : ℕ) (ends : List Curve) : Type 0 where
   pub long : length ends ≡ count
   pub each : (c : ℕ) (d : Curve) → c < count → first_of problem.blocks c ≡ c → IsClassCurve problem lines 0 c (get_or ends c d)
-
-pub no_curve : (problem : ProblemState) (lines : List Line) → AreFirstCurves problem lines 0 []
-no_curve problem lines = record { long = refl; each = λ c d l first. absurd (omega (arith, l)) }
 
 pub curve_pushed : (problem : ProblemState) (old new : List Line) (count : ℕ) (ends ends' : List Curve) (curve : Curve) → Keeps old new
     → (first_of problem.blocks count ≡ count → IsClassCurve problem new 0 count curve) → ends' ≡ ends ++ curve ∷ []
@@ -59,13 +55,6 @@ curve_pushed problem old new count ends ends' curve keeps is same so_far =
             (is (subst (λ (n : ℕ). first_of problem.blocks n ≡ n) here first))))
       ];
     })
-
-pub first_curves_are : (problem : ProblemState) (lines : List Line) (count : ℕ) (ends : List Curve) → count ≡ length problem.hours
-    → AreFirstCurves problem lines count ends → AreCurves problem lines 0 ends
-first_curves_are problem lines count ends all so_far = record {
-  as_many = so_far.long ∙ all;
-  each = λ c d l first. so_far.each c d (omega (arith, l, all)) first;
-}
 
 -- ---- every period balances at a net volume of 0
 abbrev pub Zero : Type 0
@@ -164,9 +153,6 @@ sum_last f t (suc n) =
 pub record IsRootSoFar (problem : ProblemState) (at : ℕ) (classes : List Position) (total : ℤ) : Type 0 where
   pub each : (c : ℕ) (d : Position) → c < at → first_of problem.blocks c ≡ c → IsPosition problem [] c (get_or classes c d)
   pub total_is : total ≡ sum_from (class_worth problem) 0 at
-
-pub root_begun : (problem : ProblemState) (classes : List Position) → IsRootSoFar problem 0 classes (pos 0)
-root_begun problem classes = record { each = λ c d l first. absurd (omega (arith, l)); total_is = refl }
 
 pub root_kept : (problem : ProblemState) (at : ℕ) (classes : List Position) (total : ℤ) → first_of problem.blocks at ≢ at
     → IsRootSoFar problem at classes total → IsRootSoFar problem (at + 1) classes total

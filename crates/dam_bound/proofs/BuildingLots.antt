@@ -1,10 +1,9 @@
 -- The tables, block by block.
-use Rattle.std.proofs.Common.{◌≡◌, ℕ, zero, suc, take, drop, ◌+◌, ◌*◌, ◌<◌, ◌≤◌, true, false, Some, List, [], ◌∷◌, ◌++◌, length, length-append, map, inl, inr, ap, ◌∙◌}
+use Rattle.std.proofs.Common.{◌≡◌, ℕ, zero, suc, take, drop, ◌+◌, true, false, Some, List, [], ◌∷◌, ◌++◌, length, length-append, map, inl, inr, ap, ◌∙◌}
 use Rattle.std.proofs.Common.{sym, subst, refl, arith}
 use Rattle.std.specs.List.{slice_get}
 use Rattle.std.specs.Prelude.{IsPermutation}
 use Rattle.std.proofs.lemmas.List.{drop_all, append-nil}
-use Rattle.dam_book.specs.Limits.{last_period, most_blocks}
 use Rattle.dam_curve.specs.Curve.{Keeps}
 use Rattle.dam_curve.specs.declared.line.Line.{Line}
 use Rattle.dam_curve.specs.declared.curves.Curve.{Curve}

@@ -9,7 +9,6 @@ use Rattle.std.proofs.lemmas.Bool.{cases_lt}
 use Rattle.std.proofs.lemmas.List.{length-set, length-replicate, get_or-set_same, get_or-set_other, drop_all}
 use Rattle.std.proofs.lemmas.Option.{slice_get_within}
 use Rattle.dam_book.specs.Limits.{last_period, greatest_volume, most_blocks}
-use Rattle.dam_book.specs.Terms.{BlockTerms}
 use Rattle.dam_book.specs.Volumes.{Pair, ArePairs}
 use Rattle.dam_book.specs.declared.order.Side.{Side}
 use Rattle.dam_book.specs.declared.order.Side.TheVariants.{Buy, Sell}
@@ -108,10 +107,6 @@ pub record AreWidenedSoFar (own : Side) (pairs left : List Pair) (before ranges 
       ≡ (get_or before i d).least +ℤ side_net Buy own (volume_in pairs (i + 1))
   pub most : (i : ℕ) (d : Range) → i < last_period → (get_or ranges i d).most +ℤ side_net Sell own (volume_in left (i + 1))
       ≡ (get_or before i d).most +ℤ side_net Sell own (volume_in pairs (i + 1))
-
-pub none_widened : (own : Side) (pairs : List Pair) (ranges : List Range) → length ranges ≡ last_period
-    → AreWidenedSoFar own pairs pairs ranges ranges
-none_widened own pairs ranges long = record { long = long; least = λ i d l. refl; most = λ i d l. refl }
 
 pub widened_more : (own : Side) (periods j place : ℕ) (pairs : List Pair) (p : Pair) (before ranges ranges' : List Range) (after : Range)
     → IsNextPair periods pairs j p → p.0 ≡ place + 1 → place < last_period

@@ -1,7 +1,7 @@
 -- The touches of a block, pair by pair, and what stays of those that are there.
-use Rattle.std.proofs.Common.{◌≡◌, ◌≢◌, ℕ, zero, suc, ◌+◌, ◌*◌, ◌<◌, ◌≤◌, ◌==◌, ◌&&◌, not, nat_lt, cond, Bool, true, false, ℤ, pos, ◌+ℤ◌, ◌*ℤ◌}
-use Rattle.std.proofs.Common.{negsuc, Some, List, [], ◌∷◌, ◌++◌, length, drop, get_or, slice_set, map, inl, inr, ap, ap₂, ◌∙◌, sym, subst, refl, arith}
-use Rattle.std.specs.List.{slice_get, sum_by, count_by}
+use Rattle.std.proofs.Common.{◌≡◌, ◌≢◌, ℕ, zero, suc, ◌+◌, ◌<◌, ◌≤◌, ◌==◌, ◌&&◌, not, nat_lt, cond, Bool, true, false, ℤ, pos, ◌+ℤ◌, ◌*ℤ◌}
+use Rattle.std.proofs.Common.{negsuc, Some, List, [], ◌∷◌, ◌++◌, length, drop, get_or, map, inl, inr, ap, ap₂, ◌∙◌, sym, subst, refl, arith}
+use Rattle.std.specs.List.{slice_get}
 use Rattle.std.specs.Prelude.{IsPermutation}
 use Rattle.std.proofs.lemmas.Int.{ints}
 use Rattle.std.proofs.lemmas.Bool.{cases_lt}
@@ -10,28 +10,24 @@ use Rattle.std.proofs.lemmas.List.{drop_all}
 use Rattle.std.proofs.lemmas.List.Sums.{sum_by-cons, sum_by_push}
 use Rattle.std.proofs.lemmas.List.Sorted.{sum_by-IsPermutation, All-permutation}
 use Rattle.std.proofs.lemmas.Option.{slice_get_within, slice_get-get_or, get_or_from_slice_get}
-use Rattle.std.proofs.Math.Nat.{mul-suc, mul-le-mul}
-use Rattle.dam_book.specs.Limits.{last_period, most_blocks}
+use Rattle.std.proofs.Math.Nat.{mul-suc}
 use Rattle.dam_book.specs.Terms.{BlockTerms}
 use Rattle.dam_book.specs.Volumes.{Pair}
 use Rattle.dam_hour.specs.Best.{signed}
-use Rattle.dam_hour.specs.Limits.{greatest_value}
 use Rattle.dam_hour.specs.declared.step.Step.{Step}
 use Rattle.dam_curve.specs.Curve.{bottom_of, end_of, IsCurve, IsCurveAt, Keeps}
 use Rattle.dam_curve.specs.declared.line.Line.{Line}
 use Rattle.dam_curve.specs.declared.curves.Curve.{Curve}
 use Rattle.dam_blocks.specs.declared.problem.Block.{Block}
 use Rattle.dam_blocks.specs.Problem.{ProblemState}
-use Rattle.dam_blocks.specs.Magnitude.{IsWithin}
-use Rattle.dam_blocks.specs.Selection.{volume_in, net_volume_of, value_of}
+use Rattle.dam_blocks.specs.Selection.{volume_in, value_of}
 use Rattle.dam_bound.specs.Classes.{first_of, over_class}
-use Rattle.dam_bound.specs.Tables.{IsClassCurve, AreCurves, class_value, IsTouch, is_touched, touches_at, AreTouches, rejected, LotState}
-use Rattle.dam_bound.specs.Tables.{IsLot, AreLots, ArePlaces}
-use Rattle.dam_bound.specs.inside.Building.{class_size, IsClass, DecidingState, IsDeciding}
-use Rattle.dam_bound.specs.Trail.{slot_at}
+use Rattle.dam_bound.specs.Tables.{IsClassCurve, AreCurves, class_value, IsTouch, touches_at, AreTouches, rejected, LotState}
+use Rattle.dam_bound.specs.Tables.{AreLots}
+use Rattle.dam_bound.specs.inside.Building.{class_size}
 use Rattle.dam_bound.specs.declared.touch.Touch.{Touch}
 use Rattle.dam_bound.proofs.DayLevels.{of_pushed}
-use Rattle.dam_bound.proofs.Classing.{class_volume, class_here, class_elsewhere, same_class}
+use Rattle.dam_bound.proofs.Classing.{class_volume, same_class}
 use Rattle.dam_bound.proofs.BuildingPairs.{IsNextPair}
 use Rattle.dam_bound.proofs.BuildingSupplies.{some_same}
 
@@ -52,9 +48,6 @@ pub keeps_on : (one two all : List Line) → Keeps one two → Keeps two all →
 keeps_on one two all f g curve l =
     let a = f curve l in let b = g curve a.0 in
     (b.0, b.1 ∙ a.1)
-
-pub keeps_none : (lines : List Line) → Keeps lines lines
-keeps_none lines curve l = (l, refl)
 
 pub class_curve_stays : (problem : ProblemState) (old new : List Line) (depth c : ℕ) (curve : Curve) → Keeps old new
     → IsClassCurve problem old depth c curve → IsClassCurve problem new depth c curve
@@ -262,18 +255,6 @@ times_more (negsuc n) m = let e = mul-suc (suc n) m in omega (arith, ints, e)
 times_none : (v : ℤ) → v *ℤ pos 0 ≡ pos 0
 times_none v = omega (arith, ints)
 
-pub within_times : (z : ℤ) (n most : ℕ) → IsWithin greatest_value z → n ≤ most → IsWithin (most * greatest_value) (z *ℤ pos n)
-within_times (pos a) n most is l =
-    let high = is.at_most in
-    let m : a * n ≤ greatest_value * most =
-    mul-le-mul {n₁ = a} {m₁ = n} {n₂ = greatest_value} {m₂ = most} (omega (arith, ints, high)) l in
-    record { at_least = omega (arith, ints, m); at_most = omega (arith, ints, m) }
-within_times (negsuc a) n most is l =
-    let low = is.at_least in
-    let m : suc a * n ≤ greatest_value * most =
-    mul-le-mul {n₁ = suc a} {m₁ = n} {n₂ = greatest_value} {m₂ = most} (omega (arith, ints, low)) l in
-    record { at_least = omega (arith, ints, m); at_most = omega (arith, ints, m) }
-
 -- the same number of each member, and 1 of each
 scaled : (v : ℤ) (blocks : List Block) (c i n : ℕ)
     → (m : ℕ) × (over_class (λ t. pos 1) blocks c i n ≡ pos m) × (over_class (λ t. v) blocks c i n ≡ v *ℤ pos m)
@@ -296,6 +277,14 @@ class_worth problem k c b at =
     (λ i l m e. ap (λ (q : ℕ). signed b.order.side (b.order.price *ℤ pos q))
     (class_volume problem.blocks i c k b e at ∙ ap (volume_in b.order.volumes) number))
     ∙ all.2 ∙ ap (λ (z : ℤ). v *ℤ z) (sym all.1)
+
+-- as the code has it
+pub worth_in_all : (problem : ProblemState) (k c t : ℕ) (b : Block) (o : BlockTerms) (z x y : ℤ) → slice_get problem.blocks k ≡ Some b
+    → b.order ≡ o → t ≡ c + 1 → z ≡ x *ℤ y → x ≡ value_of t o → y ≡ class_size problem c → z ≡ class_value problem b.order c
+worth_in_all problem k c t b o z x y at same number is worth size =
+    is ∙ ap₂ (λ (u v : ℤ). u *ℤ v)
+    (worth ∙ ap (λ (n : ℕ). value_of n o) number ∙ ap (λ (p : BlockTerms). value_of (c + 1) p) (sym same)) size
+    ∙ sym (class_worth problem k c b at)
 
 -- ---- the rejected ones, and in any order
 rejected_is : (problem : ProblemState) (lines : List Line) (k : ℕ) (b : Block) (touch : Touch) → IsTouch problem lines k b true touch
@@ -345,42 +334,3 @@ in_any_order problem lines k b accept touches others same are =
           subst (λ (x : Touch). IsTouch problem lines k b accept x) (get_or_from_slice_get others j touch touch at)
           (each j touch (slice_get_within others j touch at));
     }
-
--- ---- one touch
-pub made_touch : (problem : ProblemState) (lines : List Line) (k at from to : ℕ) (b : Block) (net value stake : ℤ) (curve : Curve)
-    (deciding : DecidingState) → IsDeciding problem k b deciding → IsClass problem at → 0 < volume_in b.order.volumes (at + 1)
-    → from ≡ get_or deciding.places at 0 → to ≡ deciding.row + at → net ≡ net_volume_of (at + 1) b.order
-    → value ≡ class_value problem b.order at → IsClassCurve problem lines (k + 1) at curve
-    → IsTouch problem lines k b true
-    (record { at = at; from = from; to = to; net = net; value = value; curve = curve; stake = stake })
-made_touch problem lines k at from to b net value stake curve deciding is class some from_is to_is net_is value_is curve_is =
-    let row = is.row_is in
-    record {
-      inside = class.inside;
-      first = class.first;
-      some = some;
-      from_is = from_is ∙ is.places_are.each at 0 class.inside class.first;
-      to_is = omega (arith, to_is, row);
-      net_is = net_is;
-      value_is = value_is;
-      curve_is = curve_is;
-    }
-
--- the sizes of what a touch is made of
-pub record AreSmallIn (problem : ProblemState) (k at : ℕ) (deciding : DecidingState) : Type 0 where
-  pub period : at < last_period
-  pub slot : deciding.row + at < 2500
-
-pub small_in : (problem : ProblemState) (k at : ℕ) (b : Block) (deciding : DecidingState) → IsDeciding problem k b deciding
-    → IsClass problem at → AreSmallIn problem k at deciding
-small_in problem k at b deciding is class =
-    let row = is.row_is in let inside = class.inside in let short = is.periods_are.few_periods in
-    let place = slice_get_within problem.blocks k b is.block_is in let few = is.periods_are.few_blocks in
-    record { period = omega (arith, inside, short); slot = omega (arith, row, inside, short, place, few) }
-
-pub worth_in_all : (problem : ProblemState) (k c t : ℕ) (b : Block) (o : BlockTerms) (z x y : ℤ) → slice_get problem.blocks k ≡ Some b
-    → b.order ≡ o → t ≡ c + 1 → z ≡ x *ℤ y → x ≡ value_of t o → y ≡ class_size problem c → z ≡ class_value problem b.order c
-worth_in_all problem k c t b o z x y at same number is worth size =
-    is ∙ ap₂ (λ (u v : ℤ). u *ℤ v)
-    (worth ∙ ap (λ (n : ℕ). value_of n o) number ∙ ap (λ (p : BlockTerms). value_of (c + 1) p) (sym same)) size
-    ∙ sym (class_worth problem k c b at)

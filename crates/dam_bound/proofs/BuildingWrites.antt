@@ -1,13 +1,12 @@
 -- What is written for each touch, and the curves and slots that a block leaves.
-use Rattle.std.proofs.Common.{◌≡◌, ◌≢◌, ℕ, zero, suc, ◌+◌, ◌*◌, ◌<◌, ◌≤◌, ◌==◌, cond, Bool, true, false, Option, Some, None, List, [], ◌∷◌}
-use Rattle.std.proofs.Common.{◌++◌, length, drop, get_or, slice_set, inl, inr, ap, ap₂, ◌∙◌, sym, subst, refl, arith, ℤ, pos, ◌+ℤ◌}
+use Rattle.std.proofs.Common.{◌≡◌, ◌≢◌, ℕ, zero, suc, ◌+◌, ◌*◌, ◌<◌, ◌≤◌, ◌==◌, cond, Bool, true, false, Some, List, [], ◌∷◌}
+use Rattle.std.proofs.Common.{◌++◌, length, drop, get_or, slice_set, inl, inr, ap, ap₂, ◌∙◌, sym, subst, refl, arith, ℤ, pos}
 use Rattle.std.specs.List.{slice_get}
 use Rattle.std.proofs.lemmas.Int.{ints}
 use Rattle.std.proofs.lemmas.Bool.{cases_lt}
 use Rattle.std.proofs.lemmas.Bool.Decides.{nat_tests}
-use Rattle.std.proofs.lemmas.List.{length-set, get_or-set_same, get_or-set_other, drop_all}
+use Rattle.std.proofs.lemmas.List.{length-set, get_or-set_same, get_or-set_other}
 use Rattle.dam_book.specs.Limits.{last_period, most_blocks}
-use Rattle.dam_book.specs.declared.order.Side.{Side}
 use Rattle.dam_book.specs.declared.order.Side.TheVariants.{Buy, Sell}
 use Rattle.dam_hour.specs.declared.step.Step.{Step}
 use Rattle.dam_curve.specs.Curve.{IsCurveAt}
@@ -18,12 +17,12 @@ use Rattle.dam_blocks.specs.Problem.{ProblemState}
 use Rattle.dam_blocks.specs.Selection.{volume_in}
 use Rattle.dam_bound.specs.Classes.{first_of, members, class_hours}
 use Rattle.dam_bound.specs.Relaxed.{as_steps, relaxed_hours}
-use Rattle.dam_bound.specs.Tables.{IsClassCurve, AreCurves, IsTouch, touches_at, AreTouches, ArePlaces, least_net, most_net}
-use Rattle.dam_bound.specs.Trail.{slot_count, slot_after, slot_at}
+use Rattle.dam_bound.specs.Tables.{IsClassCurve, AreCurves, touches_at, AreTouches, ArePlaces, least_net, most_net}
+use Rattle.dam_bound.specs.Trail.{slot_count, slot_at}
 use Rattle.dam_bound.specs.inside.Building.{side_net}
 use Rattle.dam_bound.specs.declared.touch.Touch.{Touch}
 use Rattle.dam_bound.proofs.Classing.{class_volume}
-use Rattle.dam_bound.proofs.Levelling.{drop_at}
+use Rattle.dam_bound.proofs.Slots.{slot_first, slot_kept, slot_own}
 use Rattle.dam_bound.proofs.BuildingSupplies.{same_steps}
 use Rattle.dam_bound.proofs.BuildingRanges.{side_none, one_of_side}
 use Rattle.dam_bound.proofs.BuildingTouches.{touched_some, touched_none, at_first}
@@ -105,55 +104,10 @@ written_all P f xs touches c d l before each =
     ]
 
 -- ---- where a class stands
-after_none : (b : Block) (i k before : ℕ) → volume_in b.order.volumes (i + 1) ≡ 0 → slot_after (Some b) i k before ≡ before
-after_none b i k before e =
-    let none : (volume_in b.order.volumes (i + 1) == 0) ≡ true = grind (arith, nat_tests) in
-    ap (λ (t : Bool). cond t before (suc k * last_period + i)) none
-
-after_some : (b : Block) (i k before : ℕ) → 0 < volume_in b.order.volumes (i + 1)
-    → slot_after (Some b) i k before ≡ suc k * last_period + i
-after_some b i k before e =
-    let some : (volume_in b.order.volumes (i + 1) == 0) ≡ false = grind (arith, nat_tests) in
-    ap (λ (t : Bool). cond t before (suc k * last_period + i)) some
-
-slot_first : (blocks : List Block) (i : ℕ) → slot_at blocks i 0 ≡ i
-unfolding slot_at
-slot_first blocks i = refl
-
-slot_kept : (blocks : List Block) (i k : ℕ) (b : Block) → slice_get blocks k ≡ Some b → volume_in b.order.volumes (i + 1) ≡ 0
-    → slot_at blocks i (k + 1) ≡ slot_at blocks i k
-unfolding slot_at
-slot_kept blocks i k b at none =
-    let one : k + 1 ≡ suc k = omega arith in
-    ap (slot_at blocks i) one
-    ∙ ap (λ (o : Option Block). slot_after o i k (slot_at blocks i k)) at
-    ∙ after_none b i k (slot_at blocks i k) none
-
-slot_own : (blocks : List Block) (i k : ℕ) (b : Block) → slice_get blocks k ≡ Some b → 0 < volume_in b.order.volumes (i + 1)
-    → slot_at blocks i (k + 1) ≡ (k + 1) * last_period + i
-unfolding slot_at
-slot_own blocks i k b at some =
-    let one : k + 1 ≡ suc k = omega arith in
-    ap (slot_at blocks i) one
-    ∙ ap (λ (o : Option Block). slot_after o i k (slot_at blocks i k)) at
-    ∙ after_some b i k (slot_at blocks i k) some
-    ∙ ap (λ (n : ℕ). n * last_period + i) (sym one)
-
 -- with no block decided every class stands in the root's row
 pub record AreFirstPlaces (count : ℕ) (places : List ℕ) : Type 0 where
   pub long : length places ≡ last_period
   pub each : (i d : ℕ) → i < count → get_or places i d ≡ i
-
-pub place_more : (at : ℕ) (places : List ℕ) → at < last_period → AreFirstPlaces at places → AreFirstPlaces (at + 1) (slice_set places at at)
-place_more at places inside so_far = record {
-  long = length-set places at at ∙ so_far.long;
-  each = λ i d l. elim (cases_lt i at) [
-    | inl less ↦ get_or-set_other places at i at d (omega (arith, less)) ∙ so_far.each i d less
-    | inr more ↦
-        (let same : i ≡ at = omega (arith, l, more) in let long = so_far.long in
-        ap (λ (n : ℕ). get_or (slice_set places at at) n d) same ∙ get_or-set_same places at at d (omega (arith, inside, long)) ∙ sym same)
-  ];
-}
 
 pub all_places : (problem : ProblemState) (count : ℕ) (places : List ℕ) → last_period ≤ count → length problem.hours ≤ last_period
     → AreFirstPlaces count places → ArePlaces problem 0 places

@@ -1,6 +1,6 @@
 -- A place more.
 use Rattle.dam_bound.proofs.BuildingClasses.{alike_found, apart_found, none_found}
-use Rattle.std.proofs.Common.{◌≡◌, ◌∙◌, sym, true, false, rules, arith}
+use Rattle.std.proofs.Common.{rules}
 use Rattle.dam_bound.proofs.classes.first_of.Goals as goal
 
 pub returns-then-are_alike-clause-value : goal.returns-then-are_alike-clause-value

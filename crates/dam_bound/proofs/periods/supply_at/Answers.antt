@@ -1,5 +1,5 @@
 -- The steps of the period, and the blocks as steps.
-use Rattle.std.proofs.Common.{◌≡◌, ◌+◌, ◌-◌, ◌++◌, Some, IfOk, List, length, ap, ◌∙◌, sym, subst, rules, arith}
+use Rattle.std.proofs.Common.{◌≡◌, ◌-◌, ◌++◌, IfOk, List, length, ap, ◌∙◌, sym, subst, rules, arith}
 use Rattle.std.specs.List.{slice_get}
 use Rattle.std.specs.Option.{option_copied}
 use Rattle.dam_curve.specs.Supply.{IsSupplyOf}

@@ -1,5 +1,5 @@
 -- A period more, and all of them.
-use Rattle.std.proofs.Common.{◌≡◌, ℕ, ℤ, ◌+◌, ◌-◌, ◌∷◌, ◌++◌, List, length, drop, ap, ap₂, ◌∙◌, sym, subst, refl, rules, arith}
+use Rattle.std.proofs.Common.{◌≡◌, ℤ, ◌+◌, ◌-◌, ◌∷◌, ◌++◌, List, length, drop, ap, ap₂, ◌∙◌, sym, subst, refl, rules, arith}
 use Rattle.std.specs.List.{slice_get}
 use Rattle.std.proofs.lemmas.Option.{slice_get_read}
 use Rattle.dam_book.specs.Terms.{BlockTerms}
@@ -63,7 +63,7 @@ loop-period-preserved g c problem k b at is blocks are =
     c.loop-period.supplies.items at next number same so_far in
     taken_more problem k c.loop-period.period-index (c.from-at.result - 1) b c.loop-period-item.result taken c.loop-period.supplies.items _
     c.remove.new.self next number step
-    (c.remove.ensures step.steps (as_steps ((c.from-at.result - 1) + 1) (drop (k + 1) problem.blocks)) 
+    (c.remove.ensures step.steps (as_steps ((c.from-at.result - 1) + 1) (drop (k + 1) problem.blocks))
     (subst (IsSupplyOf (step.steps ++ taken ∷ as_steps ((c.from-at.result - 1) + 1) (drop (k + 1) problem.blocks)))
     (sym c.index_mut.ensures.value) (step.supply c.index_mut.result.now))) refl so_far
 

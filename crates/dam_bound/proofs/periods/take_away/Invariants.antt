@@ -1,5 +1,5 @@
 -- The supplies in the middle of the block.
-use Rattle.std.proofs.Common.{◌≡◌, ◌+◌, ℕ, Some, length, drop}
+use Rattle.std.proofs.Common.{◌≡◌, ℕ, Some, length, drop}
 use Rattle.std.specs.List.{slice_get}
 use Rattle.dam_blocks.specs.declared.problem.Block.{Block}
 use Rattle.dam_blocks.specs.Problem.{ProblemState, AreBlocks}

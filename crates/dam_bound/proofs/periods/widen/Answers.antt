@@ -1,5 +1,5 @@
 -- A period more, and all of them.
-use Rattle.std.proofs.Common.{◌≡◌, ℕ, ℤ, pos, ◌+ℤ◌, ◌+◌, ◌-◌, List, length, drop, get_or, ap, ap₂, ◌∙◌, sym, subst, refl, rules, arith}
+use Rattle.std.proofs.Common.{◌≡◌, ℕ, pos, ◌+◌, ◌-◌, List, length, drop, ap, ap₂, ◌∙◌, sym, subst, refl, rules, arith}
 use Rattle.std.specs.List.{slice_get}
 use Rattle.std.proofs.lemmas.Int.{ints}
 use Rattle.std.proofs.lemmas.List.{get_or_default}

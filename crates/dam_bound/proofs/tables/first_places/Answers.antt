@@ -1,6 +1,6 @@
 -- All places.
 use Rattle.std.proofs.Common.{arith}
-use Rattle.dam_bound.proofs.BuildingWrites.{place_more, all_places}
+use Rattle.dam_bound.proofs.BuildingWrites.{all_places}
 use Rattle.dam_bound.proofs.tables.first_places.Goals as goal
 
 pub returns : goal.returns

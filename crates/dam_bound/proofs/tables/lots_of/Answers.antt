@@ -1,5 +1,5 @@
 -- A lot more, and all of them.
-use Rattle.std.proofs.Common.{◌≡◌, ◌+◌, ◌<◌, ℕ, true, List, length, map, ap, ◌∙◌, sym, subst, refl, rules, arith}
+use Rattle.std.proofs.Common.{◌≡◌, ℕ, true, List, length, map, ap, ◌∙◌, sym, subst, refl, rules, arith}
 use Rattle.std.specs.List.{slice_get}
 use Rattle.std.proofs.lemmas.Option.{slice_get_read, slice_get_within}
 use Rattle.dam_blocks.specs.declared.problem.Block.{Block}
@@ -19,22 +19,31 @@ loop-block-init g c = record {
 pub decide-requires : goal.decide-requires
 decide-requires g c =
     let read = slice_get_read _ _ c.loop-block.block-index _ (search rules) c.loop-block-test.true c.block-item.is in
-    let at = ap (λ (bs : List Block). slice_get bs c.loop-block.block-index) c.requires.1 ∙ read in
-    (c.requires.0, c.loop-block.block-index, c.block-item.result, at, refl,
-        c.loop-block.invariant.decided c.requires.0 c.requires.1 c.requires.2)
+    let at = ap (λ (bs : List Block). slice_get bs c.loop-block.block-index) c.requires.1 ∙ read in (
+      c.requires.0,
+      c.loop-block.block-index,
+      c.block-item.result,
+      at,
+      refl,
+      c.loop-block.invariant.decided c.requires.0 c.requires.1 c.requires.2,
+    )
 
 pub touches-requires : goal.touches-requires
 touches-requires g c =
     let read = slice_get_read _ _ c.loop-block.block-index _ (search rules) c.loop-block-test.true c.block-item.is in
-    let at = ap (λ (bs : List Block). slice_get bs c.loop-block.block-index) c.requires.1 ∙ read in
-    (c.requires.0, c.loop-block.block-index, c.block-item.result, record {
-      block_is = at;
-      order_is = refl;
-      periods_are = c.decide.ensures c.requires.0 c.loop-block.block-index c.block-item.result at refl
-          (c.loop-block.invariant.decided c.requires.0 c.requires.1 c.requires.2);
-      places_are = (c.loop-block.invariant.so_far c.requires.0 c.requires.1 c.requires.2 c.requires.3 c.requires.4).places_are;
-      row_is = c.loop-block.invariant.row;
-    })
+    let at = ap (λ (bs : List Block). slice_get bs c.loop-block.block-index) c.requires.1 ∙ read in (
+      c.requires.0,
+      c.loop-block.block-index,
+      c.block-item.result,
+      record {
+        block_is = at;
+        order_is = refl;
+        periods_are = c.decide.ensures c.requires.0 c.loop-block.block-index c.block-item.result at refl
+            (c.loop-block.invariant.decided c.requires.0 c.requires.1 c.requires.2);
+        places_are = (c.loop-block.invariant.so_far c.requires.0 c.requires.1 c.requires.2 c.requires.3 c.requires.4).places_are;
+        row_is = c.loop-block.invariant.row;
+      },
+    )
 
 pub take_over-requires : goal.take_over-requires
 take_over-requires g c =
@@ -51,10 +60,18 @@ take_over-requires g c =
       periods_are = c.decide.ensures problem c.loop-block.block-index c.block-item.result at refl decided;
       places_are = built.places_are;
       row_is = c.loop-block.invariant.row;
-    }) in
-    (problem, c.touches.new.curves, c.loop-block.block-index, c.block-item.result, at, omega (arith, inside, few), decided.few_periods,
-        subst (AreTouches problem c.touches.new.curves c.loop-block.block-index c.block-item.result true) (sym c.deref.ensures.value) touches,
-        built.ends_are.as_many, built.places_are.long)
+    }) in (
+      problem,
+      c.touches.new.curves,
+      c.loop-block.block-index,
+      c.block-item.result,
+      at,
+      omega (arith, inside, few),
+      decided.few_periods,
+      subst (AreTouches problem c.touches.new.curves c.loop-block.block-index c.block-item.result true) (sym c.deref.ensures.value) touches,
+      built.ends_are.as_many,
+      built.places_are.long,
+    )
 
 pub loop-block-preserved : goal.loop-block-preserved
 loop-block-preserved g c =

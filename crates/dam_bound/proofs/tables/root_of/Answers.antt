@@ -1,15 +1,14 @@
 -- A class more, and all of them.
-use Rattle.std.proofs.Common.{◌≡◌, ◌≢◌, ◌<◌, ◌+◌, ◌*◌, ℤ, Option, neg_ℤ, pos, ◌+ℤ◌, ◌≤ℤ◌, Some, length, slice_index_or, slice_set, ap, ◌∙◌, sym, subst, refl, rules, arith}
+use Rattle.std.proofs.Common.{◌≡◌, ◌<◌, ℤ, Option, neg_ℤ, pos, ◌≤ℤ◌, length, slice_index_or, ap, ◌∙◌, sym, subst, refl, rules, arith}
 use Rattle.std.specs.Option.{IsSome}
 use Rattle.std.specs.Prelude.{IfSome}
 use Rattle.std.proofs.lemmas.Int.{ints, to_z-of_z}
 use mir.Syntax.{w64}
-use Rattle.std.proofs.lemmas.List.{length-set}
 use Rattle.dam_curve.specs.Curve.{greatest_joint_welfare}
 use Rattle.dam_bound.specs.declared.day.Day.{Day}
 use Rattle.dam_bound.proofs.Sizes.{added_up}
 use Rattle.dam_bound.specs.Classes.{first_of, class_hours}
-use Rattle.dam_bound.specs.Tables.{least_net, most_net, IsClassCurve}
+use Rattle.dam_bound.specs.Tables.{least_net, most_net}
 use Rattle.dam_bound.proofs.BuildingDay.{at_zero, class_zero, no_line, root_step, root_long, root_within, root_same, same_within, root_ended}
 use Rattle.dam_bound.proofs.tables.root_of.Goals as goal
 use Rattle.dam_bound.proofs.tables.root_of.Goals.{then-firsts-at, else-firsts-at}
@@ -21,9 +20,14 @@ welfare-requires-then-firsts-at g c =
     let inside : c.loop-at.at < length c.requires.0.hours = omega (arith, many, test) in
     let read : slice_index_or c.args.firsts.now c.loop-at.at 0 ≡ c.loop-at.at = search (rules, c.if-firsts-at.true) in
     let first : first_of c.requires.0.blocks c.loop-at.at ≡ c.loop-at.at = sym (c.requires.1.each c.loop-at.at 0 inside) ∙ read in
-    let zero : pos 0 ≤ℤ pos 0 = omega (arith, ints) in
-    (class_hours c.requires.0 0 c.loop-at.at, least_net c.requires.0.blocks 0 c.loop-at.at, most_net c.requires.0.blocks 0 c.loop-at.at,
-        c.requires.2.each c.loop-at.at no_line inside first, zero, zero)
+    let zero : pos 0 ≤ℤ pos 0 = omega (arith, ints) in (
+      class_hours c.requires.0 0 c.loop-at.at,
+      least_net c.requires.0.blocks 0 c.loop-at.at,
+      most_net c.requires.0.blocks 0 c.loop-at.at,
+      c.requires.2.each c.loop-at.at no_line inside first,
+      zero,
+      zero,
+    )
 
 pub unwrap-welfare-requires : goal.unwrap-welfare-requires
 unwrap-welfare-requires g c =

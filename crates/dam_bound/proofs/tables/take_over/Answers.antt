@@ -1,6 +1,5 @@
 -- A touch more, and all of them.
-use Rattle.std.proofs.Common.{◌≡◌, ◌+◌, List, length, drop, get_or, ap, ◌∙◌, sym, subst, refl, rules, arith}
-use Rattle.std.specs.List.{slice_get}
+use Rattle.std.proofs.Common.{get_or, ap, ◌∙◌, sym, rules, arith}
 use Rattle.std.proofs.lemmas.List.{length-set, drop_all}
 use Rattle.std.proofs.lemmas.Option.{slice_get-get_or}
 use Rattle.dam_bound.specs.declared.touch.Touch.{Touch}

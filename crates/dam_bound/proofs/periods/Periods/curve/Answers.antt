@@ -1,8 +1,6 @@
 -- A period more, and all of them.
-use Rattle.std.proofs.Common.{◌≡◌, ◌≢◌, ◌<◌, ◌+◌, ◌-◌, ℤ, ℕ, [], ◌++◌, List, length, drop, slice_index_or, pos, ap, ◌∙◌, sym, subst, refl, rules, arith}
-use Rattle.dam_curve.specs.Curve.{IsCurve}
+use Rattle.std.proofs.Common.{◌≡◌, ◌≢◌, ◌+◌, ◌-◌, ℕ, ◌++◌, length, drop, slice_index_or, pos, ap, ◌∙◌, sym, subst, rules, arith}
 use Rattle.dam_curve.specs.Supply.{IsSupplyOf}
-use Rattle.dam_hour.specs.declared.step.Step.{Step}
 use Rattle.dam_bound.specs.Relaxed.{as_steps}
 use Rattle.dam_bound.specs.Tables.{least_net, most_net}
 use Rattle.dam_bound.specs.inside.Building.{AreDecided}
@@ -44,8 +42,7 @@ add-requires g c =
     let view = ap (λ p. length p.supplies) (sym c.self.view_is) in
     let same : c.loop-at.at ≡ (c.loop-at.at - 1) + 1 = omega (arith, some) in
     let before = period_before c.requires.0 c.requires.1 c.args.class (c.loop-at.at - 1) c.self.inside.supplies.items
-    (omega (arith, inside, some, view)) decided.few_periods decided.supplies_are in
-    (
+    (omega (arith, inside, some, view)) decided.few_periods decided.supplies_are in (
       members_from c.requires.0 c.requires.1 c.args.class ((c.loop-at.at - 1) + 1),
       least_net c.requires.0.blocks c.requires.1 c.args.class,
       most_net c.requires.0.blocks c.requires.1 c.args.class,

@@ -1,7 +1,7 @@
 -- The next block, decided.
-use Rattle.std.proofs.Common.{◌≡◌, ◌+◌, ◌∙◌, ap, sym, subst, arith}
+use Rattle.std.proofs.Common.{sym, subst, arith}
 use Rattle.std.proofs.lemmas.Option.{slice_get_within}
-use Rattle.dam_bound.specs.inside.Building.{PeriodsState, AreDecided}
+use Rattle.dam_bound.specs.inside.Building.{AreDecided}
 use Rattle.dam_bound.proofs.periods.Periods.decide.Goals as goal
 
 pub take_away-requires : goal.take_away-requires

@@ -1,5 +1,5 @@
 -- No block decided.
-use Rattle.std.proofs.Common.{◌≡◌, ◌+◌, ◌∙◌, List, ap, sym, subst, length, refl, arith}
+use Rattle.std.proofs.Common.{◌≡◌, ◌∙◌, List, ap, length, refl, arith}
 use Rattle.dam_blocks.specs.declared.problem.Block.{Block}
 use Rattle.dam_bound.specs.Classes.{first_of}
 use Rattle.dam_bound.specs.Relaxed.{without_rows}

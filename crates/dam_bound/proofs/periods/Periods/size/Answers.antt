@@ -1,6 +1,6 @@
 -- A period more, and all of them.
-use Rattle.std.proofs.Common.{◌≡◌, ◌≢◌, ◌+◌, ◌<◌, pos, length, slice_index_or, ap, ◌∙◌, sym, subst, refl, rules, arith, to_z, w64}
-use Rattle.std.proofs.lemmas.Int.{ints, to_z_pos}
+use Rattle.std.proofs.Common.{◌≡◌, ◌≢◌, ◌+◌, pos, slice_index_or, ◌∙◌, sym, subst, rules, arith, to_z, w64}
+use Rattle.std.proofs.lemmas.Int.{to_z_pos}
 use Rattle.dam_bound.proofs.BuildingCurves.{IsSizeSoFar, size_more, size_kept, size_ended, first_read, all_read}
 use Rattle.dam_bound.proofs.periods.Periods.size.Goals as goal
 use Rattle.dam_bound.proofs.periods.Periods.size.Goals.{then-self-at, else-self-at}

@@ -1,5 +1,5 @@
 -- A pair more, and all of them.
-use Rattle.std.proofs.Common.{◌≡◌, ◌≢◌, ◌+◌, ◌-◌, ◌<◌, ◌∷◌, [], List, length, drop, slice_index_or, ap, ◌∙◌, sym, subst, refl, rules, arith}
+use Rattle.std.proofs.Common.{◌≡◌, ◌+◌, ◌-◌, ◌<◌, List, length, drop, slice_index_or, ap, ◌∙◌, sym, subst, rules, arith}
 use Rattle.std.specs.List.{slice_get}
 use Rattle.std.proofs.lemmas.Option.{slice_get_read}
 use Rattle.dam_book.specs.Terms.{BlockTerms}
@@ -7,7 +7,6 @@ use Rattle.dam_book.specs.Volumes.{Pair}
 use Rattle.dam_blocks.specs.Selection.{volume_in}
 use Rattle.dam_curve.specs.Curve.{Keeps}
 use Rattle.dam_curve.specs.declared.line.Line.{Line}
-use Rattle.dam_bound.specs.Classes.{first_of}
 use Rattle.dam_bound.specs.declared.touch.Touch.{Touch}
 use Rattle.dam_bound.specs.inside.Building.{PeriodsState, IsDeciding}
 use Rattle.dam_bound.proofs.BuildingPairs.{next_pair}

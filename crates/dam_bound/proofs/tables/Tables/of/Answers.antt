@@ -1,7 +1,6 @@
 -- The tables, made block by block.
-use Rattle.std.proofs.Common.{◌≡◌, ◌≤◌, List, [], length, ap, ◌∙◌, sym, subst, refl, arith}
+use Rattle.std.proofs.Common.{List, length, ◌∙◌, sym, subst, arith}
 use Rattle.dam_curve.specs.declared.line.Line.{Line}
-use Rattle.dam_curve.specs.declared.curves.Curve.{Curve}
 use Rattle.dam_blocks.specs.declared.problem.Block.{Block}
 use Rattle.dam_blocks.specs.Problem.{ProblemState}
 use Rattle.dam_bound.specs.Relaxed.{without_rows}
