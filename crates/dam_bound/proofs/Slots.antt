@@ -1,7 +1,9 @@
 -- Where a class stands among the slots, and the days in them.
 use Rattle.std.proofs.Common.{◌≡◌, ◌≢◌, ℕ, zero, suc, ◌+◌, ◌*◌, ◌<◌, ◌≤◌, ◌==◌, cond, ℤ, Bool, true, false, Option, Some, None, List, []}
-use Rattle.std.proofs.Common.{length, get_or, ap, ◌∙◌, sym, subst, refl, arith}
+use Rattle.std.proofs.Common.{length, get_or, slice_set, inl, inr, ap, ◌∙◌, sym, subst, refl, arith}
 use Rattle.std.specs.List.{slice_get}
+use Rattle.std.proofs.lemmas.Bool.{cases_lt}
+use Rattle.std.proofs.lemmas.List.{get_or_default, length-set, get_or-set_same, get_or-set_other}
 use Rattle.std.proofs.lemmas.Bool.Decides.{nat_tests}
 use Rattle.dam_book.specs.Limits.{last_period, most_blocks}
 use Rattle.dam_blocks.specs.declared.problem.Block.{Block}
@@ -138,4 +140,25 @@ day_there problem prefix trail total day places count many all are same sum long
       ∙ sym (same c d (omega (arith, inside, many))))
       (is.day_is.each c d inside first);
   total_is = ap Some (sum ∙ sym is.total_is) ∙ is.day_is.total_is;
+}
+
+-- ---- the day that is read out
+pub record AreReadSoFar (count : ℕ) (places : List ℕ) (slots classes : List Position) : Type 0 where
+  pub long : length classes ≡ last_period
+  pub each : (i : ℕ) (d : Position) → i < count → get_or classes i d ≡ get_or slots (get_or places i 0) d
+
+pub read_more : (at : ℕ) (places : List ℕ) (slots classes : List Position) (e : Position) → at < last_period
+    → get_or places at 0 < length slots → AreReadSoFar at places slots classes
+    → AreReadSoFar (at + 1) places slots (slice_set classes at (get_or slots (get_or places at 0) e))
+read_more at places slots classes e inside there so_far = record {
+  long = length-set classes at (get_or slots (get_or places at 0) e) ∙ so_far.long;
+  each = λ i d l. elim (cases_lt i at) [
+    | inl less ↦ get_or-set_other classes at i (get_or slots (get_or places at 0) e) d (omega (arith, less)) ∙ so_far.each i d less
+    | inr more ↦
+        (let same : i ≡ at = omega (arith, l, more) in let long = so_far.long in
+        ap (λ (n : ℕ). get_or (slice_set classes at (get_or slots (get_or places at 0) e)) n d) same
+        ∙ get_or-set_same classes at (get_or slots (get_or places at 0) e) d (omega (arith, inside, long))
+        ∙ get_or_default slots (get_or places at 0) e d there
+        ∙ ap (λ (n : ℕ). get_or slots (get_or places n 0) d) (sym same))
+  ];
 }
