@@ -10,9 +10,10 @@ import sys
 import zoneinfo
 from pathlib import Path
 
-from . import book, journal, lint, results, selection
+from . import book, ending, journal, lint, results, selection, text
 
 DEBIAN_PYTHON = "/usr/bin/python3"
+LONGEST_PATH = 400  # characters of the name of a file in a message
 # Debian's packages; tests/packages lists them all.
 PACKAGES = {
     "jinja2": "python3-jinja2",
@@ -22,9 +23,9 @@ PACKAGES = {
     "scipy": "python3-scipy",
 }
 
-# The statuses of all tools.
-DONE, DIFFERS, COMMAND_LINE, NO_INPUT, UNDECIDED, NO_PACKAGE = range(6)
-INTERRUPTED = 130  # as shells have it for Ctrl-C
+# The statuses of all tools. FAILED is that of a tool which can't do its work: a package is missing, memory ran out, or it has a defect.
+DONE, DIFFERS, COMMAND_LINE, NO_INPUT, UNDECIDED, FAILED, ENCODING = range(7)
+INTERRUPTED = ending.INTERRUPTED
 
 
 class Stop(Exception):
@@ -50,14 +51,21 @@ def run(name, main):
         discard(sys.stdout)
         sys.exit(NO_INPUT)
     except OSError as fault:
+        if ending.is_memory(fault):
+            raise
         tell(name, f"a device failed: {fault.strerror}")
         sys.exit(NO_INPUT)
+
+
+def on_lines(words):
+    """Words for a terminal, which obeys nothing in them but line ends."""
+    return "\n".join(map(text.escaped, str(words).split("\n")))
 
 
 def tell(tool, words):
     """Says something on standard error; if that can't be written, the status alone says it."""
     try:
-        print(f"{tool}: {words}", file=sys.stderr, flush=True)
+        print(f"{tool}: {on_lines(words)}", file=sys.stderr, flush=True)
     except OSError:
         discard(sys.stderr)
 
@@ -83,6 +91,9 @@ class Parser(argparse.ArgumentParser):
         self.add_argument("journal", metavar="JOURNAL", help="a journal, or the text of `dam day`; - for standard input")
         self.add_argument("results", metavar="RESULTS", nargs="?", help="the results of that journal; none for a day's text")
 
+    def error(self, message):
+        super().error(on_lines(message))
+
     def print_help(self, file=None):
         write_output(self.format_help().encode())
 
@@ -94,7 +105,7 @@ def discard(stream):
 
 def shown(path):
     """The name of a file in a message."""
-    return "standard input" if path == "-" else path
+    return "standard input" if path == "-" else text.safe(str(path), LONGEST_PATH)
 
 
 def bytes_of(stream):
@@ -127,7 +138,7 @@ def write_output(data):
 
 def say(lines):
     """Prints lines on standard output."""
-    write_output("".join(f"{line}\n" for line in lines).encode(errors="surrogateescape"))
+    write_output("".join(f"{on_lines(line)}\n" for line in lines).encode())
 
 
 def write_bytes(tool, path, data):
@@ -138,9 +149,9 @@ def write_bytes(tool, path, data):
     try:
         Path(path).write_bytes(data)
     except OSError as fault:
-        raise Stop(f"{path} can't be written: {fault.strerror}") from None
+        raise Stop(f"{shown(path)} can't be written: {fault.strerror}") from None
     if sys.stderr.isatty():
-        tell(tool, f"{path} was written")
+        tell(tool, f"{shown(path)} was written")
 
 
 def is_same(path, other):
@@ -154,7 +165,7 @@ def is_same(path, other):
 def refuse_inputs(path, *inputs):
     """Ends the tool if it is to write over a file that it reads; the inputs that aren't given are None."""
     if any(other is not None and is_same(path, other) for other in inputs):
-        raise Stop(f"{path} is one of the inputs, and would be lost: write to another file", COMMAND_LINE)
+        raise Stop(f"{shown(path)} is one of the inputs, and would be lost: write to another file", COMMAND_LINE)
 
 
 def read_texts(path, results_path):
@@ -247,7 +258,7 @@ def has_zone(name):
 def need_zone(name):
     """Ends the tool if a time zone is missing."""
     if not has_zone(name):
-        raise Stop("it needs the world's time zones, which Debian has in the package tzdata: apt-get install tzdata", NO_PACKAGE)
+        raise Stop("it needs the world's time zones, which Debian has in the package tzdata: apt-get install tzdata", FAILED)
 
 
 def need(module):
@@ -255,4 +266,4 @@ def need(module):
     python_with(module)
     if not has(module):
         package = PACKAGES[module]
-        raise Stop(f"it needs {module}, which Debian has in the package {package}: apt-get install {package}", NO_PACKAGE)
+        raise Stop(f"it needs {module}, which Debian has in the package {package}: apt-get install {package}", FAILED)

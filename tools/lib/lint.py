@@ -100,7 +100,7 @@ class Lint:
             lines.setdefault(line, found[0].decode(errors="replace"))
         allowed = "a journal has no accented letters, and no long dashes or special spaces"
         for at in list(lines)[:MOST_LINES]:
-            self.tell(at, f"'{lines[at]}' isn't ASCII: {allowed}")
+            self.tell(at, f"{text.quoted(lines[at])} isn't ASCII: {allowed}")
         if len(lines) > MOST_LINES:
             at = list(lines)[MOST_LINES]
             self.tell(at, f"{len(lines) - MOST_LINES} lines from here on aren't ASCII either: save the file as plain CSV, in ASCII")
@@ -142,7 +142,7 @@ class Lint:
             if word.startswith("#"):
                 self.tell(line, f"a journal has no comments: remove the line, and begin with the day, such as {DAY}")
                 return
-            self.tell(line, f"the first line should be the day, such as {DAY}, but is '{','.join(record)[:60]}'")
+            self.tell(line, f"the first line should be the day, such as {DAY}, but is {text.quoted(','.join(record))}")
             self.held = book.Book(rules.GREATEST_PERIOD)
             if word in fields.USED:
                 self.record(line, record)
@@ -152,18 +152,18 @@ class Lint:
         whole = f"day,{periods or 24},,,,,,,"
         record = self.padded(line, record, whole)
         if record[0] != "day":
-            self.tell(line, f"'{record[0]}' should be day: write {whole}", "command")
+            self.tell(line, f"{text.quoted(record[0])} should be day: write {whole}", "command")
         if wrong or record[1] != found:
-            self.tell(line, f"'{record[1]}': {wrong or f'there is a space around it: write {found}'}", "periods")
+            self.tell(line, f"{text.quoted(record[1])}: {wrong or f'there is a space around it: write {text.safe(found)}'}", "periods")
         for place in range(2, 9):
             if record[place]:
-                self.tell(line, f"'{record[place]}' should be empty: write {whole}", fields.NAMES[place])
+                self.tell(line, f"{text.quoted(record[place])} should be empty: write {whole}", fields.NAMES[place])
         self.held = book.Book(periods or rules.GREATEST_PERIOD)
 
     def entry(self, line, record):
         kind, wrong = fields.read_word(["submit", "amend", "cancel", "close"])(record[0].strip(" \t\u00a0"))
         if wrong or kind != record[0]:
-            self.tell(line, f"'{record[0]}': {wrong or f'there is a space around it: write {kind}'}", "command")
+            self.tell(line, f"{text.quoted(record[0])}: {wrong or f'there is a space around it: write {kind}'}", "command")
         if kind is None:
             return
         values, is_whole = {}, True
@@ -173,7 +173,7 @@ class Lint:
             if name not in fields.USED[kind] or hourly and name in ("parent", "group"):
                 if found:
                     of = "an hourly order" if hourly and kind == "submit" else f"{'an' if kind == 'amend' else 'a'} {kind}"
-                    self.tell(line, f"'{found}' should be empty in {of}", name)
+                    self.tell(line, f"{text.quoted(found)} should be empty in {of}", name)
                 values[name] = ""
             elif not found and name in ("parent", "group"):
                 values[name] = ""
@@ -182,7 +182,7 @@ class Lint:
                 if name == "volumes" and hourly and values[name] and len(values[name]) != 1:
                     wrong = f"an hourly order has one pair, such as 8:450, not {len(values[name])}" + (f"; {wrong}" if wrong else "")
                 if wrong:
-                    self.tell(line, f"'{found}': {wrong}" if found else f"it is empty: {wrong}", name)
+                    self.tell(line, f"{text.quoted(found)}: {wrong}" if found else f"it is empty: {wrong}", name)
                 is_whole = is_whole and values[name] is not None
         if kind == "submit" and hourly and values["volumes"] and len(values["volumes"]) != 1:
             is_whole = False

@@ -63,7 +63,7 @@ def columns_of(header):
     for at, cell in enumerate(header, 1):
         name = cell.strip().lower()
         if name not in known:
-            raise Wrong(f"line 1, column {at}: '{cell}' is not a column; the columns are {', '.join(ORDER)}")
+            raise Wrong(f"line 1, column {at}: {text.quoted(cell)} is not a column; the columns are {', '.join(ORDER)}")
         if name in places:
             raise Wrong(f"line 1, column {at}: the column '{name}' appears twice")
         places[name] = at - 1
@@ -77,15 +77,15 @@ def scaled(cell, factor, least, greatest, unit, decimal_comma):
     """A decimal number times a factor, which must be whole and in a range."""
     found = DECIMAL[decimal_comma].fullmatch(cell)
     if not found:
-        raise Wrong(f"'{cell}' should be a number of {unit}, such as 92.5")
+        raise Wrong(f"{text.quoted(cell)} should be a number of {unit}, such as 92.5")
     sign, whole, rest = found.groups()
     value = Fraction(f"{whole}.{rest or 0}") * factor * (-1 if sign else 1)
     digits = len(str(factor)) - 1
     if value.denominator != 1:
-        raise Wrong(f"'{cell}' has more than {digits} digit{'s' * (digits > 1)} after the decimal point")
+        raise Wrong(f"{text.quoted(cell)} has more than {digits} digit{'s' * (digits > 1)} after the decimal point")
     if not least <= value <= greatest:
         ends = [text.fixed(Fraction(end) / factor, digits) for end in (least, greatest)]
-        raise Wrong(f"'{cell}' should be from {ends[0]} to {ends[1]} {unit}")
+        raise Wrong(f"{text.quoted(cell)} should be from {ends[0]} to {ends[1]} {unit}")
     return int(value)
 
 
@@ -100,9 +100,9 @@ def read_periods(cell, periods):
     try:
         numbers = spans.read(cell, rules.GREATEST_PERIOD)
     except ValueError as fault:
-        raise Wrong(f"'{cell}' should be {fault}") from None
+        raise Wrong(f"{text.quoted(cell)} should be {fault}") from None
     if any(one >= other for one, other in zip(numbers, numbers[1:])):
-        raise Wrong(f"the periods '{cell}' should increase")
+        raise Wrong(f"the periods {text.quoted(cell)} should increase")
     if numbers[-1] > periods:
         late = next(number for number in numbers if number > periods)
         raise Wrong(f"the day has periods 1 to {periods}, so there is no period {late} (PeriodOutOfDay)")
@@ -124,7 +124,7 @@ def read_volumes(cell, numbers, decimal_comma):
 def read_word(*words):
     def read(cell):
         if cell.lower() not in words:
-            raise Wrong(f"'{cell}' should be {' or '.join(words)}")
+            raise Wrong(f"{text.quoted(cell)} should be {' or '.join(words)}")
         return cell.lower()
 
     return read
@@ -132,13 +132,13 @@ def read_word(*words):
 
 def read_participant(cell):
     if not cell.isascii() or text.participant(cell.encode()) is None:
-        raise Wrong(f"'{cell}' should be {text.A_PARTICIPANT}")
+        raise Wrong(f"{text.quoted(cell)} should be {text.A_PARTICIPANT}")
     return cell
 
 
 def read_name(cell):
     if not cell.isascii() or text.name(cell.encode()) is None:
-        raise Wrong(f"'{cell}' should be {text.A_NAME}")
+        raise Wrong(f"{text.quoted(cell)} should be {text.A_NAME}")
     return cell
 
 

@@ -4,7 +4,7 @@ import re
 from typing import NamedTuple
 
 from . import text
-from .lines import matched, moved, shown
+from .lines import matched, moved
 
 ANOTHER = "these seem to be the results of another journal"
 
@@ -91,8 +91,8 @@ def none_belongs(line):
     """What is said of results of which no line is one of this journal's."""
     for comma, name in ((b";", "semicolons"), (b"\t", "tabs")):
         if comma in line:
-            return f"the fields of the results are separated by {name} instead of commas: the first line is '{shown(line)}'"
-    return f"none of the lines of the results belongs to this journal: the first is '{shown(line)}'"
+            return f"the fields of the results are separated by {name} instead of commas: the first line is {text.quoted(line)}"
+    return f"none of the lines of the results belongs to this journal: the first is {text.quoted(line)}"
 
 
 def read_results(problem, data):
@@ -126,7 +126,7 @@ def read_results(problem, data):
         lines[about] = last
         if read is None:
             form = ",".join(known + [{"n": "<number>", "a": "accepted|rejected"}[kind] for kind in behind])
-            wrong.append(f"results line {last}: {about} should be '{form}' and is '{shown(found[place])}'")
+            wrong.append(f"results line {last}: {about} should be '{form}' and is {text.quoted(found[place])}")
         values.append(read)
     if wrong:
         return None, foreign(wanted, beginnings) + wrong
@@ -140,7 +140,7 @@ def moved_line(expected, at):
 
 
 def stray_line(line):
-    return f"'{shown(line)}' doesn't belong there" if line else "the line is empty, and should not be there"
+    return f"{text.quoted(line)} doesn't belong there" if line else "the line is empty, and should not be there"
 
 
 def gather(problem, values, lines):

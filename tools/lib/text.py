@@ -88,6 +88,40 @@ def name(text):
     return text.decode() if NAME.fullmatch(text) else None
 
 
+MOST_SHOWN = 80  # characters of a stranger's text in a message
+
+
+def escaped(words):
+    """A text of which each character that isn't printable is escaped, such as an escape or a line end. Of a text with bytes that aren't
+    UTF-8, as names of files may have, these bytes are."""
+
+    def shown(character):
+        if character.isprintable():
+            return character
+        at = ord(character)
+        return f"\\x{at - 0xDC00:02x}" if 0xDC80 <= at <= 0xDCFF else character.encode("unicode_escape", "surrogatepass").decode()
+
+    return words if words.isprintable() else "".join(map(shown, words))
+
+
+def cut(words, most):
+    """The beginning of a stranger's text or bytes, as it may be printed, and how long the whole is if that is longer."""
+    words = words.decode(errors="surrogateescape") if isinstance(words, bytes) else words
+    return escaped(words[:most]), f" ({len(words):,} characters)" if len(words) > most else ""
+
+
+def safe(words, most=MOST_SHOWN):
+    """A stranger's text or bytes in a message: on one line, with nothing that a terminal would obey, and cut, with its length said."""
+    shown, length = cut(words, most)
+    return f"{shown}..{length}" if length else shown
+
+
+def quoted(words, most=MOST_SHOWN):
+    """The same in quotes."""
+    shown, length = cut(words, most)
+    return f"'{shown}..'{length}" if length else f"'{shown}'"
+
+
 def counted(count, one, several=None):
     """A number of things, such as `1 block` or `2 blocks`."""
     return f"{count} {one if count == 1 else several or one + 's'}"

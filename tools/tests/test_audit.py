@@ -369,7 +369,7 @@ class CommandLine(unittest.TestCase):
         blocks = [f"submit,A,K{number},block,sell,1,1:1,," for number in range(24)]
         data = journal_of(*blocks)
         text = results_of(data, frozenset())
-        wanted = command.DONE if command.has("numpy") or command.elsewhere("numpy") else command.NO_PACKAGE
+        wanted = command.DONE if command.has("numpy") or command.elsewhere("numpy") else command.FAILED
         self.assertEqual(audit(data, text, "--best")[0], wanted)
 
     def test_too_little_time(self):

@@ -27,13 +27,13 @@ class Missing(unittest.TestCase):
         package = "python3-matplotlib"
         for name in ("plot", "report"):
             status, out, err = tool(name, AUCTION, python=without)
-            self.assertEqual((status, out), (command.NO_PACKAGE, b""))
+            self.assertEqual((status, out), (command.FAILED, b""))
             self.assertEqual(err, f"{name}: it needs {self.words('matplotlib')}\n")
         blocks = [f"submit,A,K{number},block,sell,1,1:1,," for number in range(24)]
         day = journal_of(*blocks)
         text = day + b"results\n" + results_of(day, frozenset())
         status, out, err = tool("audit", "--best", "-", data=text, python=without)
-        self.assertEqual((status, out), (command.NO_PACKAGE, b""))
+        self.assertEqual((status, out), (command.FAILED, b""))
         self.assertEqual(err, f"audit: it needs {self.words('numpy')}\n")
 
 
