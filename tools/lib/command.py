@@ -10,7 +10,9 @@ import sys
 import zoneinfo
 from pathlib import Path
 
-from . import book, ending, journal, lint, results, selection, text
+from . import book, ending, journal, kinds, lint, results, selection, text
+
+from .version import VERSION
 
 DEBIAN_PYTHON = "/usr/bin/python3"
 LONGEST_PATH = 400  # characters of the name of a file in a message
@@ -79,12 +81,20 @@ def hold_streams():
     sys.stderr = sys.stderr or open(os.devnull, "w")
 
 
+def participant(word):
+    """A participant's name on the command line."""
+    if text.participant(word.encode(errors="surrogateescape")) is None:
+        raise argparse.ArgumentTypeError(f"{text.quoted(word)} should be {text.A_PARTICIPANT}")
+    return word
+
+
 class Parser(argparse.ArgumentParser):
     """A tool's command line, with no shortened options. Its help is written as all output is."""
 
     def __init__(self, prog, description, epilog):
         form = argparse.RawDescriptionHelpFormatter
         super().__init__(prog=prog, description=description, epilog=epilog, formatter_class=form, allow_abbrev=False)
+        self.add_argument("--version", action="version", version=f"{prog} {VERSION}", help="print the version")
 
     def add_day(self):
         """The files of a day."""
@@ -96,6 +106,12 @@ class Parser(argparse.ArgumentParser):
 
     def print_help(self, file=None):
         write_output(self.format_help().encode())
+
+    def _print_message(self, message, file=None):
+        if file is sys.stdout:  # the version
+            write_output(message.encode())
+        else:
+            super()._print_message(message, file)
 
 
 def discard(stream):
@@ -179,6 +195,14 @@ def read_texts(path, results_path):
     return texts
 
 
+def refuse_kind(path, data, right, hints=()):
+    """Ends the tool if a text looks like one of another kind. Hints say what to do with some kinds."""
+    kind = kinds.kind_of(data)
+    if kind not in (None, right):
+        hint = hints[kind] if kind in hints else ""
+        raise Stop(f"{shown(path)} has {kind} instead of {right}{hint}")
+
+
 def parse_journal(path, data):
     try:
         return journal.read_journal(data)
@@ -187,11 +211,15 @@ def parse_journal(path, data):
 
 
 class Day:
-    """A journal with its results, whose form is right. `wrong` lists where the results break the rules."""
+    """A journal with its results, whose form is right. `wrong` lists where the results break the rules, and `odd` how they are encoded in
+    another way than `dam` does it."""
 
     def __init__(self, path, results_path):
         journal_data, results_data = read_texts(path, results_path)
-        self.read(parse_journal(path, journal_data), results_data, path, results_path or path)
+        read = parse_journal(path, journal_data)
+        if results_path is not None:
+            refuse_kind(results_path, results_data, kinds.RESULTS)
+        self.read(read, results_data, path, results_path or path)
 
     @classmethod
     def of(cls, read, results_data):
@@ -208,17 +236,18 @@ class Day:
         if not self.book.closed:
             raise Stop(f"no command of {shown(path)} closes the book, so it has no results")
         self.problem = selection.Problem(self.book)
-        data, odd = results.plain(results_data)
-        self.said, wrong = check.differences(self.problem, data)
+        data, self.odd = results.plain(results_data)
+        self.said, self.wrong = check.differences(self.problem, data)
         if self.said is None:
-            raise Stop(f"{shown(results_path)} has no results of this journal: {wrong[0]}")
-        self.wrong = odd + wrong
+            raise Stop(f"{shown(results_path)} has no results of this journal: {self.wrong[0]}")
         self.outcome = selection.outcome(self.problem, self.said.accepted)
 
     def tell_wrong(self, tool):
-        """Says on standard error if the results break the rules."""
+        """Says on standard error if the results break the rules, or else if their encoding differs."""
         if self.wrong:
             tell(tool, f"the results break the rules ({self.wrong[0]}): see tools/audit")
+        elif self.odd:
+            tell(tool, f"the encoding of the results differs ({self.odd[0]}): see tools/audit")
 
 
 def has(module):

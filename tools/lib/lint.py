@@ -13,10 +13,14 @@ CLOSE = "close,,,,,,,,"
 RESULTS = ([b"results"],)  # the line before the results in what `dam day` prints
 MOST_LINES = 20  # of those with characters that aren't ASCII
 FEW = 5  # faults that other tools report
+MOST_QUOTES = 20  # that aren't closed and are reported
+SEPARATORS = {";": "semicolons", "\t": "tabs"}  # that stand in place of commas
 # What a text of another kind is for.
 OTHERS = {
     kinds.ORDERS: "this seems to be a table of orders: tools/table --journal makes a journal of it",
     kinds.RESULTS: "these seem to be results, which aren't a journal: tools/audit reads them with their journal",
+    kinds.EXCEL: "this is an Excel workbook: tools/table --journal makes a journal of it, if it is a table of orders",
+    kinds.OLD_EXCEL: "this is an old Excel workbook: save it as .xlsx, from which tools/table --journal makes a journal, or as plain CSV",
     kinds.REPLIES: "these seem to be replies of `dam replay`, which aren't a journal: tools/audit --replies reads them with their journal",
 }
 BYTE_ORDER_MARKS = {b"\xef\xbb\xbf": "utf-8-sig", b"\xff\xfe": "utf-16", b"\xfe\xff": "utf-16"}
@@ -84,12 +88,28 @@ class Lint:
                 data = data.decode(encoding, errors="replace").encode()
                 break
         self.characters(data)
+        comma = self.comma(data)
+        return self.closed_quotes(data, comma), comma
+
+    def comma(self, data):
+        """What separates the fields, by the first line."""
         first = re.split(rb"[\r\n]", data.lstrip(b"\r\n"), maxsplit=1)[0]
-        for comma, name in ((b";", "semicolons"), (b"\t", "tabs")):
-            if first.count(comma) > first.count(b",") != len(fields.NAMES) - 1:
+        for mark, name in SEPARATORS.items():
+            if first.count(mark.encode()) > first.count(b",") != len(fields.NAMES) - 1:
                 self.tell(1, f"the fields are separated by {name}: separate them by commas")
-                return data, comma
-        return data, b","
+                return mark.encode()
+        return b","
+
+    def closed_quotes(self, data, comma):
+        """The text without the quotes that aren't closed on their line, after which no line could be told from another."""
+        for _ in range(MOST_QUOTES):
+            at = text.open_quote(data, comma)
+            if at is None:
+                break
+            line = len(text.LINE_END.findall(data, 0, at)) + 1
+            self.tell(line, "a quote begins a field and isn't closed on its line: remove it, or close it")
+            data = data[:at] + data[at + 1 :]
+        return data
 
     def characters(self, data):
         """Reports the first character of each line that isn't ASCII, and if there are many such lines, how many."""
@@ -105,7 +125,19 @@ class Lint:
             at = list(lines)[MOST_LINES]
             self.tell(at, f"{len(lines) - MOST_LINES} lines from here on aren't ASCII either: save the file as plain CSV, in ASCII")
 
+    def separated(self, line, record):
+        """The fields of a record, also if it alone has something other than commas between them."""
+        for mark, name in SEPARATORS.items():
+            parts = record[0].split(mark)
+            if len(record) == 1 and len(parts) > 1 and parts[0].strip().lower() in {"day", *fields.USED}:
+                self.tell(line, f"the fields of this line are separated by {name}: separate them by commas")
+                return parts if len(parts) == len(fields.NAMES) else None
+        return record
+
     def record(self, line, record):
+        record = self.separated(line, record)
+        if record is None:
+            return
         word = record[0].strip().lower()
         if self.held is None:
             self.day(line, record, word)

@@ -5,7 +5,7 @@ import json
 import re
 import zoneinfo
 
-from . import rules, spans
+from . import rules, spans, text
 
 ZONE = "Europe/Berlin"  # Central European Time
 UNITS = {"_eur_mwh": "EUR/MWh", "_mwh": "MWh", "_mw": "MW", "_eur": "EUR"}
@@ -24,22 +24,27 @@ def date_of(words):
             return datetime.date.fromisoformat(words)
     except ValueError:
         pass
-    raise Wrong(f"{words}: it should be a day, such as 2026-11-25")
+    raise Wrong(f"{text.safe(words)}: it should be a day, such as 2026-11-25")
 
 
 def as_date(date):
-    """A date, or that of a text."""
-    if not isinstance(date, (datetime.date, str)):
-        raise Wrong(f"{date!r}: it should be a datetime.date, or a text such as 2026-11-25")
-    return date_of(date) if isinstance(date, str) else date
+    """A date, that of a time, or that of a text."""
+    if isinstance(date, str):
+        return date_of(date)
+    try:
+        return datetime.date(date.year, date.month, date.day)
+    except (AttributeError, TypeError, ValueError):
+        raise Wrong(f"{text.safe(repr(date))}: it should be a datetime.date, or a text such as 2026-11-25") from None
 
 
 def begins(date, periods):
     """When each period of a delivery day begins, and when the last one ends, in Central European Time."""
     zone, utc = zoneinfo.ZoneInfo(ZONE), datetime.timezone.utc
-    first, behind = (
-        datetime.datetime.combine(day, datetime.time(), zone).astimezone(utc) for day in (date, date + datetime.timedelta(1))
-    )
+    try:
+        days = date, date + datetime.timedelta(1)
+        first, behind = (datetime.datetime.combine(day, datetime.time(), zone).astimezone(utc) for day in days)
+    except OverflowError:
+        raise Wrong(f"{date} is the first or the last day of the calendar: it should be another") from None
     length = datetime.timedelta(hours=float(rules.DAYS[periods]))
     if first + periods * length != behind:
         hours = int((behind - first) / datetime.timedelta(hours=1))

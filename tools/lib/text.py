@@ -35,19 +35,31 @@ def records(text):
 
 def placed_records(text, comma=b","):
     """The same, each with its offset in the text; also of a text whose fields are separated by something other than commas."""
+    return ((begin, fields) for begin, fields, _ in scanned(text, comma))
+
+
+def open_quote(text, comma=b","):
+    """Where a quote begins that isn't closed on its line; None if there is none."""
+    return next((quote for _, _, quote in scanned(text, comma) if quote is not None), None)
+
+
+def scanned(text, comma):
+    """The offset and the fields of each record, and where a quote begins in it that isn't closed on its line, or None."""
     field_from = field_of(comma)
     at = LINE_ENDS.match(text).end()
     while at < len(text):
-        begin, fields = at, []
+        begin, fields, quote = at, [], None
         while True:
             field = field_from.match(text, at)
             quoted, behind, plain = field.groups()
+            if quote is None and quoted is not None and (behind is None or LINE_END.search(quoted)):
+                quote = at
             fields.append(plain if quoted is None else quoted.replace(b'""', b'"') + (behind or b""))
             at = field.end()
             if text[at : at + 1] != comma:
                 break
             at += 1
-        yield begin, fields
+        yield begin, fields, quote
         at = LINE_ENDS.match(text, at).end()
 
 
@@ -135,6 +147,12 @@ def fixed(value, digits, thousands=""):
     sign = "-" if value < 0 else ""
     point = f".{int(rest):0{digits}d}" if digits else ""
     return f"{sign}{whole:,}".replace(",", thousands) + point
+
+
+def grouped(number):
+    """A decimal number with commas between thousands."""
+    whole, point, digits = number.partition(".")
+    return f"{int(whole):,}{point}{digits}" if int(whole) or not whole.startswith("-") else number
 
 
 def cents(price, thousands=""):

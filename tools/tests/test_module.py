@@ -16,6 +16,7 @@ from support import AUCTION, FIRST, TOP, printed
 import dam_tools
 from lib import command, shapes, tables
 
+END = "is the first or the last day of the calendar: it should be another"
 FAKE = support.TOOLS / "tests" / "fake_dam.py"
 
 
@@ -79,6 +80,9 @@ class Module(unittest.TestCase):
             (lambda: dam_tools.records(day, date="25.11.2026"), "25.11.2026: it should be a day, such as 2026-11-25"),
             (lambda: dam_tools.records(day, date=20261125), "20261125: it should be a datetime.date, or a text such as 2026-11-25"),
             (lambda: dam_tools.records(day, date="2026-03-29"), "2026-03-29 has 23 hours, so 23 or 92 periods, but the day has 24"),
+            (lambda: dam_tools.records(day, date="9999-12-31"), f"9999-12-31 {END}"),
+            (lambda: dam_tools.records(day, date=datetime.date.min), f"0001-01-01 {END}"),
+            (lambda: dam_tools.records(day, date=20.5), "20.5: it should be a datetime.date, or a text such as 2026-11-25"),
             (
                 lambda: dam_tools.records(day, "orders", date="2026-11-25"),
                 "a date has no use with orders, which has no column of periods: long=True",
@@ -98,7 +102,8 @@ class Module(unittest.TestCase):
             (text.replace(b"\n", b"\r\n"), "the lines end with CR LF instead of LF alone"),
             (b"\xef\xbb\xbf" + text, "the text begins with a byte order mark"),
         ):
-            self.assertEqual(dam_tools.read_results(AUCTION, other).wrong, [said])
+            day = dam_tools.read_results(AUCTION, other)
+            self.assertEqual((day.wrong, day.odd), ([], [said]))
 
     def test_what_is_a_number_is_one_everywhere(self):
         """A whole number in the figures of JSON, in its rows, and in records."""

@@ -263,6 +263,15 @@ class CommandLine(unittest.TestCase):
             rows = tool("table", *texts, "--only", words)[1].decode().splitlines()[1:]
             self.assertEqual([row.split(",")[0] for row in rows], ["1", "3", "5", "6", "7"])
 
+    @unittest.skipUnless(command.has_zone("Europe/Berlin"), "the time zones are missing (Debian's tzdata)")
+    def test_dates_at_the_ends_of_the_calendar(self):
+        texts = [AUCTION, AUCTION.with_suffix(".stdout")]
+        for date in ("9999-12-31", "0001-01-01"):
+            said = f"--date {date} is the first or the last day of the calendar: it should be another\n"
+            self.assertEqual(tool("table", *texts, "--date", date), (command.COMMAND_LINE, b"", f"table: {said}"))
+            if command.has("matplotlib") and command.has("jinja2"):
+                self.assertEqual(tool("report", *texts, "-o", "-", "--date", date), (command.COMMAND_LINE, b"", f"report: {said}"))
+
     def test_a_table_without_orders(self):
         status, out, err = tool("table", "--journal", "-", data=f"{HEADER}\n".encode())
         self.assertEqual((status, out), (0, b"day,24,,,,,,,\nclose,,,,,,,,\n"))
