@@ -153,7 +153,7 @@ def rows_of(day, table, long, date):
 def with_times(table, rows, date, periods):
     """A table with the times at which its periods begin."""
     if "period" not in rows[0]:
-        raise Fault(f"a date has no use with {table}, which has no column of periods" + (": long=True" if table in tables.LONG else ""))
+        raise Fault(f"a date can't be used with {table}, which has no column of periods" + (": long=True" if table in tables.LONG else ""))
     with as_faults():
         command.need_zone(shapes.ZONE)
         return list(shapes.with_times(rows, shapes.as_date(date), periods))

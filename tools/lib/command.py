@@ -21,6 +21,7 @@ PACKAGES = {
     "jinja2": "python3-jinja2",
     "matplotlib": "python3-matplotlib",
     "numpy": "python3-numpy",
+    "openpyxl": "python3-openpyxl",
     "pandas": "python3-pandas",
     "scipy": "python3-scipy",
 }
@@ -290,9 +291,14 @@ def need_zone(name):
         raise Stop("it needs the world's time zones, which Debian has in the package tzdata: apt-get install tzdata", FAILED)
 
 
+def missing(module):
+    """What is said of a module that is missing."""
+    package = PACKAGES[module]
+    return f"it needs {module}, which Debian has in the package {package}: apt-get install {package}"
+
+
 def need(module):
     """Ends the tool if a module is missing."""
     python_with(module)
     if not has(module):
-        package = PACKAGES[module]
-        raise Stop(f"it needs {module}, which Debian has in the package {package}: apt-get install {package}", FAILED)
+        raise Stop(missing(module), FAILED)

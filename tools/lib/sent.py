@@ -42,11 +42,15 @@ def read_sent(data, who, periods):
     """The commands of a participant in a list: records as in a journal, with the records `day` and `close` or without them, or a table
     of orders. Those of others are left out."""
     is_table = not WORDS.match(data.removeprefix(text.MARK))
-    commands = list(read_table(data, periods, who) if is_table else read_records(data, periods))
-    own = [sent for sent in commands if sent.command.who == who]
-    if commands and not own:
-        raise Wrong(f"it has {text.counted(len(commands), 'command')} of others, and none of {who}")
-    return Own(own, len(commands) - len(own), is_table)
+    if is_table:
+        own, others = read_table(data, periods, who)
+    else:
+        every = list(read_records(data, periods))
+        own = [sent for sent in every if sent.command.who == who]
+        others = len(every) - len(own)
+    if others and not own:
+        raise Wrong(f"it has {text.counted(others, 'command')} of others, and none of {who}")
+    return Own(own, others, is_table)
 
 
 def read_records(data, periods):
@@ -62,11 +66,12 @@ def read_records(data, periods):
 
 
 def read_table(data, periods, who):
+    """The orders of a participant in a table, as what was sent, and how many others it has."""
     try:
-        made = order_table.read_orders(data, periods, False)
+        orders = order_table.read_tables([("", data)], periods, who)
     except order_table.Wrong as fault:
         raise Wrong(f"it has no journal records and isn't a table of orders: {fault}") from None
-    return [Sent(number, command) for number, command in enumerate(made.commands, 1)]
+    return [Sent(number, submit) for number, submit in orders.submits], orders.others
 
 
 def published_of(read, reasons, who):

@@ -73,6 +73,15 @@ def of_periods(rows, numbers):
     yield from (row for row in rows if row[at] in numbers)
 
 
+def of_participant(rows, who):
+    """The rows of a participant."""
+    rows = iter(rows)
+    heads = next(rows)
+    yield heads
+    at = heads.index("participant")
+    yield from (row for row in rows if row[at] == who)
+
+
 def day_of_periods(periods, date=None):
     """What JSON says of a day without its results."""
     return {"date": date.isoformat() if date else None, "periods": periods, "hours_per_period": float(rules.DAYS[periods])}

@@ -13,7 +13,7 @@ import support
 from support import AUCTION, cleared_cases, journal_of, printed, problem, results_of, tool
 
 import days
-from lib import best, book, check, command, journal, period, results, rules, selection, tables
+from lib import best, book, check, command, journal, period, results, rules, selection, sheets, tables
 from lib.progress import Progress
 from lib.text import exact_euros
 from small_days import ranked, small_problems
@@ -410,7 +410,7 @@ class CommandLine(unittest.TestCase):
     def test_a_text_in_the_place_of_another_is_named(self):
         journal_data, text = AUCTION.read_bytes(), printed(AUCTION)
         replies, day = b"day,24\n1,done\n", journal_data + b"results\n" + text
-        orders = tables.written([tables.ORDER]).encode()
+        orders = sheets.written([tables.ORDER]).encode()
         for words, one, other, said in (
             ([], text, journal_data, "journal has results instead of a journal"),
             ([], journal_data, journal_data, "results has a journal instead of results"),

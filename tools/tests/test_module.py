@@ -14,7 +14,7 @@ import support
 from support import AUCTION, FIRST, TOP, printed
 
 import dam_tools
-from lib import command, shapes, tables
+from lib import command, shapes, sheets, tables
 
 END = "is the first or the last day of the calendar: it should be another"
 FAKE = support.TOOLS / "tests" / "fake_dam.py"
@@ -42,7 +42,7 @@ class Module(unittest.TestCase):
         journal = dam_tools.read_journal(FIRST)
         self.assertEqual(dam_tools.records(journal, "commands")[12]["reason"], "PeriodOutOfDay")
         day = dam_tools.read_results(AUCTION.read_bytes(), printed(AUCTION))
-        text = tables.written(tables.orders(day)).encode()
+        text = sheets.written(tables.orders(day)).encode()
         made = dam_tools.journal_of_orders(text)
         self.assertEqual(dam_tools.clear(made, program=self.program).said.welfare, day.said.welfare)
 
@@ -59,7 +59,7 @@ class Module(unittest.TestCase):
         with self.assertRaises(dam_tools.Fault):
             dam_tools.journal_of_orders(b"x\n")
         with self.assertRaisesRegex(dam_tools.Fault, "a day has 23, 24, 25, 92, 96 or 100 periods, not 26"):
-            dam_tools.journal_of_orders(tables.written([tables.ORDER]).encode(), periods=26)
+            dam_tools.journal_of_orders(sheets.written([tables.ORDER]).encode(), periods=26)
         day = dam_tools.read_results(AUCTION, AUCTION.with_suffix(".stdout"))
         for words in ({"table": "none"}, {"table": "curves", "long": True}):
             with self.assertRaises(ValueError):
@@ -85,11 +85,11 @@ class Module(unittest.TestCase):
             (lambda: dam_tools.records(day, date=20.5), "20.5: it should be a datetime.date, or a text such as 2026-11-25"),
             (
                 lambda: dam_tools.records(day, "orders", date="2026-11-25"),
-                "a date has no use with orders, which has no column of periods: long=True",
+                "a date can't be used with orders, which has no column of periods: long=True",
             ),
             (
                 lambda: dam_tools.records(day, "figures", date="2026-11-25"),
-                "a date has no use with figures, which has no column of periods",
+                "a date can't be used with figures, which has no column of periods",
             ),
         ):
             if "date" in said and not command.has_zone(shapes.ZONE):

@@ -155,7 +155,7 @@ class Pictures(unittest.TestCase):
                 self.assertEqual(tool("plot", *texts, *words)[0], command.COMMAND_LINE)
             self.assertEqual(tool("plot", *texts, "-o", f"{folder}/none/a.svg")[0], command.NO_INPUT)
             status, _, err = tool("plot", AUCTION, AUCTION, "-o", f"{folder}/a.svg")
-            self.assertEqual((status, "has no results of this journal" in err), (command.NO_INPUT, True))
+            self.assertEqual((status, "has a journal instead of results" in err), (command.NO_INPUT, True))
 
 
 if __name__ == "__main__":
