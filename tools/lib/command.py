@@ -222,6 +222,13 @@ class Day:
             refuse_kind(results_path, results_data, kinds.RESULTS)
         self.read(read, results_data, path, results_path or path)
 
+    def __repr__(self):
+        blocks = len(self.problem.blocks)
+        hourly = text.counted(len(self.problem.rows) - blocks, "hourly order")
+        wrong = f", {text.counted(len(self.wrong), 'fault')}" if self.wrong else ""
+        welfare = f"welfare {self.problem.euros(self.said.welfare)} EUR"
+        return f"<Day: {self.problem.periods} periods, {hourly}, {text.counted(blocks, 'block')}, {welfare}{wrong}>"
+
     @classmethod
     def of(cls, read, results_data):
         """The same from a journal that was read, and from the bytes of its results."""

@@ -121,11 +121,13 @@ def typed(kind, name, cell, row):
     return cell == "yes" if kind == "boolean" else cell
 
 
-def records(rows):
-    """The rows of a table as dictionaries with numbers, lists and None instead of texts."""
+def records(rows, flat=False):
+    """The rows of a table as dictionaries with numbers, lists and None instead of texts. If they are to be flat, lists stay texts."""
     rows = iter(rows)
     heads = next(rows)
     kinds = [column(name, heads)["type"] for name in heads]
+    if flat:
+        kinds = ["string" if kind == "array" else kind for kind in kinds]
     for row in rows:
         named = dict(zip(heads, row))
         yield {name: typed(kind, name, cell, named) for kind, (name, cell) in zip(kinds, named.items())}

@@ -38,6 +38,39 @@ class Module(unittest.TestCase):
             self.assertEqual(dam_tools.records(day, name), dam_tools.records(again, name))
         self.assertEqual(dam_tools.TABLES, tuple(tables.TABLES))
 
+    def test_replies_of_the_program(self):
+        replies = dam_tools.replay(FIRST, program=self.program)
+        self.assertEqual((len(replies), replies[0], replies[0].done), (15, (1, None), True))
+        self.assertEqual([reply.command for reply in replies if not reply.done], [9, 12, 13, 15])
+        self.assertEqual(replies[8].reason, "NameTaken")
+        wrong = Path(self.program.parent, "wrong")
+        wrong.write_text("#!/bin/sh\nprintf 'day,24\\n1,done\\n'\n")
+        wrong.chmod(0o755)
+        with self.assertRaisesRegex(dam_tools.Fault, "^the program printed other replies than those of the journal$"):
+            dam_tools.replay(FIRST, program=wrong)
+
+    def test_what_is_printed_of_objects_is_short(self):
+        self.assertEqual(repr(dam_tools.read_journal(FIRST)), "<Journal: 24 periods, 15 commands>")
+        day = dam_tools.read_results(AUCTION, AUCTION.with_suffix(".stdout"))
+        self.assertEqual(repr(day), "<Day: 24 periods, 80 hourly orders, 9 blocks, welfare 3,021,520.00 EUR>")
+        day = dam_tools.read_results(AUCTION, printed(AUCTION).replace(b"welfare,3", b"welfare,4"))
+        self.assertTrue(repr(day).endswith(", 1 fault>"), day)
+        self.assertRegex(dam_tools.__version__, r"^\d+\.\d+\.\d+$")
+
+    def test_several_tables_of_orders(self):
+        heads = b"participant,order,kind,side,price_eur_mwh,periods,volume_mw\n"
+        made = dam_tools.journal_of_orders(heads + b"A,H,hour,buy,1,8,5\n", heads + b"B,H,hour,sell,1,07:00-08:00,5\n", close=False)
+        self.assertEqual([(command.who, command.order.volumes) for command in made.commands], [("A", ((8, 50),)), ("B", ((8, 50),))])
+        with self.assertRaisesRegex(dam_tools.Fault, "^/nowhere/a.xlsx can't be read"):
+            dam_tools.journal_of_orders("/nowhere/a.xlsx")
+
+    def test_flat_records(self):
+        day = dam_tools.read_results(AUCTION, AUCTION.with_suffix(".stdout"))
+        for name in dam_tools.TABLES:
+            for row in dam_tools.records(day, name, flat=True):
+                self.assertFalse([value for value in row.values() if isinstance(value, list)])
+        self.assertEqual(dam_tools.records(day, "orders", flat=True)[-1]["periods"], "18-20")
+
     def test_bytes_and_tables_of_orders(self):
         journal = dam_tools.read_journal(FIRST)
         self.assertEqual(dam_tools.records(journal, "commands")[12]["reason"], "PeriodOutOfDay")
