@@ -240,10 +240,10 @@ def hourly(day, row, executed):
         return NO_TRADE, f"nothing is traded in period {number}"
     price, limit = day.said.prices[number - 1], row.order.price
     gain = limit - price if row.order.side == "buy" else price - limit
-    shown = f"the price of period {number}, {text.cents(price)} EUR/MWh"
+    shown = f"the price, {text.cents(price)} EUR/MWh"
     if gain > 0:
         return IN_THE_MONEY, f"its limit is better than {shown}"
     if gain < 0:
         return OUT_OF_THE_MONEY, f"its limit is worse than {shown}"
-    shared = "" if executed == row.order.volumes[0][1] else ", at which not all orders are executed, the earlier ones first"
+    shared = "" if executed == row.order.volumes[0][1] else "; not all that is offered at it is needed"
     return AT_THE_PRICE, f"its limit is {shown}{shared}"

@@ -177,10 +177,10 @@ def exact_euros(amount, hours):
     return f"{whole}.{digits[:2]}{digits[2:].rstrip('0')}"
 
 
-NARROW = "\u202f"  # the narrow space between thousands, which no line is broken at
+THOUSANDS = ","  # between thousands, for readers
 
 
-def shown(value, digits, thousands=NARROW):
+def shown(value, digits, thousands=THOUSANDS):
     """A number for readers, rounded to this many digits after the point. What would round to nothing and isn't has more."""
     value = Fraction(value)
     scaled = int(abs(value) * 10**digits + Fraction(1, 2))
@@ -199,7 +199,7 @@ def shown_volume(tenths):
     return shown(Fraction(tenths, 10), 1)
 
 
-def amount(value, hours, thousands=NARROW):
+def amount(value, hours, thousands=THOUSANDS):
     """An amount as `euros` takes it, for readers: in EUR with two digits."""
     return shown(Fraction(value) * hours / 1_000, 2, thousands)
 

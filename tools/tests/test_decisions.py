@@ -178,11 +178,10 @@ class Hand(unittest.TestCase):
     def test_hourly_orders(self):
         day = day_of(AUCTION.read_bytes(), printed(AUCTION))
         found = {name: (row.code, row.outcome, row.why) for (_, name), row in tables.results_by_row(day).items()}
-        end = ", at which not all orders are executed, the earlier ones first"
-        said = f"its limit is the price of period 1, 92.00 EUR/MWh{end}"
+        said = "its limit is the price, 92.00 EUR/MWh; not all that is offered at it is needed"
         self.assertEqual(found["FLEX-1"], ("at-the-price", "in part", said))
-        self.assertEqual(found["FLEX-2"], ("out-of-the-money", "not", "its limit is worse than the price of period 2, 47.00 EUR/MWh"))
-        self.assertEqual(found["LOAD-1"], ("in-the-money", "in full", "its limit is better than the price of period 1, 92.00 EUR/MWh"))
+        self.assertEqual(found["FLEX-2"], ("out-of-the-money", "not", "its limit is worse than the price, 47.00 EUR/MWh"))
+        self.assertEqual(found["LOAD-1"], ("in-the-money", "in full", "its limit is better than the price, 92.00 EUR/MWh"))
         data = journal_of("submit,A,B,hour,buy,6000,8:10,,")
         day = day_of(data, results_of(data, frozenset()))
         self.assertEqual(tables.results_by_row(day)["A", "B"].why, "nothing is traded in period 8")

@@ -98,7 +98,7 @@ class Pictures(unittest.TestCase):
             self.assertEqual([tuple(note.xy)[0] for note in arrows], [10.5, 16.5])
             self.assertEqual([text.get_text() for text in axes.texts].count("FILL"), 1)
             drawn = pictures.picture(figure, "svg", words_as_text=True).decode()
-            for words in ("-8\u202f960.00", "146\u202f520.00", "GAS START", "sell 80 MW at 120.00 EUR/MWh"):
+            for words in ("-8,960.00", "146,520.00", "GAS START", "sell 80 MW at 120.00 EUR/MWh"):
                 self.assertIn(words, drawn)
 
     def test_days_of_quarter_hours_have_no_outline_for_each_period(self):
