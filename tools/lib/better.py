@@ -53,11 +53,11 @@ def told(problem, said, found):
     """What is said about a better selection: its blocks and welfare, its prices, and how it differs from the published one."""
     more = found.welfare - said.welfare
     if more:
-        kind = f"has a greater welfare, {problem.euros(found.welfare)} EUR, which is {problem.euros(more)} EUR more"
+        kind = f"it has a greater welfare, {problem.euros(found.welfare)} EUR, which is {problem.euros(more)} EUR more"
+        yield f"a better selection accepts {named(problem, found.accepted)}: {kind}"
     else:
-        first = min(found.accepted ^ said.accepted)
-        kind = f"takes precedence: it has the same welfare, and accepts {problem.blocks[first]}, which is earlier in the book"
-    yield f"a better selection accepts {named(problem, found.accepted)}, and {kind}"
+        first = problem.blocks[min(found.accepted ^ said.accepted)]
+        yield f"an equally good selection takes precedence: it accepts {first}, which is earlier in the book"
     turned = [("accepts", found.accepted - said.accepted), ("rejects", said.accepted - found.accepted)]
     yield "unlike the results it " + " and ".join(f"{does} {named(problem, places)}" for does, places in turned if places)
     prices = [cleared.price for cleared in selection.outcome(problem, found.accepted).cleared.values()]

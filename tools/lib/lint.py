@@ -40,8 +40,8 @@ class Lint:
     """Gathers the faults of a text that should be a journal for a command of the program. If `periods` are given, the text may lack
     the day, which has that number of periods."""
 
-    def __init__(self, data, command, periods=None):
-        self.command, self.periods = command, periods
+    def __init__(self, data, command, periods=None, bar=None):
+        self.command, self.periods, self.bar = command, periods, bar
         self.found, self.held = [], None
         self.lines = {}  # of each order of the book that was submitted, by participant and name
         self.unclear = set()  # participants and names of submits that couldn't be read
@@ -64,6 +64,8 @@ class Lint:
         line, behind, number = 1, 0, 0
         for number, (at, record) in enumerate(text.placed_records(data, comma), 1):
             line += len(text.LINE_END.findall(data, behind, at))
+            if self.bar:
+                self.bar.step(at - behind)
             behind = at
             if number > rules.MOST_RECORDS:
                 self.tell(line, f"a journal has at most {rules.MOST_RECORDS - 1} commands: remove what follows")
@@ -303,9 +305,9 @@ def first_word(data, comma=b","):
     return next(text.placed_records(data, comma), (0, [b""]))[1][0].strip().lower().decode(errors="replace")
 
 
-def faults(data, command="clear"):
-    """What is wrong with a text as a journal for `dam clear`, `dam replay` or `dam day`, by line."""
-    return Lint(data, command).run()
+def faults(data, command="clear", bar=None):
+    """What is wrong with a text as a journal for `dam clear`, `dam replay` or `dam day`, by line. A bar shows how far it is read."""
+    return Lint(data, command, bar=bar).run()
 
 
 def counted(found):

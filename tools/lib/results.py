@@ -82,7 +82,7 @@ def plain(data):
             data = data.decode(encoding).encode()
             odd.append(f"the text begins with {words}")
     for end, words in ((b"\r\n", "CR LF"), (b"\r", "CR")):
-        if end in data and (end != b"\r" or b"\n" not in data):
+        if end in data:
             data = data.replace(end, b"\n")
             odd.append(f"the lines end with {words} instead of LF alone")
     if data and not data.endswith(b"\n"):

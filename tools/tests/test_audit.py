@@ -317,7 +317,7 @@ class Best(unittest.TestCase):
         for method in self.methods():
             with self.subTest(method):
                 status, out, _ = audit(data, results_of(data, frozenset({1})), "--best", "--by", method)
-                self.assertEqual((status, b"takes precedence: it has the same welfare" in out), (1, True))
+                self.assertEqual((status, b"an equally good selection takes precedence: it accepts A,K1, which is earlier" in out), (1, True))
 
 
 def audit(data, text, *words):
@@ -427,8 +427,8 @@ class CommandLine(unittest.TestCase):
     def test_one_stray_or_missing_line_is_one_message(self):
         data, lines = AUCTION.read_bytes(), printed(AUCTION).splitlines(keepends=True)
         for at in (0, 1, 2, 30, len(lines)):
-            stray = b"".join([*lines[:at], b"stray,\xff\r\x1b,line\n", *lines[at:]])
-            said = f"results line {at + 1}: 'stray,\\xff\\r\\x1b,line' is not a line of these results\n".encode()
+            stray = b"".join([*lines[:at], b"stray,\xff\x0b\x1b,line\n", *lines[at:]])
+            said = f"results line {at + 1}: 'stray,\\xff\\x0b\\x1b,line' is not a line of these results\n".encode()
             self.assertEqual(audit(data, stray), (command.DIFFERS, said, ""))
         for at, about in (0, "the day"), (1, "the welfare"), (4, "period 3"), (len(lines) - 1, "block OLD,UNIT-7"):
             missing = b"".join(lines[:at] + lines[at + 1 :])
