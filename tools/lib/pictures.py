@@ -90,6 +90,8 @@ def legend(axes, *entries, columns, below=False):
 def picture(figure, suffix, words_as_text=False):
     """The bytes of a figure, in the format `svg` or `png`."""
     out = io.BytesIO()
+    if not words_as_text:
+        remove_hover(figure)
     with matplotlib.rc_context({"svg.fonttype": "none" if words_as_text else "path", "svg.hashsalt": "dam"}):
         kind = {"metadata": {"Date": None, "Creator": None}} if suffix == "svg" else {"dpi": 150}
         # To find the box that fits takes as long as to draw.
@@ -116,6 +118,13 @@ def add_hover(axes, name, areas, words):
     if areas:
         axes.add_collection(PolyCollection(areas, gid=f"hover-{name}", **look), autolim=False)
         axes.figure.hover = {**hover_of(axes.figure), name: list(words)}
+
+
+def remove_hover(figure):
+    """Takes away the areas that only a page has a use for."""
+    for axes in figure.axes:
+        for area in [area for area in axes.collections if str(area.get_gid()).startswith("hover-")]:
+            area.remove()
 
 
 def hover_of(figure):

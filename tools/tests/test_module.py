@@ -196,7 +196,7 @@ class Module(unittest.TestCase):
 
     @unittest.skipUnless(command.has("pandas") and command.has_zone(shapes.ZONE), "pandas or the time zones are missing")
     def test_the_example_of_the_pages(self):
-        (example,) = re.findall(r"```python\n([^`]*import dam_tools.*?)```", (TOP / "docs" / "USING.md").read_text(), re.DOTALL)
+        example = self.examples()[0]
         built = '"crates/dam_cli/out/dam_cli"'
         self.assertIn(built, example)
         Path(self.program.parent, "day.csv").write_bytes(AUCTION.read_bytes())
@@ -206,6 +206,29 @@ class Module(unittest.TestCase):
         self.assertEqual((ran.returncode, ran.stderr), (0, ""))
         self.assertIn("OLD UNIT-7 paradoxically rejected would gain", ran.stdout)
         self.assertRegex(ran.stdout, r"STAD +-1193050\.0")
+
+    def examples(self):
+        return re.findall(r"```python\n([^`]*import dam_tools.*?)```", (TOP / "docs" / "USING.md").read_text(), re.DOTALL)
+
+    def test_the_example_for_parquet(self):
+        """It is run if pyarrow is there, and its query too if DuckDB is; otherwise the frames are written as CSV, which needs less."""
+        self.assertEqual(len(self.examples()), 2)
+        example, folder = self.examples()[1], self.program.parent
+        if not command.has("pandas"):
+            self.skipTest("pandas is missing (Debian's python3-pandas)")
+        Path(folder, "day.csv").write_bytes(AUCTION.read_bytes())
+        Path(folder, "results.txt").write_bytes(printed(AUCTION))
+        if not command.has("pyarrow"):
+            example = example.replace("to_parquet", "to_csv")
+        ran = subprocess.run([sys.executable, "-B", "-c", example], cwd=folder, env={**os.environ, "PYTHONPATH": str(support.TOOLS)})
+        self.assertEqual(ran.returncode, 0)
+        self.assertTrue(Path(folder, "orders.parquet").stat().st_size and Path(folder, "executions.parquet").stat().st_size)
+        if command.has("pyarrow") and command.has("duckdb"):
+            import duckdb
+
+            query = re.search(r"```sql\n(.*?)```", (TOP / "docs" / "USING.md").read_text(), re.DOTALL)[1]
+            found = duckdb.sql(query.replace("executions.parquet", str(Path(folder, "executions.parquet")))).fetchall()
+            self.assertAlmostEqual(dict(found)["STAD"], -1_193_050.0)
 
     def test_frames_without_pandas(self):
         day = dam_tools.read_results(AUCTION, AUCTION.with_suffix(".stdout"))
