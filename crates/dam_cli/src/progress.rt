@@ -54,11 +54,7 @@ impl fmt::Display for Count {
     ghost output = { λ count. Some (pieces_text count) };
 
     fn fmt<W: fmt::Write>(&self, f: &mut fmt::Formatter<W>) -> fmt::Result {
-        write!(
-            f,
-            "dam: {} of {} pieces are searched",
-            self.ended, self.pieces
-        )
+        write!(f, "dam: searched {} of {} pieces", self.ended, self.pieces)
     }
 }
 
