@@ -24,6 +24,7 @@ use std::env;
 use std::io::{ErrorKind, IsTerminal, Write};
 use std::process::ExitCode;
 use std::sync::Wait;
+use std::time::Clock;
 
 /// The status of a command line that is refused.
 const REFUSED_LINE: u8 = 2;
@@ -51,7 +52,7 @@ fn main(rt: HostRuntime) -> ExitCode {
 
 /// The status of a run that ended so. After a fault its line is printed; otherwise, at a terminal, how many commands
 /// were refused.
-fn ended<R: Wait + Eprint>(
+fn ended<R: Wait + Eprint + Clock>(
     rt: &HostRuntime,
     progress: &Progress<'_, R>,
     done: Result<(), RunFault>,
