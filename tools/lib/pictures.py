@@ -79,7 +79,7 @@ def is_narrow(axes):
 def legend(axes, *entries, columns, below=False):
     """A legend above the panel: right of its heading, or under it if the figure is narrow; or then below the panel."""
     if is_narrow(axes) and below:
-        look = {"loc": "upper left", "bbox_to_anchor": (0, -0.13), "fontsize": 7}
+        look = {"loc": "upper left", "bbox_to_anchor": (0, -0.2), "fontsize": 7}
     elif is_narrow(axes):
         look = {"loc": "lower left", "bbox_to_anchor": (0, 1), "fontsize": 7, "columnspacing": 1, "handlelength": 1.4}
     else:
@@ -181,7 +181,7 @@ def period_picture(day, number, width=BROAD):
     with matplotlib.rc_context(STYLE):
         figure, axes = panels([4.6 if width == BROAD else 4], width)
         draw_curves(axes[0], day, number)
-        set_margins(figure, *((0.85, 0.75, 0.5, 0.5) if width == BROAD else (0.7, 0.62, 1.25, 0.35)))
+        set_margins(figure, *((0.85, 0.75, 0.5, 0.5) if width == BROAD else (0.7, 0.62, 1.2, 0.5)))
         return figure
 
 

@@ -150,9 +150,10 @@ def fixed(value, digits, thousands=""):
 
 
 def grouped(number):
-    """A decimal number with commas between thousands."""
-    whole, point, digits = number.partition(".")
-    return f"{int(whole):,}{point}{digits}" if int(whole) or not whole.startswith("-") else number
+    """An exact amount such as `-1234.500` for readers: with commas between thousands, and no zeros after its second digit."""
+    whole, _, digits = number.partition(".")
+    sign = "-" if whole.startswith("-") else ""
+    return f"{sign}{abs(int(whole)):,}.{digits[:2]}{digits[2:].rstrip('0')}"
 
 
 def cents(price, thousands=""):

@@ -7,7 +7,7 @@ from pathlib import Path
 
 from support import AUCTION, QUARTERS, printed, results_of, tool
 
-from lib import command, days, verdict
+from lib import command, days, text, verdict
 
 DATA, TEXT = AUCTION.read_bytes(), printed(AUCTION)
 
@@ -35,7 +35,7 @@ class Days(unittest.TestCase):
         self.assertEqual((status, err, lines[0][:3]), (0, "", ["day", "verdict", "periods"]))
         self.assertEqual([line[:3] for line in lines[1:4]], [["a", "right", "24"], ["b", "right", "96"], ["c", "right", "24"]])
         self.assertEqual(lines[4][:4], ["3", "days", "3", "right"])
-        self.assertEqual(lines[1][6], "3,021,520.000")
+        self.assertEqual(lines[1][6], "3,021,520.00")
         self.assertEqual(self.audit("--quiet"), (0, "", ""))
 
     def test_one_broken_pair_does_not_end_the_rest(self):
@@ -75,6 +75,10 @@ class Days(unittest.TestCase):
         self.write(a=(DATA, TEXT))
         status, out, _ = self.audit("--best", "--seconds", "0")
         self.assertEqual((status, out.splitlines()[1].split()[1]), (command.UNDECIDED, "undecided"))
+
+    def test_amounts_for_readers(self):
+        for number, shown in (("-1234567.500", "-1,234,567.50"), ("-0.001", "-0.001"), ("0.000", "0.00"), ("12.12500", "12.125")):
+            self.assertEqual(text.grouped(number), shown)
 
     def test_records(self):
         self.write(a=(DATA, TEXT), b=(DATA, None))
