@@ -115,6 +115,15 @@ class Worked(unittest.TestCase):
         for other in ([rows[1], rows[0]], rows[:1], [rows[0].replace("3.00", "3.01"), rows[1]]):
             self.assertEqual(audit(PUBLISHED, text_of([heads, *other]))[0], command.DIFFERS)
 
+    @unittest.skipUnless(command.has("openpyxl"), "openpyxl is missing (Debian's python3-openpyxl)")
+    def test_a_workbook(self):
+        with tempfile.TemporaryDirectory() as folder:
+            path = Path(folder, "orders.xlsx")
+            tool("table", "--quiet", "--rows", "orders", AUCTION, AUCTION.with_suffix(".stdout"), "-o", path)
+            status, out, err = tool("audit", AUCTION, "--sent", path, "--participant", "STAD")
+            said = "as sent: 24 commands of STAD, each once, in their order, and no others (65 of others left out)"
+            self.assertEqual((status, out.decode().splitlines()[0], err), (command.DONE, said, ""))
+
     def test_with_results_the_lines_are_checked_too(self):
         data, right = AUCTION.read_bytes(), printed(AUCTION)
         own = text_of(own_lines(data, "GAS"))

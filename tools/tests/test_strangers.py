@@ -45,9 +45,10 @@ class Tools(unittest.TestCase):
                 fields = [*line[:at], long.replace("\r", ""), *line[at + 1 :]]
                 data = f"day,24,,,,,,,\n{','.join(fields)}\nclose,,,,,,,,\n".encode()
                 self.assertIn(shown, self.said("lint", "-", data=data))
-                self.said("audit", "-", AUCTION, data=data)
-                self.said("table", "--rows", "commands", "-", data=data)
-                self.said("audit", AUCTION, "--sent", "-", "--participant", "GAS", data=data)
+                if at in (0, 2, 6):
+                    self.said("audit", "-", AUCTION, data=data)
+                    self.said("table", "--rows", "commands", "-", data=data)
+                    self.said("audit", AUCTION, "--sent", "-", "--participant", "GAS", data=data)
             data = f"day,{long},,,,,,,\n".encode()
             self.assertIn(shown, self.said("lint", "-", data=data))
             self.assertIn(shown, self.said("lint", "-", data=long.encode()))
