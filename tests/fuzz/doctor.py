@@ -26,7 +26,8 @@ def a_field(rng, data):
     other = rng.choice(rng.choice(lines))
     number = line[at].removeprefix(b"-").isdigit()
     step = rng.choice([-10, -1, 1, 10])
-    line[at] = rng.choice([b"%d" % (int(line[at]) + step) if number else other, other, b"", b"0" + line[at], b"-" + line[at], line[at] + b"0"])
+    stepped = b"%d" % (int(line[at]) + step) if number else other
+    line[at] = rng.choice([stepped, other, b"", b"0" + line[at], b"-" + line[at], line[at] + b"0"])
     return "a field", b"\n".join(b",".join(line) for line in lines)
 
 

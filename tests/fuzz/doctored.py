@@ -35,7 +35,8 @@ RIGHT, WRONG, UNREAD, ENCODING = command.DONE, command.DIFFERS, command.NO_INPUT
 
 
 def arguments():
-    parser = argparse.ArgumentParser(prog="tests/fuzz/doctored.py", description=__doc__, formatter_class=argparse.RawDescriptionHelpFormatter)
+    form = argparse.RawDescriptionHelpFormatter
+    parser = argparse.ArgumentParser(prog="tests/fuzz/doctored.py", description=__doc__, formatter_class=form)
     parser.add_argument("program", metavar="PROGRAM", help="the built program, crates/dam_cli/out/dam_cli")
     parser.add_argument("--seed", default="1", help="the seed of the random cases (1)")
     parser.add_argument("--first", type=int, default=1, help="the number of the first case (1)")

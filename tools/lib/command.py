@@ -100,7 +100,8 @@ class Parser(argparse.ArgumentParser):
     def add_day(self):
         """The files of a day."""
         self.add_argument("journal", metavar="JOURNAL", help="a journal, or the text of `dam day`; - for standard input")
-        self.add_argument("results", metavar="RESULTS", nargs="?", help="the results of that journal; omit them for the output of `dam day`")
+        words = "the results of that journal; omit them for the output of `dam day`"
+        self.add_argument("results", metavar="RESULTS", nargs="?", help=words)
 
     def error(self, message):
         super().error(on_lines(message))

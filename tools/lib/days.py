@@ -138,7 +138,8 @@ def cells(record):
     numbers = [day.get(name, "") for name in ("periods", "hourly_orders", "blocks", "accepted")]
     shown = text.grouped(welfare) if welfare is not None else ""
     seconds = f"{record['seconds']:.1f}" if "seconds" in record else ""
-    return [text.safe(record["name"]), record["verdict"], *numbers, shown, day.get("refused", ""), len(faults), seconds, text.safe(first, 160)]
+    ends = [day.get("refused", ""), len(faults), seconds, text.safe(first, 160)]
+    return [text.safe(record["name"]), record["verdict"], *numbers, shown, *ends]
 
 
 def total(records):

@@ -338,7 +338,8 @@ def draw_blocks(axes, day):
     draw_links(axes, day)
     draw_groups(axes, day)
     words = [block_words(day, row, decision) for row, decision in enumerate(found)]
-    add_hover(axes, "blocks", [[(0.5, row - 0.4), (right, row - 0.4), (right, row + 0.4), (0.5, row + 0.4)] for row in range(len(blocks))], words)
+    ends = [(row - 0.4, row + 0.4) for row in range(len(blocks))]
+    add_hover(axes, "blocks", [[(0.5, top), (right, top), (right, bottom), (0.5, bottom)] for top, bottom in ends], words)
     axes.set_ylim(len(blocks) - 0.45, -0.55)
     axes.set_yticks([])
     axes.grid(visible=False)
@@ -476,7 +477,8 @@ def price_range(day, number, curves):
 
 def limits_near(xs, ys, volume):
     """The limits of a curve's steps about a volume, in EUR/MWh."""
-    return [limit for begin, end, limit in zip(xs[::2], xs[1::2], ys[::2]) if begin <= (1 + NEAR_SHARE) * volume and end >= (1 - NEAR_SHARE) * volume]
+    least, most = (1 - NEAR_SHARE) * volume, (1 + NEAR_SHARE) * volume
+    return [limit for begin, end, limit in zip(xs[::2], xs[1::2], ys[::2]) if begin <= most and end >= least]
 
 
 def mark_tails(axes, day, number, bottom, top):

@@ -1,4 +1,4 @@
-"""Tables as files: text with separators, and Excel workbooks (by openpyxl). Here they are rows of cells; what these mean is said elsewhere."""
+"""Tables as files: text with separators, and Excel workbooks (by openpyxl). Here they are rows of cells; others say what these mean."""
 
 import csv
 import datetime

@@ -24,7 +24,8 @@ def limited(words, megabytes, data=b""):
 
 class Failing(unittest.TestCase):
     def failed(self, call, **environment):
-        ran = subprocess.run([sys.executable, "-B", "-c", RUN.replace("CALL", call)], cwd=TOOLS, capture_output=True, text=True, env=environment)
+        words = [sys.executable, "-B", "-c", RUN.replace("CALL", call)]
+        ran = subprocess.run(words, cwd=TOOLS, capture_output=True, text=True, env=environment)
         return ran.returncode, ran.stdout, ran.stderr
 
     def test_a_defect(self):

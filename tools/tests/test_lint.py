@@ -80,7 +80,8 @@ class Hand(unittest.TestCase):
         self.check(GOOD.replace(BLOCK, BLOCK.replace(b",", b";")), ("line 3", "separated by semicolons"))
 
     def test_excel_workbooks(self):
-        for signature, said in (b"PK\x03\x04", "this is an Excel workbook: "), (b"\xd0\xcf\x11\xe0\xa1\xb1\x1a\xe1", "this is an old Excel"):
+        old = b"\xd0\xcf\x11\xe0\xa1\xb1\x1a\xe1"
+        for signature, said in (b"PK\x03\x04", "this is an Excel workbook: "), (old, "this is an old Excel workbook: "):
             data = signature + bytes(range(256)) * 100
             self.check(data, ("line 1", said))
             for words in (["audit", "-", AUCTION], ["audit", AUCTION, "-"], ["table", "-", AUCTION], ["plot", AUCTION, "-"]):
