@@ -1,7 +1,7 @@
 -- A change of one block, class by class.
 use Rattle.std.proofs.Common.{◌≡◌, ◌≢◌, ℕ, zero, suc, ◌+◌, ◌-◌, ◌*◌, ◌<◌, ◌≤◌, ◌==◌, cond, Bool, true, false, ℤ, pos, neg_ℤ, ◌+ℤ◌, ◌-ℤ◌}
 use Rattle.std.proofs.Common.{◌≤ℤ◌, ◌⊎◌, Option, Some, None, List, [], ◌∷◌, ◌++◌, length, drop, get_or, inl, inr, ap, ap₂, ◌∙◌, sym, subst, refl, arith}
-use Rattle.std.specs.List.{slice_get, count_by}
+use Rattle.std.specs.List.{slice_get}
 use Rattle.std.specs.Option.{option_map}
 use Rattle.std.proofs.lemmas.Int.{ints}
 use Rattle.std.proofs.lemmas.Bool.{cases_lt}
@@ -9,11 +9,9 @@ use Rattle.std.proofs.lemmas.Bool.Decides.{nat_tests}
 use Rattle.std.proofs.lemmas.List.Sums.{sum_by-cons}
 use Rattle.std.proofs.lemmas.Option.{slice_get_within}
 use Rattle.dam_book.specs.Limits.{last_period, most_hourly, most_blocks}
-use Rattle.dam_book.specs.Terms.{BlockTerms}
 use Rattle.dam_hour.specs.declared.step.Step.{Step}
 use Rattle.dam_hour.specs.Execution.{AreInRange}
 use Rattle.dam_hour.specs.Best.{greatest_welfare}
-use Rattle.dam_hour.specs.Limits.{most_steps, greatest_value}
 use Rattle.dam_curve.specs.Curve.{both, joint_welfare}
 use Rattle.dam_blocks.specs.declared.problem.Block.{Block}
 use Rattle.dam_blocks.specs.Problem.{ProblemState, AreBlocks, AreHours, hourly_orders}
@@ -25,7 +23,7 @@ use Rattle.dam_bound.specs.declared.day.Change.TheVariants.{Decide, Turn}
 use Rattle.dam_bound.specs.declared.day.Position.{Position}
 use Rattle.dam_bound.specs.declared.touch.Touch.{Touch}
 use Rattle.dam_bound.specs.Relaxed.{as_steps, relaxed_hours, relaxed_welfare}
-use Rattle.dam_bound.specs.Classes.{first_of, members, over_class, class_hours, class_welfare}
+use Rattle.dam_bound.specs.Classes.{first_of, members, over_class, class_welfare}
 use Rattle.dam_bound.specs.Day.{IsPosition}
 use Rattle.dam_bound.specs.Tables.{class_value, touches_at}
 use Rattle.dam_bound.specs.inside.Change.{by, IsChange, NeverRises}

@@ -1,6 +1,6 @@
 -- The classes of a day's periods: which period a class begins with, and sums over classes.
 use Rattle.std.proofs.Common.{◌≡◌, ◌≢◌, ℕ, zero, suc, ◌+◌, ◌<◌, ◌≤◌, ◌==◌, ◌&&◌, cond, Bool, true, false, ℤ, pos, neg_ℤ, ◌+ℤ◌, Some, List, [], ◌∷◌}
-use Rattle.std.proofs.Common.{length, inl, inr, ap, ap₂, ◌∙◌, sym, subst, refl, arith}
+use Rattle.std.proofs.Common.{inl, inr, ap, ap₂, ◌∙◌, sym, subst, refl, arith}
 use Rattle.std.specs.List.{slice_get}
 use Rattle.std.proofs.lemmas.Int.{ints}
 use Rattle.std.proofs.lemmas.Bool.{cases_lt}
@@ -10,7 +10,7 @@ use Rattle.dam_hour.specs.Best.{signed}
 use Rattle.dam_blocks.specs.declared.problem.Block.{Block}
 use Rattle.dam_blocks.specs.Selection.{volume_in, over_accepted, net_volume_of, net_volume}
 use Rattle.dam_bound.specs.Classes.{are_alike, first_from, first_of, over_class}
-use Rattle.dam_bound.proofs.Worth.{sum_from, same_sum}
+use Rattle.dam_bound.proofs.Worth.{sum_from}
 
 -- ---- alike periods
 both_true : (a b : Bool) → (a && b) ≡ true → (a ≡ true) × (b ≡ true)

@@ -52,13 +52,6 @@ price_at blocks sel t (suc i) (hour ∷ hours) (p ∷ prices) ss are at =
     let number : suc t + i ≡ t + suc i = omega arith in
     (rest.0, rest.1, subst (λ (n : ℕ). IsClearingPrice ss (net_volume blocks sel n) rest.0) number rest.2)
 
-pub as_many_prices : (blocks : List Block) (sel : List Bool) (t : ℕ) (hours : List (List Step)) (prices : List ℤ)
-    → ArePrices blocks sel t hours prices → length prices ≡ length hours
-as_many_prices blocks sel t [] [] are = refl
-as_many_prices blocks sel t [] (p ∷ prices) are = absurd are
-as_many_prices blocks sel t (ss ∷ hours) [] are = absurd are
-as_many_prices blocks sel t (ss ∷ hours) (p ∷ prices) are = ap suc (as_many_prices blocks sel (suc t) hours prices are.1)
-
 -- ---- surplus
 -- the block with these volumes
 abbrev pub with_pairs : BlockTerms → List Pair → BlockTerms
@@ -122,14 +115,6 @@ surplus_at_place o pairs k place p prices x rising at number here =
     ap (λ (ps : List Pair). surplus_of prices (with_pairs o ps)) (drop_at pairs k p at)
     ∙ at_pair o p (drop (k + 1) pairs) 1 place prices x (omega (arith, number)) here
     (ap (λ (n : ℕ). volume_in (drop n pairs) p.0) (sym step) ∙ past_volume 0 pairs k p rising at)
-
--- a pair past the day
-pub surplus_past : (o : BlockTerms) (pairs : List Pair) (k : ℕ) (p : Pair) (prices : List ℤ) → slice_get pairs k ≡ Some p
-    → length prices < p.0
-    → surplus_of prices (with_pairs o (drop k pairs)) ≡ surplus_of prices (with_pairs o (drop (k + 1) pairs))
-surplus_past o pairs k p prices at past =
-    ap (λ (ps : List Pair). surplus_of prices (with_pairs o ps)) (drop_at pairs k p at)
-    ∙ elsewhere o p (drop (k + 1) pairs) 1 prices (λ i l m. omega (arith, m, past))
 
 -- ---- sums
 pub gain_more : (total gain own all rest whole after : ℤ) → after ≡ total +ℤ gain → gain ≡ own → all ≡ own +ℤ rest → total +ℤ all ≡ whole

@@ -1,7 +1,7 @@
 -- The price of a period of a day on which every block is decided, cleared at the net volume of its class.
-use Rattle.std.proofs.Common.{◌≡◌, ℕ, zero, suc, ◌+◌, ◌-◌, ◌*◌, ◌<◌, ◌≤◌, ◌==◌, ◌||◌, cond, ℤ, pos, neg_ℤ, ◌+ℤ◌, ◌≤ℤ◌, Bool, true, false, Option}
-use Rattle.std.proofs.Common.{Some, None, List, [], ◌∷◌, ◌++◌, length, drop, ap, ap₂, ◌∙◌, sym, subst, refl, arith}
-use Rattle.std.specs.List.{slice_get, slice_index_or, list_any}
+use Rattle.std.proofs.Common.{◌≡◌, ℕ, zero, suc, ◌+◌, ◌*◌, ◌<◌, ◌≤◌, ◌==◌, ◌||◌, cond, ℤ, pos, neg_ℤ, Bool, true, false, Option}
+use Rattle.std.proofs.Common.{Some, None, List, [], ◌∷◌, ◌++◌, length, drop, ap, ◌∙◌, sym, subst, refl, arith}
+use Rattle.std.specs.List.{slice_get, slice_index_or}
 use Rattle.std.specs.Option.{option_map, IsSome}
 use Rattle.std.specs.Prelude.{nat_lt}
 use Rattle.std.proofs.lemmas.Int.{ints}
@@ -10,7 +10,6 @@ use Rattle.std.proofs.lemmas.Bool.Decides.{nat_tests}
 use mir.Syntax.{w64}
 use mir.Val.{SFits}
 use Rattle.dam_book.specs.Limits.{greatest_volume, most_blocks, last_period}
-use Rattle.dam_book.specs.Terms.{BlockTerms, IsBlockOrder}
 use Rattle.dam_book.specs.Volumes.{Pair, ArePairs, have_beyond}
 use Rattle.dam_book.specs.declared.order.Side.{Side}
 use Rattle.dam_book.specs.declared.order.Side.TheVariants.{Buy, Sell}
@@ -19,12 +18,12 @@ use Rattle.dam_hour.specs.Best.{signed, greatest_welfare}
 use Rattle.dam_hour.specs.declared.step.Step.{Step}
 use Rattle.dam_blocks.specs.declared.problem.Block.{Block}
 use Rattle.dam_blocks.specs.Problem.{ProblemState, AreBlocks}
-use Rattle.dam_blocks.specs.Selection.{volume_in, net_volume_of, net_volume, block_value}
-use Rattle.dam_blocks.specs.Eligible.{added, period_welfare, welfare_from}
+use Rattle.dam_blocks.specs.Selection.{volume_in, net_volume, block_value}
+use Rattle.dam_blocks.specs.Eligible.{period_welfare, welfare_from}
 use Rattle.dam_blocks.specs.Magnitude.{IsWithin}
-use Rattle.dam_bound.specs.Relaxed.{as_steps, relaxed_hours, relaxed_welfare, without_rows}
+use Rattle.dam_bound.specs.Relaxed.{as_steps, relaxed_hours, relaxed_welfare}
 use Rattle.dam_bound.specs.Classes.{first_of}
-use Rattle.dam_bound.specs.Day.{IsDay, IsPosition}
+use Rattle.dam_bound.specs.Day.{IsDay}
 use Rattle.dam_bound.specs.Tables.{TablesState, AreTablesOf}
 use Rattle.dam_bound.specs.declared.day.Day.{Day}
 use Rattle.dam_bound.specs.declared.day.Position.{Position}

@@ -12,7 +12,6 @@ use Rattle.dam_blocks.specs.Selection.{volume_in}
 use Rattle.dam_bound.specs.declared.day.Day.{Day}
 use Rattle.dam_bound.specs.declared.day.Position.{Position}
 use Rattle.dam_bound.specs.declared.trail.Trail.{Trail}
-use Rattle.dam_bound.specs.Classes.{first_of}
 use Rattle.dam_bound.specs.Day.{IsPosition, IsDay}
 use Rattle.dam_bound.specs.Trail.{slot_count, slot_after, slot_at, IsDayIn, KeepsDays}
 use Rattle.dam_bound.specs.Tables.{ArePlaces}

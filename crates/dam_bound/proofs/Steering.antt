@@ -1,5 +1,5 @@
 -- The decision on the next block, and one turned round, as a walk has them.
-use Rattle.std.proofs.Common.{◌≡◌, ℤ, ◌≤ℤ◌, Bool, MatchBool, Option, Some, None, MatchOption, List, ◌++◌, ap, ◌∙◌, sym, subst, inl, inr}
+use Rattle.std.proofs.Common.{◌≡◌, ℤ, Bool, MatchBool, Option, Some, None, MatchOption, List, ◌++◌, ap, ◌∙◌, sym, subst, inl, inr}
 use Rattle.std.proofs.Common.{ℕ}
 use Rattle.std.proofs.lemmas.Int.{to_z-of_z}
 use mir.Syntax.{w64}

@@ -7,7 +7,7 @@ use Rattle.std.proofs.lemmas.Bool.{cases_lt}
 use Rattle.std.proofs.lemmas.Bool.Decides.{nat_tests}
 use Rattle.std.proofs.lemmas.List.{get_or_default, get_or-set_same, get_or-set_other}
 use Rattle.std.proofs.lemmas.List.Sums.{sum_by-take-drop, count_by-le-length}
-use Rattle.std.proofs.lemmas.Option.{slice_get_within, slice_get-get_or}
+use Rattle.std.proofs.lemmas.Option.{slice_get-get_or}
 use Rattle.dam_book.specs.Limits.{last_period, most_blocks}
 use Rattle.dam_book.specs.Terms.{BlockTerms, IsBlockOrder}
 use Rattle.dam_book.specs.Volumes.{Pair, IsVolumes, have_beyond}
@@ -36,7 +36,7 @@ use Rattle.dam_bound.specs.inside.Change.{by, IsChange, NeverRises, IsGivenUp, g
 use Rattle.dam_bound.specs.inside.Levels.{greatest_period_bound}
 use Rattle.dam_bound.specs.declared.day.Change.{Change}
 use Rattle.dam_bound.specs.declared.day.Change.TheVariants.{Decide, Turn}
-use Rattle.dam_bound.proofs.Changing.{IsClassOf, IsChangedSoFar, IsSized, chosen, chosen_before, class_part, class_blocks, position_part}
+use Rattle.dam_bound.proofs.Changing.{IsClassOf, IsChangedSoFar, IsSized, chosen_before, position_part}
 use Rattle.dam_bound.proofs.Changing.{class_within, over_within, class_gain, class_unbalanced, nothing_changed, touches_here, touches_elsewhere}
 use Rattle.dam_bound.proofs.Changing.{touch_changed, all_changed, equal_or}
 use Rattle.dam_bound.proofs.Classing.{class_here, class_elsewhere, class_volume, first_first, first_most}

@@ -1,13 +1,11 @@
 -- A touch more, and all of them.
-use Rattle.std.proofs.Common.{◌≡◌, ℕ, ◌+◌, ◌<◌, true, ℤ, pos, ◌+ℤ◌, List, length, drop, get_or, slice_set, ap, ◌∙◌, sym, subst, refl, rules, arith}
+use Rattle.std.proofs.Common.{◌≡◌, ◌+◌, true, ℤ, length, drop, get_or, slice_set, ap, ◌∙◌, sym, subst, rules, arith}
 use Rattle.std.proofs.lemmas.Int.{ints, to_z-of_z}
 use Rattle.std.proofs.lemmas.List.{length-set, drop_all}
 use mir.Syntax.{w64}
 use mir.Val.{to_z, of_z, SFits}
-use Rattle.dam_blocks.specs.Selection.{net_volume_of}
 use Rattle.dam_blocks.specs.Magnitude.{IsWithin}
 use Rattle.dam_bound.specs.declared.day.Change.TheVariants.{Turn}
-use Rattle.dam_bound.specs.declared.day.Position.{Position}
 use Rattle.dam_bound.specs.inside.Change.{by, greatest_class_value}
 use Rattle.dam_bound.specs.Classes.{class_hours}
 use Rattle.dam_bound.specs.Tables.{class_value, least_net, most_net}
@@ -180,14 +178,14 @@ loop-touch-preserved g c = record {
       (least_net problem.blocks (length problem.blocks) touch.at) (most_net problem.blocks (length problem.blocks) touch.at) found within.0 within.1 in
       let laws : Laws = record {
         joined = c.joining.ensures.joined;
-      parted = c.joining.ensures.parted;
-      volume = c.joining.ensures.volume;
-      welfare = c.joining.ensures.welfare;
-      reached = c.welfare.ensures.reached;
-      bound = c.welfare.ensures.bound;
-      some = c.welfare.ensures.some;
-      small = c.magnitude.ensures;
-      sums = record { parted = c.sums.ensures.parted; padded = c.sums.ensures.padded };
+        parted = c.joining.ensures.parted;
+        volume = c.joining.ensures.volume;
+        welfare = c.joining.ensures.welfare;
+        reached = c.welfare.ensures.reached;
+        bound = c.welfare.ensures.bound;
+        some = c.welfare.ensures.some;
+        small = c.magnitude.ensures;
+        sums = record { parted = c.sums.ensures.parted; padded = c.sums.ensures.padded };
       } in
       let size = total_within laws problem before after (drop j touches) (λ n. get_or c.loop-touch.day.classes n no_position)
       c.loop-touch.day.total (sized are_tables) so_far in

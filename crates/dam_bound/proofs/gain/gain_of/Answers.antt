@@ -1,5 +1,5 @@
 -- The block with its family, or alone.
-use Rattle.std.proofs.Common.{Bool, ◌&&◌, length, refl, ap, ◌∙◌, sym, subst, arith}
+use Rattle.std.proofs.Common.{Bool, ◌&&◌, ap, ◌∙◌, sym, subst, arith}
 use Rattle.std.proofs.lemmas.Int.{ints}
 use Rattle.std.proofs.lemmas.Bool.{and_right}
 use Rattle.dam_blocks.specs.Selection.{accepts}

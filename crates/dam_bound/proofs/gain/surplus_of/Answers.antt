@@ -1,5 +1,5 @@
 -- A period more, and all of them.
-use Rattle.std.proofs.Common.{◌≡◌, ◌+◌, ◌-◌, ◌≤◌, ℤ, pos, ◌-ℤ◌, ◌*ℤ◌, Some, true, List, length, slice_index_or, ap, ◌∙◌, sym, subst, refl, rules, arith, ℕ}
+use Rattle.std.proofs.Common.{◌≡◌, ◌+◌, ◌-◌, ◌≤◌, pos, ◌-ℤ◌, ◌*ℤ◌, Some, true, List, length, slice_index_or, ap, ◌∙◌, sym, refl, rules, arith, ℕ}
 use Rattle.std.specs.List.{slice_get}
 use Rattle.std.proofs.lemmas.Int.{ints}
 use Rattle.std.proofs.lemmas.List.{drop_all}

@@ -1,5 +1,5 @@
 -- The net volume as it is looked up, and what the total gains.
-use Rattle.std.proofs.Common.{◌≡◌, ℤ, pos, ◌+ℤ◌, ◌-ℤ◌, ◌≤ℤ◌, List, Option, Some, None, ap, ◌∙◌, sym, subst, rules, arith}
+use Rattle.std.proofs.Common.{◌≡◌, ℤ, ◌+ℤ◌, ◌-ℤ◌, ◌≤ℤ◌, List, Some, ap, ◌∙◌, sym, subst, rules, arith}
 use Rattle.std.proofs.lemmas.Int.{ints, to_z-of_z}
 use mir.Syntax.{w64}
 use mir.Val.{to_z, of_z, SFits}

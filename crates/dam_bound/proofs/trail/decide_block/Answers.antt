@@ -1,5 +1,5 @@
 -- A touch more, and all of them.
-use Rattle.std.proofs.Common.{inl, ◌≡◌, ℕ, ◌+◌, ◌*◌, ◌<◌, ◌≤◌, ℤ, pos, ◌+ℤ◌, List, length, drop, get_or, slice_set, ap, ◌∙◌, sym, subst, refl}
+use Rattle.std.proofs.Common.{inl, ◌≡◌, ◌+◌, ◌*◌, ◌≤◌, ℤ, ◌+ℤ◌, length, drop, get_or, slice_set, ◌∙◌, sym, subst, refl}
 use Rattle.std.proofs.Common.{rules, arith}
 use Rattle.std.proofs.lemmas.Int.{ints, to_z-of_z}
 use Rattle.std.proofs.lemmas.List.{length-set, drop_all}
@@ -9,7 +9,7 @@ use mir.Val.{to_z, of_z, SFits}
 use Rattle.dam_book.specs.Limits.{last_period}
 use Rattle.dam_blocks.specs.Magnitude.{IsWithin}
 use Rattle.dam_bound.specs.declared.day.Change.TheVariants.{Decide}
-use Rattle.dam_bound.specs.inside.Change.{by, greatest_class_value}
+use Rattle.dam_bound.specs.inside.Change.{greatest_class_value}
 use Rattle.dam_bound.specs.Classes.{class_hours}
 use Rattle.dam_bound.specs.Tables.{class_value, least_net, most_net}
 use Rattle.dam_bound.proofs.Changing.{IsChangedSoFar, total_within, total_at_least}

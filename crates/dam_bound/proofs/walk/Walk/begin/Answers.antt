@@ -1,5 +1,5 @@
 -- As many places are written as the problem has periods.
-use Rattle.std.proofs.Common.{[], ℤ, length, ap, ◌∙◌, sym, subst, rules, arith}
+use Rattle.std.proofs.Common.{[], ℤ, ap, sym, subst, rules, arith}
 use Rattle.std.proofs.lemmas.Int.{to_z-of_z}
 use mir.Syntax.{w64}
 use mir.Val.{to_z, of_z, SFits}

@@ -1,5 +1,5 @@
 -- The extension is a change by which no period rises, and the shorter days stand below the block's row.
-use Rattle.std.proofs.Common.{◌≡◌, ◌<◌, List, Bool, [], ◌∷◌, ◌++◌, length, ap, sym, subst, rules, arith}
+use Rattle.std.proofs.Common.{◌<◌, [], ◌∷◌, ◌++◌, length, ap, sym, subst, rules, arith}
 use Rattle.dam_blocks.specs.Problem.{ProblemState}
 use Rattle.dam_bound.specs.Relaxed.{without_rows}
 use Rattle.dam_bound.proofs.Extending.{decision}
