@@ -1,5 +1,5 @@
 -- What is published, added up over the orders of the book.
-use Rattle.std.specs.Prelude.{◌≡◌, ℕ, ◌+◌, ◌-◌, ℤ, pos, ◌+ℤ◌, ◌==◌, if◌then◌else◌, List, ◌∷◌, ◌++◌, length, slice_index_or, remove}
+use Rattle.std.specs.Prelude.{◌≡◌, ℕ, ◌+◌, ◌-◌, ℤ, pos, ◌+ℤ◌, ◌==◌, if◌then◌else◌, Some, List, ◌∷◌, slice_get, slice_set, slice_index_or, remove}
 use Rattle.dam_book.specs.Terms.{BlockTerms}
 use Rattle.dam_book.specs.Book.{Key, Row, BookState}
 use Rattle.dam_book.specs.declared.order.Side.{Side}
@@ -57,10 +57,7 @@ pub record IsWithoutRow (book other : BookState) (place : ℕ) : Type 0 where
 pub record IsWithOtherLimit (book other : BookState) (place : ℕ) (order : BlockTerms) (limit : ℤ)
     : Type 0 where
   pub key : Key
-  pub front : List Row
-  pub back : List Row
-  pub place_is : length front ≡ place
-  pub rows : book.rows ≡ front ++ (key, BlockOrder order) ∷ back
-  pub others : other.rows ≡ front ++ (key, BlockOrder (record order { price = limit })) ∷ back
+  pub stands : slice_get book.rows place ≡ Some (key, BlockOrder order)
+  pub rows : other.rows ≡ slice_set book.rows place (key, BlockOrder (record order { price = limit }))
   pub periods : other.periods ≡ book.periods
   pub closed : other.closed ≡ book.closed

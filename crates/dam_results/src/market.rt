@@ -47,7 +47,8 @@ pub fn published_results_add_up()
 /// A rejected block may as well not be there: what is published of the book without it is the same, except
 /// that there is no line of the block.
 ///
-/// A book that keeps `IsBook` has no block whose parent is missing, so this is of a block without children.
+/// A book that keeps `IsBook` has no block whose parent is missing, so this is of a block without children:
+/// without it, the book keeps `IsBook` (`dam_book::laws::an_order_less`).
 pub fn a_rejected_block_withdrawn()
     ensures published { (book other : BookState) (place : ℕ) (welfare : ℕ) (periods : List PeriodResult)
         (rows : List RowResult) (who name : List ℕ) (surplus : ℤ) → IsBook book → IsBook other
