@@ -11,6 +11,24 @@ MOST = 8_192  # bytes
 FUNCTION = re.compile(r"^pub fn (\w+)\(\)\n(.*?)^\{", re.M | re.S)
 CITED = re.compile(r"`((?:\w+::)*)(\w+)`(?: \(([^)]*)\))?")
 
+CASES = [  # what is printed before and after each change
+    ("another-buyer", ["welfare,20000"], ["welfare,0", "hour,MILL,SAW,0", "block,GEN,UNIT,rejected,20000"]),
+    ("better-hourly-limit", ["period,1,8000,30", "hour,CITY,TOWN,10"], ["period,1,10000,0", "hour,CITY,TOWN,0", "block,STEEL,OVEN,rejected,-20000"]),
+    ("cancelled-unexecuted", ["period,1,5000,10", "hour,WIND,PARK,0"], ["period,1,175000,0", "block,STEEL,OVEN,rejected,-1670000"]),
+    ("better-block-limit", ["block,GEN,UNIT,accepted,30000"], ["block,GEN,UNIT,rejected,30000", "block,GAS,START,accepted,35000"]),
+    (
+        "better-accepted-limit",
+        ["period,1,6750,20", "block,GEN,UNIT,accepted,55000"],
+        ["period,1,3500,30", "block,GEN,UNIT,accepted,0", "block,GAS,START,accepted,25000"],
+    ),
+    (
+        "exchanged-blocks",
+        ["welfare,30000", "period,1,2000,20", "block,GEN,UNIT,accepted,10000"],
+        ["welfare,30000", "period,1,3000,10", "block,GAS,START,accepted,20000"],
+    ),
+    ("own-limit", ["period,1,5000,20", "hour,CITY,TOWN,20"], ["period,1,4500,20", "hour,CITY,TOWN,20"]),
+]
+
 
 def functions():
     """The clauses of each law, by crate and name."""
@@ -22,10 +40,15 @@ def functions():
 
 
 def cited():
-    """The functions that the page names, with the clauses in brackets after them."""
-    text = PAGE.read_text().replace("\n", " ")
-    for crate, name, brackets in CITED.findall(text):
-        yield crate.split("::")[0] or "dam_blocks", name, re.findall(r"`(\w+)`", brackets)
+    """The functions that the page names, with the clauses in brackets after them; `crate::market` alone is that of the same name there."""
+    laws, last = functions(), None
+    for path, name, brackets in CITED.findall(PAGE.read_text().replace("\n", " ")):
+        crate = path.split("::")[0] or "dam_blocks"
+        if name == "market":
+            name = last
+        elif (crate, name) in laws:
+            last = name
+        yield crate, name, re.findall(r"`(\w+)`", brackets)
 
 
 def cleared(*submits):
@@ -61,6 +84,15 @@ class Market(unittest.TestCase):
             for file in [name] if "/" in name else [f"market/{name}-before", f"market/{name}-after"]:
                 self.assertTrue((TOP / "tests/cases" / f"{file}.csv").exists(), file)
 
+    def test_the_cases_come_out(self):
+        """What the table says of each pair; `./check` compares the program with these files."""
+        for name, before, after in CASES:
+            for when, lines in ("before", before), ("after", after):
+                with self.subTest(name, when=when):
+                    file = TOP / "tests/cases/market" / f"{name}-{when}.stdout"
+                    self.assertLessEqual(set(lines), set(file.read_text().splitlines()))
+        self.assertEqual({name for name, _, _ in CASES}, {path.stem.rpartition("-")[0] for path in (TOP / "tests/cases/market").glob("*.csv")})
+
     def test_the_examples_come_out(self):
         town = "CITY,TOWN,hour,buy,5000,1:20,,"
         self.assertIn("block,GEN,UNIT,accepted,20000", cleared("GEN,UNIT,block,sell,4000,1:20,,", town))
@@ -72,7 +104,7 @@ class Market(unittest.TestCase):
             self.assertLessEqual({"welfare,240000", "period,1,4000,120"}, set(lines))
             self.assertLessEqual({f"hour,GEN,ONE,{executed[0]}", f"hour,COAL,TWO,{executed[1]}"}, set(lines))
         unit, city = "GEN,UNIT,block,sell,1000,1:10,,", "CITY,TOWN,hour,buy,4000,1:10,,"
-        for limit, welfare, word in (3000, 30_000, "rejected"), (3500, 30_000, "rejected"), (-1000, 50_000, "accepted"):
+        for limit, welfare, word in (3000, 30_000, "rejected"), (3500, 30_000, "rejected"), (500, 35_000, "accepted"):
             lines = cleared(unit, f"GAS,START,block,sell,{limit},1:10,,", city)
             self.assertIn(f"welfare,{welfare}", lines)
             self.assertTrue(any(line.startswith(f"block,GAS,START,{word},") for line in lines))

@@ -15,7 +15,7 @@ use Rattle.dam_blocks.specs.Selection.{accepts, over_accepted, net_volume_of, va
 use Rattle.dam_blocks.specs.Family.{descends, accepted_where, accepted_descendants, IsChildAt, Descends, Child, OfChild}
 use Rattle.dam_blocks.specs.Eligible.{ArePrices, surplus_of, surplus_at, HasNoLoss, welfare_from, IsEligible}
 use Rattle.dam_blocks.specs.Result.{IsResult}
-use Rattle.dam_blocks.specs.Changes.{AcceptTheSame, HasBlocksReordered, IsCounterpart}
+use Rattle.dam_blocks.specs.Changes.{AcceptTheSame, HasBlocksReordered}
 use Rattle.dam_blocks.proofs.Families.{accepts_descendant}
 use Rattle.dam_blocks.proofs.Descending.{descends_is}
 use Rattle.dam_blocks.proofs.Participants.{over_accepted-agree}
@@ -295,6 +295,13 @@ unique_acceptances : (problem other : ProblemState) (xs ys : List Bool) → AreT
 unique_acceptances problem other xs ys two m i j b at there =
     let own = m.forth i b at in
     own.2 ∙ ap (λ (n : ℕ). accepts ys n) (one_place other own.0 j b two.is_other own.1 there)
+
+-- the other problem's selection of the same blocks: it has the same prices, and is eligible with this welfare
+pub record IsCounterpart (problem other : ProblemState) (xs ys : List Bool) (w : ℤ) : Type 0 where
+  pub same : AcceptTheSame problem.blocks other.blocks xs ys
+  pub prices : (prices : List ℤ) → ArePrices problem.blocks xs 1 problem.hours prices
+      → ArePrices other.blocks ys 1 other.hours prices
+  pub eligible : IsEligible other ys w
 
 pub counterpart : (problem other : ProblemState) (xs : List Bool) (w : ℤ) → IsProblem problem → IsProblem other
     → HasBlocksReordered problem other → IsEligible problem xs w → (ys : List Bool) × IsCounterpart problem other xs ys w

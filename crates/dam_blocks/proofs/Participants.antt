@@ -199,6 +199,14 @@ blocks_gain problem sel who prices is admissible none =
     no_loss_in_families problem.blocks (mine who problem.blocks sel) prices (chains_of_mine problem sel who is admissible)
     (no_loss_of_mine problem sel who prices is admissible none)
 
+-- an accepted block and its accepted descendants
+pub descendants_gain : (problem : ProblemState) (sel : List Bool) (w : ℤ) (prices : List ℤ) (executions : List (List ℕ)) (i : ℕ)
+    → IsEligible problem sel w → IsOutcome problem sel prices executions → accepts sel i ≡ true
+    → pos 0 ≤ℤ gain_at problem.blocks sel prices i
+descendants_gain problem sel w prices executions i eligible outcome acc =
+    let one = prices_unique problem.blocks sel 1 problem.hours eligible.prices prices eligible.are_prices outcome.prices_are in
+    (subst (λ (ps : List ℤ). HasNoLoss problem.blocks sel ps) one eligible.no_loss).gains i acc
+
 -- ---- row by row
 abbrev pub where_true : Bool → ℤ → ℤ
 where_true true x = x

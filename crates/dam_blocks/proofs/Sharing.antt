@@ -81,6 +81,10 @@ pub volume_balances : (blocks : List Block) (sel : List Bool) (t : ℕ) (ss : Li
 volume_balances blocks sel t ss xs best =
     let balance = best.balance in let sell = blocks_sell blocks sel t in omega (arith, ints, balance, sell)
 
+pub money_in_period : (blocks : List Block) (sel : List Bool) (t : ℕ) (ss : List Step) (xs : List ℕ) (p : ℤ)
+    → IsBest ss (net_volume blocks sel t) xs → p *ℤ traded Buy blocks sel t ss xs ≡ p *ℤ traded Sell blocks sel t ss xs
+money_in_period blocks sel t ss xs p best = ap (λ (x : ℤ). p *ℤ x) (volume_balances blocks sel t ss xs best)
+
 pub money_balances : (blocks : List Block) (sel : List Bool) (t : ℕ) (prices : List ℤ) (hours : List (List Step))
     (executions : List (List ℕ)) → AreBestExecutions blocks sel t hours executions
     → money_from Buy blocks sel t prices hours executions ≡ money_from Sell blocks sel t prices hours executions

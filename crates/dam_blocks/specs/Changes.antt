@@ -7,7 +7,6 @@ use Rattle.dam_hour.specs.declared.step.Step.{Step}
 use Rattle.dam_blocks.specs.declared.problem.Block.{Block}
 use Rattle.dam_blocks.specs.Problem.{ProblemState}
 use Rattle.dam_blocks.specs.Selection.{accepts}
-use Rattle.dam_blocks.specs.Eligible.{ArePrices, IsEligible}
 use Rattle.dam_blocks.specs.Result.{IsResult}
 
 -- the selection without the place; a place is added at the end, which is rejected
@@ -77,11 +76,3 @@ abbrev pub AcceptTheSame : List Block → List Block → List Bool → List Bool
 AcceptTheSame blocks others selection counterpart =
     (i j : ℕ) (block : Block) → slice_get blocks i ≡ Some block → slice_get others j ≡ Some block
     → accepts selection i ≡ accepts counterpart j
-
--- the other problem's selection of the same blocks: it has the same prices, and is eligible with this welfare
-pub record IsCounterpart (problem other : ProblemState) (selection counterpart : List Bool)
-    (welfare : ℤ) : Type 0 where
-  pub same : AcceptTheSame problem.blocks other.blocks selection counterpart
-  pub prices : (prices : List ℤ) → ArePrices problem.blocks selection 1 problem.hours prices
-      → ArePrices other.blocks counterpart 1 other.hours prices
-  pub eligible : IsEligible other counterpart welfare

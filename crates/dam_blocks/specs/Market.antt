@@ -1,6 +1,6 @@
 -- The outcome of a selection: its prices and executions, what is traded and paid, and what each order and each participant
 -- gains.
-use Rattle.std.specs.Prelude.{◌≡◌, ℕ, zero, suc, ◌-◌, ℤ, pos, ◌+ℤ◌, ◌*ℤ◌, Bool, true, ◌||◌, ◌==◌, None, if◌then◌else◌, List, [], ◌∷◌}
+use Rattle.std.specs.Prelude.{◌≡◌, ℕ, zero, suc, ◌-◌, ℤ, pos, ◌+ℤ◌, ◌*ℤ◌, Bool, true, ◌||◌, ◌==◌, None, Some, if◌then◌else◌, List, [], ◌∷◌, slice_get}
 use Rattle.dam_book.specs.Name.{same_text}
 use Rattle.dam_book.specs.Terms.{BlockTerms}
 use Rattle.dam_book.specs.declared.order.Side.{Side}
@@ -88,6 +88,16 @@ abbrev pub over_orders_of : List ℕ → (Place → ℤ) → List ProblemRow →
 over_orders_of who gain [] = pos 0
 over_orders_of who gain (row ∷ rows) =
     (if same_text row.who who then gain row.at else pos 0) +ℤ over_orders_of who gain rows
+
+-- the sum over these participants of the sums over their orders
+abbrev pub over_participants : List (List ℕ) → (Place → ℤ) → List ProblemRow → ℤ
+over_participants [] gain rows = pos 0
+over_participants (who ∷ participants) gain rows = over_orders_of who gain rows +ℤ over_participants participants gain rows
+
+-- the list has the participant of each row, and nobody twice
+pub record AreParticipants (participants : List (List ℕ)) (rows : List ProblemRow) : Type 0 where
+  pub every : (k : ℕ) (row : ProblemRow) → slice_get rows k ≡ Some row → (i : ℕ) × (slice_get participants i ≡ Some row.who)
+  pub once : (i j : ℕ) (who : List ℕ) → slice_get participants i ≡ Some who → slice_get participants j ≡ Some who → i ≡ j
 
 -- the sum over all orders of the book
 abbrev pub over_orders : (Place → ℤ) → List ProblemRow → ℤ

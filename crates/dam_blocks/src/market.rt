@@ -1,7 +1,7 @@
 //! What the auction promises to those who trade in it, each promise the contract of a function that does
 //! nothing but cite the laws that it rests on.
 
-ghost use Rattle.std.specs.Prelude.{◌≡◌, ℕ, ℤ, pos, ◌+ℤ◌, ◌≤ℤ◌, ◌⊎◌, Bool, true, false, Some, List, ◌∷◌, ◌++◌, length, slice_get};
+ghost use Rattle.std.specs.Prelude.{◌≡◌, ℕ, ℤ, pos, ◌+ℤ◌, ◌*ℤ◌, ◌≤ℤ◌, ◌⊎◌, Bool, true, false, Some, List, ◌∷◌, ◌++◌, length, slice_get, IsPermutation};
 ghost use Rattle.dam_book.specs.Limits.{most_blocks};
 ghost use Rattle.dam_book.specs.Terms.{BlockTerms};
 ghost use Rattle.dam_book.specs.Book.{Key, Row, BookState, IsBook};
@@ -15,18 +15,19 @@ ghost use Rattle.dam_blocks.specs.declared.problem.Place.TheVariants.{Hour as At
 ghost use Rattle.dam_blocks.specs.Problem.{ProblemState, blocks_in, problem_of, IsProblem};
 ghost use Rattle.dam_blocks.specs.Selection.{accepts, over_accepted, net_volume, IsAdmissible};
 ghost use Rattle.dam_blocks.specs.Family.{descends};
-ghost use Rattle.dam_blocks.specs.Eligible.{ArePrices, selection_welfare, IsEligible};
+ghost use Rattle.dam_blocks.specs.Eligible.{ArePrices, selection_welfare, gain_at, IsEligible};
 ghost use Rattle.dam_blocks.specs.Result.{IsResult};
-ghost use Rattle.dam_blocks.specs.Market.{AreBestExecutions, IsOutcome, traded, money_from, hourly_surplus, accepted_surplus, gain_of, over_orders_of, over_orders, IsHead};
-ghost use Rattle.dam_blocks.specs.Changes.{without_place, IsWithoutBlock, IsWithLimit, IsNeverAccepted, IsWorstLimit, IsReordered, HasBlocksReordered, IsCounterpart};
+ghost use Rattle.dam_blocks.specs.Market.{AreBestExecutions, IsOutcome, traded, money_from, hourly_surplus, accepted_surplus, gain_of, over_orders_of, over_participants, AreParticipants, over_orders, IsHead};
+ghost use Rattle.dam_blocks.specs.Changes.{without_place, IsWithoutBlock, IsWithLimit, IsNeverAccepted, IsWorstLimit, IsReordered, HasBlocksReordered, AcceptTheSame};
 
 /// The problem of a closed book keeps what every problem keeps, so that the laws below hold for it.
 pub fn a_closed_book_is_a_problem()
-    ensures { (book : BookState) → IsBook book → book.closed ≡ true → IsProblem (problem_of book) }
+    ensures problem { (book : BookState) → IsBook book → book.closed ≡ true
+        → IsProblem (problem_of book) }
 {}
 
-/// A change of a book is the same change of its problem: another limit of a block at its place, as an amend
-/// makes it, or a block less, as a cancel does.
+/// A change of a book's rows is the same change of its problem: another limit of a block at its place, a
+/// block less, or the hourly orders of each period, or the blocks, in another order.
 pub fn a_changed_book_is_a_changed_problem()
     ensures limit { (book other : BookState) (front back : List Row) (key : Key) (order : BlockTerms)
         (limit : ℤ) → book.rows ≡ front ++ (key, BlockOrder order) ∷ back
@@ -39,6 +40,12 @@ pub fn a_changed_book_is_a_changed_problem()
         → other.periods ≡ book.periods
         → IsWithoutBlock (problem_of book) (problem_of other) (length (blocks_in front))
         (record { who = key.0; name = key.1; order = order }) }
+    ensures hourly_orders { (book other : BookState) → IsPermutation book.rows other.rows
+        → other.periods ≡ book.periods → (problem_of other).blocks ≡ (problem_of book).blocks
+        → IsReordered (problem_of book) (problem_of other) }
+    ensures blocks { (book other : BookState) → IsPermutation book.rows other.rows
+        → (problem_of other).hours ≡ (problem_of book).hours
+        → HasBlocksReordered (problem_of book) (problem_of other) }
 {}
 
 /// An eligible selection, such as the result, has prices and best executions, and only these.
@@ -47,9 +54,10 @@ pub fn an_eligible_selection_has_an_outcome()
         → IsEligible problem selection welfare
         → (prices : List ℤ) × (executions : List (List ℕ))
         × IsOutcome problem selection prices executions }
-    ensures one { (problem : ProblemState) (selection : List Bool) (prices others : List ℤ)
-        (executions more : List (List ℕ)) → IsOutcome problem selection prices executions
-        → IsOutcome problem selection others more → (prices ≡ others) × (executions ≡ more) }
+    ensures one { (problem : ProblemState) (selection : List Bool) (prices other_prices : List ℤ)
+        (executions other_executions : List (List ℕ)) → IsOutcome problem selection prices executions
+        → IsOutcome problem selection other_prices other_executions
+        → (prices ≡ other_prices) × (executions ≡ other_executions) }
 {
     dam_hour::laws::balance();
     dam_hour::laws::existence();
@@ -58,8 +66,8 @@ pub fn an_eligible_selection_has_an_outcome()
 }
 
 /// Welfare is shared out: the welfare of a selection is what all hourly orders and the accepted blocks
-/// gain at its prices, also summed order by order over the book (`orders`). Other prices would share out
-/// the same sum in another way.
+/// gain at its prices, also summed order by order over the book (`orders`), and participant by participant
+/// (`participants`). Other prices would share out the same sum in another way (`any_prices`).
 pub fn welfare_is_shared_out()
     ensures shared { (problem : ProblemState) (selection : List Bool) (prices : List ℤ)
         (executions : List (List ℕ)) → IsOutcome problem selection prices executions
@@ -74,6 +82,11 @@ pub fn welfare_is_shared_out()
         (executions : List (List ℕ)) → IsProblem problem → IsOutcome problem selection prices executions
         → selection_welfare problem selection
         ≡ Some (over_orders (gain_of problem selection prices executions) problem.rows) }
+    ensures participants { (problem : ProblemState) (selection : List Bool) (prices : List ℤ)
+        (executions : List (List ℕ)) (participants : List (List ℕ)) → IsProblem problem
+        → IsOutcome problem selection prices executions → AreParticipants participants problem.rows
+        → selection_welfare problem selection
+        ≡ Some (over_participants participants (gain_of problem selection prices executions) problem.rows) }
 {
     dam_hour::laws::welfare();
     dam_hour::laws::surplus();
@@ -85,6 +98,10 @@ pub fn money_balances()
     ensures volume { (blocks : List Block) (selection : List Bool) (t : ℕ) (steps : List Step)
         (volumes : List ℕ) → IsBest steps (net_volume blocks selection t) volumes
         → traded Buy blocks selection t steps volumes ≡ traded Sell blocks selection t steps volumes }
+    ensures money_in_period { (blocks : List Block) (selection : List Bool) (t : ℕ) (steps : List Step)
+        (volumes : List ℕ) (price : ℤ) → IsBest steps (net_volume blocks selection t) volumes
+        → price *ℤ traded Buy blocks selection t steps volumes
+        ≡ price *ℤ traded Sell blocks selection t steps volumes }
     ensures money { (problem : ProblemState) (selection : List Bool) (prices : List ℤ)
         (executions : List (List ℕ)) → IsOutcome problem selection prices executions
         → money_from Buy problem.blocks selection 1 prices problem.hours executions
@@ -94,9 +111,9 @@ pub fn money_balances()
 /// Nobody loses: no hourly order has a surplus below 0, and what all orders of a participant gain
 /// together, hourly ones and accepted blocks, is at least 0.
 ///
-/// A single block may lose if its descendants make up for it. Each accepted block stands in the family of
-/// just one accepted block without a parent (`head`), and the blocks of a family are one participant's
-/// (`owner`).
+/// A single block may lose, but an accepted block and its accepted descendants together gain at least 0
+/// (`descendants`). Each accepted block is, or descends from, just one accepted block without a parent
+/// (`head`), and a block and its descendants are one participant's (`owner`).
 pub fn nobody_loses()
     ensures order { (problem : ProblemState) (selection : List Bool) (prices : List ℤ)
         (executions : List (List ℕ)) (t i : ℕ) → IsOutcome problem selection prices executions
@@ -105,6 +122,10 @@ pub fn nobody_loses()
         (prices : List ℤ) (executions : List (List ℕ)) (who : List ℕ) → IsProblem problem
         → IsEligible problem selection welfare → IsOutcome problem selection prices executions
         → pos 0 ≤ℤ over_orders_of who (gain_of problem selection prices executions) problem.rows }
+    ensures descendants { (problem : ProblemState) (selection : List Bool) (welfare : ℤ)
+        (prices : List ℤ) (executions : List (List ℕ)) (i : ℕ) → IsEligible problem selection welfare
+        → IsOutcome problem selection prices executions → accepts selection i ≡ true
+        → pos 0 ≤ℤ gain_at problem.blocks selection prices i }
     ensures head { (problem : ProblemState) (selection : List Bool) (j : ℕ) → IsProblem problem
         → IsAdmissible problem.blocks selection → accepts selection j ≡ true
         → (i : ℕ) × IsHead problem.blocks selection i j
@@ -121,9 +142,10 @@ pub fn nobody_loses()
 /// is at least as great.
 pub fn a_block_more()
     ensures welfare { (problem other : ProblemState) (place : ℕ) (block : Block)
-        (selection fewer : List Bool) (welfare less : ℤ) → IsProblem problem → IsProblem other
-        → IsWithoutBlock problem other place block
-        → IsResult problem selection welfare → IsResult other fewer less → less ≤ℤ welfare }
+        (selection other_selection : List Bool) (welfare other_welfare : ℤ) → IsProblem problem
+        → IsProblem other → IsWithoutBlock problem other place block
+        → IsResult problem selection welfare → IsResult other other_selection other_welfare
+        → other_welfare ≤ℤ welfare }
 {}
 
 /// A rejected block may as well not be there: without it, the result is the same selection without its
@@ -158,11 +180,11 @@ pub fn a_rejected_block_withdrawn()
 /// at all.
 pub fn a_better_limit_keeps_a_block()
     ensures accepted { (problem other : ProblemState) (place : ℕ) (block : Block) (limit : ℤ)
-        (selection changed : List Bool) (welfare after : ℤ)
+        (selection other_selection : List Bool) (welfare other_welfare : ℤ)
         → IsWithLimit problem other place block limit
         → IsBetter block.order.side limit block.order.price
         → IsResult problem selection welfare → accepts selection place ≡ true
-        → IsResult other changed after → accepts changed place ≡ true }
+        → IsResult other other_selection other_welfare → accepts other_selection place ≡ true }
     ensures outcome { (problem other : ProblemState) (place : ℕ) (block : Block) (limit : ℤ)
         (selection : List Bool) (prices : List ℤ) (executions : List (List ℕ))
         → IsWithLimit problem other place block limit
@@ -187,7 +209,7 @@ pub fn a_rejected_block_that_asks_for_worse()
         → IsResult other selection welfare }
 {}
 
-/// Book order decides ties alone, for hourly orders: in whatever order those of a period stand, the prices
+/// Book order decides only ties, for hourly orders: in whatever order those of a period stand, the prices
 /// of each selection are the same, and so are the result and its welfare.
 pub fn book_order_of_hourly_orders()
     ensures prices { (problem other : ProblemState) (selection : List Bool) (prices : List ℤ)
@@ -201,14 +223,18 @@ pub fn book_order_of_hourly_orders()
     dam_hour::market::book_order();
 }
 
-/// Book order decides ties alone, for blocks: in whatever order they stand, parents before their children,
+/// Book order decides only ties, for blocks: in whatever order they stand, parents before their children,
 /// each eligible selection has its counterpart, which accepts the same blocks at the same prices with the
 /// same welfare. So the welfare of the result is the same.
 pub fn book_order_of_blocks()
     ensures selections { (problem other : ProblemState) (selection : List Bool) (welfare : ℤ)
         → IsProblem problem → IsProblem other → HasBlocksReordered problem other
         → IsEligible problem selection welfare
-        → (counterpart : List Bool) × IsCounterpart problem other selection counterpart welfare }
+        → (counterpart : List Bool)
+        × AcceptTheSame problem.blocks other.blocks selection counterpart
+        × ((prices : List ℤ) → ArePrices problem.blocks selection 1 problem.hours prices
+        → ArePrices other.blocks counterpart 1 other.hours prices)
+        × IsEligible other counterpart welfare }
     ensures welfare { (problem other : ProblemState) (selection result : List Bool) (v w : ℤ)
         → IsProblem problem → IsProblem other → HasBlocksReordered problem other
         → IsResult problem selection v → IsResult other result w → v ≡ w }

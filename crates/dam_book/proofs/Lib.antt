@@ -8,4 +8,5 @@ pub mod GapFacts
 pub mod FillFacts
 pub mod LinkFacts
 pub mod StepFacts
+pub mod RowLess
 pub mod FieldTexts

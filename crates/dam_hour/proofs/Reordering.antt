@@ -1,5 +1,5 @@
 -- The orders of a period in another order: the same executions, in that order.
-use Rattle.std.proofs.Common.{◌≡◌, ℕ, zero, suc, ◌<◌, ℤ, ◌≤ℤ◌, Option, Some, None, List, [], ◌∷◌, length, get_or, set}
+use Rattle.std.proofs.Common.{◌≡◌, ℕ, zero, suc, ◌<◌, ◌≤◌, ℤ, ◌≤ℤ◌, Option, Some, None, List, [], ◌∷◌, length, get_or, set}
 use Rattle.std.proofs.Common.{ap, ◌∙◌, sym, subst, refl, arith}
 use Rattle.std.specs.List.{swap}
 use Rattle.std.specs.List.Sorted.{IsPermutation}
@@ -9,7 +9,7 @@ use Rattle.dam_book.specs.declared.order.Side.{Side}
 use Rattle.dam_book.specs.declared.order.Side.TheVariants.{Buy, Sell}
 use Rattle.dam_hour.specs.declared.step.Step.{Step}
 use Rattle.dam_hour.specs.Execution.{IsExecution, executed_volume, Balances}
-use Rattle.dam_hour.specs.Best.{welfare_of, greatest_welfare}
+use Rattle.dam_hour.specs.Best.{welfare_of, IsBest, greatest_welfare}
 use Rattle.dam_hour.specs.Price.{Supports, IsSupporting, AreEnds}
 use Rattle.dam_hour.proofs.Enumeration.{greatest_welfare_reached, greatest_welfare_bound, greatest_welfare_none}
 
@@ -160,3 +160,33 @@ pub same_welfare : (ss ts : List Step) (net : ℤ) → IsPermutation ss ts → g
 same_welfare ss ts net is =
     same_option ss ts net (greatest_welfare ss net) (greatest_welfare ts net) (reordered ss ts is)
     (reordered ts ss (IsPermutation-sym ss ts is)) refl refl
+
+-- ---- the volume of the best execution
+-- the best of the other list has at least this welfare and, if no more, at least this bought volume
+no_less : (ss ts : List Step) (net : ℤ) (xs ys : List ℕ) → Reordered ss ts → IsBest ss net xs → IsBest ts net ys
+    → (welfare_of ss xs ≤ℤ welfare_of ts ys)
+    × (welfare_of ss xs ≡ welfare_of ts ys → executed_volume Buy ss xs ≤ executed_volume Buy ts ys)
+no_less ss ts net xs ys is first second =
+    let found = counterpart ss ts is xs first.execution in
+    let below = second.greatest found.0 found.1.execution (balances_too ss ts net xs found.0 found.1 first.balance) in
+    let same = found.1.welfare in
+    let volume = found.1.volume Buy in
+    let less = below.by_welfare in (
+      omega (arith, ints, less, same),
+      λ e. (let fewer = below.by_bought (same ∙ e) in omega (arith, fewer, volume)),
+    )
+
+both_sides : (side : Side) (ss ts : List Step) (net : ℤ) (xs ys : List ℕ) → Balances ss net xs → Balances ts net ys
+    → executed_volume Buy ss xs ≡ executed_volume Buy ts ys → executed_volume side ss xs ≡ executed_volume side ts ys
+both_sides Buy ss ts net xs ys b c e = e
+both_sides Sell ss ts net xs ys b c e = omega (arith, ints, b, c, e)
+
+pub same_volume : (ss ts : List Step) (net : ℤ) (side : Side) (xs ys : List ℕ) → IsPermutation ss ts → IsBest ss net xs → IsBest ts net ys
+    → executed_volume side ss xs ≡ executed_volume side ts ys
+same_volume ss ts net side xs ys is first second =
+    let there = no_less ss ts net xs ys (reordered ss ts is) first second in
+    let back = no_less ts ss net ys xs (reordered ts ss (IsPermutation-sym ss ts is)) second first in
+    let less = there.0 in let more = back.0 in
+    let same : welfare_of ss xs ≡ welfare_of ts ys = omega (arith, ints, less, more) in
+    let fewer = there.1 same in let others = back.1 (sym same) in
+    both_sides side ss ts net xs ys first.balance second.balance (omega (arith, fewer, others))

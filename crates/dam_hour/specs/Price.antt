@@ -9,12 +9,12 @@ use Rattle.dam_book.specs.declared.order.Side.TheVariants.{Buy, Sell}
 use Rattle.dam_hour.specs.declared.step.Step.{Step}
 use Rattle.dam_hour.specs.Execution.{IsExecution, Balances}
 
--- a buy is better than a price that is under its limit, and a sell than one that is over it
+-- a buy's limit is better than a price, or another limit, that is under it, and a sell's than one that is over it
 abbrev pub IsBetter : Side → ℤ → ℤ → Type 0
 IsBetter Buy limit price = price <ℤ limit
 IsBetter Sell limit price = limit <ℤ price
 
--- a buy is worse than a price that is over its limit, and a sell than one that is under it
+-- a buy's limit is worse than a price, or another limit, that is over it, and a sell's than one that is under it
 abbrev pub IsWorse : Side → ℤ → ℤ → Type 0
 IsWorse Buy limit price = limit <ℤ price
 IsWorse Sell limit price = price <ℤ limit

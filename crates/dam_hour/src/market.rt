@@ -1,10 +1,12 @@
 //! What one period promises to those who trade in it, each promise the contract of a function that does
-//! nothing.
+//! nothing. In them `net` is the period's net volume: what the accepted blocks sell less what they buy.
 
 ghost use Rattle.std.specs.Prelude.{◌≡◌, ℕ, ◌≤◌, ◌<◌, ℤ, pos, ◌≤ℤ◌, List, IsPermutation};
+ghost use Rattle.dam_book.specs.declared.order.Side.{Side};
 ghost use Rattle.dam_hour.specs.declared.step.Step.{Step};
+ghost use Rattle.dam_hour.specs.Execution.{executed_volume};
 ghost use Rattle.dam_hour.specs.Price.{IsBetter, IsWorse, AreEnds};
-ghost use Rattle.dam_hour.specs.Best.{greatest_welfare};
+ghost use Rattle.dam_hour.specs.Best.{IsBest, greatest_welfare};
 ghost use Rattle.dam_hour.specs.Market.{order_surplus, IsExecutedAt};
 
 /// Fair in a period: an hourly order that is better than the price is executed whole, and a worse one not
@@ -30,11 +32,19 @@ pub fn fair_in_a_period()
         → x ≡ earlier.qty }
 {}
 
-/// Book order decides ties alone: in whatever order the hourly orders of a period stand, its greatest
-/// welfare at a net volume and the ends of its supporting prices are the same.
+/// Book order decides only ties: in whatever order the hourly orders of a period stand, its greatest
+/// welfare at a net volume, the ends of its supporting prices, and the volume of each side in its best
+/// execution are the same.
+///
+/// So the price is the same too. An order that is better or worse than it has its whole volume or none,
+/// whatever the order (`fair_in_a_period`). Only orders whose limit is the price, of one side, may get
+/// more or less.
 pub fn book_order()
     ensures welfare { (steps others : List Step) (net : ℤ) → IsPermutation steps others
         → greatest_welfare steps net ≡ greatest_welfare others net }
     ensures ends { (steps others : List Step) (net low high : ℤ) → IsPermutation steps others
         → AreEnds steps net low high → AreEnds others net low high }
+    ensures volume { (steps others : List Step) (net : ℤ) (side : Side) (xs ys : List ℕ)
+        → IsPermutation steps others → IsBest steps net xs → IsBest others net ys
+        → executed_volume side steps xs ≡ executed_volume side others ys }
 {}

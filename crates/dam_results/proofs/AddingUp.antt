@@ -463,3 +463,26 @@ volume_adds_up laws book welfare periods rows k period is clearing at =
     (side_adds_up laws Sell book sel periods executions.0 t ss own.0 rows day there published.rows_are)
     (laws.balance blocks sel t ss own.0 own.2)
     (result.volume ∙ ap (λ (xs : List ℕ). traded Buy blocks sel t ss xs) (sym same))
+
+-- what is traded by the published lines is what the selection and the best execution trade
+pub traded_is : AddingLaws → (book : BookState) (welfare : ℕ) (periods : List PeriodResult) (rows : List RowResult)
+    (clearing : IsClearing book welfare periods rows) (k : ℕ) (ss : List Step) (side : Side)
+    → slice_get (hours_from 1 book.periods book.rows) k ≡ Some ss
+    → (xs : List ℕ) × IsBest ss (net_volume (blocks_in book.rows) clearing.selection (k + 1)) xs
+    × (pos (published_trades side (k + 1) book.rows rows) ≡ traded side (blocks_in book.rows) clearing.selection (k + 1) ss xs)
+traded_is laws book welfare periods rows clearing k ss side at =
+    let published = clearing.published in
+    let sel = clearing.selection in
+    let hours = hours_from 1 book.periods book.rows in
+    let blocks = blocks_in book.rows in
+    let executions = executions_are blocks sel 1 hours periods published.periods_are in
+    let day : IsDay book sel periods executions.0 = record { periods_are = published.periods_are; best = executions.1 } in
+    let own = best_at blocks sel 1 k hours executions.0 ss executions.1 at in
+    let back : k ≡ (k + 1) - 1 = omega arith in
+    let there : IsPeriodOf book (k + 1) executions.0 ss own.0 = record {
+      from_one = omega arith;
+      hour = ap (λ (n : ℕ). slice_get hours n) (sym back) ∙ at;
+      steps_are = hour_is 1 book.periods k book.rows ss at;
+      executed = ap (λ (n : ℕ). slice_get executions.0 n) (sym back) ∙ own.1;
+    } in
+    (own.0, own.2, side_adds_up laws side book sel periods executions.0 (k + 1) ss own.0 rows day there published.rows_are)

@@ -116,6 +116,39 @@ line_in book front back key order place welfare periods rows clearing whole at =
       block_line (problem_of book) clearing.selection (prices_of periods) key.0 key.1 (length (blocks_in front)) found.0 found.2,
     )
 
+-- ---- another limit
+-- the same change, with the rows before the block and after it
+record IsChangedBetween (book other : BookState) (place : ℕ) (order : BlockTerms) (limit : ℤ) : Type 0 where
+  key : Key
+  front : List Row
+  back : List Row
+  place_is : length front ≡ place
+  rows : book.rows ≡ front ++ (key, BlockVariant order) ∷ back
+  others : other.rows ≡ front ++ (key, BlockVariant (record order { price = limit })) ∷ back
+  periods : other.periods ≡ book.periods
+  closed : other.closed ≡ book.closed
+
+replaced : {A : Type 0} (xs : List A) (n : ℕ) (x y : A) → slice_get xs n ≡ Some x → set xs n y ≡ take n xs ++ y ∷ drop (suc n) xs
+replaced [] n x y e = absurd (cc)
+replaced (z ∷ xs) zero x y e = refl
+replaced {A = A} (z ∷ xs) (suc n) x y e = ap (λ (zs : List A). z ∷ zs) (replaced xs n x y e)
+
+changed_between : (book other : BookState) (place : ℕ) (order : BlockTerms) (limit : ℤ) → IsWithOtherLimit book other place order limit
+    → IsChangedBetween book other place order limit
+changed_between book other place order limit is =
+    let row : Row = (is.key, BlockVariant order) in
+    let parts = parted book.rows place row is.stands in
+    record {
+      key = is.key;
+      front = take place book.rows;
+      back = drop (suc place) book.rows;
+      place_is = parts.1;
+      rows = parts.0;
+      others = is.rows ∙ replaced book.rows place row (is.key, BlockVariant (record order { price = limit })) is.stands;
+      periods = is.periods;
+      closed = is.closed;
+    }
+
 -- ---- a better limit
 pub record LimitLaws : Type 0 where
   pub result : (problem : ProblemState) (sel : List Bool) (w : ℤ) → IsBestSelection problem sel w → IsResult problem sel w
@@ -132,7 +165,8 @@ pub still_accepted : LimitLaws → (book other : BookState) (place : ℕ) (order
     → IsWithOtherLimit book other place order limit → IsBetter order.side limit order.price → IsClearing book welfare periods rows
     → slice_get rows place ≡ Some (BlockResult who name true surplus) → IsClearing other after days results
     → (gain : ℤ) × (slice_get results place ≡ Some (BlockResult who name true gain))
-still_accepted laws book other place order limit welfare after periods days rows results who name surplus change better first at second =
+still_accepted laws book other place order limit welfare after periods days rows results who name surplus other_limit better first at second =
+    let change = changed_between book other place order limit other_limit in
     let key = change.key in let front = change.front in let back = change.back in
     let i = length (blocks_in front) in
     let old = line_in book front back key order place welfare periods rows first change.rows change.place_is in
@@ -378,7 +412,8 @@ pub published_with_worse : WorseLaws → (book other : BookState) (place : ℕ) 
     → IsWithOtherLimit book other place order limit → IsWorse order.side limit order.price → IsClearing book welfare periods rows
     → slice_get rows place ≡ Some (BlockResult who name false surplus)
     → (gain : ℤ) × IsClearing other welfare periods (set rows place (BlockResult who name false gain))
-published_with_worse laws book other place order limit welfare periods rows who name surplus change worse clearing at =
+published_with_worse laws book other place order limit welfare periods rows who name surplus other_limit worse clearing at =
+    let change = changed_between book other place order limit other_limit in
     let key = change.key in let front = change.front in let back = change.back in
     let p : BlockTerms = record order { price = limit } in
     let sel = clearing.selection in

@@ -1,12 +1,12 @@
 -- What is published, added up over the orders of the book.
-use Rattle.std.specs.Prelude.{◌≡◌, ℕ, ◌+◌, ◌-◌, ℤ, pos, ◌+ℤ◌, ◌-ℤ◌, ◌*ℤ◌, ◌==◌, if◌then◌else◌, List, ◌∷◌, ◌++◌, length, slice_index_or, remove}
+use Rattle.std.specs.Prelude.{◌≡◌, ℕ, ◌+◌, ◌-◌, ℤ, pos, ◌+ℤ◌, ◌==◌, if◌then◌else◌, Some, List, ◌∷◌, slice_get, slice_set, slice_index_or, remove}
 use Rattle.dam_book.specs.Terms.{BlockTerms}
 use Rattle.dam_book.specs.Book.{Key, Row, BookState}
 use Rattle.dam_book.specs.declared.order.Side.{Side}
 use Rattle.dam_book.specs.declared.order.Order.{Order}
 use Rattle.dam_book.specs.declared.order.Order.TheVariants.{Hour as HourOrder, Block as BlockOrder}
 use Rattle.dam_hour.specs.Execution.{volume_on}
-use Rattle.dam_hour.specs.Best.{signed}
+use Rattle.dam_hour.specs.Market.{order_surplus}
 use Rattle.dam_blocks.specs.Selection.{volume_in}
 use Rattle.dam_results.specs.declared.published.PeriodResult.{PeriodResult}
 use Rattle.dam_results.specs.declared.published.RowResult.{RowResult}
@@ -21,7 +21,7 @@ price_in periods t = slice_index_or (prices_of periods) (t - 1) (pos 0)
 -- its surplus if it is accepted
 abbrev pub published_gain : List PeriodResult → Order → RowResult → ℤ
 published_gain periods (HourOrder o) (HourResult who name executed) =
-    signed o.side ((o.price -ℤ price_in periods o.period) *ℤ pos executed)
+    order_surplus (price_in periods o.period) (record { side = o.side; price = o.price; qty = o.qty }) executed
 published_gain periods (BlockOrder o) (BlockResult who name accepted surplus) =
     if accepted then surplus else pos 0
 published_gain periods _ _ = pos 0
@@ -57,10 +57,7 @@ pub record IsWithoutRow (book other : BookState) (place : ℕ) : Type 0 where
 pub record IsWithOtherLimit (book other : BookState) (place : ℕ) (order : BlockTerms) (limit : ℤ)
     : Type 0 where
   pub key : Key
-  pub front : List Row
-  pub back : List Row
-  pub place_is : length front ≡ place
-  pub rows : book.rows ≡ front ++ (key, BlockOrder order) ∷ back
-  pub others : other.rows ≡ front ++ (key, BlockOrder (record order { price = limit })) ∷ back
+  pub stands : slice_get book.rows place ≡ Some (key, BlockOrder order)
+  pub rows : other.rows ≡ slice_set book.rows place (key, BlockOrder (record order { price = limit }))
   pub periods : other.periods ≡ book.periods
   pub closed : other.closed ≡ book.closed

@@ -4,8 +4,14 @@ ghost use Rattle.std.specs.Prelude.{◌≡◌, true, false, ℕ, ◌+◌, ◌≤
 ghost use Rattle.dam_book.specs.Terms.{BlockTerms};
 ghost use Rattle.dam_book.specs.Book.{Key, BookState, IsBook};
 ghost use Rattle.dam_book.specs.declared.order.Order.TheVariants.{Block as BlockOrder};
-ghost use Rattle.dam_hour.specs.Price.{IsBetter, IsWorse};
+ghost use Rattle.dam_book.specs.declared.order.Side.{Side};
 ghost use Rattle.dam_book.specs.declared.order.Side.TheVariants.{Buy, Sell};
+ghost use Rattle.dam_hour.specs.declared.step.Step.{Step};
+ghost use Rattle.dam_hour.specs.Price.{IsBetter, IsWorse};
+ghost use Rattle.dam_hour.specs.Best.{IsBest};
+ghost use Rattle.dam_blocks.specs.Problem.{problem_of};
+ghost use Rattle.dam_blocks.specs.Selection.{net_volume};
+ghost use Rattle.dam_blocks.specs.Market.{traded};
 ghost use Rattle.dam_results.specs.declared.published.PeriodResult.{PeriodResult};
 ghost use Rattle.dam_results.specs.declared.published.RowResult.{RowResult};
 ghost use Rattle.dam_results.specs.declared.published.RowResult.TheVariants.{Block as BlockResult};
@@ -13,7 +19,8 @@ ghost use Rattle.dam_results.specs.Clearing.{IsClearing};
 ghost use Rattle.dam_results.specs.Market.{published_gains, published_trades, IsWithoutRow, IsWithOtherLimit};
 
 /// The published results add up: the welfare is what all orders gain by what is published of them, and
-/// the volume of a period is what they buy there, and what they sell.
+/// the volume of a period is what they buy there, and what they sell. What they trade by what is published
+/// is what the orders of the problem trade, of which `dam_blocks::market::money_balances` is (`traded`).
 pub fn published_results_add_up()
     ensures welfare { (book : BookState) (welfare : ℕ) (periods : List PeriodResult)
         (rows : List RowResult) → IsBook book → IsClearing book welfare periods rows
@@ -23,6 +30,13 @@ pub fn published_results_add_up()
         → IsClearing book welfare periods rows → slice_get periods k ≡ Some period
         → (published_trades Buy (k + 1) book.rows rows ≡ period.volume)
         × (published_trades Sell (k + 1) book.rows rows ≡ period.volume) }
+    ensures traded { (book : BookState) (welfare : ℕ) (periods : List PeriodResult)
+        (rows : List RowResult) (clearing : IsClearing book welfare periods rows) (k : ℕ)
+        (steps : List Step) (side : Side) → slice_get (problem_of book).hours k ≡ Some steps
+        → (volumes : List ℕ)
+        × IsBest steps (net_volume (problem_of book).blocks clearing.selection (k + 1)) volumes
+        × (pos (published_trades side (k + 1) book.rows rows)
+        ≡ traded side (problem_of book).blocks clearing.selection (k + 1) steps volumes) }
 {
     dam_blocks::market::a_closed_book_is_a_problem();
     dam_blocks::market::welfare_is_shared_out();
@@ -33,7 +47,8 @@ pub fn published_results_add_up()
 /// A rejected block may as well not be there: what is published of the book without it is the same, except
 /// that there is no line of the block.
 ///
-/// A book that keeps `IsBook` has no block whose parent is missing, so this is of a block without children.
+/// A book that keeps `IsBook` has no block whose parent is missing, so this is of a block without children:
+/// without it, the book keeps `IsBook` (`dam_book::laws::an_order_less`).
 pub fn a_rejected_block_withdrawn()
     ensures published { (book other : BookState) (place : ℕ) (welfare : ℕ) (periods : List PeriodResult)
         (rows : List RowResult) (who name : List ℕ) (surplus : ℤ) → IsBook book → IsBook other
@@ -50,11 +65,11 @@ pub fn a_rejected_block_withdrawn()
 /// without one of its blocks.
 pub fn a_block_more()
     ensures welfare { (book other : BookState) (place : ℕ) (key : Key) (order : BlockTerms)
-        (welfare less : ℕ) (periods days : List PeriodResult) (rows results : List RowResult)
-        → IsBook book → IsBook other → IsWithoutRow book other place
+        (welfare other_welfare : ℕ) (periods other_periods : List PeriodResult)
+        (rows other_rows : List RowResult) → IsBook book → IsBook other → IsWithoutRow book other place
         → slice_get book.rows place ≡ Some (key, BlockOrder order)
-        → IsClearing book welfare periods rows → IsClearing other less days results
-        → less ≤ welfare }
+        → IsClearing book welfare periods rows → IsClearing other other_welfare other_periods other_rows
+        → other_welfare ≤ welfare }
 {
     crate::publishing_laws::best_selection_is_result();
     dam_blocks::market::a_closed_book_is_a_problem();
@@ -66,12 +81,12 @@ pub fn a_block_more()
 /// limit for it, it is published as accepted too.
 pub fn a_better_limit_keeps_a_block()
     ensures accepted { (book other : BookState) (place : ℕ) (order : BlockTerms) (limit : ℤ)
-        (welfare after : ℕ) (periods days : List PeriodResult) (rows results : List RowResult)
-        (who name : List ℕ) (surplus : ℤ) → IsWithOtherLimit book other place order limit
+        (welfare other_welfare : ℕ) (periods other_periods : List PeriodResult)
+        (rows other_rows : List RowResult) (who name : List ℕ) (surplus : ℤ) → IsWithOtherLimit book other place order limit
         → IsBetter order.side limit order.price → IsClearing book welfare periods rows
         → slice_get rows place ≡ Some (BlockResult who name true surplus)
-        → IsClearing other after days results
-        → (gain : ℤ) × (slice_get results place ≡ Some (BlockResult who name true gain)) }
+        → IsClearing other other_welfare other_periods other_rows
+        → (gain : ℤ) × (slice_get other_rows place ≡ Some (BlockResult who name true gain)) }
 {
     crate::publishing_laws::best_selection_is_result();
     dam_blocks::market::a_changed_book_is_a_changed_problem();

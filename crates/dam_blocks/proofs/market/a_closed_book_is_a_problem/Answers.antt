@@ -3,4 +3,4 @@ use Rattle.dam_blocks.proofs.FromBook.{problem_is}
 use Rattle.dam_blocks.proofs.market.a_closed_book_is_a_problem.Goals as goal
 
 pub returns : goal.returns
-returns c = problem_is
+returns c = record { problem = problem_is }

@@ -1,5 +1,5 @@
 -- No hourly order loses at the price, and a participant's accepted blocks make up whole families.
-use Rattle.dam_blocks.proofs.Participants.{GainLaws, order_at_least_zero, participant_gains}
+use Rattle.dam_blocks.proofs.Participants.{GainLaws, order_at_least_zero, participant_gains, descendants_gain}
 use Rattle.dam_blocks.proofs.Heads.{one_head, family_owner}
 use Rattle.dam_blocks.proofs.market.nobody_loses.Goals as goal
 
@@ -9,6 +9,7 @@ returns c =
     record {
       order = order_at_least_zero laws;
       participant = participant_gains laws;
+      descendants = descendants_gain;
       head = one_head;
       owner = family_owner;
     }

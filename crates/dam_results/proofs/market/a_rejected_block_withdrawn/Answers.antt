@@ -5,7 +5,7 @@ use Rattle.dam_results.proofs.market.a_rejected_block_withdrawn.Goals as goal
 pub returns : goal.returns
 returns c =
     let laws : WithdrawingLaws = record {
-      problem = c.a_closed_book_is_a_problem.ensures;
+      problem = c.a_closed_book_is_a_problem.ensures.problem;
       best = c.best_selection_is_result.ensures.best;
       result = c.best_selection_is_result.ensures.result;
       without = c.a_rejected_block_withdrawn.ensures.result;

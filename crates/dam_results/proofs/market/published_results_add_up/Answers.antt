@@ -1,13 +1,13 @@
 -- What is published of each order is what the market's laws are about.
-use Rattle.dam_results.proofs.AddingUp.{AddingLaws, welfare_adds_up, volume_adds_up}
+use Rattle.dam_results.proofs.AddingUp.{AddingLaws, welfare_adds_up, volume_adds_up, traded_is}
 use Rattle.dam_results.proofs.market.published_results_add_up.Goals as goal
 
 pub returns : goal.returns
 returns c =
     let laws : AddingLaws = record {
-      problem = c.a_closed_book_is_a_problem.ensures;
+      problem = c.a_closed_book_is_a_problem.ensures.problem;
       shared = c.welfare_is_shared_out.ensures.orders;
       balance = c.money_balances.ensures.volume;
       best = c.uniqueness.ensures.best;
     } in
-    record { welfare = welfare_adds_up laws; volume = volume_adds_up laws }
+    record { welfare = welfare_adds_up laws; volume = volume_adds_up laws; traded = traded_is laws }
