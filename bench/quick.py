@@ -1,13 +1,13 @@
 #!/usr/bin/env python3
 """`dam replay`, `dam clear` and `dam day` compared with a baseline and with one another, a settlement, clears of one period, and the
-levels that give a search its bounds.
+bounds of a search: the levels that `Relaxed::bound` asks, and the tables that a walk reads.
 
 The baseline is a plain Rust program with std only: a hash map, and a list of orders with gaps. For a day it has a thread for each
 participant and one `Mutex`; it settles and prints the day, and clears nothing. A day of `dam` holds each command as it was read and as a
 receipt, both packed, and whole in the journal. The input is freed before the commands are entered, and the room for journal and receipts is
 made once. A settlement is compared with a plain pass that compares each receipt with its entry. An hour finds the end of the best execution
 by one bisection over the buys' own limits, with one over the sells inside, and then both ends of the price by two look-ups among the sells.
-The levels keep an hour for each depth and period, since a bound is read off them; in memory that is fresh, its pages cost more than the
+The levels keep an hour for each depth and period, and `dam` builds none; in memory that is fresh, its pages cost more than the
 work.
 
 A day of `dam` takes as many instructions as one of the baseline (116 and 118 million), but writes 2.5 MiB more: the whole entries of the

@@ -5,27 +5,27 @@ import unittest
 from report import Report, function_of
 
 REFUSED = """\
-checked dam_stack::stack::Stack::low, 11 of 28
+checked toy::stack::Stack::low, 11 of 28
 ./proofs/stack/Stack/low/Answers.antt:8:15: error: `returns`: computed as far as they go, the two types differ only where one has `c.args.units` (expected) and the other has `1` (found)
   expected type `goal.the-asks-returns g.row.A g.A.laws`
 ./proofs/stack/+split/Answers.antt:7:140: error: `returns-clause-rises`: `search`: no proof of `height_of a.0.now.price`
 ./proofs/stack/Stack/units/Answers.antt:16:10: note: this `elim` is on a term, not a variable
 ./proofs/stack/Stack/all/Answers.antt:9:33: error: `returns-then`: `c.holding` is not in scope
 ./proofs/stack/Stack/all/Answers.antt:30:5: error: 2 declarations that depend on `returns-then`, which was rejected, were not checked: overflow_add-result, returns
-struct dam_stack::row::Row: proved
-fn dam_stack::row::height: proved
+struct toy::row::Row: proved
+fn toy::row::height: proved
 note: src/stack.rt:48:13: it is not proved that what the function ensures holds when it returns (`returns-then-eq`); the facts known there allow values at which this goal is false
 note: src/stack.rt:44:5: it is not proved that what the function ensures holds when it returns (`returns`); `search` gave up at one of its limits
 note: to see how far a `search` got, write `search rules` in place of that hole in the function's `Answers.antt`, and check again
-fn dam_stack::stack::Demand::of_step: no proof: expected answers in ./proofs/stack/Demand/of_step/Answers.antt; `search` did not prove `returns-then-eq`, `returns`
-fn dam_stack::stack::Demand::of: no proof: it calls `dam_stack::stack::Demand::of_step`, which is not proved
-fn dam_stack::stack::fn::rising::sort_unstable_by_key+FnMut::call_mut: proved where its callers give what it asks
+fn toy::stack::Demand::of_step: no proof: expected answers in ./proofs/stack/Demand/of_step/Answers.antt; `search` did not prove `returns-then-eq`, `returns`
+fn toy::stack::Demand::of: no proof: it calls `toy::stack::Demand::of_step`, which is not proved
+fn toy::stack::fn::rising::sort_unstable_by_key+FnMut::call_mut: proved where its callers give what it asks
 note: src/stack.rt:77:20: it is not proved that what the function ensures holds when it returns (`returns`); `search` gave up at one of its limits
-fn dam_stack::stack::fn::Stack::has_unit::any: no proof: `search` did not prove `returns`
-fn dam_stack::stack::Stack::low: not proved; it calls `dam_stack::stack::Demand::of`, which is not proved
-fn dam_stack::stack::Stack::all: not proved
-fn dam_stack::stack::split: not proved
-crate dam_stack: modules loaded=249 checked=0
+fn toy::stack::fn::Stack::has_unit::any: no proof: `search` did not prove `returns`
+fn toy::stack::Stack::low: not proved; it calls `toy::stack::Demand::of`, which is not proved
+fn toy::stack::Stack::all: not proved
+fn toy::stack::split: not proved
+crate toy: modules loaded=249 checked=0
 logic=not-proved
 """
 
@@ -50,23 +50,23 @@ class Reports(unittest.TestCase):
         self.assertEqual(
             {name: why.split(": ")[0] for name, why in refused.items()},
             {
-                "dam_stack::stack::Demand::of_step": "src/stack.rt:48:13",
-                "dam_stack::stack::Stack::has_unit": "src/stack.rt:77:20",
-                "dam_stack::stack::Stack::low": "proofs/stack/Stack/low/Answers.antt:8",
-                "dam_stack::stack::split": "proofs/stack/+split/Answers.antt:7",
+                "toy::stack::Demand::of_step": "src/stack.rt:48:13",
+                "toy::stack::Stack::has_unit": "src/stack.rt:77:20",
+                "toy::stack::Stack::low": "proofs/stack/Stack/low/Answers.antt:8",
+                "toy::stack::split": "proofs/stack/+split/Answers.antt:7",
             },
         )
 
     def test_a_caller_is_not_refused_for_itself(self):
-        self.assertNotIn("dam_stack::stack::Demand::of", Report(REFUSED).refusals())
+        self.assertNotIn("toy::stack::Demand::of", Report(REFUSED).refusals())
 
     def test_a_name_that_went_is_no_refusal(self):
-        self.assertNotIn("dam_stack::stack::Stack::all", Report(REFUSED).refusals())
+        self.assertNotIn("toy::stack::Stack::all", Report(REFUSED).refusals())
 
     def test_a_name_that_went_is_told_with_the_goal(self):
-        refused = Report(REFUSED.replace("fn dam_stack::stack::Stack::all", f"{GOAL}\nfn dam_stack::stack::Stack::all")).refusals()
-        self.assertTrue(refused["dam_stack::stack::Stack::all"].endswith("(`returns`) (and a proof of the function cites a name that went)"))
-        self.assertNotIn("went", refused["dam_stack::stack::Stack::low"])
+        refused = Report(REFUSED.replace("fn toy::stack::Stack::all", f"{GOAL}\nfn toy::stack::Stack::all")).refusals()
+        self.assertTrue(refused["toy::stack::Stack::all"].endswith("(`returns`) (and a proof of the function cites a name that went)"))
+        self.assertNotIn("went", refused["toy::stack::Stack::low"])
 
     def test_a_loop_that_may_not_end_is_a_refusal(self):
         line = "fn toy::waits: no proof: expected a measure in ./proofs/waits/Invariants.antt\nlogic=not-proved\n"

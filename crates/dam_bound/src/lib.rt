@@ -5,21 +5,25 @@
 //! let tables = Tables::of(alloc, &problem)?;
 //! let walk = Walk::new(&problem, &tables);
 //! let mut trail = Trail::empty();
-//! let total = walk.begin(&mut trail); // every block open
-//! let bound = walk.extend(&mut trail, 0, true, total, 0); // block 0 accepted, the others open
+//! let open = walk.begin(&mut trail); // the bound with every block open
+//! let bound = walk.extend(&mut trail, 0, true, open, 0); // block 0 accepted, the others open; None if under 0
+//!
+//! let relaxed = Relaxed::build(alloc, &problem)?;
+//! let same = relaxed.bound(Selection::none().with(0), 1); // from the definition
 //! ```
 //!
-//! A [`Walk`] down the tree of prefixes reads [`Tables`], and keeps the days of the prefixes on its way in the slots of
-//! a [`Trail`]. It begins with the day of the prefix that decides nothing (`begin`), and makes that of a prefix with one
-//! more decision (`extend`): the same welfare, with only the classes of the last block changed, and no further than
-//! until it is seen to be less than what is asked for. Of a prefix that decides every block the day is read out
-//! (`day_at`) as a [`Day`]: `turn` makes that with one decision reversed, and `gain` says what an accepted block gains
-//! with its accepted descendants.
+//! Two periods are in one class if every block has the same volume in both, so that they have the same net volume
+//! whatever is decided. A table is the relaxed welfare of a class over its net volume, as straight lines
+//! (`dam_curve`): one with no block decided, and one for each block with a volume there. It is proved to be the
+//! definition's welfare, which [`Relaxed::bound`] finds by clearing each period.
 //!
-//! Two periods are of one class if every block has the same volume in both. The relaxed welfare of a class is a function
-//! of its net volume, and the tables have it as a curve for each number of decided blocks; so a decision looks at each
-//! class of its block once, however many periods that has. A [`Relaxed`] computes the bound from its definition
-//! (`bound`), which tests compare with.
+//! A walk down the tree of prefixes keeps the days of those on its way in the slots of a [`Trail`]. It begins
+//! with the day of the prefix that decides nothing (`begin`), and makes that of a prefix with one more
+//! decision (`extend`): the same welfare, with only the classes of the last block looked up, and no further
+//! than until it is seen to be less than what is asked for. Of a prefix that decides every block the day is
+//! read out (`day_at`) as a [`Day`]: `turn` makes that with one decision reversed, and `gain` says
+//! what an accepted block gains with its accepted descendants. It clears the hours of the problem at the net
+//! volumes of the day: a rule on prices at a leaf is kept there, and no table has a price.
 //!
 //! What these words mean stands in `specs/`: prefixes and their completions, the relaxed welfare, the live count, the
 //! classes and the tables. A contract sees a [`Walk`] or a [`Relaxed`] as the problem that it was built of, without its

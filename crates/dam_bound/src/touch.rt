@@ -20,7 +20,7 @@ pub(crate) struct Touch {
     pub(crate) value: i64,
     /// The welfare of the class with the later blocks undecided.
     pub(crate) curve: Curve,
-    /// What is lost, or below 0 gained, if the block is accepted, at the prices with no block decided.
+    /// What is lost, or below 0 gained, by accepting the block, near the prices with it and all before it rejected.
     pub(crate) stake: i64,
 }
 

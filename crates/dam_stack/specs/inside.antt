@@ -1,4 +1,0 @@
--- What only contracts inside this crate cite.
-pub mod Supply
-pub mod Rows
-pub mod Taken
