@@ -24,6 +24,7 @@ PACKAGES = {
     "openpyxl": "python3-openpyxl",
     "pandas": "python3-pandas",
     "scipy": "python3-scipy",
+    "tqdm": "python3-tqdm",
 }
 
 # The statuses of all tools. FAILED is that of a tool which can't do its work: a package is missing, memory ran out, or it has a defect.
