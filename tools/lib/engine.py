@@ -148,6 +148,17 @@ class Running:
             process.kill()
 
 
+@contextlib.contextmanager
+def threads_of(jobs):
+    """Threads, and the programs that they run, which end with the block."""
+    running, threads = Running(), concurrent.futures.ThreadPoolExecutor(jobs)
+    try:
+        yield threads, running
+    finally:
+        running.end()
+        threads.shutdown(wait=False, cancel_futures=True)
+
+
 def answer(text, program=None, running=None):
     """What `dam clear` prints for the text of a journal, as a pair of None and these bytes; or else of the status (0 if there is none) and
     the words of the fault. By the library if there is one, unless a program is named. The pair has no type of this package, so that any
@@ -184,13 +195,9 @@ def answers(texts, jobs=None, executor=None, program=None, call=answer):
     if executor is not None:
         yield from ordered(texts, lambda text: executor.submit(call, text, program), jobs or MOST_AHEAD)
         return
-    jobs, running = jobs or processors(), Running()
-    threads = concurrent.futures.ThreadPoolExecutor(jobs)
-    try:
+    jobs = jobs or processors()
+    with threads_of(jobs) as (threads, running):
         yield from ordered(texts, lambda text: threads.submit(call, text, program, running), AHEAD * jobs)
-    finally:
-        running.end()
-        threads.shutdown(wait=False, cancel_futures=True)
 
 
 def ordered(texts, submit, most):
