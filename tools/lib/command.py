@@ -18,6 +18,7 @@ DEBIAN_PYTHON = "/usr/bin/python3"
 LONGEST_PATH = 400  # characters of the name of a file in a message
 # Debian's packages; tests/packages lists them all.
 PACKAGES = {
+    "distributed": "python3-distributed",
     "jinja2": "python3-jinja2",
     "matplotlib": "python3-matplotlib",
     "numpy": "python3-numpy",

@@ -1,14 +1,18 @@
 """The commands of tools/whatif: their words on the command line, and what each does."""
 
 import argparse
+import collections
+import contextlib
 import json
 import re
+import socket
 
-from . import changes, cleared, command, engine, limit_words, limits, output, rules, text
+from . import changes, cleared, command, engine, limit_words, limits, output, rules, scenario_tables, scenarios, text
 from .cleared import Cleared
 
 GRID = 2_000, 100  # cents per MWh: how far the limits of an hourly order reach from the price, and their distance
 MOST_LIMITS = 100_000
+CLUSTER_SECONDS = 10  # that a cluster may take to answer
 
 
 def eur_mwh(word):
@@ -69,7 +73,7 @@ def main(description, epilog):
     """Reads the command line, and does what it says."""
     parser = command.Parser("whatif", description, epilog)
     commands = parser.add_subparsers(dest="command", metavar="COMMAND", required=True)
-    for add in (add_limit, add_change):
+    for add in (add_limit, add_change, add_scenarios):
         add(commands, epilog[epilog.index("\nstatuses:") :])
     args = parser.parse_args()
     try:
@@ -210,3 +214,184 @@ def change(args):
         command.tell("whatif", "nothing differs")
     output.write("whatif", args, "changes", rows, before.periods)
     return command.DONE
+
+
+def add_scenarios(commands, epilog):
+    parser = commands.add_parser("scenarios", description=scenarios.__doc__, epilog=epilog, help="what becomes of many scenarios")
+    add_common(parser)
+    add = parser.add_argument
+    words = "a table with the column scenario and those of a table of orders, or of commands with the column what (CSV or Excel)"
+    add("scenarios", metavar="SCENARIOS", nargs="?", help=words)
+    add("--rows", choices=scenario_tables.TABLES, help="what each row is about (default: welfare; with --sample the blocks over all scenarios)")
+    add("--participant", metavar="NAME", type=command.participant, help="only this participant's rows; with --sample, whose orders stay")
+    add("--order", metavar="NAME", type=order_name, help="only this order of the participant")
+    add("--jobs", metavar="N", type=jobs, help="how many clearings run at the same time (default: as many as there are processors)")
+    add("--sample", metavar="N", type=sample_count, help="random scenarios instead of a table")
+    add("--seed", metavar="WORD", help="of the random scenarios (default: 1)")
+    add("--price-sd", metavar="EUR", type=standard_deviation, help="the standard deviation that limits are changed by (default: 3)")
+    add("--volume-sd", metavar="SHARE", type=standard_deviation, help="that of the factor of volumes (default: 0.1)")
+    add("--cluster", metavar="ADDRESS", help="the scheduler of a dask cluster to run on, such as tcp://10.0.0.1:8786")
+    add("--quiet", action="store_true", help="print no notes on standard error; faults are still printed")
+    parser.set_defaults(call=run_scenarios)
+
+
+def sample_count(word):
+    if not re.fullmatch(r"[1-9][0-9]{0,6}", word):
+        raise argparse.ArgumentTypeError(f"{text.quoted(word)} should be a number from 1 to 9999999")
+    return int(word)
+
+
+def standard_deviation(word):
+    if not re.fullmatch(r"[0-9]{1,4}(\.[0-9]{1,6})?", word):
+        raise argparse.ArgumentTypeError(f"{text.quoted(word)} should be a number from 0 to 9999, such as 0.1")
+    return float(word)
+
+
+def is_picture(path):
+    return path.lower().endswith((".svg", ".png"))
+
+
+def check_scenarios(args):
+    """Ends the tool if the options of scenarios can't be used together."""
+    def stop(words):
+        raise command.Stop(words, command.COMMAND_LINE)
+
+    drawn = {"--seed": args.seed, "--price-sd": args.price_sd, "--volume-sd": args.volume_sd}
+    if (args.scenarios is None) == (args.sample is None):
+        stop("give a table of scenarios, or --sample with how many random ones")
+    if args.sample is None:
+        given = [name for name, value in drawn.items() if value is not None]
+        if given:
+            stop(f"{given[0]} can't be used without --sample")
+        if is_picture(args.out):
+            stop("a picture can't be drawn without --sample")
+    elif not args.participant:
+        stop("--sample needs --participant, whose orders stay as they are")
+    if args.order and not args.participant:
+        stop("--order can't be used without --participant")
+    if is_picture(args.out) and args.rows:
+        stop("--rows can't be used with a picture, which shows the blocks over all scenarios")
+    if args.rows in ("welfare", "prices") and args.order:
+        stop(f"--order can't be used with --rows {args.rows}")
+    if args.journal == args.scenarios == "-":
+        stop("only one file can be standard input")
+
+
+def keys_asked(args, held):
+    """The blocks whose distribution is asked for."""
+    if args.order and (args.participant, args.order) not in held.rows:
+        raise command.Stop(unknown(held, args.participant, args.order))
+    own = [key for key, order in held.rows.items() if key[0] == args.participant and order.kind == "block" and args.order in (None, key[1])]
+    if not own:
+        words = f"{args.order} of {args.participant} isn't a block" if args.order else f"{args.participant} has no block in the book"
+        raise command.Stop(f"{words}: give --rows orders or --rows participants")
+    return own
+
+
+@contextlib.contextmanager
+def executor_of(args):
+    """The executor of the cluster that is named, or None; and what it calls."""
+    if args.cluster is None:
+        yield None, engine.answer
+        return
+    command.need("distributed")
+    import dam_tools
+    import distributed
+
+    try:
+        host, port = re.fullmatch(r"(?:tcp|tls)://(.+):([0-9]{1,5})", args.cluster).groups()
+        socket.create_connection((host.strip("[]"), int(port)), CLUSTER_SECONDS).close()
+        client = distributed.Client(args.cluster, timeout=CLUSTER_SECONDS, set_as_default=False)
+    except AttributeError:
+        raise command.Stop(f"the cluster {text.safe(args.cluster)} should be an address such as tcp://10.0.0.1:8786") from None
+    except (OSError, OverflowError) as fault:
+        raise command.Stop(f"the cluster {text.safe(args.cluster)} can't be reached: {first_line(fault)}") from None
+    with client:
+        yield client.get_executor(), dam_tools.engine.answer  # by the name that it has in the package
+
+
+def first_line(fault):
+    return getattr(fault, "strerror", None) or text.safe(str(fault).split("\n")[0]) or type(fault).__name__
+
+
+def run_scenarios(args):
+    output.check_options(args, args.journal, args.scenarios)
+    check_scenarios(args)
+    if is_picture(args.out):
+        command.need("matplotlib")
+    if args.sample:
+        command.need("numpy")
+    held = read(args)
+    if args.sample is None:
+        data = command.read_bytes(args.scenarios)
+        given, notes = scenarios.read_table(command.shown(args.scenarios), data, held)
+        count = len(given)
+    else:
+        sds = [3 if args.price_sd is None else args.price_sd, 0.1 if args.volume_sd is None else args.volume_sd]
+        sampler = scenarios.Sampler(held, args.participant, args.seed or "1", sds[0] * 100, sds[1])
+        given, notes, count = sampler.scenarios(args.sample), [], args.sample
+    over = scenario_tables.Distribution(held, keys_asked(args, held)) if args.sample and not args.rows else None
+    rows = list(scenario_rows(args, held, given, count, over))
+    for note in [] if args.quiet else notes:
+        command.tell("whatif", note)
+    if over is None:
+        output.write("whatif", args, "scenarios", rows, held.periods)
+    else:
+        write_distribution(args, held, over)
+    return command.DONE
+
+
+def scenario_rows(args, held, given, count, over):
+    """The rows of the scenarios, or none, and then what they come to is added to the distribution."""
+    make, heads = scenario_tables.TABLES[args.rows or "welfare"]
+    waiting = collections.deque()
+
+    def texts():
+        yield cleared.book_text(held.rows, held.periods)
+        for scenario in given:
+            waiting.append(scenario)
+            yield scenario.text
+
+    if over is None:
+        yield ["scenario", *heads]
+    with executor_of(args) as (executor, call):
+        program = args.program if args.cluster is None else None
+        answers = engine.answers(texts(), args.jobs, executor, program, call)
+        before = day_of("the day as it was", held.rows, held.periods, next(answers))
+        for printed in engine.with_bar(answers, count, "scenario", args.quiet):
+            scenario = waiting.popleft()
+            if over is None:
+                day = day_of(f"scenario {scenario.name}", scenario.rows(), held.periods, printed)
+                yield from make(text.safe(scenario.name), before, day, asked_of(args))
+            else:
+                over.add(printed_of(f"scenario {scenario.name}", printed))
+
+
+def asked_of(args):
+    """Whether an order, or a participant's name with None, is asked for."""
+    return lambda key: args.participant in (None, key[0]) and (key[1] is None or args.order in (None, key[1]))
+
+
+def printed_of(name, printed):
+    """What was printed; ends the tool if it is a fault."""
+    if isinstance(printed, engine.Fault):
+        raise command.Stop(f"{text.safe(name)}: {printed}")
+    return printed
+
+
+def day_of(name, rows, periods, printed):
+    return Cleared.of_text(rows, periods, printed_of(name, printed))
+
+
+def write_distribution(args, held, over):
+    """The table of the blocks over all scenarios, or a picture and then the table on standard output."""
+    if not args.quiet:
+        for line in scenario_tables.words(over):
+            command.tell("whatif", line)
+    if is_picture(args.out):
+        from . import scenario_picture
+
+        data = scenario_picture.picture(over, args.out.lower().rpartition(".")[2])
+        command.write_bytes("whatif", args.out, data)
+        args.out = "-"
+    output.write("whatif", args, "distribution", over.table(), held.periods)
