@@ -7,16 +7,15 @@
     for row in dam_tools.records(day, "periods"):
         print(row["period"], row["price_eur_mwh"])
     frame = dam_tools.frame(day, "orders", long=True)
+    for day in dam_tools.clear_many(Path("days").glob("*.csv")):
+        print(day)
 
 The tables and their columns are those of tools/table, which docs/TABLES.md describes. Results are checked against the journal as
 they are read: `Day.wrong` lists what breaks the market rules, and is empty for every result of the program; `Day.odd` lists how their
 encoding differs from the program's."""
 
+import collections
 import contextlib
-import ctypes
-import os
-import shutil
-import subprocess
 from pathlib import Path
 from typing import NamedTuple
 
@@ -24,8 +23,9 @@ from typing import NamedTuple
 if not Path(__file__).with_name("lib").is_dir():
     __path__.append(str(Path(__file__).resolve().parents[1]))
 
-from .lib import book, command, journal, order_table, shapes, tables
+from .lib import book, command, engine, journal, order_table, shapes, tables
 from .lib.command import Day
+from .lib.engine import Fault
 from .lib.journal import Journal
 from .lib.version import VERSION as __version__
 
@@ -37,6 +37,7 @@ __all__ = [
     "TABLES",
     "__version__",
     "clear",
+    "clear_many",
     "frame",
     "journal_of_orders",
     "read_journal",
@@ -46,19 +47,6 @@ __all__ = [
 ]
 
 TABLES = tuple(tables.TABLES)
-# Where the program is built, in the tree that this module is part of.
-BUILT = Path(__file__).resolve().parents[2] / "crates" / "dam_cli" / "out" / "dam_cli"
-# And the path of the library for C, if library/build has made it.
-LIBRARY = Path(__file__).resolve().parents[2] / "library" / "out" / "libdam.so"
-MOST_NODES, MOST_ANSWER = 67_108_864, 300_000  # of library/dam.h
-
-
-class Fault(Exception):
-    """A file, text or date that can't be read, or a run of the program that failed: `status` is the program's, or None."""
-
-    def __init__(self, words, status=None):
-        super().__init__(words)
-        self.status = status
 
 
 @contextlib.contextmanager
@@ -101,62 +89,73 @@ def read_results(source, results):
         return Day.of(as_journal(source), bytes_of(results))
 
 
-def program_of(program):
-    found = program or os.environ.get("DAM") or (BUILT if os.access(BUILT, os.X_OK) else shutil.which("dam"))
-    if not found:
-        raise Fault("no program was found: build it, or name it as `program` or in the environment variable DAM")
-    return found
-
-
-class Answer(ctypes.Structure):
-    """What the library answers: see library/dam.h."""
-
-    _fields_ = [("status", ctypes.c_uint8), ("length", ctypes.c_size_t)]
-
-
-def has_library():
-    """Whether the library for C was built, and no source has changed since."""
-    if not LIBRARY.exists():
-        return False
-    sources = [LIBRARY.parents[1] / "heap.c", *(LIBRARY.parents[2] / "crates").glob("*/src/**/*.rt")]
-    return all(source.stat().st_mtime <= LIBRARY.stat().st_mtime for source in sources)
-
-
-def cleared_by_library(text):
-    """What `dam clear` prints for the text, or the fault, by the library for C; names are hashed with random bytes."""
-    call, sized = ctypes.CDLL(os.fspath(LIBRARY)).dam_clear_seeded, [ctypes.c_char_p, ctypes.c_size_t]
-    call.restype, call.argtypes = Answer, [*sized, *sized, ctypes.c_uint32, *sized]
-    secret, buffer = os.urandom(16), ctypes.create_string_buffer(MOST_ANSWER)
-    answer = call(secret, len(secret), text, len(text), MOST_NODES, buffer, MOST_ANSWER)
-    shown = buffer.raw[: answer.length]
-    if answer.status:
-        raise Fault(shown.decode(errors="replace").strip(), answer.status)
-    return shown
-
-
 def clear(source, program=None, workers=None, cut=None, nodes=None, timeout=None):
     """The results of a journal, by a run of the program. The options are those of `dam clear`; none but a limit on nodes changes the
-    answer. If neither a program nor an option is named, and the library for C was built from the present sources, the library is called
-    instead: it gives the same answer, on one thread."""
+    answer. If neither a program nor an option is named, the library for C is called if it was built from the present sources or is installed: it
+    gives the same answer, on one thread. The environment variable DAM names the program to run, and DAM_LIBRARY the library."""
     read = as_journal(source)
-    is_free = (program, workers, cut, nodes, timeout) == (None,) * 5 and "DAM" not in os.environ
-    if is_free and has_library():
-        return read_results(read, cleared_by_library(journal.journal_text(read).encode()))
+    path = engine.library() if (program, workers, cut, nodes, timeout) == (None,) * 5 else None
+    if path:
+        return read_results(read, engine.cleared_by_library(path, journal.journal_text(read).encode()))
     options = [f"--{name}={value}" for name, value in (("workers", workers), ("cut", cut), ("nodes", nodes)) if value is not None]
-    return read_results(read, printed(read, [os.fspath(program_of(program)), "clear", *options], timeout))
+    return read_results(read, printed(read, [engine.program_of(program), "clear", *options], timeout))
 
 
 def printed(read, words, timeout):
     """What a run of the program prints for a journal."""
+    return engine.printed(words, journal.journal_text(read).encode(), timeout)
+
+
+class LateDay(Day):
+    """A day of `clear_many`. `text` has its results as they were printed; they are read, and checked against the journal, when anything
+    else is first asked for."""
+
+    PARTS = frozenset(["journal", "book", "reasons", "problem", "said", "odd", "wrong", "outcome"])
+
+    def __init__(self, source, text):
+        self.source, self.text = source, text
+
+    def __getattr__(self, name):
+        if name not in self.PARTS:
+            raise AttributeError(f"a day has no {name}")
+        with as_faults():
+            self.read(as_journal(self.source), self.text, "the journal", "the text")
+        return self.__dict__[name]
+
+
+def text_of(source):
+    """The bytes of a journal; a fault if its file can't be read."""
     try:
-        ran = subprocess.run(words, input=journal.journal_text(read).encode(), capture_output=True, timeout=timeout)
-    except subprocess.TimeoutExpired:
-        raise Fault(f"{words[0]} took longer than {timeout:g} seconds") from None
-    except OSError as fault:
-        raise Fault(f"{words[0]} can't be run: {fault.strerror}") from None
-    if ran.returncode:
-        raise Fault(ran.stderr.decode(errors="replace").strip(), ran.returncode)
-    return ran.stdout
+        return journal.journal_text(source).encode() if isinstance(source, Journal) else bytes_of(source)
+    except Fault as fault:
+        return fault
+
+
+def clear_many(journals, jobs=None, executor=None, program=None, quiet=False):
+    """The results of many journals, in their order, as an iterator: for each a `Day`, or a `Fault` if the journal can't be read or cleared,
+    which doesn't end the others. `journals` are files, bytes or journals that were read, as `clear` takes one, and may be any iterator:
+    they are taken as they are needed.
+
+    Without an executor `jobs` threads, as many as there are processors by default, call the library for C if it was built or installed,
+    or run the program otherwise, or if one is named. With one, a `concurrent.futures.Executor`, its workers do the same, and need this
+    package and the library or the program; at most `jobs` journals, 1,024 by default, then wait at the same time. If it loses a journal,
+    that is the journal's fault; if it takes no more, `Fault` is raised.
+
+    The results of a day are read and checked when they are first used, so that a program which only wants `day.text`, the bytes that
+    `dam clear` prints, waits for nothing else. At a terminal a bar of tqdm, if that is installed, says how far the days are, unless
+    `quiet`."""
+    whole = len(journals) if hasattr(journals, "__len__") else None
+    kept = collections.deque()  # the journals whose results are still to come
+
+    def texts():
+        for source in journals:
+            text = text_of(source)
+            kept.append(source if isinstance(source, Journal) else text)
+            yield text
+
+    for found in engine.with_bar(engine.answers(texts(), jobs, executor, program), whole, quiet=quiet):
+        source = kept.popleft()
+        yield found if isinstance(found, Fault) else LateDay(source, found)
 
 
 class Reply(NamedTuple):
@@ -173,7 +172,7 @@ class Reply(NamedTuple):
 def replay(source, program=None, timeout=None):
     """The book's reply to each command of a journal, by a run of the program."""
     read = as_journal(source)
-    lines = printed(read, [os.fspath(program_of(program)), "replay"], timeout).decode(errors="replace").splitlines()
+    lines = printed(read, [engine.program_of(program), "replay"], timeout).decode(errors="replace").splitlines()
     found = [line.split(",") for line in lines[1:]]
     replies = [Reply(int(fields[0]), fields[2] if len(fields) == 3 else None) for fields in found if fields[0].isdecimal()]
     if [reply.command for reply in replies] != list(range(1, len(read.commands) + 1)):

@@ -18,12 +18,14 @@ DEBIAN_PYTHON = "/usr/bin/python3"
 LONGEST_PATH = 400  # characters of the name of a file in a message
 # Debian's packages; tests/packages lists them all.
 PACKAGES = {
+    "distributed": "python3-distributed",
     "jinja2": "python3-jinja2",
     "matplotlib": "python3-matplotlib",
     "numpy": "python3-numpy",
     "openpyxl": "python3-openpyxl",
     "pandas": "python3-pandas",
     "scipy": "python3-scipy",
+    "tqdm": "python3-tqdm",
 }
 
 # The statuses of all tools. FAILED is that of a tool which can't do its work: a package is missing, memory ran out, or it has a defect.

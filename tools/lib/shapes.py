@@ -9,7 +9,8 @@ from . import rules, spans, text
 
 ZONE = "Europe/Berlin"  # Central European Time
 UNITS = {"_eur_mwh": "EUR/MWh", "_mwh": "MWh", "_mw": "MW", "_eur": "EUR"}
-WHOLE = {"period", "command", "orders"}
+WHOLE = {"period", "command", "orders", "others", "scenarios", "accepted"}
+NUMBERS = {"hours", "value", "before", "after", "change", "share"}  # without a unit in their name
 LISTS = {"periods", "volume_mw"}  # of a table that has both
 
 
@@ -100,7 +101,7 @@ def column(name, heads):
     elif name == "traded":
         kind = "boolean"
     else:
-        kind = "number" if unit(name) or name in ("hours", "value") else "string"
+        kind = "number" if unit(name) or name in NUMBERS else "string"
     return {"name": name, "type": kind, "unit": unit(name)}
 
 

@@ -8,12 +8,16 @@ import tempfile
 import unittest
 from pathlib import Path
 
-from support import AUCTION, TOP, tool
+from support import TOP, tool
 
-from lib import command
+from lib import command, engine
 
-TOOLS = {"table": [], "lint": [], "plot": ["matplotlib"], "report": ["matplotlib", "jinja2"], "reading-list": []}
-EXAMPLE = re.compile(r"^  (\S*(?:tools/|dam ).*)$", re.MULTILINE)
+TOOLS = {"table": [], "lint": [], "plot": ["matplotlib"], "report": ["matplotlib", "jinja2"], "reading-list": [], "compare": []}
+if engine.BUILT.exists():
+    TOOLS["whatif"] = []
+COMMANDS = {"whatif": ["whatif", "limit"]}  # whose help has the options
+FAKE = Path(__file__).with_name("fake_dam.py")
+EXAMPLE = re.compile(r"^  (\S*(?:tools/|dam ).*|echo .*)$", re.MULTILINE)
 
 
 class Help(unittest.TestCase):
@@ -24,7 +28,7 @@ class Help(unittest.TestCase):
         return EXAMPLE.findall(text[text.index("\nexamples:\n") :])
 
     def test_examples_work(self):
-        """Each example is run in a folder with the examples and the tools, and with a program that prints the worked results."""
+        """Each example is run in a folder with the examples and the tools, and with a program that answers by the rules."""
         for name, packages in TOOLS.items():
             if not all(map(command.has, packages)):
                 continue
@@ -32,7 +36,8 @@ class Help(unittest.TestCase):
                 for part in ("tools", "examples"):
                     Path(folder, part).symlink_to(TOP / part)
                 program = Path(folder, "dam")
-                program.write_text(f'#!/bin/sh\ncat > journal; cat "{AUCTION.with_suffix(".stdout")}"\n')
+                stand_in = f'PYTHONPATH="{FAKE.parent}" exec "{sys.executable}" "{FAKE}"'
+                program.write_text(f'#!/bin/sh\n{shlex.quote(str(engine.BUILT)) if engine.BUILT.exists() else stand_in} "$@"\n')
                 program.chmod(0o755)
                 lines = self.examples(name)
                 self.assertTrue(any(line.startswith(f"tools/{name} ") for line in lines))
@@ -44,7 +49,7 @@ class Help(unittest.TestCase):
 
     def test_defaults_are_said_to_be(self):
         for name, packages in {**TOOLS, "audit": []}.items():
-            text = re.sub(r"\s+", " ", tool(name, "--help")[1].decode().partition("options:")[2].partition("statuses:")[0])
+            text = re.sub(r"\s+", " ", tool(*COMMANDS.get(name, [name]), "--help")[1].decode().partition("options:")[2].partition("statuses:")[0])
             with self.subTest(name):
                 self.assertIn("(default: ", text)
                 self.assertEqual([words for words in re.findall(r"\(([^)]*)\)", text) if not words.startswith("default: ")], [])

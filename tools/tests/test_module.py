@@ -14,6 +14,7 @@ import support
 from support import AUCTION, FIRST, TOP, printed
 
 import dam_tools
+from dam_tools.lib import engine
 from lib import command, shapes, sheets, tables
 
 END = "is the first or the last day of the calendar: it should be another"
@@ -152,16 +153,16 @@ class Module(unittest.TestCase):
                 path.parent.mkdir(parents=True, exist_ok=True)
                 path.write_bytes(b"")
                 os.utime(path, (1_000, 1_000))
-            with unittest.mock.patch.object(dam_tools, "LIBRARY", library):
-                self.assertTrue(dam_tools.has_library())
+            with unittest.mock.patch.object(engine, "LIBRARY", library):
+                self.assertTrue(engine.has_library())
                 os.utime(source, (2_000, 2_000))
-                self.assertFalse(dam_tools.has_library())
+                self.assertFalse(engine.has_library())
                 library.unlink()
-                self.assertFalse(dam_tools.has_library())
+                self.assertFalse(engine.has_library())
 
-    @unittest.skipUnless(dam_tools.has_library(), "the library for C isn't built (library/build)")
+    @unittest.skipUnless(engine.has_library(), "the library for C isn't built (library/build)")
     def test_the_library_for_c(self):
-        with unittest.mock.patch.dict(os.environ), unittest.mock.patch.object(subprocess, "run", side_effect=AssertionError):
+        with unittest.mock.patch.dict(os.environ), unittest.mock.patch.object(subprocess, "Popen", side_effect=AssertionError):
             os.environ.pop("DAM", None)
             day = dam_tools.clear(AUCTION)
             with self.assertRaises(dam_tools.Fault) as fault:

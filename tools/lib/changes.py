@@ -1,0 +1,104 @@
+"""What differs between two cleared days, as a table; and further commands of a day, which are put before its close."""
+
+from . import book, journal, order_table, sent, text
+from .engine import Fault
+
+HEADS = ["what", "unit", "participant", "order", "period", "before", "after", "change", "outcome_before", "outcome_after"]
+
+
+class Written:
+    """How the numbers of two days are written."""
+
+    def __init__(self, day):
+        self.hours = day.hours
+
+    def row(self, what, unit, before, after, who="", name="", period="", outcomes=("", "")):
+        """A row of the table; of a number that is None in one of the days the cells are empty."""
+        write = {"EUR": self.eur, "EUR/MWh": text.cents, "MWh": self.mwh, "MW": text.tenths}[unit]
+        change = "" if None in (before, after) else write(after - before)
+        cells = ["" if value is None else write(value) for value in (before, after)]
+        return [what, unit, who, name, period, *cells, change, *outcomes]
+
+    def eur(self, amount):
+        return text.euros(amount, self.hours, thousands="")
+
+    def mwh(self, tenths):
+        return text.energy(tenths, self.hours, thousands="")
+
+
+def table(before, after, who=None):
+    """A row for each number that differs between two days of as many periods: the welfare, prices and volumes, and each order's executed
+    energy and amount, of one participant or of all. With a participant also its gain and its net amount, whether they differ or not."""
+    written = Written(before)
+    yield HEADS
+    if who:
+        yield written.row("gain", "EUR", before.gain(who), after.gain(who), who)
+        yield written.row("net", "EUR", before.net(who), after.net(who), who)
+    if before.welfare != after.welfare:
+        yield written.row("welfare", "EUR", before.welfare, after.welfare)
+    for what, unit, numbers in (
+        ("price", "EUR/MWh", zip(before.prices, after.prices)),
+        ("volume", "MW", zip(before.volumes, after.volumes)),
+    ):
+        for period, (one, other) in enumerate(numbers, 1):
+            if one != other:
+                yield written.row(what, unit, one, other, period=period)
+    for key in {**before.rows, **after.rows}:
+        if not who or key[0] == who:
+            yield from order_rows(written, before, after, key)
+
+
+def order_rows(written, before, after, key):
+    """The rows of an order; of one that is in one book alone there are both, if it is executed there or not."""
+    outcomes = before.outcome(key), after.outcome(key)
+    alone = "" in outcomes
+    for what, unit, number in (("executed", "MWh", "executed"), ("amount", "EUR", "amount")):
+        one, other = (getattr(day, number)(key) if key in day.rows else None for day in (before, after))
+        if one != other or alone:
+            yield written.row(what, unit, one, other, *key, outcomes=outcomes)
+
+
+def differing(before, after, but=None):
+    """The orders that both days have and whose executed volume differs, without one of them."""
+    return [key for key in before.rows if key != but and key in after.rows and before.orders[key] != after.orders[key]]
+
+
+def in_one_line(fault):
+    """The first line of what is wrong, and how many more there are."""
+    first, *more = str(fault).split("\n")
+    return f"{first}{f' (and {len(more)} more)' if more else ''}"
+
+
+def read_changes(data, periods):
+    """Further commands for a day: records of a journal, with the records `day` and `close` or without them, or a table of orders, each a
+    submit; pairs of the number of a record or of an order, from 1, and a command."""
+    if sent.WORDS.match(data.removeprefix(text.MARK)):
+        try:
+            return [(entry.record, entry.command) for entry in sent.read_records(data, periods)]
+        except sent.Wrong as fault:
+            raise Fault(in_one_line(fault)) from None
+    try:
+        return order_table.read_tables([("", data)], periods).submits
+    except order_table.Wrong as fault:
+        raise Fault(in_one_line(fault)) from None
+
+
+def before_close(read):
+    """The book of a journal as it is before its close."""
+    held = book.Book(read.periods)
+    for command in read.commands:
+        if isinstance(command, journal.Close):
+            return held
+        held.apply(command)
+    raise Fault("no command closes the book: end the journal with close,,,,,,,,")
+
+
+def entered(held, commands):
+    """A book with further commands; the book itself stays as it is. A command that it refuses is a fault."""
+    after = book.Book(held.periods)
+    after.rows, after.held = dict(held.rows), dict(held.held)
+    for number, command in commands:
+        reason = after.apply(command)
+        if reason:
+            raise Fault(f"record {number}: the book refuses {journal.command_line(command)}: {book.REASONS[reason]} ({reason})")
+    return after

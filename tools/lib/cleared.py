@@ -1,0 +1,88 @@
+"""A cleared day as comparisons take it: the orders of its book by participant and name, and what became of each. Nothing is checked; it is
+made of what a run of the program has just printed, or of results that were checked."""
+
+from . import journal, rules, trades
+
+
+class Cleared:
+    """`rows` are the orders by participant and name, in book order; `orders` has the executed volume of each hourly order in tenths of a
+    MW, and of each block whether it is accepted."""
+
+    def __init__(self, rows, periods, welfare, prices, volumes, orders):
+        self.rows, self.periods, self.hours = rows, periods, rules.DAYS[periods]
+        self.welfare, self.prices, self.volumes, self.orders = welfare, prices, volumes, orders
+
+    @classmethod
+    def of_text(cls, rows, periods, printed):
+        """The same of what `dam clear` printed for a book."""
+        welfare, prices, volumes, orders = None, [], [], {}
+        for line in printed.decode().splitlines():
+            kind, *fields = line.split(",")
+            if kind == "welfare":
+                welfare = int(fields[0])
+            elif kind == "period":
+                prices.append(int(fields[1]))
+                volumes.append(int(fields[2]))
+            elif kind == "hour":
+                orders[fields[0], fields[1]] = int(fields[2])
+            elif kind == "block":
+                orders[fields[0], fields[1]] = fields[2] == "accepted"
+        return cls(rows, periods, welfare, prices, volumes, orders)
+
+    @classmethod
+    def of_day(cls, day):
+        """The same of results that were read."""
+        executed, orders, place = iter(day.said.executed), {}, 0
+        for row in day.problem.rows:
+            if row.order.kind == "hour":
+                orders[row.who, row.name] = next(executed)
+            else:
+                orders[row.who, row.name] = place in day.said.accepted
+                place += 1
+        return cls(day.book.rows, day.problem.periods, day.said.welfare, day.said.prices, day.said.volumes, orders)
+
+    def traded(self, key):
+        """The executed volumes of an order, as pairs of a period and tenths of a MW; none of an order that isn't in the book."""
+        order = self.rows.get(key)
+        if order is None or not self.orders[key]:
+            return ()
+        return order.volumes if order.kind == "block" else ((order.volumes[0][0], self.orders[key]),)
+
+    def executed(self, key):
+        """The sum of these volumes."""
+        return sum(volume for _, volume in self.traded(key))
+
+    def amount(self, key):
+        """What the participant is paid for an order, below 0 if it pays, in cents per MWh times tenths of a MW."""
+        paid = sum(volume * self.prices[period - 1] for period, volume in self.traded(key))
+        return -paid if paid and self.rows[key].side == "buy" else paid
+
+    def surplus(self, key):
+        """What an order gains compared with trading at its limit: of a block at the prices, whether it is accepted or not."""
+        order = self.rows[key]
+        volumes = order.volumes if order.kind == "block" else self.traded(key)
+        sign = 1 if order.side == "sell" else -1
+        return sign * sum(volume * (self.prices[period - 1] - order.price) for period, volume in volumes)
+
+    def gain(self, who):
+        """The sum of the surpluses of a participant's orders, as far as they are executed."""
+        return sum(self.surplus(key) for key in self.rows if key[0] == who and self.orders[key])
+
+    def net(self, who):
+        """What a participant is paid less what it pays."""
+        return sum(self.amount(key) for key in self.rows if key[0] == who)
+
+    def outcome(self, key):
+        """What became of an order, in a word or two; nothing of one that isn't in the book."""
+        order = self.rows.get(key)
+        if order is None:
+            return ""
+        if order.kind == "block":
+            return "accepted" if self.orders[key] else "rejected"
+        return trades.how_far(order, self.orders[key])
+
+
+def book_text(rows, periods):
+    """The text of a journal that submits the orders of a book in book order, and closes it: its book is the same."""
+    submits = [journal.Submit(who, name, order) for (who, name), order in rows.items()]
+    return journal.journal_text(journal.Journal(periods, [*submits, journal.Close()])).encode()

@@ -1,0 +1,244 @@
+"""Runs of the program and calls of the library for C: the text of a journal goes in, and what `dam` prints for it comes out. Many journals
+run at the same time, on threads or by any executor of `concurrent.futures`."""
+
+import collections
+import concurrent.futures
+import contextlib
+import ctypes
+import functools
+import os
+import shutil
+import subprocess
+import sys
+from pathlib import Path
+
+TOP = Path(__file__).resolve().parents[2]
+# Where the program is built, in the tree that this module is part of.
+BUILT = TOP / "crates" / "dam_cli" / "out" / "dam_cli"
+# And the path of the library for C, if library/build has made it; an installed one has the same name.
+LIBRARY = TOP / "library" / "out" / "libdam.so"
+MOST_NODES, MOST_ANSWER = 67_108_864, 300_000  # of library/dam.h
+ONE_WORKER = ("clear", "--workers=1", "--cut=0")  # as the library searches: many days share the processors
+AHEAD = 2  # texts for each job that wait for a thread
+MOST_AHEAD = 1_024  # texts that wait for an executor
+
+
+class Fault(Exception):
+    """A file, text or date that can't be read, or a run of the program that failed: `status` is the program's, or None."""
+
+    def __init__(self, words, status=None):
+        super().__init__(words)
+        self.status = status
+
+
+class Answer(ctypes.Structure):
+    """What the library answers: see library/dam.h."""
+
+    _fields_ = [("status", ctypes.c_uint8), ("length", ctypes.c_size_t)]
+
+
+def has_library():
+    """Whether the library for C was built, and no source has changed since."""
+    if not LIBRARY.exists():
+        return False
+    sources = [LIBRARY.parents[1] / "heap.c", *(LIBRARY.parents[2] / "crates").glob("*/src/**/*.rt")]
+    return all(source.stat().st_mtime <= LIBRARY.stat().st_mtime for source in sources)
+
+
+def library():
+    """The path of the library for C, or its name if the system has it; None if there is none, or if a program is to be run instead: that
+    of the environment variable DAM, or the one that is built in this tree."""
+    if "DAM_LIBRARY" in os.environ:
+        return os.environ["DAM_LIBRARY"]
+    if "DAM" in os.environ:
+        return None
+    if has_library():
+        return os.fspath(LIBRARY)
+    return None if os.access(BUILT, os.X_OK) or not is_installed(LIBRARY.name) else LIBRARY.name
+
+
+@functools.cache
+def is_installed(name):
+    """Whether the system finds a library of this name, and it is this one."""
+    try:
+        return hasattr(ctypes.CDLL(name), "dam_clear_seeded")
+    except OSError:
+        return False
+
+
+@functools.cache
+def clear_call(path):
+    """The call of a library that clears a journal."""
+    try:
+        call = ctypes.CDLL(path).dam_clear_seeded
+    except (OSError, AttributeError) as fault:
+        raise Fault(f"the library {path} can't be used: {fault}") from None
+    bytes_of = [ctypes.c_char_p, ctypes.c_size_t]
+    call.restype, call.argtypes = Answer, [*bytes_of, *bytes_of, ctypes.c_uint32, *bytes_of]
+    return call
+
+
+def called(path, text):
+    """The status and what the library prints for a text; names are hashed with random bytes. Other threads run in the meantime."""
+    secret, buffer = os.urandom(16), ctypes.create_string_buffer(MOST_ANSWER)
+    answer = clear_call(path)(secret, len(secret), text, len(text), MOST_NODES, buffer, MOST_ANSWER)
+    return answer.status, ctypes.string_at(buffer, min(answer.length, MOST_ANSWER))
+
+
+def program_of(program=None):
+    found = program or os.environ.get("DAM") or (BUILT if os.access(BUILT, os.X_OK) else shutil.which("dam"))
+    if not found:
+        raise Fault("no program was found: build it, or name it as `program` or in the environment variable DAM")
+    return os.fspath(found)
+
+
+def ran(words, text, timeout=None, running=None):
+    """The status of a run of a program, what it prints, and what it says on standard error. While it runs, it is among `running`."""
+    try:
+        process = subprocess.Popen(words, stdin=subprocess.PIPE, stdout=subprocess.PIPE, stderr=subprocess.PIPE)
+    except OSError as fault:
+        raise Fault(f"{words[0]} can't be run: {fault.strerror}") from None
+    with process, running.holds(process) if running else contextlib.nullcontext():
+        try:
+            out, said = process.communicate(text, timeout=timeout)
+        except subprocess.TimeoutExpired:
+            process.kill()
+            raise Fault(f"{words[0]} took longer than {timeout:g} seconds") from None
+        except BaseException:
+            process.kill()
+            raise
+    return process.returncode, out, said
+
+
+def printed(words, text, timeout=None):
+    """What a run of a program prints."""
+    status, out, said = ran(words, text, timeout)
+    if status:
+        raise Fault(said.decode(errors="replace").strip(), status)
+    return out
+
+
+def cleared_by_library(path, text):
+    """What `dam clear` prints for a text, by the library for C."""
+    status, shown = called(path, text)
+    if status:
+        raise Fault(shown.decode(errors="replace").strip(), status)
+    return shown
+
+
+class Running:
+    """The programs that threads run, which end when the threads are no longer wanted."""
+
+    def __init__(self):
+        self.processes, self.is_over = set(), False
+
+    @contextlib.contextmanager
+    def holds(self, process):
+        self.processes.add(process)
+        if self.is_over:
+            process.kill()
+        try:
+            yield
+        finally:
+            self.processes.discard(process)
+
+    def end(self):
+        self.is_over = True
+        for process in list(self.processes):
+            process.kill()
+
+
+@contextlib.contextmanager
+def threads_of(jobs):
+    """Threads, and the programs that they run, which end with the block."""
+    running, threads = Running(), concurrent.futures.ThreadPoolExecutor(jobs)
+    try:
+        yield threads, running
+    finally:
+        running.end()
+        threads.shutdown(wait=False, cancel_futures=True)
+
+
+def answer(text, program=None, running=None):
+    """What `dam clear` prints for the text of a journal, as a pair of None and these bytes; or else of the status (0 if there is none) and
+    the words of the fault. By the library if there is one, unless a program is named. The pair has no type of this package, so that any
+    executor can send it."""
+    try:
+        path = None if program else library()
+        if path:
+            status, out = called(path, text)
+            said = out
+        else:
+            status, out, said = ran([program_of(program), *ONE_WORKER], text, running=running)
+    except Fault as fault:
+        return 0, str(fault)
+    if not status:
+        return None, out
+    return status, said.decode(errors="replace").strip() or f"the program ended with status {status}"
+
+
+def result(answered):
+    """The bytes of an answer, or its fault."""
+    status, found = answered
+    return found if status is None else Fault(found, status or None)
+
+
+def processors():
+    return len(os.sched_getaffinity(0))
+
+
+def answers(texts, jobs=None, executor=None, program=None, call=answer):
+    """For each text, in their order, what `dam clear` prints as bytes, or a `Fault`; a text that is a fault already stays one. Texts are
+    taken as they are needed, so there may be any number of them. If no more answers are asked for, what still runs is ended."""
+    if jobs is not None and jobs < 1:
+        raise ValueError("jobs should be 1 or more")
+    if executor is not None:
+        yield from ordered(texts, lambda text: executor.submit(call, text, program), jobs or MOST_AHEAD)
+        return
+    jobs = jobs or processors()
+    with threads_of(jobs) as (threads, running):
+        yield from ordered(texts, lambda text: threads.submit(call, text, program, running), AHEAD * jobs)
+
+
+def ordered(texts, submit, most):
+    """The results of what is submitted for each text, in order, of which at most so many are waiting."""
+    waiting = collections.deque()
+    try:
+        for text in texts:
+            waiting.append(text if isinstance(text, Fault) else submitted(submit, text))
+            if len(waiting) >= most:
+                yield waited(waiting.popleft())
+        while waiting:
+            yield waited(waiting.popleft())
+    finally:
+        for future in waiting:
+            if not isinstance(future, Fault):
+                future.cancel()
+
+
+def submitted(submit, text):
+    try:
+        return submit(text)
+    except (OSError, RuntimeError) as fault:  # of a broken pool, or one that was shut down
+        raise Fault(f"the executor takes no more journals: {fault}") from None
+
+
+def waited(future):
+    """What a future gives; a fault if its executor has lost it."""
+    if isinstance(future, Fault):
+        return future
+    try:
+        return result(future.result())
+    except (Exception, concurrent.futures.CancelledError) as fault:
+        return Fault(f"the executor failed: {type(fault).__name__}: {fault}")
+
+
+def with_bar(results, whole=None, unit="day", quiet=False):
+    """The same results, with a bar at a terminal that says how far they are, if tqdm is installed."""
+    if quiet or not sys.stderr.isatty():
+        return results
+    try:
+        import tqdm
+    except ImportError:
+        return results
+    return tqdm.tqdm(results, total=whole, unit=f" {unit}s", leave=False, delay=0.5, file=sys.stderr)

@@ -1,0 +1,154 @@
+"""Scenarios of a day: those of a table, with what each changes, and random ones, in which the orders of all but one participant have other
+limits and volumes."""
+
+import functools
+import hashlib
+import itertools
+from typing import NamedTuple
+
+from . import changes, journal, order_table, rules, sheets, text
+from .cleared import book_text
+from .engine import Fault
+
+SCENARIO, WHAT = "scenario", "what"
+
+
+class Scenario(NamedTuple):
+    name: str
+    text: bytes  # of the journal that has its book
+    rows: object  # what gives the orders of its book, by participant and name
+
+
+class Sampler:
+    """Random scenarios of a book, each by its number. The orders of all but one participant get another limit and other volumes: to the
+    limit a normally distributed number of cents is added, and the volumes, all of a block alike, are multiplied by a factor with the mean
+    1. Both stay in their ranges. A scenario depends only on the book, the seed and its number."""
+
+    def __init__(self, held, who, seed, price_sd, volume_sd):
+        import numpy
+
+        self.held, self.seed, self.numpy = held, seed, numpy
+        orders = list(held.rows.values())
+        changes_it = numpy.array([key[0] != who for key in held.rows])
+        self.sds = numpy.where(changes_it, price_sd, 0), numpy.where(changes_it, volume_sd, 0)
+        self.prices = numpy.array([order.price for order in orders])
+        self.volumes = numpy.array([volume for order in orders for _, volume in order.volumes])
+        counts = [len(order.volumes) for order in orders]
+        self.owners = numpy.repeat(numpy.arange(len(orders)), counts)  # the order of each volume
+        # Where the numbers of the text stand: of each order its limit, and then its volumes.
+        self.at_price = numpy.concatenate([[0], numpy.cumsum(numpy.array(counts) + 1)[:-1]]).astype(int)
+        self.at_volume = numpy.arange(len(self.volumes)) + self.owners + 1
+        self.template = "".join(map(self.line, held.rows.items()))
+
+    @staticmethod
+    def line(row):
+        """The record of an order with places for its numbers."""
+        (who, name), order = row
+        volumes = ";".join(f"{period}:%d" for period, _ in order.volumes)
+        return f"submit,{who},{name},{order.kind},{order.side},%d,{volumes},{order.parent},{order.group}\n"
+
+    def numbers(self, number):
+        """The limits and volumes of a scenario."""
+        digest = hashlib.sha256(f"{self.seed} {number}".encode()).digest()
+        rng = self.numpy.random.RandomState(self.numpy.frombuffer(digest, dtype="<u4"))
+        added, factors = (rng.standard_normal(len(self.prices)) * sd for sd in self.sds)
+        prices = self.numpy.rint(self.prices + added).clip(rules.LEAST_PRICE, rules.GREATEST_PRICE)
+        volumes = self.numpy.rint(self.volumes * (1 + factors)[self.owners]).clip(1, rules.GREATEST_VOLUME)
+        return prices.astype(int), volumes.astype(int)
+
+    def text(self, number):
+        prices, volumes = self.numbers(number)
+        every = self.numpy.empty(len(prices) + len(volumes), dtype=int)
+        every[self.at_price], every[self.at_volume] = prices, volumes
+        return f"day,{self.held.periods},,,,,,,\n{self.template % tuple(every.tolist())}close,,,,,,,,\n".encode()
+
+    def rows(self, number):
+        prices, volumes = self.numbers(number)
+        rest, made = iter(volumes.tolist()), {}
+        for (key, order), price in zip(self.held.rows.items(), prices.tolist()):
+            made[key] = order._replace(price=price, volumes=tuple((period, next(rest)) for period, _ in order.volumes))
+        return made
+
+    def scenarios(self, count):
+        """The first scenarios, named by their numbers from 1."""
+        for number in range(1, count + 1):
+            yield Scenario(str(number), self.text(number), functools.partial(self.rows, number))
+
+
+class Columns:
+    """A table of scenarios: where the columns of its scenarios and kinds of commands stand, and the table of orders that it also is."""
+
+    def __init__(self, name, data):
+        self.table = order_table.table_of(name, data)
+        self.header = [cell.strip().lower() for cell in next(cells for _, cells in sheets.rows_of(data)[0] if any(map(str.strip, cells)))]
+        if SCENARIO not in self.header:
+            raise order_table.Wrong(f"line 1: there is no column {SCENARIO}")
+
+    def cell(self, cells, name):
+        at = self.header.index(name) if name in self.header else len(cells)
+        return sheets.unescaped(cells[at].strip()) if at < len(cells) else ""
+
+    def notes(self):
+        """Notes on columns that aren't used."""
+        return [note for note in self.table.notes if not any(text.quoted(name) in note.lower() for name in (SCENARIO, WHAT))]
+
+    def is_empty(self, cells):
+        """Whether a row names a scenario and no command."""
+        return not any(self.cell(cells, name) for name in (WHAT, *self.table.places))
+
+
+def read_command(row, what):
+    """The command of a row: an order to submit, or what amends or cancels one."""
+    if what == "cancel":
+        return journal.Cancel(row.read("participant", order_table.read_participant), row.read("order", order_table.read_name))
+    if what == "amend":
+        who, name = row.read("participant", order_table.read_participant), row.read("order", order_table.read_name)
+        price = row.read("price_eur_mwh", lambda cell: order_table.read_price(cell, row.decimal_comma))
+        numbers = row.read("periods", lambda cell: order_table.read_periods(cell, row.periods))
+        volumes = row.read(
+            "volume_mw", lambda cell: order_table.read_volumes(cell, numbers or row.many(cell), row.decimal_comma)
+        )
+        return journal.Amend(who, name, price, volumes)
+    if what not in ("", "submit"):
+        row.wrong.append(f"column {WHAT}: {text.quoted(what)} should be submit, amend or cancel")
+    return row.command()
+
+
+def read_table(name, data, held):
+    """The scenarios of a table: each is the book with the commands of its lines, which stand together. What is wrong is a fault."""
+    try:
+        columns = Columns("", data)
+    except order_table.Wrong as fault:
+        raise Fault(f"{name}: {changes.in_one_line(fault)}") from None
+    lines = [(line, columns.cell(cells, SCENARIO), cells) for line, cells in columns.table.rows]
+    seen, found = {}, []
+    for scenario, rows in itertools.groupby(lines, lambda each: each[1]):
+        rows = list(rows)
+        first = rows[0][0]
+        if not scenario:
+            raise Fault(f"{name}: line {first}, column {SCENARIO}: it should name the scenario")
+        if scenario in seen:
+            words = f"line {first}: there is a scenario {text.quoted(scenario)} in line {seen[scenario]}"
+            raise Fault(f"{name}: {words}: the lines of a scenario stand together, and no two have one name")
+        seen[scenario] = first
+        after = entered(name, columns, rows, held).rows
+        found.append(Scenario(scenario, book_text(after, held.periods), lambda after=after: after))
+    if not found:
+        raise Fault(f"{name}: it has no scenarios")
+    return found, columns.notes()
+
+
+def entered(name, columns, rows, held):
+    """The book with the commands of the lines of a scenario."""
+    for line, _, cells in rows:
+        if columns.is_empty(cells):
+            continue
+        row = order_table.Row(cells, columns.table, held.periods)
+        command = read_command(row, columns.cell(cells, WHAT).lower())
+        if row.wrong:
+            raise Fault(f"{name}: line {line}, {row.wrong[0]}{f' (and {len(row.wrong) - 1} more)' if row.wrong[1:] else ''}")
+        try:
+            held = changes.entered(held, [(line, command)])
+        except Fault as fault:
+            raise Fault(f"{name}: {str(fault).replace('record', 'line', 1)}") from None
+    return held

@@ -1,0 +1,397 @@
+"""The commands of tools/whatif: their words on the command line, and what each does."""
+
+import argparse
+import collections
+import contextlib
+import json
+import re
+import socket
+
+from . import changes, cleared, command, engine, limit_words, limits, output, rules, scenario_tables, scenarios, text
+from .cleared import Cleared
+
+GRID = 2_000, 100  # cents per MWh: how far the limits of an hourly order reach from the price, and their distance
+MOST_LIMITS = 100_000
+CLUSTER_SECONDS = 10  # that a cluster may take to answer
+
+
+def eur_mwh(word):
+    """A price of the command line in cents per MWh."""
+    if not re.fullmatch(r"-?[0-9]{1,6}(\.[0-9]{1,2})?", word):
+        raise argparse.ArgumentTypeError(f"{text.quoted(word)} should be a price in EUR/MWh, such as 92.50")
+    cents = round(float(word) * 100)
+    if not rules.LEAST_PRICE <= cents <= rules.GREATEST_PRICE:
+        ends = [text.cents(end) for end in (rules.LEAST_PRICE, rules.GREATEST_PRICE)]
+        raise argparse.ArgumentTypeError(f"{text.quoted(word)} should be from {ends[0]} to {ends[1]} EUR/MWh")
+    return cents
+
+
+def order_name(word):
+    """An order's name on the command line."""
+    if text.name(word.encode(errors="surrogateescape")) is None:
+        raise argparse.ArgumentTypeError(f"{text.quoted(word)} should be {text.A_NAME}")
+    return word
+
+
+def jobs(word):
+    if not re.fullmatch(r"[1-9][0-9]{0,2}", word):
+        raise argparse.ArgumentTypeError(f"{text.quoted(word)} should be a number from 1 to 999")
+    return int(word)
+
+
+def add_common(parser, journal_words="a closed journal; - for standard input"):
+    parser.add_argument("journal", metavar="JOURNAL", help=journal_words)
+    parser.add_argument("--program", metavar="PATH", help="the program `dam` to run (default: the library, or the built program)")
+    output.add_options(parser)
+
+
+def add_limit(commands, epilog):
+    parser = commands.add_parser("limit", description=limit.__doc__, epilog=epilog, help="the worst limit at which a block is accepted")
+    add_common(parser)
+    add = parser.add_argument
+    add("--participant", metavar="NAME", type=command.participant, required=True, help="whose order it is")
+    add("--order", metavar="NAME", type=order_name, help="the order")
+    add("--all", action="store_true", help="every block of the participant, a row each")
+    add("--jobs", metavar="N", type=jobs, help="how many clearings run at the same time (default: as many as there are processors)")
+    add("--from", dest="least", metavar="EUR", type=eur_mwh, help="of an hourly order: the least limit (default: 20 below the price)")
+    add("--to", dest="greatest", metavar="EUR", type=eur_mwh, help="the greatest limit (default: 20 above the price)")
+    add("--step", metavar="EUR", type=eur_mwh, help="the distance of two limits (default: 1.00)")
+    parser.set_defaults(call=limit)
+
+
+def add_change(commands, epilog):
+    parser = commands.add_parser("change", description=change.__doc__, epilog=epilog, help="what further commands would have changed")
+    add_common(parser)
+    words = "further commands: records as in a journal, or a table of orders (CSV or Excel); - for standard input"
+    parser.add_argument("changes", metavar="CHANGES", help=words)
+    words = "of the orders only this participant's, and its gain and net amount"
+    parser.add_argument("--participant", metavar="NAME", type=command.participant, help=words)
+    parser.set_defaults(call=change)
+
+
+def main(description, epilog):
+    """Reads the command line, and does what it says."""
+    parser = command.Parser("whatif", description, epilog)
+    commands = parser.add_subparsers(dest="command", metavar="COMMAND", required=True)
+    for add in (add_limit, add_change, add_scenarios):
+        add(commands, epilog[epilog.index("\nstatuses:") :])
+    args = parser.parse_args()
+    try:
+        return args.call(args)
+    except engine.Fault as fault:
+        raise command.Stop(str(fault)) from None
+
+
+def check_program(args):
+    """Ends the tool if there is neither the library nor a program."""
+    if args.program or not engine.library():
+        try:
+            args.program = engine.program_of(args.program)
+        except engine.Fault:
+            words = "no program was found: ./dam clear builds it; or name it by --program or the environment variable DAM"
+            raise command.Stop(words, command.FAILED) from None
+
+
+def read(args):
+    """The book of the journal, which has to be closed."""
+    check_program(args)
+    found = command.parse_journal(args.journal, command.read_bytes(args.journal))
+    try:
+        return changes.before_close(found)
+    except engine.Fault as fault:
+        raise command.Stop(f"{command.shown(args.journal)}: {fault}") from None
+
+
+def clear_one(args, running=None):
+    """What clears a text; a run that fails is a `Fault`."""
+    return lambda given: engine.result(engine.answer(given, args.program, running))
+
+
+def limit(args):
+    """The worst limit at which a block is accepted, to the cent, or why no limit is enough; the prices, its surplus and the welfare at it and
+    one cent past it, and the other orders whose result differs. For an hourly order, what becomes of it under some limits."""
+    output.check_options(args, args.journal)
+    if args.all == bool(args.order):
+        raise command.Stop("give --order with the order's name, or --all for every block", command.COMMAND_LINE)
+    held = read(args)
+    if args.all:
+        return all_limits(args, held)
+    key = args.participant, args.order
+    if key not in held.rows:
+        raise command.Stop(unknown(held, *key))
+    if held.rows[key].kind == "hour":
+        return sampled(args, held, key)
+    if (args.least, args.greatest, args.step) != (None,) * 3:
+        raise command.Stop("--from, --to and --step can't be used with a block, whose limit is found exactly", command.COMMAND_LINE)
+    search = limits.Search(held, key, clear_one(args))
+    found = search.worst()
+    if args.json:
+        data = json.dumps(limit_words.record(search, found), indent=1) + "\n"
+    elif output.is_workbook(args.out) or args.decimal_comma:
+        output.write("whatif", args, "limits", [limit_words.HEADS, limit_words.row(search, found)], held.periods)
+        return command.DONE
+    else:
+        data = "".join(f"{line}\n" for line in limit_words.lines(search, found)).rstrip("\n") + "\n"
+    command.write_bytes("whatif", args.out, data.encode())
+    return command.DONE
+
+
+def unknown(held, who, name):
+    """What is said of an order that isn't in the book."""
+    own = [other for owner, other in held.rows if owner == who]
+    if not own:
+        return f"{who} has no order in the book"
+    blocks = [other for other in own if held.rows[who, other].kind == "block"]
+    shown = f"its blocks are {', '.join(blocks)}" if blocks else f"it has {text.counted(len(own), 'hourly order')} and no block"
+    return f"{who} has no order {name} in the book: {shown}"
+
+
+def all_limits(args, held):
+    """The worst limits of all blocks of a participant, as a table."""
+    keys = [key for key, order in held.rows.items() if key[0] == args.participant and order.kind == "block"]
+    if not keys:
+        raise command.Stop(f"{args.participant} has no block in the book")
+
+    with engine.threads_of(args.jobs or engine.processors()) as (threads, running):
+
+        def row(key):
+            search = limits.Search(held, key, clear_one(args, running))
+            return limit_words.row(search, search.worst())
+
+        rows = list(engine.with_bar(threads.map(row, keys), len(keys), "block"))
+    output.write("whatif", args, "limits", [limit_words.HEADS, *rows], held.periods)
+    return command.DONE
+
+
+def sampled(args, held, key):
+    """An hourly order under a grid of limits, as a table."""
+    search = limits.Search(held, key, clear_one(args))
+    period = held.rows[key].volumes[0][0]
+    price = search.at(search.order.price).prices[period - 1]
+    reach, step = GRID
+    step = step if args.step is None else args.step
+    least = max(price - reach, rules.LEAST_PRICE) if args.least is None else args.least
+    greatest = min(price + reach, rules.GREATEST_PRICE) if args.greatest is None else args.greatest
+    if step <= 0 or least > greatest:
+        raise command.Stop("--from should be at most --to, and --step more than 0", command.COMMAND_LINE)
+    grid = sorted({*range(least, greatest + 1, step), search.order.price})
+    if len(grid) > MOST_LIMITS:
+        raise command.Stop(f"{len(grid):,} limits are too many: give a larger --step", command.COMMAND_LINE)
+    texts = [search.text(cents) for cents in grid]
+    for cents, printed in zip(grid, engine.with_bar(engine.answers(texts, args.jobs, program=args.program), len(grid), "limit")):
+        search.keep(cents, printed)
+    rows = [["limit_eur_mwh", "executed_mw", "price_eur_mwh", "surplus_eur", "welfare_eur"]]
+    for cents in grid:
+        day = search.at(cents)
+        amounts = [text.euros(amount, day.hours, thousands="") for amount in (day.surplus(key), day.welfare)]
+        rows.append([text.cents(cents), text.tenths(day.executed(key)), text.cents(day.prices[period - 1]), *amounts])
+    command.tell("whatif", f"sampled at {text.counted(len(grid), 'limit')}: between them the result may be another, since {limits.NO_LAW}")
+    output.write("whatif", args, "samples", rows, held.periods)
+    return command.DONE
+
+
+def change(args):
+    """What differs if further commands are put before the close: the welfare, prices and volumes, and each order's executed energy and
+    amount. The table is that of tools/compare."""
+    output.check_options(args, args.journal, args.changes)
+    if args.journal == args.changes == "-":
+        raise command.Stop("only one file can be standard input", command.COMMAND_LINE)
+    before = read(args)
+    try:
+        after = changes.entered(before, changes.read_changes(command.read_bytes(args.changes), before.periods))
+    except engine.Fault as fault:
+        raise command.Stop(f"{command.shown(args.changes)}: {fault}") from None
+    books = [before, after]
+    if args.participant and not any(who == args.participant for one in books for who, _ in one.rows):
+        raise command.Stop(f"{args.participant} has no order in the book, before or after the changes")
+    printed = list(engine.answers([cleared.book_text(one.rows, one.periods) for one in books], program=args.program))
+    for found in printed:
+        if isinstance(found, engine.Fault):
+            raise found
+    days = [Cleared.of_text(one.rows, one.periods, found) for one, found in zip(books, printed)]
+    rows = list(changes.table(*days, args.participant))
+    if len(rows) == 1:
+        command.tell("whatif", "nothing differs")
+    output.write("whatif", args, "changes", rows, before.periods)
+    return command.DONE
+
+
+def add_scenarios(commands, epilog):
+    parser = commands.add_parser("scenarios", description=scenarios.__doc__, epilog=epilog, help="what becomes of many scenarios")
+    add_common(parser)
+    add = parser.add_argument
+    words = "a table with the column scenario and those of a table of orders, or of commands with the column what (CSV or Excel)"
+    add("scenarios", metavar="SCENARIOS", nargs="?", help=words)
+    add("--rows", choices=scenario_tables.TABLES, help="what each row is about (default: welfare; with --sample the blocks over all scenarios)")
+    add("--participant", metavar="NAME", type=command.participant, help="only this participant's rows; with --sample, whose orders stay")
+    add("--order", metavar="NAME", type=order_name, help="only this order of the participant")
+    add("--jobs", metavar="N", type=jobs, help="how many clearings run at the same time (default: as many as there are processors)")
+    add("--sample", metavar="N", type=sample_count, help="random scenarios instead of a table")
+    add("--seed", metavar="WORD", help="of the random scenarios (default: 1)")
+    add("--price-sd", metavar="EUR", type=standard_deviation, help="the standard deviation that limits are changed by (default: 3)")
+    add("--volume-sd", metavar="SHARE", type=standard_deviation, help="that of the factor of volumes (default: 0.1)")
+    add("--cluster", metavar="ADDRESS", help="the scheduler of a dask cluster to run on, such as tcp://10.0.0.1:8786")
+    add("--quiet", action="store_true", help="print no notes on standard error; faults are still printed")
+    parser.set_defaults(call=run_scenarios)
+
+
+def sample_count(word):
+    if not re.fullmatch(r"[1-9][0-9]{0,6}", word):
+        raise argparse.ArgumentTypeError(f"{text.quoted(word)} should be a number from 1 to 9999999")
+    return int(word)
+
+
+def standard_deviation(word):
+    if not re.fullmatch(r"[0-9]{1,4}(\.[0-9]{1,6})?", word):
+        raise argparse.ArgumentTypeError(f"{text.quoted(word)} should be a number from 0 to 9999, such as 0.1")
+    return float(word)
+
+
+def is_picture(path):
+    return path.lower().endswith((".svg", ".png"))
+
+
+def check_scenarios(args):
+    """Ends the tool if the options of scenarios can't be used together."""
+    def stop(words):
+        raise command.Stop(words, command.COMMAND_LINE)
+
+    drawn = {"--seed": args.seed, "--price-sd": args.price_sd, "--volume-sd": args.volume_sd}
+    if (args.scenarios is None) == (args.sample is None):
+        stop("give a table of scenarios, or --sample with how many random ones")
+    if args.sample is None:
+        given = [name for name, value in drawn.items() if value is not None]
+        if given:
+            stop(f"{given[0]} can't be used without --sample")
+        if is_picture(args.out):
+            stop("a picture can't be drawn without --sample")
+    elif not args.participant:
+        stop("--sample needs --participant, whose orders stay as they are")
+    if args.order and not args.participant:
+        stop("--order can't be used without --participant")
+    if is_picture(args.out) and args.rows:
+        stop("--rows can't be used with a picture, which shows the blocks over all scenarios")
+    if args.rows in ("welfare", "prices") and args.order:
+        stop(f"--order can't be used with --rows {args.rows}")
+    if args.journal == args.scenarios == "-":
+        stop("only one file can be standard input")
+
+
+def keys_asked(args, held):
+    """The blocks whose distribution is asked for."""
+    if args.order and (args.participant, args.order) not in held.rows:
+        raise command.Stop(unknown(held, args.participant, args.order))
+    own = [key for key, order in held.rows.items() if key[0] == args.participant and order.kind == "block" and args.order in (None, key[1])]
+    if not own:
+        words = f"{args.order} of {args.participant} isn't a block" if args.order else f"{args.participant} has no block in the book"
+        raise command.Stop(f"{words}: give --rows orders or --rows participants")
+    return own
+
+
+@contextlib.contextmanager
+def executor_of(args):
+    """The executor of the cluster that is named, or None; and what it calls."""
+    if args.cluster is None:
+        yield None, engine.answer
+        return
+    command.need("distributed")
+    import dam_tools
+    import distributed
+
+    try:
+        host, port = re.fullmatch(r"(?:tcp|tls)://(.+):([0-9]{1,5})", args.cluster).groups()
+        socket.create_connection((host.strip("[]"), int(port)), CLUSTER_SECONDS).close()
+        client = distributed.Client(args.cluster, timeout=CLUSTER_SECONDS, set_as_default=False)
+    except AttributeError:
+        raise command.Stop(f"the cluster {text.safe(args.cluster)} should be an address such as tcp://10.0.0.1:8786") from None
+    except (OSError, OverflowError) as fault:
+        raise command.Stop(f"the cluster {text.safe(args.cluster)} can't be reached: {first_line(fault)}") from None
+    with client:
+        yield client.get_executor(), dam_tools.engine.answer  # by the name that it has in the package
+
+
+def first_line(fault):
+    return getattr(fault, "strerror", None) or text.safe(str(fault).split("\n")[0]) or type(fault).__name__
+
+
+def run_scenarios(args):
+    output.check_options(args, args.journal, args.scenarios)
+    check_scenarios(args)
+    if is_picture(args.out):
+        command.need("matplotlib")
+    if args.sample:
+        command.need("numpy")
+    held = read(args)
+    if args.sample is None:
+        data = command.read_bytes(args.scenarios)
+        given, notes = scenarios.read_table(command.shown(args.scenarios), data, held)
+        count = len(given)
+    else:
+        sds = [3 if args.price_sd is None else args.price_sd, 0.1 if args.volume_sd is None else args.volume_sd]
+        sampler = scenarios.Sampler(held, args.participant, args.seed or "1", sds[0] * 100, sds[1])
+        given, notes, count = sampler.scenarios(args.sample), [], args.sample
+    over = scenario_tables.Distribution(held, keys_asked(args, held)) if args.sample and not args.rows else None
+    rows = list(scenario_rows(args, held, given, count, over))
+    for note in [] if args.quiet else notes:
+        command.tell("whatif", note)
+    if over is None:
+        output.write("whatif", args, "scenarios", rows, held.periods)
+    else:
+        write_distribution(args, held, over)
+    return command.DONE
+
+
+def scenario_rows(args, held, given, count, over):
+    """The rows of the scenarios, or none, and then what they come to is added to the distribution."""
+    make, heads = scenario_tables.TABLES[args.rows or "welfare"]
+    waiting = collections.deque()
+
+    def texts():
+        yield cleared.book_text(held.rows, held.periods)
+        for scenario in given:
+            waiting.append(scenario)
+            yield scenario.text
+
+    if over is None:
+        yield ["scenario", *heads]
+    with executor_of(args) as (executor, call):
+        program = args.program if args.cluster is None else None
+        answers = engine.answers(texts(), args.jobs, executor, program, call)
+        before = day_of("the day as it was", held.rows, held.periods, next(answers))
+        for printed in engine.with_bar(answers, count, "scenario", args.quiet):
+            scenario = waiting.popleft()
+            if over is None:
+                day = day_of(f"scenario {scenario.name}", scenario.rows(), held.periods, printed)
+                yield from make(text.safe(scenario.name), before, day, asked_of(args))
+            else:
+                over.add(printed_of(f"scenario {scenario.name}", printed))
+
+
+def asked_of(args):
+    """Whether an order, or a participant's name with None, is asked for."""
+    return lambda key: args.participant in (None, key[0]) and (key[1] is None or args.order in (None, key[1]))
+
+
+def printed_of(name, printed):
+    """What was printed; ends the tool if it is a fault."""
+    if isinstance(printed, engine.Fault):
+        raise command.Stop(f"{text.safe(name)}: {printed}")
+    return printed
+
+
+def day_of(name, rows, periods, printed):
+    return Cleared.of_text(rows, periods, printed_of(name, printed))
+
+
+def write_distribution(args, held, over):
+    """The table of the blocks over all scenarios, or a picture and then the table on standard output."""
+    if not args.quiet:
+        for line in scenario_tables.words(over):
+            command.tell("whatif", line)
+    if is_picture(args.out):
+        from . import scenario_picture
+
+        data = scenario_picture.picture(over, args.out.lower().rpartition(".")[2])
+        command.write_bytes("whatif", args.out, data)
+        args.out = "-"
+    output.write("whatif", args, "distribution", over.table(), held.periods)

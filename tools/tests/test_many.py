@@ -1,0 +1,183 @@
+"""Many journals at once: the order of their results, their faults, executors, and what ends with the one who asks."""
+
+import concurrent.futures
+import itertools
+import os
+import shutil
+import signal
+import subprocess
+import sys
+import tempfile
+import time
+import unittest
+import unittest.mock
+from pathlib import Path
+
+import support
+from support import AUCTION, FIRST, QUARTERS, journal_of, printed
+
+import dam_tools
+from dam_tools.lib import engine
+from lib import command
+
+FAKE = Path(__file__).with_name("fake_dam.py")
+SECONDS = 30
+OPEN = b"day,24,,,,,,,\n"
+# A stand-in for the library: it answers with the text itself, or with status 1 if that is empty.
+ECHO = """
+#include <stdint.h>
+#include <string.h>
+struct answer { uint8_t status; size_t length; };
+struct answer dam_clear_seeded(const uint8_t *secret, size_t secret_length, const uint8_t *text, size_t length, uint32_t nodes,
+                               uint8_t *buffer, size_t room) {
+    struct answer found = {length == 0 || secret_length != 16 || nodes != 67108864, length};
+    if (found.status) { memcpy(buffer, "input: NotDay\\n", 14); found.length = 14; } else memcpy(buffer, text, length < room ? length : room);
+    return found;
+}
+"""
+
+
+def ends(process):
+    """Whether a process ends in time; one that has ended and isn't waited for counts."""
+    until = time.monotonic() + SECONDS
+    while time.monotonic() < until:
+        try:
+            if Path(f"/proc/{process}/stat").read_text().rpartition(")")[2].split()[0] == "Z":
+                return True
+        except OSError:
+            return True
+        time.sleep(0.02)
+    return False
+
+
+class Many(unittest.TestCase):
+    def setUp(self):
+        folder = tempfile.TemporaryDirectory()
+        self.addCleanup(folder.cleanup)
+        self.folder = Path(folder.name)
+        self.program = self.script("dam", f'PYTHONPATH="{FAKE.parent}" exec "{sys.executable}" "{FAKE}" "$@"')
+
+    def script(self, name, line):
+        path = Path(self.folder, name)
+        path.write_text(f"#!/bin/sh\n{line}\n")
+        path.chmod(0o755)
+        return path
+
+    def test_results_come_in_order_and_a_fault_ends_nothing(self):
+        given = [AUCTION, OPEN, dam_tools.read_journal(FIRST), "/nowhere/a.csv", QUARTERS.read_bytes(), b"x\n"]
+        found = list(dam_tools.clear_many(given, program=self.program))
+        self.assertEqual([isinstance(day, dam_tools.Fault) for day in found], [False, True, False, True, False, True])
+        self.assertEqual([found[0].text, found[4].text], [printed(AUCTION), printed(QUARTERS)])
+        self.assertEqual([day.problem.periods for day in found[::2]], [24, 24, 96])
+        self.assertEqual([day.wrong for day in found[::2]], [[], [], []])
+        self.assertEqual(dam_tools.records(found[0], "orders"), dam_tools.records(dam_tools.clear(AUCTION, self.program), "orders"))
+        said = ["input: StillOpen", "/nowhere/a.csv can't be read: No such file or directory", "input: NotDay"]
+        self.assertEqual([str(fault) for fault in found[1::2]], said)
+        self.assertEqual([fault.status for fault in found[1::2]], [1, None, 1])
+        with self.assertRaises(AttributeError):
+            found[0].nothing
+
+    def test_a_slow_journal_keeps_its_place(self):
+        slow = self.script("slow", "read line; sleep $line; echo $line")
+        given = [f"{seconds}\n".encode() for seconds in ("0.3", "0.01", "0.02", "0.15", "0")]
+        self.assertEqual([day.text for day in dam_tools.clear_many(given, 3, program=slow)], given)
+
+    def test_journals_are_taken_as_they_are_needed(self):
+        taken = []
+
+        def journals():
+            for number in itertools.count():
+                taken.append(number)
+                yield f"{number}\n".encode()
+
+        days = dam_tools.clear_many(journals(), 2, program=self.script("echo", "cat"))
+        self.assertEqual([next(days).text for _ in range(5)], [b"%d\n" % number for number in range(5)])
+        self.assertLess(len(taken), 12)
+        days.close()
+
+    def test_what_runs_ends_with_the_iterator(self):
+        hang = self.script("hang", f'echo $$ >> {self.folder}/pids; read line; [ "$line" = day ] || exec sleep 600')
+        days = dam_tools.clear_many([b"day\n", b"x\n", b"x\n", b"x\n", b"x\n"], 3, program=hang)
+        next(days)
+        while len(Path(self.folder, "pids").read_text().split()) < 3:
+            time.sleep(0.02)
+        days.close()
+        self.assertTrue(all(map(ends, Path(self.folder, "pids").read_text().split())))
+
+    def test_an_interrupt_ends_what_runs(self):
+        hang = self.script("hang", f"echo $$ >> {self.folder}/pids; exec sleep 600")
+        code = f"import dam_tools\nlist(dam_tools.clear_many([b'x'] * 9, 2, program={str(hang)!r}))"
+        environment = {**os.environ, "PYTHONPATH": str(support.TOOLS)}
+        running = subprocess.Popen([sys.executable, "-B", "-c", code], env=environment, stderr=subprocess.PIPE, start_new_session=True)
+        try:
+            pids = Path(self.folder, "pids")
+            while not pids.exists() or len(pids.read_text().split()) < 2:
+                time.sleep(0.02)
+            running.send_signal(signal.SIGINT)
+            _, said = running.communicate(timeout=SECONDS)
+        finally:
+            running.kill()
+            running.communicate()
+        self.assertIn(b"KeyboardInterrupt", said)
+        self.assertTrue(all(map(ends, pids.read_text().split())))
+
+    def test_bad_calls(self):
+        with self.assertRaisesRegex(ValueError, "jobs should be 1 or more"):
+            list(dam_tools.clear_many([AUCTION], 0))
+        (fault,) = dam_tools.clear_many([AUCTION], program="/nowhere/dam")
+        self.assertEqual((str(fault), fault.status), ("/nowhere/dam can't be run: No such file or directory", None))
+        self.assertEqual(list(dam_tools.clear_many([])), [])
+
+    def test_an_executor(self):
+        given = [AUCTION, OPEN, QUARTERS, AUCTION]
+        with concurrent.futures.ProcessPoolExecutor(2) as pool:
+            found = list(dam_tools.clear_many(given, executor=pool, program=self.program))
+        self.assertEqual([found[at].text for at in (0, 2, 3)], [printed(AUCTION), printed(QUARTERS), printed(AUCTION)])
+        self.assertEqual((str(found[1]), found[1].status), ("input: StillOpen", 1))
+        with self.assertRaisesRegex(dam_tools.Fault, "^the executor takes no more journals: "):
+            list(dam_tools.clear_many(given, executor=pool, program=self.program))
+
+    def test_a_worker_that_dies_is_said_of_its_journals(self):
+        kill = self.script("kill", "kill -9 $PPID")
+        with concurrent.futures.ProcessPoolExecutor(1) as pool:
+            found = list(dam_tools.clear_many([AUCTION, AUCTION], executor=pool, program=kill))
+        self.assertEqual([str(fault)[:40] for fault in found], ["the executor failed: BrokenProcessPool: "] * 2)
+
+    def test_the_calls_of_a_library(self):
+        if not shutil.which("gcc"):
+            self.skipTest("gcc is missing")
+        path = Path(self.folder, "libecho.so")
+        subprocess.run(["gcc", "-shared", "-fPIC", "-x", "c", "-", "-o", path], input=ECHO, text=True, check=True)
+        texts = [b"%d" % number * 70_000 for number in range(10)]
+        with unittest.mock.patch.dict(os.environ, {"DAM_LIBRARY": str(path), "DAM": "/nowhere/dam"}):
+            found = list(dam_tools.clear_many([*texts, b""]))
+        self.assertEqual([day.text for day in found[:-1]], [text[:300_000] for text in texts])
+        self.assertEqual((str(found[-1]), found[-1].status), ("input: NotDay", 1))
+        with unittest.mock.patch.dict(os.environ, {"DAM_LIBRARY": "/nowhere/libdam.so"}):
+            (fault,) = dam_tools.clear_many([AUCTION])
+        self.assertTrue(str(fault).startswith("the library /nowhere/libdam.so can't be used: "), fault)
+
+    def test_a_bar_is_for_terminals(self):
+        results = iter(())
+        self.assertIs(engine.with_bar(results), results)
+        with unittest.mock.patch.object(sys, "stderr", unittest.mock.Mock(isatty=lambda: True)):
+            self.assertIs(engine.with_bar(results, quiet=True), results)
+            with unittest.mock.patch.dict(sys.modules, {"tqdm": None}):
+                self.assertIs(engine.with_bar(results), results)
+            if command.has("tqdm"):
+                self.assertIsNot(engine.with_bar(results), results)
+
+    @unittest.skipUnless(engine.BUILT.exists(), "the program isn't built")
+    def test_the_built_program(self):
+        cases = support.cleared_cases()
+        texts = [data for _, data, _ in cases]
+        found = list(dam_tools.clear_many(texts, program=engine.BUILT))
+        for (name, _, wanted), day in zip(cases, found, strict=True):
+            with self.subTest(name):
+                self.assertEqual(day.text, wanted)
+        (fault,) = dam_tools.clear_many([journal_of("x")], program=engine.BUILT)
+        self.assertEqual((str(fault), fault.status), ("input: FieldCount in record 2", 1))
+
+
+if __name__ == "__main__":
+    unittest.main()

@@ -1,0 +1,206 @@
+"""Scenarios: tables of them, random ones, and what is said of bad ones."""
+
+import csv
+import io
+import statistics
+import tempfile
+import unittest
+from pathlib import Path
+
+from support import AUCTION, journal_of, tool
+
+from lib import book, changes, cleared, command, engine, journal, rules, scenario_tables, scenarios
+
+HEADS = "scenario,participant,order,kind,side,price_eur_mwh,periods,volume_mw,parent,group\n"
+COMMANDS = HEADS.replace("scenario,", "scenario,what,")
+SMALL = ("submit,CITY,TOWN,hour,buy,5000,1:20,,", "submit,GEN,UNIT,block,sell,4000,1:20,,")
+HELD = changes.before_close(journal.read_journal(journal_of(*SMALL)))
+
+
+def rows(out):
+    return list(csv.DictReader(io.StringIO(out.decode())))
+
+
+class Tables(unittest.TestCase):
+    def read(self, table):
+        found, notes = scenarios.read_table("a.csv", table.encode(), HELD)
+        return {scenario.name: scenario.rows() for scenario in found}, notes
+
+    def test_orders_and_commands(self):
+        found, notes = self.read(HEADS + "A,WIND,M-1,hour,sell,10.00,1,2,,\nA,WIND,M-2,hour,sell,10.00,2,2,,\nB,,,,,,,,,\n")
+        self.assertEqual([list(found), notes], [["A", "B"], []])
+        self.assertEqual([len(found[name]) for name in "AB"], [4, 2])
+        self.assertEqual(found["B"], HELD.rows)
+        found, _ = self.read(COMMANDS + "less,amend,GEN,UNIT,,,60,1,1.5,,\nnone,cancel,GEN,UNIT,,,,,,,\nmore,submit,GEN,X,hour,buy,1,1,2,,\n")
+        self.assertEqual(found["less"]["GEN", "UNIT"], journal.Order("block", "sell", 6_000, ((1, 15),)))
+        self.assertEqual([list(found["none"]), ("GEN", "X") in found["more"]], [[("CITY", "TOWN")], True])
+        self.assertEqual(len(HELD.rows), 2)
+
+    def test_the_texts_are_those_of_the_books(self):
+        found, _ = scenarios.read_table("a.csv", (HEADS + "A,WIND,M-1,hour,sell,10.00,1,2,,\n").encode(), HELD)
+        held, _ = book.run(journal.read_journal(found[0].text))
+        self.assertEqual(held.rows, found[0].rows())
+
+    def test_bad_tables(self):
+        for table, said in (
+            ("x,y\n", "line 1: there is no column participant, order, kind, side, price_eur_mwh, periods, volume_mw; the columns are"),
+            (HEADS.replace("scenario,", "name,"), "line 1: there is no column scenario"),
+            (HEADS, "it has no scenarios"),
+            (HEADS + ",WIND,M,hour,sell,10,1,2,,\n", "line 2, column scenario: it should name the scenario"),
+            (HEADS + "A,,,,,,,,,\nB,,,,,,,,,\nA,,,,,,,,,\n", "line 4: there is a scenario 'A' in line 2: the lines of a scenario stand together"),
+            (HEADS + "A,WIND,M,hour,sell,10,25,2,,\n", "line 2, column periods: the day has periods 1 to 24, so there is no period 25"),
+            (HEADS + "A,wind,M,hour,sell,1x,1,2,,\n", "line 2, column participant: 'wind' should be 1 to 8 letters A to Z (and 1 more)"),
+            (HEADS + "A,GEN,UNIT,hour,sell,10,1,2,,\n", "line 2: the book refuses submit,GEN,UNIT,hour,sell,1000,1:20,,: the participant has"),
+            (COMMANDS + "A,close,,,,,,,,,\n", "line 2, column what: 'close' should be submit, amend or cancel"),
+            (COMMANDS + "A,cancel,GEN,NONE,,,,,,,\n", "line 2: the book refuses cancel,GEN,NONE,,,,,,: the participant has no such order"),
+            (COMMANDS + "A,amend,GEN,UNIT,,,5000,1,2,,\n", "line 2, column price_eur_mwh: '5000' should be from -500.00 to 4000.00 EUR/MWh"),
+        ):
+            with self.subTest(said), self.assertRaises(engine.Fault) as fault:
+                self.read(table)
+            self.assertTrue(str(fault.exception).startswith(f"a.csv: {said}"), fault.exception)
+            self.assertNotIn("\n", str(fault.exception))
+
+
+class Distribution(unittest.TestCase):
+    def test_what_is_counted(self):
+        over = scenario_tables.Distribution(HELD, [("GEN", "UNIT")])
+        for number in range(1, 21):
+            over.add(f"day,24\nblock,GEN,UNIT,accepted,{number * 1000}\n".encode())
+        for _ in range(20):
+            over.add(b"day,24\nblock,GEN,UNIT,rejected,999999\n")
+        _, row = over.table()
+        self.assertEqual(row, ["GEN", "UNIT", "40.00", 40, 20, "0.5000", "5.25", "1.00", "5.00", "10.00", "15.00", "19.00"])
+        self.assertEqual(list(scenario_tables.words(over)),
+                         ["GEN UNIT is accepted in 20 of 40 scenarios; the median of its surplus is then 10.00 EUR"])
+        none = scenario_tables.Distribution(HELD, [("GEN", "UNIT")])
+        none.add(b"day,24\nblock,GEN,UNIT,rejected,5\n")
+        self.assertEqual(list(none.table())[1][4:], [0, "0.0000", "0.00", "", "", "", "", ""])
+
+
+@unittest.skipUnless(command.has("numpy"), "numpy is missing (Debian's python3-numpy)")
+class Samples(unittest.TestCase):
+    def setUp(self):
+        self.held = changes.before_close(journal.read_journal(AUCTION.read_bytes()))
+
+    def sampler(self, who="OLD", seed="1", price_sd=300, volume_sd=0.1):
+        return scenarios.Sampler(self.held, who, seed, price_sd, volume_sd)
+
+    def test_the_text_is_that_of_the_orders(self):
+        sampler = self.sampler()
+        for scenario in sampler.scenarios(5):
+            self.assertEqual(scenario.text, cleared.book_text(scenario.rows(), 24))
+
+    def test_each_depends_on_the_seed_and_its_number(self):
+        self.assertEqual(self.sampler().text(3), list(self.sampler().scenarios(3))[2].text)
+        texts = {self.sampler(seed=seed).text(number) for seed in "12" for number in (1, 2)}
+        self.assertEqual(len(texts), 4)
+
+    def test_what_changes_and_what_does_not(self):
+        drawn = [self.sampler().rows(number) for number in range(1, 201)]
+        for key, order in self.held.rows.items():
+            for rows in drawn[:20]:
+                self.assertEqual(rows[key]._replace(price=0, volumes=()), order._replace(price=0, volumes=()))
+                self.assertEqual([period for period, _ in rows[key].volumes], [period for period, _ in order.volumes])
+                if key[0] == "OLD":
+                    self.assertEqual(rows[key], order)
+        key = next(key for key, order in self.held.rows.items() if key[0] != "OLD" and order.kind == "block")
+        order = self.held.rows[key]
+        added = [rows[key].price - order.price for rows in drawn]
+        factors = [rows[key].volumes[0][1] / order.volumes[0][1] for rows in drawn]
+        self.assertTrue(abs(statistics.mean(added)) < 90 and 220 < statistics.stdev(added) < 380, added)
+        self.assertTrue(abs(statistics.mean(factors) - 1) < 0.03 and 0.07 < statistics.stdev(factors) < 0.13, factors)
+        one = drawn[0][key].volumes
+        self.assertLess(max(volume / was for (_, volume), (_, was) in zip(one, order.volumes)) - factors[0], 0.01)
+
+    def test_limits_and_volumes_stay_in_their_ranges(self):
+        rows = self.sampler(price_sd=1e6, volume_sd=1e4).rows(1)
+        prices = {order.price for order in rows.values()}
+        volumes = {volume for order in rows.values() for _, volume in order.volumes}
+        self.assertLessEqual({rules.LEAST_PRICE, rules.GREATEST_PRICE}, prices)
+        self.assertLessEqual({1, rules.GREATEST_VOLUME}, volumes)
+        self.assertEqual((min(prices), max(prices), min(volumes), max(volumes)), (-50_000, 400_000, 1, 99_999))
+        self.assertEqual(self.sampler(price_sd=0, volume_sd=0).rows(7), self.held.rows)
+
+
+class Tool(unittest.TestCase):
+    def setUp(self):
+        folder = tempfile.TemporaryDirectory()
+        self.addCleanup(folder.cleanup)
+        self.folder = Path(folder.name)
+        self.journal, self.table = Path(self.folder, "day.csv"), Path(self.folder, "s.csv")
+        self.journal.write_bytes(journal_of(*SMALL))
+        self.table.write_text(COMMANDS + "as is,,,,,,,,,,\nmill,submit,WIND,MILL,hour,sell,10,1,2,,\nhigh,amend,GEN,UNIT,,,60,1,2,,\n")
+
+    @unittest.skipUnless(engine.BUILT.exists(), "the program isn't built")
+    def test_a_table(self):
+        words = self.journal, self.table, "--program", engine.BUILT
+        status, out, err = tool("whatif", "scenarios", *words)
+        self.assertEqual((status, err), (0, ""))
+        self.assertEqual([(row["scenario"], row["welfare_eur"], row["change_eur"]) for row in rows(out)],
+                         [("as is", "20.000", "0.000"), ("mill", "80.000", "60.000"), ("high", "0.000", "-20.000")])
+        found = rows(tool("whatif", "scenarios", "--rows", "orders", "--participant", "GEN", *words)[1])
+        self.assertEqual([(row["order"], row["outcome"]) for row in found], [("UNIT", "accepted"), ("UNIT", "rejected"), ("UNIT", "rejected")])
+        found = rows(tool("whatif", "scenarios", "--rows", "participants", *words)[1])
+        self.assertEqual([row["participant"] for row in found], ["CITY", "GEN", "CITY", "GEN", "WIND", "CITY", "GEN"])
+        self.assertEqual([row["gain_eur"] for row in found if row["participant"] == "GEN"], ["20.000", "0.000", "0.000"])
+        found = rows(tool("whatif", "scenarios", "--rows", "prices", *words)[1])
+        self.assertEqual((len(found), found[0]["price_eur_mwh"], found[24]["change_eur_mwh"]), (72, "50.00", "-20.00"))
+        self.assertEqual(tool("whatif", "scenarios", *words, "--jobs", "1")[1], out)
+
+    @unittest.skipUnless(engine.BUILT.exists() and command.has("numpy"), "the program isn't built, or numpy is missing")
+    def test_a_sample(self):
+        words = "--sample", 30, "--participant", "OLD", AUCTION, "--program", engine.BUILT
+        status, out, err = tool("whatif", "scenarios", *words)
+        (row,) = rows(out)
+        self.assertEqual((status, row["order"], row["scenarios"]), (0, "UNIT-7", "30"))
+        self.assertIn(f"OLD UNIT-7 is accepted in {row['accepted']} of 30 scenarios", err)
+        self.assertEqual(tool("whatif", "scenarios", *words, "--jobs", "1", "--quiet"), (0, out, ""))
+        self.assertNotEqual(tool("whatif", "scenarios", *words, "--price-sd", "30")[1], out)
+        orders = rows(tool("whatif", "scenarios", "--rows", "orders", "--order", "UNIT-7", *words)[1])
+        accepted = [row for row in orders if row["outcome"] == "accepted"]
+        self.assertEqual((len(orders), str(len(accepted))), (30, row["accepted"]))
+        if command.has("matplotlib"):
+            for name, begin in (("a.svg", b"<?xml"), ("a.png", b"\x89PNG")):
+                path = Path(self.folder, name)
+                self.assertEqual(tool("whatif", "scenarios", "--quiet", *words, "-o", path), (0, out, ""))
+                self.assertTrue(path.read_bytes().startswith(begin))
+
+    def test_bad_input_is_one_line(self):
+        out = Path(self.folder, "out.csv")
+        sample = ["--sample", "5", "--program", "/bin/true", self.journal]
+        table = ["--program", "/bin/true", self.journal, self.table]
+        opened = Path(self.folder, "open.csv")
+        opened.write_bytes(self.journal.read_bytes().replace(b"close,,,,,,,,\n", b""))
+        for words, status, said in (
+            ([*table, "--sample", "5"], 2, "give a table of scenarios, or --sample with how many random ones"),
+            (table[:3], 2, "give a table of scenarios, or --sample with how many random ones"),
+            ([*table, "--seed", "2"], 2, "--seed can't be used without --sample"),
+            (sample, 2, "--sample needs --participant, whose orders stay as they are"),
+            ([*sample, "--participant", "CITY"], 3, "CITY has no block in the book: give --rows orders or --rows participants"),
+            ([*sample, "--participant", "CITY", "--order", "TOWN"], 3, "TOWN of CITY isn't a block: give --rows orders or --rows participants"),
+            ([*sample, "--participant", "GEN", "--order", "NONE"], 3, "GEN has no order NONE in the book: its blocks are UNIT"),
+            ([*table[:2], opened, self.table], 3, f"{opened}: no command closes the book: end the journal with close,,,,,,,,"),
+            ([*table[:3], "/nowhere/s.csv"], 3, "/nowhere/s.csv can't be read: No such file or directory"),
+            ([*table[:3], AUCTION], 3, None),
+        ):
+            with self.subTest(said):
+                found = tool("whatif", "scenarios", *words, "-o", out)
+                self.assertEqual((found[0], found[1], len(found[2].splitlines())), (status, b"", 1), found[2])
+                if said:
+                    self.assertEqual(found[2], f"whatif: {said}\n")
+                self.assertFalse(out.exists())
+        for option, word in (("--sample", "0"), ("--price-sd", "-1"), ("--volume-sd", "x"), ("--jobs", "0")):
+            self.assertEqual(tool("whatif", "scenarios", *table, option, word)[0], 2)
+
+    @unittest.skipUnless(command.has("distributed"), "dask is missing (Debian's python3-distributed)")
+    def test_a_cluster_that_is_not_there(self):
+        for address, said in (
+            ("here", "should be an address such as tcp://10.0.0.1:8786"),
+            ("tcp://127.0.0.1:1", "can't be reached: Connection refused"),
+        ):
+            found = tool("whatif", "scenarios", "--program", "/bin/true", self.journal, self.table, "--cluster", address)
+            self.assertEqual(found, (3, b"", f"whatif: the cluster {address} {said}\n"))
+
+
+if __name__ == "__main__":
+    unittest.main()

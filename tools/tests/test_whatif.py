@@ -1,0 +1,266 @@
+"""What if: worst limits, further commands, and comparisons of two days; with the built program, or one that answers by the rules of tools/lib."""
+
+import csv
+import io
+import json
+import os
+import signal
+import subprocess
+import sys
+import tempfile
+import time
+import unittest
+from pathlib import Path
+
+import support
+from support import AUCTION, FIRST, QUARTERS, journal_of, printed, tool
+
+import compare
+from lib import book, changes, cleared, engine, journal, limit_words, limits, tables
+from test_many import ends
+
+FAKE = Path(__file__).with_name("fake_dam.py")
+# TOWN buys 2 MW with a limit of 50.00; UNIT sells the same in a block with 40.00. One cent past 50.00 it would lose.
+SMALL = ("submit,CITY,TOWN,hour,buy,5000,1:20,,", "submit,GEN,UNIT,block,sell,4000,1:20,,")
+BUYER = ("submit,GEN,PLANT,hour,sell,2000,1:20,,", "submit,CITY,TOWN,block,buy,3000,1:20,,")
+# A and B are of one group, and A is its parent: B can never be accepted.
+NEVER = ("submit,CITY,TOWN,hour,buy,5000,1:20,,", "submit,GEN,A,block,sell,4000,1:20,,G", "submit,GEN,B,block,sell,4000,1:20,A,G")
+
+
+def search(*lines, key):
+    held, _ = book.run(journal.read_journal(journal_of(*lines)))
+    return limits.Search(held, key, lambda text: support.results_of(text, best(text)))
+
+
+def best(text):
+    """The places that the rules accept, by trying each selection."""
+    out = compare.wanted_results(journal.read_journal(text)).stdout
+    words = [line.split(",")[3] for line in out.decode().splitlines() if line.startswith("block,")]
+    return {place for place, word in enumerate(words) if word == "accepted"}
+
+
+class Limits(unittest.TestCase):
+    def test_a_block_that_sells(self):
+        one = search(*SMALL, key=("GEN", "UNIT"))
+        found = one.worst()
+        self.assertEqual((found.limit, found.past_limit, found.at.surplus(one.key), found.past.surplus(one.key)), (5000, 5001, 0, -20))
+        self.assertEqual((found.at.welfare, found.past.welfare, found.at.prices[0]), (0, 0, 5000))
+        self.assertLessEqual(found.clearings, 19)
+        self.assertEqual(limit_words.others(one, found), [("CITY", "TOWN")])
+
+    def test_a_block_that_buys(self):
+        one = search(*BUYER, key=("CITY", "TOWN"))
+        found = one.worst()
+        self.assertEqual((found.limit, found.past_limit), (2000, 1999))
+        lines = "\n".join(limit_words.lines(one, found))
+        self.assertIn("Its worst limit is 20.00 EUR/MWh: with it, and with every higher limit, it is accepted; with a lower one", lines)
+
+    def test_no_limit_is_enough(self):
+        one = search(*NEVER, key=("GEN", "B"))
+        found = one.worst()
+        self.assertEqual((found.limit, found.at, found.past_limit), (None, None, -50_000))
+        self.assertIn("No limit of the range is enough: with the best, -500.00 EUR/MWh, it can never be accepted, because",
+                      "\n".join(limit_words.lines(one, found)))
+        self.assertIsNone(limit_words.record(one, found)["worst_limit_eur_mwh"])
+
+    def test_every_limit_is_enough(self):
+        one = search("submit,CITY,TOWN,hour,buy,400000,1:30,,", "submit,GEN,UNIT,block,sell,4000,1:20,,", key=("GEN", "UNIT"))
+        found = one.worst()
+        self.assertEqual((found.limit, found.past, found.past_limit), (400_000, None, None))
+        self.assertIn("Every limit of the range is enough, up to the worst, 4,000.00 EUR/MWh.", limit_words.lines(one, found))
+
+    def test_the_most_clearings(self):
+        """Whatever the worst limit is, 19 clearings find it."""
+        held, _ = book.run(journal.read_journal(journal_of(*SMALL)))
+        for worst in (None, -50_000, -49_999, 0, 1, 3_999, 4_000, 4_001, 123_456, 399_999, 400_000):
+            with self.subTest(worst):
+                one = limits.Search(held, ("GEN", "UNIT"), None)
+                one.clear = lambda text: self.answered(text, worst)
+                found = one.worst()
+                self.assertEqual(found.limit, worst)
+                self.assertLessEqual(found.clearings, 19)
+
+    def answered(self, text, worst):
+        price = int(text.decode().split("GEN,UNIT,block,sell,")[1].split(",")[0])
+        word = "accepted" if worst is not None and price <= worst else "rejected"
+        return f"day,24\nwelfare,0\nhour,CITY,TOWN,0\nblock,GEN,UNIT,{word},0\n".encode()
+
+    def test_a_fault_of_a_clearing_ends_the_search(self):
+        held, _ = book.run(journal.read_journal(journal_of(*SMALL)))
+        with self.assertRaisesRegex(engine.Fault, "^memory$"):
+            limits.Search(held, ("GEN", "UNIT"), lambda text: engine.Fault("memory", 4)).worst()
+
+
+class Day(unittest.TestCase):
+    def test_numbers_are_those_of_the_tables(self):
+        """The amounts, outcomes and sums of a cleared day, and those that the tables have of the same results."""
+        for data, text in ((AUCTION.read_bytes(), printed(AUCTION)), (QUARTERS.read_bytes(), printed(QUARTERS))):
+            day = support.day_of(data, text)
+            both = cleared.Cleared.of_day(day), cleared.Cleared.of_text(day.book.rows, day.problem.periods, text)
+            write = changes.Written(both[0])
+            heads, *rows = tables.orders(day)
+            for cells in (dict(zip(heads, row)) for row in rows):
+                key = cells["participant"], cells["order"]
+                for one in both:
+                    self.assertEqual(write.eur(one.amount(key)), cells["amount_eur"])
+                    self.assertEqual(write.mwh(one.executed(key)), cells["executed_mwh"])
+                    self.assertEqual(one.outcome(key), cells["outcome"].removeprefix("paradoxically "))
+                    if cells["surplus_eur"]:
+                        self.assertEqual(write.eur(one.surplus(key)), cells["surplus_eur"])
+            heads, *rows = tables.participants(day)
+            for cells in (dict(zip(heads, row)) for row in rows):
+                self.assertEqual(write.eur(both[1].net(cells["participant"])), cells["net_eur"])
+            self.assertEqual(sum(both[1].gain(who) for who in {who for who, _ in day.book.rows}), day.said.welfare)
+
+
+class Tools(unittest.TestCase):
+    def setUp(self):
+        folder = tempfile.TemporaryDirectory()
+        self.addCleanup(folder.cleanup)
+        self.folder = Path(folder.name)
+        stand_in = self.script("dam", f'PYTHONPATH="{FAKE.parent}" exec "{sys.executable}" "{FAKE}" "$@"')
+        self.program = engine.BUILT if engine.BUILT.exists() else stand_in  # the built program is far quicker
+        self.journal = self.file("day.csv", journal_of(*SMALL))
+
+    def script(self, name, line):
+        path = self.file(name, f"#!/bin/sh\n{line}\n".encode())
+        path.chmod(0o755)
+        return path
+
+    def file(self, name, data):
+        path = Path(self.folder, name)
+        path.write_bytes(data)
+        return path
+
+    def whatif(self, *words, data=b""):
+        return tool("whatif", words[0], "--program", self.program, *words[1:], data=data)
+
+    def rows(self, out):
+        return list(csv.DictReader(io.StringIO(out.decode())))
+
+    def test_a_limit_in_words_as_a_record_and_as_a_row(self):
+        status, out, err = self.whatif("limit", self.journal, "--participant", "GEN", "--order", "UNIT")
+        self.assertEqual((status, err), (0, ""))
+        self.assertIn("Its worst limit is 50.00 EUR/MWh: with it, and with every lower limit, it is accepted", out.decode())
+        self.assertIn("docs/MARKET.md", out.decode())
+        status, out, _ = self.whatif("limit", self.journal, "--participant", "GEN", "--order", "UNIT", "--json")
+        record = json.loads(out)
+        self.assertEqual((record["worst_limit_eur_mwh"], [case["accepted"] for case in record["cases"]]), (50.0, [True, True, False]))
+        self.assertEqual([case["surplus_eur"] for case in record["cases"]], [20.0, 0.0, -0.02])
+        self.assertEqual(record["others"], [{"participant": "CITY", "order": "TOWN", "past_mwh": 0.0, "at_mwh": 2.0}])
+        status, out, _ = self.whatif("limit", self.journal, "--participant", "GEN", "--all")
+        (row,) = self.rows(out)
+        self.assertEqual((row["worst_limit_eur_mwh"], row["others"], row["surplus_eur"]), ("50.00", "1", "0.000"))
+
+    def test_an_hourly_order_is_sampled(self):
+        words = ["--participant", "CITY", "--order", "TOWN", "--from", "39.99", "--to", "40.01", "--step", "0.01"]
+        status, out, err = self.whatif("limit", self.journal, *words)
+        self.assertEqual(status, 0)
+        self.assertEqual([(row["limit_eur_mwh"], row["executed_mw"]) for row in self.rows(out)],
+                         [("39.99", "0.0"), ("40.00", "2.0"), ("40.01", "2.0"), ("50.00", "2.0")])
+        self.assertTrue(err.startswith("whatif: sampled at 4 limits: between them the result may be another, since no law says"), err)
+
+    def test_a_change_and_the_comparison_of_the_two_days(self):
+        more = self.file("more.csv", b"submit,WIND,MILL,hour,sell,1000,1:20,,\n")
+        status, out, err = self.whatif("change", self.journal, more, "--participant", "GEN")
+        self.assertEqual((status, err), (0, ""))
+        rows = {(row["what"], row["participant"], row["order"], row["period"]): row for row in self.rows(out)}
+        # MILL serves TOWN for 10.00 to 50.00; UNIT is rejected.
+        self.assertEqual([rows["gain", "GEN", "", ""][name] for name in ("before", "after", "change")], ["20.000", "0.000", "-20.000"])
+        unit = rows["executed", "GEN", "UNIT", ""]
+        self.assertEqual((unit["outcome_before"], unit["outcome_after"], unit["change"]), ("accepted", "rejected", "-2.0"))
+        self.assertEqual(rows["welfare", "", "", ""]["change"], "60.000")
+        days = []
+        for name, lines in (("a", SMALL), ("b", (*SMALL, more.read_text().strip()))):
+            data = journal_of(*lines)
+            days += [self.file(f"{name}.csv", data), self.file(f"{name}.txt", support.results_of(data, best(data)))]
+        self.assertEqual(tool("compare", "--participant", "GEN", *days)[:2], (0, out))
+        status, again, _ = tool("compare", *days)
+        self.assertIn(b"executed,MWh,WIND,MILL,,,2.0,,,in full\n", again)
+        self.assertEqual(tool("compare", *days[:2], *days[:2])[2], "compare: nothing differs\n")
+        # a table of orders is such a change too, and so is standard input
+        table = b"participant,order,kind,side,price_eur_mwh,periods,volume_mw\nWIND,MILL,hour,sell,10,1,2\n"
+        self.assertEqual(self.whatif("change", self.journal, "-", "--participant", "GEN", data=table)[:2], (0, out))
+        self.assertEqual(len(json.loads(tool("compare", "--json", *days)[1])["rows"]), len(again.splitlines()) - 1)
+
+    def test_amends_and_cancels_change_a_day(self):
+        status, out, _ = self.whatif("change", self.journal, "-", data=b"cancel,GEN,UNIT,,,,,,\n")
+        self.assertEqual(status, 0)
+        self.assertIn("executed,MWh,GEN,UNIT,,2.0,,,accepted,", out.decode())
+        status, out, _ = self.whatif("change", self.journal, "-", data=b"day,24,,,,,,,\namend,GEN,UNIT,,,6000,1:20,,\nclose,,,,,,,,\n")
+        self.assertIn("executed,MWh,GEN,UNIT,,2.0,0.0,-2.0,accepted,rejected", out.decode())
+
+    def test_bad_input_is_one_line(self):
+        out = Path(self.folder, "out.csv")
+        opened = self.file("open.csv", journal_of(*SMALL).replace(b"close,,,,,,,,\n", b""))
+        own = ["--participant", "GEN", "--order"]
+        for words, data, status, said in (
+            (["limit", self.journal, *own, "UNIT-8"], b"", 3, "GEN has no order UNIT-8 in the book: its blocks are UNIT"),
+            (["limit", self.journal, "--participant", "CITY", "--order", "X"], b"", 3,
+             "CITY has no order X in the book: it has 1 hourly order and no block"),
+            (["limit", self.journal, "--participant", "NONE", "--order", "X"], b"", 3, "NONE has no order in the book"),
+            (["limit", self.journal, "--participant", "CITY", "--all"], b"", 3, "CITY has no block in the book"),
+            (["limit", opened, *own, "UNIT"], b"", 3, f"{opened}: no command closes the book: end the journal with close,,,,,,,,"),
+            (["limit", "/nowhere/a.csv", *own, "UNIT"], b"", 3, "/nowhere/a.csv can't be read: No such file or directory"),
+            (["limit", self.journal, *own[:2]], b"", 2, "give --order with the order's name, or --all for every block"),
+            (["limit", self.journal, *own, "UNIT", "--step", "1"], b"", 2,
+             "--from, --to and --step can't be used with a block, whose limit is found exactly"),
+            (["change", self.journal, "-"], b"submit,GEN,UNIT,hour,sell,1000,1:20,,\n", 3,
+             "standard input: record 1: the book refuses submit,GEN,UNIT,hour,sell,1000,1:20,,: the participant has an order of that name"
+             " (NameTaken)"),
+            (["change", self.journal, "-"], b"cancel,GEN,OTHER,,,,,,\n", 3,
+             "standard input: record 1: the book refuses cancel,GEN,OTHER,,,,,,: the participant has no such order: it was cancelled,"
+             " refused, or never entered (UnknownOrder)"),
+            (["change", self.journal, self.journal, "--participant", "NONE"], b"", 3, None),
+        ):
+            with self.subTest(said):
+                found = self.whatif(*words, "-o", out, data=data)
+                self.assertEqual((found[0], found[1], len(found[2].splitlines())), (status, b"", 1), found[2])
+                if said:
+                    self.assertEqual(found[2], f"whatif: {said}\n")
+                self.assertFalse(out.exists())
+
+    def test_bad_words_and_bad_comparisons(self):
+        for word in ("abc", "4000.01", "1e3", "0.001"):
+            status, _, err = self.whatif("limit", self.journal, "--participant", "CITY", "--order", "TOWN", "--from", word)
+            self.assertEqual((status, word in err), (2, True))
+        days = AUCTION, AUCTION.with_suffix(".stdout"), QUARTERS, QUARTERS.with_suffix(".stdout")
+        said = "compare: the days have 24 and 96 periods, so their prices can't be compared\n"
+        self.assertEqual(tool("compare", *days), (3, b"", said))
+        self.assertEqual(tool("compare", "--participant", "NONE", *days[:2], *days[:2])[2], "compare: NONE has no order in either book\n")
+        self.assertEqual(tool("compare", days[0], days[3], *days[:2])[0], 3)
+        self.assertEqual(tool("compare", "-o", days[0], *days[:2], *days[:2])[0], 2)
+
+    def test_no_program_and_one_that_fails(self):
+        status, out, err = tool("whatif", "limit", "--program", "/nowhere/dam", self.journal, "--participant", "GEN", "--order", "UNIT")
+        self.assertEqual((status, out, err), (3, b"", "whatif: /nowhere/dam can't be run: No such file or directory\n"))
+        self.program = self.script("fails", "echo memory >&2; exit 4")
+        for words in (["limit", self.journal, "--participant", "GEN", "--order", "UNIT"], ["limit", self.journal, "--participant", "GEN", "--all"]):
+            self.assertEqual(self.whatif(*words), (3, b"", "whatif: memory\n"))
+
+    def test_an_interrupt_ends_the_program_too(self):
+        hang = self.script("hang", f"echo $$ >> {self.folder}/pids; exec sleep 600")
+        words = [sys.executable, support.TOOLS / "whatif", "limit", "--program", hang, self.journal, "--participant", "GEN", "--all"]
+        running = subprocess.Popen(words, stderr=subprocess.PIPE, stdout=subprocess.PIPE, text=True, start_new_session=True)
+        try:
+            pids = Path(self.folder, "pids")
+            while not pids.exists() or not pids.read_text():
+                time.sleep(0.02)
+            os.kill(running.pid, signal.SIGINT)
+            out, err = running.communicate(timeout=30)
+        finally:
+            running.kill()
+            running.communicate()
+        self.assertEqual((running.returncode, out, err), (130, "", "whatif: interrupted\n"))
+        self.assertTrue(all(map(ends, pids.read_text().split())))
+
+    def test_the_first_example_of_the_journals(self):
+        """Refused commands and orders without trade are in the way of nothing."""
+        path = self.file("first.csv", FIRST)
+        who = next(command.who for command in journal.read_journal(FIRST).commands if hasattr(command, "who"))
+        status, out, err = self.whatif("change", path, "-", "--participant", who, data=b"day,24,,,,,,,\n")
+        self.assertEqual((status, len(self.rows(out))), (0, 2), err)
+
+
+if __name__ == "__main__":
+    unittest.main()
