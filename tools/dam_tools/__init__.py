@@ -9,7 +9,8 @@
     frame = dam_tools.frame(day, "orders", long=True)
 
 The tables and their columns are those of tools/table, which docs/TABLES.md describes. Results are checked against the journal as
-they are read: `Day.wrong` lists what breaks the market rules, and is empty for every result of the program."""
+they are read: `Day.wrong` lists what breaks the market rules, and is empty for every result of the program; `Day.odd` lists how their
+encoding differs from the program's."""
 
 import contextlib
 import ctypes
@@ -17,6 +18,7 @@ import os
 import shutil
 import subprocess
 from pathlib import Path
+from typing import NamedTuple
 
 # In the tree that this module is part of, `lib` is next to it; if it is installed, inside it.
 if not Path(__file__).with_name("lib").is_dir():
@@ -25,8 +27,23 @@ if not Path(__file__).with_name("lib").is_dir():
 from .lib import book, command, journal, order_table, shapes, tables
 from .lib.command import Day
 from .lib.journal import Journal
+from .lib.version import VERSION as __version__
 
-__all__ = ["Day", "Fault", "Journal", "TABLES", "clear", "frame", "journal_of_orders", "read_journal", "read_results", "records"]
+__all__ = [
+    "Day",
+    "Fault",
+    "Journal",
+    "Reply",
+    "TABLES",
+    "__version__",
+    "clear",
+    "frame",
+    "journal_of_orders",
+    "read_journal",
+    "read_results",
+    "records",
+    "replay",
+]
 
 TABLES = tuple(tables.TABLES)
 # Where the program is built, in the tree that this module is part of.
@@ -67,10 +84,11 @@ def read_journal(source):
         return command.parse_journal("the text" if isinstance(source, bytes) else str(source), bytes_of(source))
 
 
-def journal_of_orders(source, periods=24, close=True):
-    """The journal of a table of orders, a file or bytes, as tools/table --journal makes it."""
+def journal_of_orders(*sources, periods=24, close=True):
+    """The journal of tables of orders, as tools/table --journal makes it. Each is a file (CSV or an Excel workbook) or bytes."""
     with as_faults():
-        return order_table.read_orders(bytes_of(source), periods, close)
+        named = [("" if isinstance(source, bytes) else command.shown(source), bytes_of(source)) for source in sources]
+        return order_table.journal_of(order_table.read_tables(named, periods), periods, close)
 
 
 def as_journal(source):
@@ -125,7 +143,11 @@ def clear(source, program=None, workers=None, cut=None, nodes=None, timeout=None
     if is_free and has_library():
         return read_results(read, cleared_by_library(journal.journal_text(read).encode()))
     options = [f"--{name}={value}" for name, value in (("workers", workers), ("cut", cut), ("nodes", nodes)) if value is not None]
-    words = [os.fspath(program_of(program)), "clear", *options]
+    return read_results(read, printed(read, [os.fspath(program_of(program)), "clear", *options], timeout))
+
+
+def printed(read, words, timeout):
+    """What a run of the program prints for a journal."""
     try:
         ran = subprocess.run(words, input=journal.journal_text(read).encode(), capture_output=True, timeout=timeout)
     except subprocess.TimeoutExpired:
@@ -134,7 +156,29 @@ def clear(source, program=None, workers=None, cut=None, nodes=None, timeout=None
         raise Fault(f"{words[0]} can't be run: {fault.strerror}") from None
     if ran.returncode:
         raise Fault(ran.stderr.decode(errors="replace").strip(), ran.returncode)
-    return read_results(read, ran.stdout)
+    return ran.stdout
+
+
+class Reply(NamedTuple):
+    """The book's reply to a command: its number, from 1, and the reason if it is refused, otherwise None."""
+
+    command: int
+    reason: object
+
+    @property
+    def done(self):
+        return self.reason is None
+
+
+def replay(source, program=None, timeout=None):
+    """The book's reply to each command of a journal, by a run of the program."""
+    read = as_journal(source)
+    lines = printed(read, [os.fspath(program_of(program)), "replay"], timeout).decode(errors="replace").splitlines()
+    found = [line.split(",") for line in lines[1:]]
+    replies = [Reply(int(fields[0]), fields[2] if len(fields) == 3 else None) for fields in found if fields[0].isdecimal()]
+    if [reply.command for reply in replies] != list(range(1, len(read.commands) + 1)):
+        raise Fault("the program printed other replies than those of the journal")
+    return replies
 
 
 def rows_of(day, table, long, date):
@@ -153,27 +197,27 @@ def rows_of(day, table, long, date):
 def with_times(table, rows, date, periods):
     """A table with the times at which its periods begin."""
     if "period" not in rows[0]:
-        raise Fault(f"a date has no use with {table}, which has no column of periods" + (": long=True" if table in tables.LONG else ""))
+        raise Fault(f"a date can't be used with {table}, which has no column of periods" + (": long=True" if table in tables.LONG else ""))
     with as_faults():
         command.need_zone(shapes.ZONE)
         return list(shapes.with_times(rows, shapes.as_date(date), periods))
 
 
-def records(day, table="periods", long=False, date=None):
+def records(day, table="periods", long=False, date=None, flat=False):
     """The rows of a table, each a dictionary by column. With a date, a `datetime.date` or a text such as 2026-11-25, periods have the
-    time at which they begin."""
-    return list(shapes.records(rows_of(day, table, long, date)))
+    time at which they begin. If it is to be flat, lists of periods and volumes are texts, such as `8-20`."""
+    return list(shapes.records(rows_of(day, table, long, date), flat))
 
 
-def frame(day, table="periods", long=False, date=None):
-    """The same as a pandas frame; the times at which periods begin are timestamps."""
+def frame(day, table="periods", long=False, date=None, flat=False):
+    """The same as a pandas frame; the times at which periods begin are timestamps. Parquet and DuckDB take a flat one."""
     try:
         import pandas
     except ImportError:
         package = command.PACKAGES["pandas"]
         raise Fault(f"frames need pandas, which Debian has in the package {package}: apt-get install {package}") from None
     rows = list(rows_of(day, table, long, date))
-    made = pandas.DataFrame(list(shapes.records(rows)), columns=rows[0])
+    made = pandas.DataFrame(list(shapes.records(rows, flat)), columns=rows[0])
     for name in rows[0]:
         if shapes.column(name, rows[0])["type"] == "number":
             made[name] = made[name].astype(float)  # also if each cell is empty

@@ -1,6 +1,6 @@
 """How a better selection of blocks is looked for, and what is said about one."""
 
-from . import aside, best, command, selection
+from . import aside, best, command, selection, text
 
 ENUMERATION, HIGHS = METHODS = ["enumeration", "highs"]
 
@@ -42,7 +42,7 @@ def ask_highs(problem, said, progress, _):
         except solver.GaveUp as fault:
             raise TimeoutError(f"HiGHS gave up (its status is {fault}): without --by highs every selection is tried") from None
 
-    return aside.answer(ask, progress, "HiGHS isn't done")
+    return aside.answer(ask, progress, "HiGHS is still searching")
 
 
 def named(problem, places):
@@ -53,15 +53,14 @@ def told(problem, said, found):
     """What is said about a better selection: its blocks and welfare, its prices, and how it differs from the published one."""
     more = found.welfare - said.welfare
     if more:
-        kind = f"a greater welfare, {problem.euros(found.welfare)} EUR, which is {problem.euros(more)} EUR more"
+        kind = f"it has a greater welfare, {problem.euros(found.welfare)} EUR, which is {problem.euros(more)} EUR more"
+        yield f"a better selection accepts {named(problem, found.accepted)}: {kind}"
     else:
-        first = min(found.accepted ^ said.accepted)
-        kind = f"the same welfare, {problem.euros(found.welfare)} EUR, and ranks above, since it accepts {problem.blocks[first]}"
-    yield f"a better selection accepts {named(problem, found.accepted)}: it has {kind}"
+        first = problem.blocks[min(found.accepted ^ said.accepted)]
+        yield f"an equally good selection takes precedence: it accepts {first}, which is earlier in the book"
     turned = [("accepts", found.accepted - said.accepted), ("rejects", said.accepted - found.accepted)]
     yield "unlike the results it " + " and ".join(f"{does} {named(problem, places)}" for does, places in turned if places)
     prices = [cleared.price for cleared in selection.outcome(problem, found.accepted).cleared.values()]
-    yield f"its prices, from period 1 on, are {' '.join(map(str, prices))}"
-    changed = [f"{number}" for number, pair in enumerate(zip(prices, said.prices), 1) if pair[0] != pair[1]]
-    if changed:
-        yield f"the results have other prices in period{'s' * (len(changed) > 1)} {' '.join(changed)}"
+    changed = [(number, *pair) for number, pair in enumerate(zip(prices, said.prices), 1) if pair[0] != pair[1]]
+    for number, price, published in changed:
+        yield f"its price in period {number} is {text.cents(price)} EUR/MWh, and the results have {text.cents(published)}"

@@ -4,6 +4,21 @@ from . import rules
 from .journal import Amend, Cancel, Close, Submit
 
 
+# Why the book refuses a command, in words.
+REASONS = {
+    "Closed": "the book was already closed",
+    "PeriodOutOfDay": "it names a period that the day doesn't have",
+    "NameTaken": "the participant has an order of that name",
+    "UnknownOrder": "the participant has no such order: it was cancelled, refused, or never entered",
+    "WrongShape": "an hourly order has exactly one period",
+    "UnknownParent": "the participant has no order of the parent's name",
+    "ParentNotBlock": "the parent is an hourly order",
+    "HourlyFull": f"the book holds {rules.MOST_HOURLY:,} hourly orders",
+    "BlocksFull": f"the book holds {rules.MOST_BLOCKS} blocks",
+    "HasChildren": "blocks name this one as their parent",
+}
+
+
 class Book:
     """The rows of a day in book order: a dictionary from participant and name to the order. It keeps the order of the
     submits; an amended order keeps its place, a cancelled one loses it."""

@@ -1,6 +1,7 @@
 """Where a results text differs from the rules."""
 
 from . import results, selection
+from .faults import Fault, of_line
 
 # If more than this part of the lines is wrong, the results seem to be of another journal. A block that is accepted and should not be
 # makes many lines wrong.
@@ -37,29 +38,32 @@ def foreign(said, wrong, most):
     lines = {line.partition(": ")[0] for line in wrong}
     if len(lines) <= most * len(said.lines):
         return []
-    return [f"{results.ANOTHER}: {len(lines)} of their {len(said.lines)} lines are wrong"]
+    return [Fault(f"{results.ANOTHER}: {len(lines)} of their {len(said.lines)} lines are wrong", "journal")]
+
+
+def fault(said, kind, about, words):
+    """What is wrong with the line about something."""
+    return of_line(kind, said.lines[about], about, words)
 
 
 def selection_faults(problem, said, follows):
     """Why the selection isn't eligible."""
-    for place, words in selection.link_faults(problem, said.accepted):
-        yield f"results line {said.lines[f'block {problem.blocks[place]}']}: {words}"
+    for place, kind, words in selection.link_faults(problem, said.accepted):
+        yield fault(said, kind, f"block {problem.blocks[place]}", words)
     for place, loss in selection.losing(problem, said.accepted, follows.surpluses).items():
-        block = problem.blocks[place]
-        line = said.lines[f"block {block}"]
+        block = f"block {problem.blocks[place]}"
         family = " together with its accepted descendants" if selection.helping(problem, said.accepted, place) else ""
-        yield f"results line {line}: block {block}: it is accepted and loses {loss}{family}"
+        yield fault(said, "loss", block, f"{block}: it is accepted and loses {loss}{family}")
     for number, found in follows.cleared.items():
         if found is None:
-            line = said.lines[f"period {number}"]
-            yield f"results line {line}: period {number}: no execution balances the accepted blocks"
+            words = f"period {number}: no execution balances the accepted blocks"
+            yield fault(said, "balance", f"period {number}", words)
 
 
 def welfare_difference(said, follows):
     if follows.welfare is not None and said.welfare != follows.welfare:
-        line = said.lines["the welfare"]
-        right = f"that of these executions {follows.welfare}"
-        yield f"results line {line}: the welfare is {said.welfare}, and {right}"
+        words = f"the welfare is {said.welfare}, and that of these executions {follows.welfare}"
+        yield fault(said, "welfare", "the welfare", words)
 
 
 def right_price(found):
@@ -73,12 +77,13 @@ def period_differences(problem, said, follows):
     for number, found in follows.cleared.items():
         if found is None:
             continue
-        at = f"results line {said.lines[f'period {number}']}: period {number}"
+        about = f"period {number}"
         price, volume = said.prices[number - 1], said.volumes[number - 1]
         if price != found.price:
-            yield f"{at}: the price is {price}; {right_price(found)}"
+            yield fault(said, "price", about, f"{about}: the price is {price}; {right_price(found)}")
         if volume != follows.bought[number]:
-            yield f"{at}: the volume is {volume}, and the executed buys make {follows.bought[number]}"
+            words = f"{about}: the volume is {volume}, and the executed buys make {follows.bought[number]}"
+            yield fault(said, "volume", about, words)
 
 
 def hourly_differences(problem, said, follows):
@@ -88,13 +93,12 @@ def hourly_differences(problem, said, follows):
         wanted = right[row.who, row.name]
         if wanted is not None and executed != wanted:
             price = follows.cleared[row.order.volumes[0][0]].price
-            line = said.lines[f"hour {row}"]
             gives = f"the rule gives {wanted} ({better_word(row, price)})"
-            yield f"results line {line}: hour {row}: {executed} is executed, and {gives}"
+            yield fault(said, "executed", f"hour {row}", f"hour {row}: {executed} is executed, and {gives}")
 
 
 def surplus_differences(problem, said, follows):
     for place, (block, surplus) in enumerate(zip(problem.blocks, follows.surpluses)):
         if surplus is not None and said.surpluses[place] != surplus:
-            line = said.lines[f"block {block}"]
-            yield f"results line {line}: block {block}: the surplus is {said.surpluses[place]}, and at the prices {surplus}"
+            about = f"block {block}"
+            yield fault(said, "surplus", about, f"{about}: the surplus is {said.surpluses[place]}, and at the prices {surplus}")

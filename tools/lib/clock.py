@@ -26,3 +26,25 @@ def span(periods, number):
     """From when to when a period goes, by the clock at its beginning."""
     end = minutes(periods, number) + int(rules.DAYS[periods] * 60)
     return f"{begins(periods, number)} to {end // 60:02}:{end % 60:02}"
+
+
+def ends(periods, number):
+    """When a period ends: as the next one begins, and by the clock at its own beginning."""
+    return begins(periods, number + 1), span(periods, number).rpartition(" ")[2]
+
+
+def periods_between(periods, first, last):
+    """The periods of a day from one clock time to another, such as `07:00` and `09:00`. A ValueError says what is wrong with a time."""
+    numbers = range(1, periods + 1)
+    starts = [number for number in numbers if begins(periods, number) == first]
+    last = "24:00" if last == "00:00" else last
+    stops = [number for number in numbers if ends(periods, number)[0] == last]
+    stops = stops or [number for number in numbers if ends(periods, number)[1] == last]
+    for found, time, does in (starts, first, "begins"), (stops, last, "ends"):
+        if not found:
+            raise ValueError(f"no period of the day {does} at {time}")
+        if len(found) > 1:
+            raise ValueError(f"{time} comes twice on this day: write the numbers of periods, such as {found[0]} or {found[1]}")
+    if stops[0] < starts[0]:
+        raise ValueError(f"{last} isn't after {first}")
+    return list(range(starts[0], stops[0] + 1))

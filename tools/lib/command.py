@@ -10,21 +10,25 @@ import sys
 import zoneinfo
 from pathlib import Path
 
-from . import book, journal, lint, results, selection
+from . import book, ending, journal, kinds, lint, results, selection, text
+
+from .version import VERSION
 
 DEBIAN_PYTHON = "/usr/bin/python3"
+LONGEST_PATH = 400  # characters of the name of a file in a message
 # Debian's packages; tests/packages lists them all.
 PACKAGES = {
     "jinja2": "python3-jinja2",
     "matplotlib": "python3-matplotlib",
     "numpy": "python3-numpy",
+    "openpyxl": "python3-openpyxl",
     "pandas": "python3-pandas",
     "scipy": "python3-scipy",
 }
 
-# The statuses of all tools.
-DONE, DIFFERS, COMMAND_LINE, NO_INPUT, UNDECIDED, NO_PACKAGE = range(6)
-INTERRUPTED = 130  # as shells have it for Ctrl-C
+# The statuses of all tools. FAILED is that of a tool which can't do its work: a package is missing, memory ran out, or it has a defect.
+DONE, DIFFERS, COMMAND_LINE, NO_INPUT, UNDECIDED, FAILED, ENCODING = range(7)
+INTERRUPTED = ending.INTERRUPTED
 
 
 class Stop(Exception):
@@ -50,14 +54,21 @@ def run(name, main):
         discard(sys.stdout)
         sys.exit(NO_INPUT)
     except OSError as fault:
+        if ending.is_memory(fault):
+            raise
         tell(name, f"a device failed: {fault.strerror}")
         sys.exit(NO_INPUT)
+
+
+def on_lines(words):
+    """Words for a terminal, which obeys nothing in them but line ends."""
+    return "\n".join(map(text.escaped, str(words).split("\n")))
 
 
 def tell(tool, words):
     """Says something on standard error; if that can't be written, the status alone says it."""
     try:
-        print(f"{tool}: {words}", file=sys.stderr, flush=True)
+        print(f"{tool}: {on_lines(words)}", file=sys.stderr, flush=True)
     except OSError:
         discard(sys.stderr)
 
@@ -71,20 +82,38 @@ def hold_streams():
     sys.stderr = sys.stderr or open(os.devnull, "w")
 
 
+def participant(word):
+    """A participant's name on the command line."""
+    if text.participant(word.encode(errors="surrogateescape")) is None:
+        raise argparse.ArgumentTypeError(f"{text.quoted(word)} should be {text.A_PARTICIPANT}")
+    return word
+
+
 class Parser(argparse.ArgumentParser):
     """A tool's command line, with no shortened options. Its help is written as all output is."""
 
     def __init__(self, prog, description, epilog):
         form = argparse.RawDescriptionHelpFormatter
         super().__init__(prog=prog, description=description, epilog=epilog, formatter_class=form, allow_abbrev=False)
+        self.add_argument("--version", action="version", version=f"{prog} {VERSION}", help="print the version")
 
     def add_day(self):
         """The files of a day."""
         self.add_argument("journal", metavar="JOURNAL", help="a journal, or the text of `dam day`; - for standard input")
-        self.add_argument("results", metavar="RESULTS", nargs="?", help="the results of that journal; none for a day's text")
+        words = "the results of that journal; omit them for the output of `dam day`"
+        self.add_argument("results", metavar="RESULTS", nargs="?", help=words)
+
+    def error(self, message):
+        super().error(on_lines(message))
 
     def print_help(self, file=None):
         write_output(self.format_help().encode())
+
+    def _print_message(self, message, file=None):
+        if file is sys.stdout:  # the version
+            write_output(message.encode())
+        else:
+            super()._print_message(message, file)
 
 
 def discard(stream):
@@ -94,7 +123,7 @@ def discard(stream):
 
 def shown(path):
     """The name of a file in a message."""
-    return "standard input" if path == "-" else path
+    return "standard input" if path == "-" else text.safe(str(path), LONGEST_PATH)
 
 
 def bytes_of(stream):
@@ -127,7 +156,7 @@ def write_output(data):
 
 def say(lines):
     """Prints lines on standard output."""
-    write_output("".join(f"{line}\n" for line in lines).encode(errors="surrogateescape"))
+    write_output("".join(f"{on_lines(line)}\n" for line in lines).encode())
 
 
 def write_bytes(tool, path, data):
@@ -138,9 +167,9 @@ def write_bytes(tool, path, data):
     try:
         Path(path).write_bytes(data)
     except OSError as fault:
-        raise Stop(f"{path} can't be written: {fault.strerror}") from None
+        raise Stop(f"{shown(path)} can't be written: {fault.strerror}") from None
     if sys.stderr.isatty():
-        tell(tool, f"{path} was written")
+        tell(tool, f"{shown(path)} was written")
 
 
 def is_same(path, other):
@@ -154,7 +183,7 @@ def is_same(path, other):
 def refuse_inputs(path, *inputs):
     """Ends the tool if it is to write over a file that it reads; the inputs that aren't given are None."""
     if any(other is not None and is_same(path, other) for other in inputs):
-        raise Stop(f"{path} is one of the inputs, and would be lost: write to another file", COMMAND_LINE)
+        raise Stop(f"{shown(path)} is one of the inputs, and would be lost: write to another file", COMMAND_LINE)
 
 
 def read_texts(path, results_path):
@@ -168,6 +197,14 @@ def read_texts(path, results_path):
     return texts
 
 
+def refuse_kind(path, data, right, hints=()):
+    """Ends the tool if a text looks like one of another kind. Hints say what to do with some kinds."""
+    kind = kinds.kind_of(data)
+    if kind not in (None, right):
+        hint = hints[kind] if kind in hints else ""
+        raise Stop(f"{shown(path)} {'is' if kind in kinds.SIGNATURES.values() else 'has'} {kind} instead of {right}{hint}")
+
+
 def parse_journal(path, data):
     try:
         return journal.read_journal(data)
@@ -176,11 +213,22 @@ def parse_journal(path, data):
 
 
 class Day:
-    """A journal with its results, whose form is right. `wrong` lists where the results break the rules."""
+    """A journal with its results, whose form is right. `wrong` lists where the results break the rules, and `odd` how they are encoded in
+    another way than `dam` does it."""
 
     def __init__(self, path, results_path):
         journal_data, results_data = read_texts(path, results_path)
-        self.read(parse_journal(path, journal_data), results_data, path, results_path or path)
+        read = parse_journal(path, journal_data)
+        if results_path is not None:
+            refuse_kind(results_path, results_data, kinds.RESULTS)
+        self.read(read, results_data, path, results_path or path)
+
+    def __repr__(self):
+        blocks = len(self.problem.blocks)
+        hourly = text.counted(len(self.problem.rows) - blocks, "hourly order")
+        wrong = f", {text.counted(len(self.wrong), 'fault')}" if self.wrong else ""
+        welfare = f"welfare {self.problem.euros(self.said.welfare)} EUR"
+        return f"<Day: {self.problem.periods} periods, {hourly}, {text.counted(blocks, 'block')}, {welfare}{wrong}>"
 
     @classmethod
     def of(cls, read, results_data):
@@ -197,17 +245,18 @@ class Day:
         if not self.book.closed:
             raise Stop(f"no command of {shown(path)} closes the book, so it has no results")
         self.problem = selection.Problem(self.book)
-        data, odd = results.plain(results_data)
-        self.said, wrong = check.differences(self.problem, data)
+        data, self.odd = results.plain(results_data)
+        self.said, self.wrong = check.differences(self.problem, data)
         if self.said is None:
-            raise Stop(f"{shown(results_path)} has no results of this journal: {wrong[0]}")
-        self.wrong = odd + wrong
+            raise Stop(f"{shown(results_path)} has no results of this journal: {self.wrong[0]}")
         self.outcome = selection.outcome(self.problem, self.said.accepted)
 
     def tell_wrong(self, tool):
-        """Says on standard error if the results break the rules."""
+        """Says on standard error if the results break the rules, or else if their encoding differs."""
         if self.wrong:
             tell(tool, f"the results break the rules ({self.wrong[0]}): see tools/audit")
+        elif self.odd:
+            tell(tool, f"the encoding of the results differs ({self.odd[0]}): see tools/audit")
 
 
 def has(module):
@@ -247,12 +296,17 @@ def has_zone(name):
 def need_zone(name):
     """Ends the tool if a time zone is missing."""
     if not has_zone(name):
-        raise Stop("it needs the world's time zones, which Debian has in the package tzdata: apt-get install tzdata", NO_PACKAGE)
+        raise Stop("it needs the world's time zones, which Debian has in the package tzdata: apt-get install tzdata", FAILED)
+
+
+def missing(module):
+    """What is said of a module that is missing."""
+    package = PACKAGES[module]
+    return f"it needs {module}, which Debian has in the package {package}: apt-get install {package}"
 
 
 def need(module):
     """Ends the tool if a module is missing."""
     python_with(module)
     if not has(module):
-        package = PACKAGES[module]
-        raise Stop(f"it needs {module}, which Debian has in the package {package}: apt-get install {package}", NO_PACKAGE)
+        raise Stop(missing(module), FAILED)

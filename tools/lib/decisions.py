@@ -21,9 +21,16 @@ class Other(NamedTuple):
     losers: dict  # each accepted block that loses, with its loss
 
 
+# Short words for what decided, for programs and filters: of blocks, and of hourly orders. docs/TABLES.md lists them.
+GAINS, COVERED, LOSES, NEVER, NO_PRICE = "gains", "covered", "loses", "never", "no-price"
+PARENT, GROUP, UNBALANCED, WOULD_LOSE, LESS, TIE, BETTER = "parent", "group", "unbalanced", "would-lose", "less-welfare", "tie", "better"
+IN_THE_MONEY, AT_THE_PRICE, OUT_OF_THE_MONEY, NO_TRADE = "in-the-money", "at-the-price", "out-of-the-money", "no-trade"
+
+
 class Decision(NamedTuple):
     kind: str
     why: str
+    code: str
     family: object = None  # of a rejected block; None if it can't be accepted, or has no surplus
     other: object = None  # the selection with that family
 
@@ -51,16 +58,59 @@ class Judge:
 
     def decision(self, place):
         if place in self.accepted:
-            return Decision(ACCEPTED, self.accepted_why(place))
+            return Decision(ACCEPTED, self.accepted_why(place), self.accepted_code(place))
         conflict = families.never(self.problem, place)
         if conflict:
-            return Decision(REJECTED, self.never_why(place, *conflict))
+            return Decision(REJECTED, self.never_why(place, *conflict), NEVER)
         family = families.best_family(self.problem, self.accepted, self.surpluses, place)
         if family is None:
-            return Decision(REJECTED, self.unknown_why(place))
+            return Decision(REJECTED, self.unknown_why(place), NO_PRICE)
         other = self.selection_with(family)
         paradox = not family.rivals and not family.losers() and family.gains[place] > 0 and family.gain() > 0
-        return Decision(PARADOX if paradox else REJECTED, self.rejected_why(place, family, other), family, other)
+        kind, twin = PARADOX if paradox else REJECTED, self.twin(place, family)
+        if twin is not None:
+            return Decision(kind, self.twin_why(place, family, twin), TIE, family, other)
+        return Decision(kind, self.rejected_why(place, family, other), self.rejected_code(place, family, other), family, other)
+
+    def accepted_code(self, place):
+        surplus = self.surpluses[place]
+        if surplus is None:
+            return NO_PRICE
+        if surplus >= 0:
+            return GAINS
+        return COVERED if selection.answers_for(self.problem, self.accepted, place, self.surpluses) >= 0 else LOSES
+
+    def rejected_code(self, place, family, other):
+        if family.rivals:
+            return GROUP
+        if family.gains[place] < 0:
+            return LOSES
+        if family.losers():
+            return PARENT
+        if other.unbalanced is not None:
+            return UNBALANCED
+        if other.losers:
+            return WOULD_LOSE
+        if self.outcome.welfare is None or other.welfare > self.outcome.welfare:
+            return BETTER
+        return TIE if other.welfare == self.outcome.welfare else LESS
+
+    def twin(self, place, family):
+        """An accepted block that offers the same as a rejected one and stands earlier, in whose place that would be worth as much; None if
+        there is none."""
+        if family.rivals or family.members != {place} or family.gains[place] < 0 or self.outcome.welfare is None:
+            return None
+        order = self.problem.blocks[place].order
+        for other in sorted(self.accepted):
+            same = self.problem.blocks[other].order[:4] == order[:4]
+            if other < place and same and selection.eligible(self.problem, self.accepted - {other} | {place}) == self.outcome.welfare:
+                return other
+        return None
+
+    def twin_why(self, place, family, twin):
+        other, own = self.problem.blocks[twin], self.problem.blocks[place]
+        name = other.name if other.who == own.who else str(other)
+        return f"{self.at_the_prices(place, family)}, but {name} offers the same and stands earlier in the book"
 
     def accepted_why(self, place):
         surplus, parent = self.surpluses[place], self.problem.parents[place]
@@ -181,3 +231,19 @@ def listed(words):
     """Words in a row, such as `A`, `A and B` or `A, B and C`."""
     words = list(words)
     return " and ".join([", ".join(words[:-1]), words[-1]] if len(words) > 1 else words)
+
+
+def hourly(day, row, executed):
+    """The code and the words for what decided an hourly order."""
+    number = row.order.volumes[0][0]
+    if not day.said.volumes[number - 1]:
+        return NO_TRADE, f"nothing is traded in period {number}"
+    price, limit = day.said.prices[number - 1], row.order.price
+    gain = limit - price if row.order.side == "buy" else price - limit
+    shown = f"the price, {text.cents(price)} EUR/MWh"
+    if gain > 0:
+        return IN_THE_MONEY, f"its limit is better than {shown}"
+    if gain < 0:
+        return OUT_OF_THE_MONEY, f"its limit is worse than {shown}"
+    shared = "" if executed == row.order.volumes[0][1] else "; not all that is offered at it is needed"
+    return AT_THE_PRICE, f"its limit is {shown}{shared}"

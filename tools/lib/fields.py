@@ -83,15 +83,15 @@ def read_pair(pair):
     """A period and a volume of a text `period:volume`, and what is wrong with it."""
     number, colon, volume = (part.strip() for part in pair.partition(":"))
     if not colon:
-        return None, f"'{pair}' should be period:volume, such as 8:450"
+        return None, f"{text.quoted(pair)} should be period:volume, such as 8:450"
     if re.fullmatch(r"[0-9]+-[0-9]+", number):
-        return None, f"'{pair}' has a range of periods: write a pair for each, such as 8:450;9:450"
+        return None, f"{text.quoted(pair)} has a range of periods: write a pair for each, such as 8:450;9:450"
     if text.number(number.encode(), 1, rules.GREATEST_PERIOD) is None:
-        return None, f"'{number}' in '{pair}' should be a period from 1 to {rules.GREATEST_PERIOD}"
+        return None, f"{text.quoted(number)} in {text.quoted(pair)} should be a period from 1 to {rules.GREATEST_PERIOD}"
     if volume.isascii() and text.volume(volume.encode()) is not None:
         pair_now = int(number), int(volume)
-        return pair_now, None if pair == f"{number}:{volume}" else f"'{pair}' has a space: write {number}:{volume}"
-    allowed = f"'{volume}' in '{pair}' should be whole tenths of a MW from 1 to {rules.GREATEST_VOLUME}"
+        return pair_now, None if pair == f"{number}:{volume}" else f"{text.quoted(pair)} has a space: write {number}:{volume}"
+    allowed = f"{text.quoted(volume)} in {text.quoted(pair)} should be whole tenths of a MW from 1 to {rules.GREATEST_VOLUME}"
     value, wrong = suggested(volume, allowed, 10, "MW", 1, rules.GREATEST_VOLUME)
     return (None if value is None else (int(number), value)), wrong
 
@@ -134,6 +134,6 @@ def read(name, found):
     bare = found.strip(" \t\u00a0")
     value, wrong = READERS[name](bare)
     if bare != found:
-        spaces = f"there is a space around it: write {bare}"
+        spaces = f"there is a space around it: write {text.safe(bare)}"
         wrong = f"{spaces}; {wrong}" if wrong else spaces
     return value, wrong

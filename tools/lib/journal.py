@@ -40,6 +40,9 @@ class Journal(NamedTuple):
     periods: int
     commands: list
 
+    def __repr__(self):
+        return f"<Journal: {self.periods} periods, {len(self.commands)} commands>"
+
 
 class Fault(Exception):
     """The text isn't a journal: the line of docs/FORMATS.md that says why."""

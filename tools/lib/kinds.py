@@ -5,6 +5,8 @@ import re
 from . import text
 
 JOURNAL, RESULTS, REPLIES, DAY, ORDERS = "a journal", "results", "replies", "the text of a day", "a table of orders"
+EXCEL, OLD_EXCEL = "an Excel workbook (.xlsx)", "an old Excel workbook (.xls)"
+SIGNATURES = {b"PK\x03\x04": EXCEL, b"\xd0\xcf\x11\xe0\xa1\xb1\x1a\xe1": OLD_EXCEL}
 COLUMNS = {b"participant", b"order", b"periods", b"volume_mw"}  # some that each table of orders has
 
 REPLY = re.compile(rb"\d+,(?:done|refused,)")
@@ -12,6 +14,9 @@ REPLY = re.compile(rb"\d+,(?:done|refused,)")
 
 def kind_of(data):
     """The kind of text that these bytes look like by their first lines; None for any other."""
+    for signature, kind in SIGNATURES.items():
+        if data.startswith(signature):
+            return kind
     first, second = (data.removeprefix(text.MARK).split(b"\n", 2) + [b"", b""])[:2]
     if COLUMNS <= {cell.strip(b' \r"') for cell in re.split(rb"[,;\t]", first.lower())}:
         return ORDERS

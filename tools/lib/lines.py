@@ -3,11 +3,6 @@
 import difflib
 
 
-def shown(line):
-    """A line in a message."""
-    return line[:60].decode("latin-1").encode("unicode_escape").decode()
-
-
 def moved(wanted, found, pairs):
     """The lines of `matched` that stand in the place of none and are missing in another: from the place found to the one wanted."""
     apart = [(at, place) for at, place in pairs if at is None or place is None or wanted[at] != found[place]]

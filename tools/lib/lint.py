@@ -13,10 +13,14 @@ CLOSE = "close,,,,,,,,"
 RESULTS = ([b"results"],)  # the line before the results in what `dam day` prints
 MOST_LINES = 20  # of those with characters that aren't ASCII
 FEW = 5  # faults that other tools report
+MOST_QUOTES = 20  # that aren't closed and are reported
+SEPARATORS = {";": "semicolons", "\t": "tabs"}  # that stand in place of commas
 # What a text of another kind is for.
 OTHERS = {
     kinds.ORDERS: "this seems to be a table of orders: tools/table --journal makes a journal of it",
     kinds.RESULTS: "these seem to be results, which aren't a journal: tools/audit reads them with their journal",
+    kinds.EXCEL: "this is an Excel workbook: tools/table --journal makes a journal of it, if it is a table of orders",
+    kinds.OLD_EXCEL: "this is an old Excel workbook: save it as .xlsx, from which tools/table --journal makes a journal, or as plain CSV",
     kinds.REPLIES: "these seem to be replies of `dam replay`, which aren't a journal: tools/audit --replies reads them with their journal",
 }
 BYTE_ORDER_MARKS = {b"\xef\xbb\xbf": "utf-8-sig", b"\xff\xfe": "utf-16", b"\xfe\xff": "utf-16"}
@@ -36,8 +40,8 @@ class Lint:
     """Gathers the faults of a text that should be a journal for a command of the program. If `periods` are given, the text may lack
     the day, which has that number of periods."""
 
-    def __init__(self, data, command, periods=None):
-        self.command, self.periods = command, periods
+    def __init__(self, data, command, periods=None, bar=None):
+        self.command, self.periods, self.bar = command, periods, bar
         self.found, self.held = [], None
         self.lines = {}  # of each order of the book that was submitted, by participant and name
         self.unclear = set()  # participants and names of submits that couldn't be read
@@ -60,6 +64,8 @@ class Lint:
         line, behind, number = 1, 0, 0
         for number, (at, record) in enumerate(text.placed_records(data, comma), 1):
             line += len(text.LINE_END.findall(data, behind, at))
+            if self.bar:
+                self.bar.step(at - behind)
             behind = at
             if number > rules.MOST_RECORDS:
                 self.tell(line, f"a journal has at most {rules.MOST_RECORDS - 1} commands: remove what follows")
@@ -84,12 +90,28 @@ class Lint:
                 data = data.decode(encoding, errors="replace").encode()
                 break
         self.characters(data)
+        comma = self.comma(data)
+        return self.closed_quotes(data, comma), comma
+
+    def comma(self, data):
+        """What separates the fields, by the first line."""
         first = re.split(rb"[\r\n]", data.lstrip(b"\r\n"), maxsplit=1)[0]
-        for comma, name in ((b";", "semicolons"), (b"\t", "tabs")):
-            if first.count(comma) > first.count(b",") != len(fields.NAMES) - 1:
+        for mark, name in SEPARATORS.items():
+            if first.count(mark.encode()) > first.count(b",") != len(fields.NAMES) - 1:
                 self.tell(1, f"the fields are separated by {name}: separate them by commas")
-                return data, comma
-        return data, b","
+                return mark.encode()
+        return b","
+
+    def closed_quotes(self, data, comma):
+        """The text without the quotes that aren't closed on their line, after which no line could be told from another."""
+        for _ in range(MOST_QUOTES):
+            at = text.open_quote(data, comma)
+            if at is None:
+                break
+            line = len(text.LINE_END.findall(data, 0, at)) + 1
+            self.tell(line, "a quote begins a field and isn't closed on its line: remove it, or close it")
+            data = data[:at] + data[at + 1 :]
+        return data
 
     def characters(self, data):
         """Reports the first character of each line that isn't ASCII, and if there are many such lines, how many."""
@@ -100,12 +122,24 @@ class Lint:
             lines.setdefault(line, found[0].decode(errors="replace"))
         allowed = "a journal has no accented letters, and no long dashes or special spaces"
         for at in list(lines)[:MOST_LINES]:
-            self.tell(at, f"'{lines[at]}' isn't ASCII: {allowed}")
+            self.tell(at, f"{text.quoted(lines[at])} isn't ASCII: {allowed}")
         if len(lines) > MOST_LINES:
             at = list(lines)[MOST_LINES]
             self.tell(at, f"{len(lines) - MOST_LINES} lines from here on aren't ASCII either: save the file as plain CSV, in ASCII")
 
+    def separated(self, line, record):
+        """The fields of a record, also if it alone has something other than commas between them."""
+        for mark, name in SEPARATORS.items():
+            parts = record[0].split(mark)
+            if len(record) == 1 and len(parts) > 1 and parts[0].strip().lower() in {"day", *fields.USED}:
+                self.tell(line, f"the fields of this line are separated by {name}: separate them by commas")
+                return parts if len(parts) == len(fields.NAMES) else None
+        return record
+
     def record(self, line, record):
+        record = self.separated(line, record)
+        if record is None:
+            return
         word = record[0].strip().lower()
         if self.held is None:
             self.day(line, record, word)
@@ -142,7 +176,7 @@ class Lint:
             if word.startswith("#"):
                 self.tell(line, f"a journal has no comments: remove the line, and begin with the day, such as {DAY}")
                 return
-            self.tell(line, f"the first line should be the day, such as {DAY}, but is '{','.join(record)[:60]}'")
+            self.tell(line, f"the first line should be the day, such as {DAY}, but is {text.quoted(','.join(record))}")
             self.held = book.Book(rules.GREATEST_PERIOD)
             if word in fields.USED:
                 self.record(line, record)
@@ -152,18 +186,18 @@ class Lint:
         whole = f"day,{periods or 24},,,,,,,"
         record = self.padded(line, record, whole)
         if record[0] != "day":
-            self.tell(line, f"'{record[0]}' should be day: write {whole}", "command")
+            self.tell(line, f"{text.quoted(record[0])} should be day: write {whole}", "command")
         if wrong or record[1] != found:
-            self.tell(line, f"'{record[1]}': {wrong or f'there is a space around it: write {found}'}", "periods")
+            self.tell(line, f"{text.quoted(record[1])}: {wrong or f'there is a space around it: write {text.safe(found)}'}", "periods")
         for place in range(2, 9):
             if record[place]:
-                self.tell(line, f"'{record[place]}' should be empty: write {whole}", fields.NAMES[place])
+                self.tell(line, f"{text.quoted(record[place])} should be empty: write {whole}", fields.NAMES[place])
         self.held = book.Book(periods or rules.GREATEST_PERIOD)
 
     def entry(self, line, record):
         kind, wrong = fields.read_word(["submit", "amend", "cancel", "close"])(record[0].strip(" \t\u00a0"))
         if wrong or kind != record[0]:
-            self.tell(line, f"'{record[0]}': {wrong or f'there is a space around it: write {kind}'}", "command")
+            self.tell(line, f"{text.quoted(record[0])}: {wrong or f'there is a space around it: write {kind}'}", "command")
         if kind is None:
             return
         values, is_whole = {}, True
@@ -173,7 +207,7 @@ class Lint:
             if name not in fields.USED[kind] or hourly and name in ("parent", "group"):
                 if found:
                     of = "an hourly order" if hourly and kind == "submit" else f"{'an' if kind == 'amend' else 'a'} {kind}"
-                    self.tell(line, f"'{found}' should be empty in {of}", name)
+                    self.tell(line, f"{text.quoted(found)} should be empty in {of}", name)
                 values[name] = ""
             elif not found and name in ("parent", "group"):
                 values[name] = ""
@@ -182,7 +216,7 @@ class Lint:
                 if name == "volumes" and hourly and values[name] and len(values[name]) != 1:
                     wrong = f"an hourly order has one pair, such as 8:450, not {len(values[name])}" + (f"; {wrong}" if wrong else "")
                 if wrong:
-                    self.tell(line, f"'{found}': {wrong}" if found else f"it is empty: {wrong}", name)
+                    self.tell(line, f"{text.quoted(found)}: {wrong}" if found else f"it is empty: {wrong}", name)
                 is_whole = is_whole and values[name] is not None
         if kind == "submit" and hourly and values["volumes"] and len(values["volumes"]) != 1:
             is_whole = False
@@ -271,9 +305,9 @@ def first_word(data, comma=b","):
     return next(text.placed_records(data, comma), (0, [b""]))[1][0].strip().lower().decode(errors="replace")
 
 
-def faults(data, command="clear"):
-    """What is wrong with a text as a journal for `dam clear`, `dam replay` or `dam day`, by line."""
-    return Lint(data, command).run()
+def faults(data, command="clear", bar=None):
+    """What is wrong with a text as a journal for `dam clear`, `dam replay` or `dam day`, by line. A bar shows how far it is read."""
+    return Lint(data, command, bar=bar).run()
 
 
 def counted(found):

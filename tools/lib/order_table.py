@@ -1,17 +1,20 @@
-"""From a table of orders, one row each, to a journal: what spreadsheets and scripts have, read with errors that name the line
-and the column."""
+"""From tables of orders, one row each, to a journal: what spreadsheets and scripts have, read with errors that name the line and the
+column."""
 
-import csv
-import io
+import difflib
 import re
 from fractions import Fraction
+from typing import NamedTuple
 
-from . import book, fields, journal, rules, spans, text
+from . import book, clock, fields, journal, rules, sheets, spans, text
 from .tables import ORDER, RESULT
 
 # The columns that a row may leave empty, or a table out.
 OPTIONAL = ["parent", "group"]
 MOST_ERRORS = 20
+ALIKE = 0.75  # a column whose name is at least so similar to one that is missing is probably meant to be that
+TIMES = re.compile(r"([0-9]{1,2}:[0-9]{2})-([0-9]{1,2}:[0-9]{2})")
+DATE = re.compile(r"[0-9]{4}-[0-9]{2}-[0-9]{2}")
 
 # Why the book refuses an order that is right in itself.
 FULL = {
@@ -28,27 +31,6 @@ class Wrong(Exception):
     """What is wrong with a cell, or with a table."""
 
 
-def rows_of(data):
-    """The rows of a table, each with the number of its first line, separated by commas, semicolons or tabs, whichever the header
-    has most of; and whether a comma may be the decimal point."""
-    try:
-        table = data.decode("utf-8-sig")
-    except UnicodeDecodeError as fault:
-        line = data[: fault.start].count(b"\n") + 1
-        raise Wrong(f"line {line}: the table isn't in UTF-8: byte {fault.start} can't be read") from None
-    first = table.splitlines()[0] if table.strip() else ""
-    delimiter = max(",;\t", key=first.count)
-    reader = csv.reader(io.StringIO(table, newline=""), delimiter=delimiter, strict=True)
-    rows, line = [], 1
-    try:
-        for cells in reader:
-            rows.append((line, cells))
-            line = reader.line_num + 1
-    except csv.Error as fault:
-        raise Wrong(f"line {line}: the table can't be read: {fault}") from None
-    return rows, delimiter != ","
-
-
 def trimmed(cells):
     """The cells of a row without the empty ones at its end, which spreadsheets leave."""
     while cells and not cells[-1].strip():
@@ -57,35 +39,40 @@ def trimmed(cells):
 
 
 def columns_of(header):
-    """Where each column stands."""
-    places = {}
-    known = ORDER + RESULT
-    for at, cell in enumerate(header, 1):
-        name = cell.strip().lower()
-        if name not in known:
-            raise Wrong(f"line 1, column {at}: '{cell}' is not a column; the columns are {', '.join(ORDER)}")
+    """Where each column stands, and notes on those that aren't used; if not, all that is wrong with the columns, a line each."""
+    names = [cell.strip().lower() for cell in header]
+    missing = [name for name in ORDER if name not in names]
+    places, wrong, notes = {}, [], []
+    for at, (name, cell) in enumerate(zip(names, header), 1):
         if name in places:
-            raise Wrong(f"line 1, column {at}: the column '{name}' appears twice")
-        places[name] = at - 1
-    missing = [name for name in ORDER if name not in places and name not in OPTIONAL]
-    if missing:
-        raise Wrong(f"line 1: there is no column {', '.join(missing)}; the columns are {', '.join(ORDER)}")
-    return places
+            wrong.append(f"line 1, column {at}: the column {text.quoted(name)} appears twice")
+        elif name in ORDER + RESULT:
+            places[name] = at - 1
+        elif alike := difflib.get_close_matches(name, missing, 1, ALIKE):
+            wrong.append(f"line 1, column {at}: {text.quoted(cell)} is not a column: write {alike[0]}")
+        elif name:
+            notes.append(f"the column {text.quoted(cell)} isn't used")
+    lacking = [name for name in missing if name not in OPTIONAL]
+    if lacking:
+        wrong.append(f"line 1: there is no column {', '.join(lacking)}; the columns are {', '.join(ORDER)}")
+    if wrong:
+        raise Wrong("\n".join([*wrong, *(f"line 1: {note}" for note in notes)] if lacking else wrong))
+    return places, notes
 
 
 def scaled(cell, factor, least, greatest, unit, decimal_comma):
     """A decimal number times a factor, which must be whole and in a range."""
     found = DECIMAL[decimal_comma].fullmatch(cell)
     if not found:
-        raise Wrong(f"'{cell}' should be a number of {unit}, such as 92.5")
+        raise Wrong(f"{text.quoted(cell)} should be a number of {unit}, such as 92.5")
     sign, whole, rest = found.groups()
     value = Fraction(f"{whole}.{rest or 0}") * factor * (-1 if sign else 1)
     digits = len(str(factor)) - 1
     if value.denominator != 1:
-        raise Wrong(f"'{cell}' has more than {digits} digit{'s' * (digits > 1)} after the decimal point")
+        raise Wrong(f"{text.quoted(cell)} has more than {digits} digit{'s' * (digits > 1)} after the decimal point")
     if not least <= value <= greatest:
         ends = [text.fixed(Fraction(end) / factor, digits) for end in (least, greatest)]
-        raise Wrong(f"'{cell}' should be from {ends[0]} to {ends[1]} {unit}")
+        raise Wrong(f"{text.quoted(cell)} should be from {ends[0]} to {ends[1]} {unit}")
     return int(value)
 
 
@@ -94,18 +81,41 @@ def parts(cell):
 
 
 def read_periods(cell, periods):
-    """Periods and runs of periods of the day by increasing number, such as `8`, `8-20` or `1;3;5-7`."""
+    """Periods and runs of periods of the day by increasing number, such as `8`, `8-20` or `1;3;5-7`, or clock times, such as
+    `07:00-08:00`."""
     if not parts(cell):
-        raise Wrong("it should name a period, such as 8, or several, such as 8-20 or 1;3;5-7")
-    try:
-        numbers = spans.read(cell, rules.GREATEST_PERIOD)
-    except ValueError as fault:
-        raise Wrong(f"'{cell}' should be {fault}") from None
+        raise Wrong("it should name a period, such as 8, or several, such as 8-20 or 1;3;5-7, or times, such as 07:00-20:00")
+    if ":" in cell:
+        numbers = read_times(cell, periods)
+    else:
+        numbers = read_numbers(cell)
     if any(one >= other for one, other in zip(numbers, numbers[1:])):
-        raise Wrong(f"the periods '{cell}' should increase")
+        raise Wrong(f"the periods {text.quoted(cell)} should increase")
     if numbers[-1] > periods:
         late = next(number for number in numbers if number > periods)
         raise Wrong(f"the day has periods 1 to {periods}, so there is no period {late} (PeriodOutOfDay)")
+    return numbers
+
+
+def read_numbers(cell):
+    try:
+        return spans.read(cell, rules.GREATEST_PERIOD)
+    except ValueError as fault:
+        hint = ": a spreadsheet has taken it for a date, so make the cell one of text" if DATE.fullmatch(cell) else ""
+        raise Wrong(f"{text.quoted(cell)} should be {fault}{hint}") from None
+
+
+def read_times(cell, periods):
+    """The periods between clock times."""
+    numbers = []
+    for part in parts(re.sub(r"\s*[-\u2013]\s*", "-", cell)):
+        found = TIMES.fullmatch(part)
+        if not found:
+            raise Wrong(f"{text.quoted(part)} should be two clock times, such as 07:00-08:00")
+        try:
+            numbers += clock.periods_between(periods, *(time.zfill(5) for time in found.groups()))
+        except ValueError as fault:
+            raise Wrong(f"{text.quoted(part)}: {fault}") from None
     return numbers
 
 
@@ -124,7 +134,7 @@ def read_volumes(cell, numbers, decimal_comma):
 def read_word(*words):
     def read(cell):
         if cell.lower() not in words:
-            raise Wrong(f"'{cell}' should be {' or '.join(words)}")
+            raise Wrong(f"{text.quoted(cell)} should be {' or '.join(words)}")
         return cell.lower()
 
     return read
@@ -132,13 +142,13 @@ def read_word(*words):
 
 def read_participant(cell):
     if not cell.isascii() or text.participant(cell.encode()) is None:
-        raise Wrong(f"'{cell}' should be {text.A_PARTICIPANT}")
+        raise Wrong(f"{text.quoted(cell)} should be {text.A_PARTICIPANT}")
     return cell
 
 
 def read_name(cell):
     if not cell.isascii() or text.name(cell.encode()) is None:
-        raise Wrong(f"'{cell}' should be {text.A_NAME}")
+        raise Wrong(f"{text.quoted(cell)} should be {text.A_NAME}")
     return cell
 
 
@@ -149,13 +159,14 @@ def read_price(cell, decimal_comma):
 class Row:
     """A row of the table of a day of `periods` periods: what is wrong with it is gathered by column."""
 
-    def __init__(self, cells, places, decimal_comma, periods):
-        self.cells, self.places, self.decimal_comma, self.periods = cells, places, decimal_comma, periods
+    def __init__(self, cells, table, periods):
+        self.cells, self.table, self.periods = cells, table, periods
+        self.decimal_comma = table.decimal_comma
         self.wrong = []
 
     def cell(self, name):
-        at = self.places.get(name)
-        return self.cells[at].strip() if at is not None and at < len(self.cells) else ""
+        at = self.table.places.get(name)
+        return sheets.unescaped(self.cells[at].strip()) if at is not None and at < len(self.cells) else ""
 
     def read(self, name, reader):
         """What a reader makes of a cell; None if it is wrong."""
@@ -181,8 +192,8 @@ class Row:
 
     def command(self):
         """The submit that the row is; of no use if something is wrong."""
-        if len(self.cells) > len(self.places):
-            self.wrong.append(f"it has {len(self.cells)} cells, but the header has {len(self.places)}")
+        if len(self.cells) > self.table.width:
+            self.wrong.append(f"it has {len(self.cells)} cells, but the header has {self.table.width}")
         who, name = self.read("participant", read_participant), self.read("order", read_name)
         kind = self.read("kind", read_word("hour", "block"))
         side = self.read("side", read_word("buy", "sell"))
@@ -206,38 +217,98 @@ class Entered:
         """Adds to what is wrong with a row why the book would refuse it."""
         who, name, parent = row.meant("participant"), row.meant("order"), command.order.parent
         if who and name and (who, name) in self.lines:
-            row.wrong.append(f"column order: {who} has an order {name} in line {self.lines[who, name][0]} (NameTaken)")
+            row.wrong.append(f"column order: {who} has an order {name} in {self.lines[who, name][0]} (NameTaken)")
         if who and parent:
             above, kind = self.lines.get((who, parent), (None, None))
             if above is None:
                 row.wrong.append(f"column parent: {who} has no order {parent} in a line above (UnknownParent)")
             elif kind == "hour":
-                row.wrong.append(f"column parent: {parent} of line {above} is an hourly order, not a block (ParentNotBlock)")
+                row.wrong.append(f"column parent: {parent} of {above} is an hourly order, not a block (ParentNotBlock)")
         reason = None if row.wrong else self.held.apply(command)
         if reason in FULL:
             row.wrong.append(f"{FULL[reason]} ({reason})")
         self.lines.setdefault((who, name), (line, command.order.kind))
 
 
-def read_orders(data, periods, closing):
-    """The journal of a table of orders for a day of `periods` periods, with or without a close; if not, all that is wrong, one
-    line each."""
+class Table(NamedTuple):
+    """A table of orders: its name in messages, its rows with their lines, where its columns stand, and how many its header has."""
+
+    name: str
+    rows: list
+    places: dict
+    width: int
+    decimal_comma: bool
+    notes: list
+
+    def line(self, number):
+        """A line of the table in a message about another one."""
+        return f"line {number} of {self.name}" if self.name else f"line {number}"
+
+    def told(self, words):
+        """Words about the table, with its name."""
+        return f"{self.name}: {words}" if self.name else words
+
+
+def table_of(name, data):
+    """A table of orders, of which the header has been read."""
+    try:
+        rows, decimal_comma = sheets.rows_of(data)
+    except sheets.Wrong as fault:
+        raise Wrong(str(fault)) from None
+    rows = [(number, trimmed(cells)) for number, cells in rows if any(cell.strip() for cell in cells)]
+    if not rows:
+        raise Wrong(f"the table is empty: its first line should name the columns {', '.join(ORDER)}")
+    header = rows[0][1]
+    places, notes = columns_of(header)
+    again = [number for number, cells in rows[1:] if cells == header]
+    if again:
+        notes.append(f"line {', '.join(map(str, again))} names the columns once more")
+    rows = [(number, cells) for number, cells in rows[1:] if cells != header]
+    return Table(name, rows, places, len(header), decimal_comma, notes)
+
+
+class Orders(NamedTuple):
+    """The orders of some tables: pairs of their number, from 1, and a submit; notes on the tables; how many orders of others there are."""
+
+    submits: list
+    notes: list
+    others: int
+
+
+def read_tables(sources, periods, who=None):
+    """The orders of tables, given as pairs of a name for messages and bytes, for a day of `periods` periods; of one participant, or of
+    all. If something is wrong with the tables, all of it, one line each."""
     if periods not in rules.DAYS:
         raise Wrong(f"a day has {', '.join(DAYS[:-1])} or {DAYS[-1]} periods, not {periods}")
-    rows, decimal_comma = rows_of(data)
-    if not rows or not trimmed(rows[0][1]):
-        raise Wrong(f"the table is empty: its first line should name the columns {', '.join(ORDER)}")
-    places = columns_of(trimmed(rows[0][1]))
-    wrong, entered, commands = [], Entered(periods), []
-    for number, cells in rows[1:]:
-        if not any(cell.strip() for cell in cells):
-            continue
-        row = Row(trimmed(cells), places, decimal_comma, periods)
-        command = row.command()
-        commands.append(command)
-        entered.enter(number, row, command)
-        wrong += [f"line {number}, {line}" for line in row.wrong]
+    wrong, notes, tables = [], [], []
+    for name, data in sources:
+        try:
+            tables.append(table_of(name, data))
+        except Wrong as fault:
+            wrong += [f"{name}: {line}" if name else line for line in str(fault).split("\n")]
+    entered, submits, number, others = Entered(periods), [], 0, 0
+    for table in tables:
+        notes += map(table.told, table.notes)
+        for line, cells in table.rows:
+            row = Row(cells, table, periods)
+            number += 1
+            if who and row.cell("participant").upper() != who:
+                others += 1
+                continue
+            submits.append((number, row.command()))
+            entered.enter(table.line(line), row, submits[-1][1])
+            wrong += [table.told(f"line {line}, {words}") for words in row.wrong]
     if wrong:
         more = len(wrong) - MOST_ERRORS
         raise Wrong("\n".join(wrong[:MOST_ERRORS] + ([f"and {more} more"] if more > 0 else [])))
-    return journal.Journal(periods, commands + [journal.Close()] * closing)
+    return Orders(submits, notes, others)
+
+
+def journal_of(orders, periods, closing):
+    """The journal of a day with these orders, with or without a close."""
+    return journal.Journal(periods, [submit for _, submit in orders.submits] + [journal.Close()] * closing)
+
+
+def read_orders(data, periods, closing):
+    """The journal of one table of orders."""
+    return journal_of(read_tables([("", data)], periods), periods, closing)

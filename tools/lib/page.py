@@ -1,6 +1,8 @@
 """A whole day as one page of HTML, with its pictures in it and nothing to fetch. Its form is in templates/, and jinja2 fills it
 in; this module has what it says."""
 
+import multiprocessing
+import os
 import re
 from fractions import Fraction
 from pathlib import Path
@@ -9,8 +11,9 @@ from typing import NamedTuple
 import jinja2
 from markupsafe import Markup, escape
 
-from . import clock, decisions, pictures, published, spans, text, trades
+from . import book, clock, decisions, pictures, published, spans, tables, text, trades
 from .journal import command_line
+from .progress import Bar
 
 # The pictures' colours and the page's own, by light and dark.
 COLOURS = {
@@ -18,7 +21,8 @@ COLOURS = {
         **pictures.COLOURS,
         "paper": "#ffffff",
         "page": "#f6f5f2",
-        "warn": "#8a4b00",
+        "warn": "#8a1c00",
+        "alarm": "#fdeae4",
     },
     "dark": {
         "ink": "#e6e4df",
@@ -32,7 +36,8 @@ COLOURS = {
         "accepted": "#5b9bcb",
         "rejected": "#232527",
         "paradox": "#8a6d2f",
-        "warn": "#e5b567",
+        "warn": "#ffb4a0",
+        "alarm": "#4a1a10",
     },
 }
 MARKS = {decisions.ACCEPTED: "accepted", decisions.REJECTED: "rejected", decisions.PARADOX: "paradox"}
@@ -40,6 +45,7 @@ TEMPLATES = jinja2.Environment(
     loader=jinja2.FileSystemLoader(Path(__file__).parent / "templates"), autoescape=True, undefined=jinja2.StrictUndefined
 )
 MOST_SHOWN = 4  # curves that stand open
+FEW_CURVES = 8  # that are drawn in one process
 NUMBER = "n"  # the class of cells that stand to the right
 
 
@@ -81,9 +87,21 @@ def style():
     return Markup(TEMPLATES.get_template("page.css").render({mode: Markup(words) for mode, words in variables.items()}))
 
 
+def with_hover(drawn, hover):
+    """A picture in which each area of some groups shows its words when the pointer is there."""
+    for name, words in hover.items():
+        begin = drawn.index(f'<g id="hover-{name}">')
+        end = drawn.index("</g>", begin)
+        waiting = iter(words)
+        areas = re.sub(r"/>", lambda _: f"><title>{escape(next(waiting))}</title></path>", drawn[begin:end])
+        drawn = drawn[:begin] + areas + drawn[end:]
+    return drawn
+
+
 def inline(figure, name, kind, words):
     """A picture within the page: its colours are the page's, and its identifiers its own."""
-    drawn = pictures.picture(figure, "svg", words_as_text=True).decode()
+    hover = pictures.hover_of(figure)
+    drawn = with_hover(pictures.picture(figure, "svg", words_as_text=True).decode(), hover)
     drawn = drawn[drawn.index("<svg") :]
     drawn = re.sub(r"<metadata>.*?</metadata>", "", drawn, flags=re.DOTALL)
     drawn = re.sub(r'(<svg[^>]*?) width="[^"]*" height="[^"]*"', r"\1", drawn, count=1)
@@ -162,11 +180,11 @@ def block_table(day, found):
         mark = Markup('<span class="mark {}"></span>{}').format(MARKS[decision.kind], decision.kind)
         total = energy(day, sum(tenths for _, tenths in order.volumes))
         links = [f"{word} {name}" for word, name in (("parent", order.parent), ("group", order.group)) if name]
-        row = [f"{block.who} {block.name}", order.side, text.shown_price(order.price), periods_of(order), total, ", ".join(links)]
-        rows.append([*row, mark, euros(day, surplus), decision.why])
-    columns = heads("block", "side", "limit, EUR/MWh", "periods", "offered, MWh", "linked by", "decision", "surplus, EUR")
-    caption = "Each block, its surplus at the prices, and the reason; for a rejected block, with the best family that it belongs to"
-    return Table(caption, [*columns, Head("what decided", "why")], rows)
+        row = [order.side, text.shown_price(order.price), periods_of(order), total, ", ".join(links)]
+        rows.append([f"{block.who} {block.name}", mark, decision.why, euros(day, surplus), *row])
+    columns = heads("surplus, EUR", "side", "limit, EUR/MWh", "periods", "offered, MWh", "linked by")
+    caption = "Each block, the reason, and its surplus at the prices; for a rejected block, with the best family that it belongs to"
+    return Table(caption, [Head("block"), Head("decision", "decision"), Head("what decided", "why"), *columns], rows)
 
 
 def order_row(day, row, made, found):
@@ -206,11 +224,11 @@ def participants(day, found):
 
 def refusals(day):
     rows = [
-        [number, command_line(command), reason]
+        [number, reason, book.REASONS[reason], command_line(command)]
         for number, (command, reason) in enumerate(zip(day.journal.commands, day.reasons), 1)
         if reason
     ]
-    columns = [Head("command", NUMBER), Head("as given", "why"), Head("reason")]
+    columns = [Head("command", NUMBER), Head("reason"), Head("in words", "why"), Head("as given", "given")]
     return [Table("The commands that the order book refused; they have no part in the results", columns, rows)] if rows else []
 
 
@@ -253,6 +271,27 @@ def curve(day, number, folded):
     return picture._replace(summary=summary.format(number, clock.span(day.problem.periods, number), words))
 
 
+def folded_curve(number):
+    """The same in a process of its own, which has the day from the one that started it."""
+    return curve(curves_of.day, number, True)
+
+
+def curves_of(day, numbers):
+    """The curves of some periods; many are drawn by several processes, with a line that says how far they are."""
+    jobs = min(len(os.sched_getaffinity(0)), len(numbers))
+    if len(numbers) <= FEW_CURVES or jobs == 1:
+        return [curve(day, number, len(numbers) > MOST_SHOWN) for number in numbers]
+    curves_of.day, made, bar = day, [], Bar("report", len(numbers), "curves")
+    with multiprocessing.get_context("fork").Pool(jobs) as pool:
+        try:
+            for one in pool.imap(folded_curve, numbers):
+                made.append(one)
+                bar.step()
+        finally:
+            bar.end()
+    return made
+
+
 def sections(day, found, curves):
     parts = [drawn(lambda width: pictures.prices_picture(day, width), "prices", prices_words(day))]
     yield Section("prices", "Prices and volumes", parts)
@@ -261,26 +300,79 @@ def sections(day, found, curves):
         yield Section("blocks", "Blocks", [picture, block_table(day, found)])
     yield Section("periods", "Periods", [period_table(day)])
     if curves:
-        yield Section("curves", "Supply and demand", [curve(day, number, len(curves) > MOST_SHOWN) for number in curves])
+        yield Section("curves", "Supply and demand", curves_of(day, curves))
     yield Section("participants", "Participants", list(participants(day, found)))
     refused = refusals(day)
     if refused:
         yield Section("refused", "Refused commands", refused)
 
 
-def page(day, title, curves, date=None):
-    """The page of a day, with the curves of some periods, and the date of delivery if it is known."""
+def statement_table(day, who):
+    """What a participant sent, the replies, and what became of its orders."""
+    heads_of, *commands = tables.statement(day)
+    rows = []
+    for cells in (dict(zip(heads_of, row)) for row in commands):
+        if cells["participant"] == who:
+            reply = "done" if cells["reply"] == "done" else f"refused: {cells['reason']}"
+            amount = text.shown(Fraction(cells["amount_eur"]), 2) if cells["amount_eur"] else ""
+            row = [cells["order"], cells["outcome"] or reply, cells["why"], amount, cells["executed_mwh"], cells["what"], cells["kind"]]
+            rows.append([*row, cells["side"], cells["price_eur_mwh"], cells["periods"], cells["volume_mw"], cells["command"]])
+    columns = heads("is paid, EUR", "executed, MWh", "what", "kind", "side", "limit, EUR/MWh", "periods", "#volume, MW", "#command")
+    caption = f"Each command of {who}: what became of its order, or the reply, and the reason; an amount below 0 is paid by {who}"
+    return Table(caption, [Head("order"), Head("outcome", "decision"), Head("what decided", "why"), *columns], rows)
+
+
+def own_periods(day, who):
+    """What a participant trades in each period."""
+    rows = []
+    for owner, number, *sums in list(published.long_participants(day))[1:]:
+        if owner == who:
+            price, begins = text.shown_price(day.said.prices[number - 1]), clock.begins(day.problem.periods, number)
+            rows.append([number, begins, price, *(text.shown(Fraction(value), digits) for value, digits in zip(sums, (1, 1, 2, 2)))])
+    columns = heads("#period", "#begins", "price, EUR/MWh", "bought, MW", "sold, MW", "pays, EUR", "is paid, EUR")
+    return Table(f"What {who} trades in each period", columns, rows)
+
+
+def own_sections(day, who, curves):
+    """The page of a participant: its statement, its periods, and what everybody may see."""
+    yield Section("statement", f"Orders of {who}", [statement_table(day, who)])
+    yield Section("periods", "Periods", [own_periods(day, who)])
+    yield Section("prices", "Prices and volumes", [drawn(lambda width: pictures.prices_picture(day, width), "prices", prices_words(day))])
+    if curves:
+        yield Section("curves", "Supply and demand", curves_of(day, curves))
+
+
+def own_figures(day, who):
+    """What a day comes to for a participant."""
+    total = trades.totals(day).get(who, trades.Total(0, 0, 0, 0))
+    refused = sum(reason is not None for command, reason in zip(day.journal.commands, day.reasons) if getattr(command, "who", None) == who)
+    yield "orders in the book", sum(row.who == who for row in day.problem.rows), ""
+    yield "commands refused", refused, ""
+    for words, value, unit in (
+        ("bought", energy(day, total.bought), "MWh"),
+        ("sold", energy(day, total.sold), "MWh"),
+        ("pays", euros(day, total.paid), "EUR"),
+        ("is paid", euros(day, total.received), "EUR"),
+        ("net", euros(day, total.received - total.paid), "EUR"),
+    ):
+        yield words, value, unit
+
+
+def page(day, title, curves, date=None, who=None):
+    """The page of a day, or of a participant's part of it, with the curves of some periods, and the date of delivery if it is known."""
     found = decisions.decisions(day.problem, day.said.accepted, day.outcome)
     return TEMPLATES.get_template("page.html").render(
         title=title,
         style=style(),
+        script=Markup(TEMPLATES.get_template("page.js").render()),
         date=f"{date:%A}, {date.day} {date:%B} {date.year}" if date else None,
         periods=day.problem.periods,
         hourly=len(day.problem.rows) - len(found),
         blocks=len(found),
         wrong=list(day.wrong),
-        figures=list(figures(day, found)),
-        sections=list(sections(day, found, curves)),
+        odd=list(day.odd),
+        figures=list(own_figures(day, who) if who else figures(day, found)),
+        sections=list(own_sections(day, who, curves) if who else sections(day, found, curves)),
     )
 
 

@@ -5,15 +5,17 @@ they are for, so that a page can replace them by its own."""
 
 import io
 import math
+from fractions import Fraction
 
 import matplotlib
 
 matplotlib.use("Agg")
 
 from matplotlib import pyplot
+from matplotlib.collections import PolyCollection
 from matplotlib.patches import Patch, Polygon, Rectangle
 
-from . import clock, decisions, selection, spans, text, trades
+from . import clock, decisions, rules, selection, spans, text, trades
 
 # No two are equal, so that each can be found in the text of a picture.
 COLOURS = {
@@ -55,6 +57,9 @@ STYLE = {
 # The widths of figures, in inches: for a page or a screen, and for a telephone's.
 WIDTHS = {"broad": 10, "narrow": 4.6}
 BROAD = WIDTHS["broad"]
+# Of the curves of a period, the steps within this share of the traded volume are shown, and what is no further from the price than this, in
+# EUR/MWh; but not a limit that is so many times further from it than the one before.
+NEAR_SHARE, NEAR_PRICES, JUMP = 0.15, 20, 4
 # Up to this many periods each bar has an outline.
 MOST_OUTLINED = 25
 
@@ -74,7 +79,7 @@ def is_narrow(axes):
 def legend(axes, *entries, columns, below=False):
     """A legend above the panel: right of its heading, or under it if the figure is narrow; or then below the panel."""
     if is_narrow(axes) and below:
-        look = {"loc": "upper left", "bbox_to_anchor": (0, -0.13), "fontsize": 7}
+        look = {"loc": "upper left", "bbox_to_anchor": (0, -0.2), "fontsize": 7}
     elif is_narrow(axes):
         look = {"loc": "lower left", "bbox_to_anchor": (0, 1), "fontsize": 7, "columnspacing": 1, "handlelength": 1.4}
     else:
@@ -85,11 +90,51 @@ def legend(axes, *entries, columns, below=False):
 def picture(figure, suffix, words_as_text=False):
     """The bytes of a figure, in the format `svg` or `png`."""
     out = io.BytesIO()
+    if not words_as_text:
+        remove_hover(figure)
     with matplotlib.rc_context({"svg.fonttype": "none" if words_as_text else "path", "svg.hashsalt": "dam"}):
         kind = {"metadata": {"Date": None, "Creator": None}} if suffix == "svg" else {"dpi": 150}
-        figure.savefig(out, format=suffix, bbox_inches="tight", **kind)
+        # To find the box that fits takes as long as to draw.
+        fitted = {} if has_margins(figure) else {"bbox_inches": "tight"}
+        figure.savefig(out, format=suffix, **fitted, **kind)
     pyplot.close(figure)
     return out.getvalue()
+
+
+def set_margins(figure, left, right, bottom, top):
+    """Gives a figure fixed margins, in inches, so that its layout needn't be found by drawing it."""
+    width, height = figure.get_size_inches()
+    figure.subplots_adjust(left / width, bottom / height, 1 - right / width, 1 - top / height)
+    figure.has_margins = True
+
+
+def has_margins(figure):
+    return getattr(figure, "has_margins", False)
+
+
+def add_hover(axes, name, areas, words):
+    """Areas in which a page shows words when the pointer is there: they aren't drawn. `page` finds them by their name."""
+    look = {"facecolors": [(*matplotlib.colors.to_rgb(COLOURS["ink"]), 0)], "edgecolors": "none", "linewidths": 0, "zorder": 10}
+    if areas:
+        axes.add_collection(PolyCollection(areas, gid=f"hover-{name}", **look), autolim=False)
+        axes.figure.hover = {**hover_of(axes.figure), name: list(words)}
+
+
+def remove_hover(figure):
+    """Takes away the areas that only a page has a use for."""
+    for axes in figure.axes:
+        for area in [area for area in axes.collections if str(area.get_gid()).startswith("hover-")]:
+            area.remove()
+
+
+def hover_of(figure):
+    """The words of each area of a figure, by the name of their group."""
+    return getattr(figure, "hover", {})
+
+
+def thousands(axis, digits=0):
+    """Numbers along an axis in the same form as everywhere."""
+    axis.set_major_formatter(lambda value, _: text.shown(Fraction(value).limit_denominator(10_000), digits))
 
 
 def panels(heights, width):
@@ -136,7 +181,7 @@ def period_picture(day, number, width=BROAD):
     with matplotlib.rc_context(STYLE):
         figure, axes = panels([4.6 if width == BROAD else 4], width)
         draw_curves(axes[0], day, number)
-        figure.tight_layout()
+        set_margins(figure, *((0.85, 0.75, 0.5, 0.5) if width == BROAD else (0.7, 0.62, 1.2, 0.5)))
         return figure
 
 
@@ -177,7 +222,26 @@ def draw_prices(axes, day):
     without_trade(axes, [number for number in day.problem.orders if number not in prices], day.problem.periods)
     axes.set_ylabel("price, EUR/MWh")
     axes.grid(axis="x", visible=False)
+    thousands(axes.yaxis)
+    hover_periods(axes, day, "prices")
     heading(axes, "Prices")
+
+
+def period_words(day, number):
+    """A period in a line: when it is, its price and its volume."""
+    words = f"period {number}, {clock.span(day.problem.periods, number)}"
+    if not trades.is_traded(day, number):
+        return f"{words}: no trade"
+    price, volume = day.said.prices[number - 1], day.said.volumes[number - 1]
+    return f"{words}: {text.shown_price(price)} EUR/MWh, {text.shown_volume(volume)} MW"
+
+
+def hover_periods(axes, day, name):
+    """Shows the price and the volume of each period over its width."""
+    bottom, top = axes.get_ylim()
+    numbers = list(day.problem.orders)
+    areas = [[(at - 0.5, bottom), (at - 0.5, top), (at + 0.5, top), (at + 0.5, bottom)] for at in numbers]
+    add_hover(axes, name, areas, [period_words(day, number) for number in numbers])
 
 
 def without_trade(axes, numbers, periods):
@@ -226,6 +290,7 @@ def draw_volumes(axes, day):
     if is_narrow(axes):
         words = ["hourly buys (above)", "hourly sells (below)", "blocks"]
     legend(axes, key, words, columns=3)
+    hover_periods(axes, day, "volumes")
     heading(axes, "Volumes")
 
 
@@ -244,7 +309,9 @@ def draw_share(axes, begins, ends, look):
 
 
 def heading(axes, words):
-    axes.set_title(words, loc="left", fontweight="bold", fontsize=10, color=COLOURS["ink"], pad=20 if is_narrow(axes) else 6)
+    # The place is given, since to find one takes as long as to draw the rest.
+    look = {"fontweight": "bold", "fontsize": 10, "color": COLOURS["ink"]}
+    axes.set_title(words, loc="left", y=1, pad=20 if is_narrow(axes) else 6, **look)
 
 
 LOOKS = {
@@ -261,7 +328,7 @@ def blocks_height(day, width=BROAD):
 def draw_blocks(axes, day):
     """A row for each block, with an area over its periods: the height is the volume, compared with the greatest. Arrows lead from
     parents to their children, and brackets join the blocks of a group."""
-    blocks = day.problem.blocks
+    blocks, right = day.problem.blocks, day.problem.periods + 0.5
     found = decisions.decisions(day.problem, day.said.accepted, day.outcome)
     for row, (block, decision) in enumerate(zip(blocks, found)):
         draw_block(axes, row, block, LOOKS[decision.kind])
@@ -270,6 +337,9 @@ def draw_blocks(axes, day):
         label_block(axes, row, block, text.amount(day.said.surpluses[row], day.problem.hours))
     draw_links(axes, day)
     draw_groups(axes, day)
+    words = [block_words(day, row, decision) for row, decision in enumerate(found)]
+    ends = [(row - 0.4, row + 0.4) for row in range(len(blocks))]
+    add_hover(axes, "blocks", [[(0.5, top), (right, top), (right, bottom), (0.5, bottom)] for top, bottom in ends], words)
     axes.set_ylim(len(blocks) - 0.45, -0.55)
     axes.set_yticks([])
     axes.grid(visible=False)
@@ -277,6 +347,12 @@ def draw_blocks(axes, day):
     key = [Patch(edgecolor=COLOURS["ink"], linewidth=0.7, **LOOKS[kind]) for kind in present]
     legend(axes, key, present, columns=3)
     heading(axes, "Blocks")
+
+
+def block_words(day, row, decision):
+    """A block's decision in a line."""
+    block = day.problem.blocks[row]
+    return f"{block.who} {block.name}: {decision.kind}; {decision.why}"
 
 
 def band(axes, row):
@@ -380,29 +456,84 @@ def net_volume(day, number):
     return sold, bought
 
 
+def price_range(day, number, curves):
+    """What of the price axis is shown of a period's curves: the limits about the crossing, or all if they aren't far off."""
+    limits = [limit for _, limit, _ in day.problem.orders[number]]
+    price, traded = day.said.prices[number - 1], trades.is_traded(day, number)
+    limits += [price] * (traded or not limits)
+    least, most = min(limits), max(limits)
+    if traded:
+        at = day.said.volumes[number - 1]
+        near = sorted(abs(limit - eur(price)) for xs, ys, _ in curves for limit in limits_near(xs, ys, mw(at)))
+        far = NEAR_PRICES
+        for distance in near:
+            if distance > JUMP * far:
+                break
+            far = max(far, distance)
+        least, most = max(least, price - 120 * far), min(most, price + 120 * far)
+    room = max(0.1 * (most - least), 500)
+    return eur(least - room), eur(most + room)
+
+
+def limits_near(xs, ys, volume):
+    """The limits of a curve's steps about a volume, in EUR/MWh."""
+    least, most = (1 - NEAR_SHARE) * volume, (1 + NEAR_SHARE) * volume
+    return [limit for begin, end, limit in zip(xs[::2], xs[1::2], ys[::2]) if begin <= most and end >= least]
+
+
+def mark_tails(axes, day, number, bottom, top):
+    """Says how far the limits go that the price axis doesn't show."""
+    limits = [eur(limit) for _, limit, _ in day.problem.orders[number]]
+    under = {"facecolor": COLOURS["paper"], "edgecolor": "none", "pad": 1.5}
+    look = {"transform": axes.transAxes, "color": COLOURS["soft"], "fontsize": 7, "bbox": under, "zorder": 4}
+    if limits and max(limits) > top:
+        words = f"\u2191 limits go up to {text.shown_price(round(max(limits) * 100))} EUR/MWh"
+        axes.text(0.012, 0.985, words, va="top", ha="left", **look)
+    if limits and min(limits) < bottom:
+        words = f"\u2193 limits go down to {text.shown_price(round(min(limits) * 100))} EUR/MWh"
+        axes.text(0.988, 0.015, words, va="bottom", ha="right", **look)
+
+
+def hover_steps(axes, points, name, words, bottom, top):
+    """Shows the limit and the volumes of each step of a curve that the axis shows."""
+    xs, ys, _ = points
+    steps_shown = [(begin, end, limit) for begin, end, limit in zip(xs[::2], xs[1::2], ys[::2]) if bottom <= limit <= top]
+    half = 0.012 * (top - bottom)
+    areas = [[(begin, at - half), (end, at - half), (end, at + half), (begin, at + half)] for begin, end, at in steps_shown]
+    told = [f"{words}: {shown_mw(begin)} to {shown_mw(end)} MW at {text.shown(Fraction(at).limit_denominator(100), 2)} EUR/MWh"
+            for begin, end, at in steps_shown]
+    add_hover(axes, name, areas, told)
+
+
+def shown_mw(value):
+    return text.shown(Fraction(value).limit_denominator(10), 1)
+
+
 def draw_curves(axes, day, number):
     """The hourly orders' demand and supply; the curve of the side that the blocks help begins after their net volume."""
     orders = day.problem.orders[number]
-    price = day.said.prices[number - 1]
     sold, bought = net_volume(day, number)
     net = sold - bought
     traded = trades.is_traded(day, number)
-    limits = [limit for _, limit, _ in orders] + [price] * (traded or not orders)
-    room = max(0.1 * (max(limits) - min(limits)), 500)
-    bottom, top = eur(min(limits) - room), eur(max(limits) + room)
     demand = steps(orders, "buy", max(-net, 0))
     supply = steps(orders, "sell", max(net, 0))
+    bottom, top = price_range(day, number, (demand, supply))
     most = mw(max(demand[2], supply[2], 10))
     if net:
         draw_net(axes, net, bottom, top)
-    draw_curve(
-        axes, demand, mw(max(-net, 0)), top, bottom, color=COLOURS["ink"], linestyle="--", label="demand of hourly orders"
-    )
-    draw_curve(axes, supply, mw(max(net, 0)), bottom, top, color=COLOURS["sell"], label="supply of hourly orders")
+    ends = eur(2 * rules.LEAST_PRICE), eur(2 * rules.GREATEST_PRICE)  # beyond each limit
+    look = {"color": COLOURS["ink"], "linestyle": "--", "label": "demand of hourly orders"}
+    draw_curve(axes, demand, mw(max(-net, 0)), ends[1], ends[0], **look)
+    draw_curve(axes, supply, mw(max(net, 0)), *ends, color=COLOURS["sell"], label="supply of hourly orders")
     if traded:
         draw_clearing(axes, day, number, net)
     axes.set_xlim(0, most * 1.03)
     axes.set_ylim(bottom, top)
+    thousands(axes.xaxis)
+    thousands(axes.yaxis)
+    hover_steps(axes, demand, "demand", "demand", bottom, top)
+    hover_steps(axes, supply, "supply", "supply", bottom, top)
+    mark_tails(axes, day, number, bottom, top)
     axes.set_xlabel("volume, MW")
     axes.set_ylabel("limit price, EUR/MWh")
     if axes.get_legend_handles_labels()[0]:

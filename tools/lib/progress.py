@@ -24,9 +24,13 @@ class Progress:
         with self.lock:
             self.steps += steps
 
+    def tried_count(self):
+        """How many of the selections have been tried; of several steps for each it is a share of all."""
+        return min(self.whole, self.whole * self.done // max(self.steps, 1))
+
     def tried(self):
-        """How many of the selections have been tried, in words; of several steps for each it is a share of all."""
-        tried = self.whole * self.done // max(self.steps, 1)
+        """The same in words."""
+        tried = self.tried_count()
         return f"{'about ' if tried and self.steps != self.whole else ''}{tried:,} of {self.whole:,} selections have been tried"
 
     def look(self, words):
@@ -69,3 +73,42 @@ class Progress:
             self.show("")
             sys.stderr.write("\r")
             sys.stderr.flush()
+
+
+class Bar:
+    """How far a run of many equal steps is: a line on standard error, if that is a terminal and the run takes longer than a moment."""
+
+    MOMENT = 0.5  # seconds before the first line
+    PAUSE = 0.1  # and between two
+    WIDTH = 30
+
+    def __init__(self, tool, whole, unit, quiet=False):
+        self.tool, self.whole, self.unit = tool, whole, unit
+        self.told = not quiet and sys.stderr.isatty()
+        self.begun = self.last = time.monotonic()
+        self.done = self.shown = 0
+
+    def step(self, steps=1, words=""):
+        """So many more steps are done."""
+        self.done += steps
+        now = time.monotonic()
+        if self.told and now - self.begun >= self.MOMENT and now - self.last >= self.PAUSE:
+            self.last = now
+            full = self.WIDTH * self.done // max(self.whole, 1)
+            bar = "#" * full + "." * (self.WIDTH - full)
+            more = f", {words}" if words else ""
+            self.show(f"{self.tool}: [{bar}] {self.done:,} of {self.whole:,} {self.unit}{more}, {now - self.begun:.0f} s")
+
+    def show(self, line):
+        """Writes over the line that was shown last."""
+        sys.stderr.write(f"\r{line:{self.shown}}")
+        sys.stderr.flush()
+        self.shown = len(line)
+
+    def end(self):
+        """No line is left."""
+        if self.shown:
+            self.show("")
+            sys.stderr.write("\r")
+            sys.stderr.flush()
+            self.shown = 0

@@ -4,7 +4,8 @@ import re
 from typing import NamedTuple
 
 from . import text
-from .lines import matched, moved, shown
+from .faults import Fault, of_line
+from .lines import matched, moved
 
 ANOTHER = "these seem to be the results of another journal"
 
@@ -68,14 +69,37 @@ def beginning(line):
     return tuple(fields[: {b"day": 2, b"welfare": 1, b"period": 2}.get(fields[0], 3)])
 
 
+QUOTED = re.compile(rb'(?<![^,\n])"([^",\n]*)"(?![^,\n])')
+MARKS = {text.MARK: ("utf-8-sig", "a byte order mark"), b"\xff\xfe": ("utf-16", "a byte order mark of UTF-16")}
+MARKS[b"\xfe\xff"] = MARKS[b"\xff\xfe"]
+
+
 def plain(data):
-    """The text without what other programs add to each line, or before the first one; and what is wrong if something was there."""
-    wrong = []
-    if data.startswith(text.MARK):
-        wrong.append("the text begins with a byte order mark")
-    if b"\r\n" in data:
-        wrong.append("the lines end with CR LF instead of LF alone")
-    return data.removeprefix(text.MARK).replace(b"\r\n", b"\n"), wrong
+    """The text as `dam` writes it, if other programs have changed only how it is encoded; and what they have changed."""
+    odd = []
+    for mark, (encoding, words) in MARKS.items():
+        if data.startswith(mark) and is_text(data, encoding):
+            data = data.decode(encoding).encode()
+            odd.append(f"the text begins with {words}")
+    for end, words in ((b"\r\n", "CR LF"), (b"\r", "CR")):
+        if end in data:
+            data = data.replace(end, b"\n")
+            odd.append(f"the lines end with {words} instead of LF alone")
+    if data and not data.endswith(b"\n"):
+        data += b"\n"
+        odd.append("the last line has no line end")
+    if QUOTED.search(data):
+        data = QUOTED.sub(rb"\1", data)
+        odd.append("fields stand in quotes")
+    return data, [Fault(words, "encoding") for words in odd]
+
+
+def is_text(data, encoding):
+    """Whether bytes can be read in an encoding."""
+    try:
+        return bool(data.decode(encoding))
+    except UnicodeDecodeError:
+        return False
 
 
 def foreign(wanted, beginnings):
@@ -84,49 +108,50 @@ def foreign(wanted, beginnings):
     others = len(orders) - len(set(orders) & set(wanted))
     if 2 * others <= len(orders):
         return []
-    return [f"{ANOTHER}: {others} of their {len(orders)} lines of orders are of no order of this one"]
+    return [Fault(f"{ANOTHER}: {others} of their {len(orders)} lines of orders are of no order of this one", "journal")]
 
 
 def none_belongs(line):
     """What is said of results of which no line is one of this journal's."""
     for comma, name in ((b";", "semicolons"), (b"\t", "tabs")):
         if comma in line:
-            return f"the fields of the results are separated by {name} instead of commas: the first line is '{shown(line)}'"
-    return f"none of the lines of the results belongs to this journal: the first is '{shown(line)}'"
+            words = f"the fields of the results are separated by {name} instead of commas: the first line is {text.quoted(line)}"
+            return Fault(words, "form", 1)
+    return Fault(f"none of the lines of the results belongs to this journal: the first is {text.quoted(line)}", "journal", 1)
 
 
 def read_results(problem, data):
     """The results that a text is for this problem, and what is wrong with its form; results are None if something is."""
     wrong, lines, values = [], {}, []
     if not data.endswith(b"\n"):
-        wrong.append("the last line of the results has no line end")
+        wrong.append(Fault("the last line of the results has no line end", "form"))
     found = data.removesuffix(b"\n").split(b"\n")
     expected = list(expected_lines(problem))
     last = 0  # the last line that was found
     wanted = [tuple(field.encode() for field in known) for _, known, _ in expected]
     beginnings = [beginning(line) for line in found]
     if set(wanted).isdisjoint(beginnings):
-        return None, [none_belongs(found[0]) if data else "the results are empty"]
+        return None, [none_belongs(found[0]) if data else Fault("the results are empty", "form")]
     pairs = matched(wanted, beginnings)
     away = moved(wanted, beginnings, pairs)
     elsewhere = set(away.values())
     for at, place in pairs:
         last = last if place is None else place + 1
         if place in away:
-            wrong.append(f"results line {last}: {moved_line(expected, away[place])}")
+            wrong.append(of_line("moved", last, expected[away[place]][0], moved_line(expected, away[place])))
         elif at is None:
-            wrong.append(f"results line {last}: {stray_line(found[place])}")
+            wrong.append(of_line("stray", last, None, stray_line(found[place])))
         if at is None or at in elsewhere:
             continue
         about, known, behind = expected[at]
         if place is None or place in away:
-            wrong.append(f"results line {last + (place is None)}: there is no line for {about}")
+            wrong.append(of_line("missing", last + (place is None), about, f"there is no line for {about}"))
             continue
         read = line_values(found[place], known, behind)
         lines[about] = last
         if read is None:
             form = ",".join(known + [{"n": "<number>", "a": "accepted|rejected"}[kind] for kind in behind])
-            wrong.append(f"results line {last}: {about} should be '{form}' and is '{shown(found[place])}'")
+            wrong.append(of_line("form", last, about, f"{about} should be '{form}' and is {text.quoted(found[place])}"))
         values.append(read)
     if wrong:
         return None, foreign(wanted, beginnings) + wrong
@@ -140,7 +165,7 @@ def moved_line(expected, at):
 
 
 def stray_line(line):
-    return f"'{shown(line)}' doesn't belong there" if line else "the line is empty, and should not be there"
+    return f"{text.quoted(line)} is not a line of these results" if line else "the line is empty, and should not be there"
 
 
 def gather(problem, values, lines):

@@ -67,16 +67,17 @@ def signed(order):
 
 
 def link_faults(problem, accepted):
-    """Why links and groups forbid these places to be accepted together, each with the place of a block; nothing if they don't."""
+    """Why links and groups forbid these places to be accepted together, each with the place of a block and the kind of fault; nothing if
+    they don't."""
     for place in sorted(accepted):
         parent = problem.parents[place]
         if parent is not None and parent not in accepted:
-            yield place, f"block {problem.blocks[place]} is accepted and its parent {problem.blocks[parent]} isn't"
+            yield place, "link", f"block {problem.blocks[place]} is accepted and its parent {problem.blocks[parent]} isn't"
     for (who, group), members in problem.groups().items():
         chosen = [place for place in members if place in accepted]
         if len(chosen) > 1:
             names = " ".join(str(problem.blocks[place]) for place in chosen)
-            yield chosen[1], f"group {group} of {who} has {len(chosen)} accepted blocks: {names}"
+            yield chosen[1], "group", f"group {group} of {who} has {len(chosen)} accepted blocks: {names}"
 
 
 def surplus(order, prices):

@@ -6,6 +6,7 @@ from collections import Counter, defaultdict, deque
 from typing import NamedTuple
 
 from . import journal, lint, order_table, text
+from .faults import Fault
 
 WORDS = re.compile(rb'[\s"]*(?:day|submit|amend|cancel|close)\b', re.IGNORECASE)
 
@@ -29,15 +30,27 @@ class Published(NamedTuple):
         return f"refused, {self.reason}" if self.reason else "done"
 
 
+class Own(NamedTuple):
+    """The commands of a participant in a list that was sent."""
+
+    commands: list  # of `Sent`
+    others: int  # how many commands of others the list has
+    is_table: bool  # whether it is a table of orders, which may also be what they have become at the end
+
+
 def read_sent(data, who, periods):
-    """The commands of a list, all of one participant: records as in a journal, with the records `day` and `close` or without
-    them, or a table of orders."""
-    has_records = WORDS.match(data.removeprefix(text.MARK))
-    commands = list(read_records(data, periods) if has_records else read_table(data, periods))
-    for sent in commands:
-        if sent.command.who != who:
-            raise Wrong(f"record {sent.record} is of {sent.command.who}: the file should have commands of {who} alone")
-    return commands
+    """The commands of a participant in a list: records as in a journal, with the records `day` and `close` or without them, or a table
+    of orders. Those of others are left out."""
+    is_table = not WORDS.match(data.removeprefix(text.MARK))
+    if is_table:
+        own, others = read_table(data, periods, who)
+    else:
+        every = list(read_records(data, periods))
+        own = [sent for sent in every if sent.command.who == who]
+        others = len(every) - len(own)
+    if others and not own:
+        raise Wrong(f"it has {text.counted(others, 'command')} of others, and none of {who}")
+    return Own(own, others, is_table)
 
 
 def read_records(data, periods):
@@ -52,12 +65,13 @@ def read_records(data, periods):
     return [Sent(at, command) for at, command in enumerate(read.commands, first) if not isinstance(command, journal.Close)]
 
 
-def read_table(data, periods):
+def read_table(data, periods, who):
+    """The orders of a participant in a table, as what was sent, and how many others it has."""
     try:
-        made = order_table.read_orders(data, periods, False)
+        orders = order_table.read_tables([("", data)], periods, who)
     except order_table.Wrong as fault:
         raise Wrong(f"it has no journal records and isn't a table of orders: {fault}") from None
-    return [Sent(number, command) for number, command in enumerate(made.commands, 1)]
+    return [Sent(number, submit) for number, submit in orders.submits], orders.others
 
 
 def published_of(read, reasons, who):
@@ -99,6 +113,33 @@ def paired(sent, published, key):
     return pairs, left, [entry for entries in waiting.values() for entry in entries]
 
 
+def compared(own, published, closed, who):
+    """What is wrong with a participant's commands in a journal, and lines about what is right. A table of orders may have the commands, or
+    what the orders are at the end."""
+    commands, reasons = own.commands, [entry.reason for entry in published]
+    wrong = differences(commands, published)
+    others = f" ({own.others} of others left out)" if own.others else ""
+    if wrong and own.is_table and is_at_the_end(commands, closed, who):
+        count = f"{text.counted(len(commands), 'order')} of {who}"
+        by = f"{text.counted(len(published), 'command')} of {who}{refused(reasons)}"
+        return [], [f"as in the table: {count} in the book at the end, and no others, after {by}{others}"]
+    count = f"{text.counted(len(commands), 'command')} of {who}"
+    line = f"as sent: {count}, each once, in their order, and no others{refused(reasons)}{others}"
+    return wrong, [line, *replies(commands, published)]
+
+
+def refused(reasons):
+    """How many of some commands the book refused, in words; nothing if it refused none."""
+    count = sum(reason is not None for reason in reasons)
+    return f", {count} of {len(reasons)} commands refused" if count else ""
+
+
+def is_at_the_end(sent, closed, who):
+    """Whether the orders of a table are those of a participant in the book, in its order."""
+    rows = [(name, order) for (owner, name), order in closed.rows.items() if owner == who]
+    return rows == [(entry.command.name, entry.command.order) for entry in sent]
+
+
 def differences(sent, published):
     """What is wrong with the published commands, a line each, by their records."""
     pairs = in_order(sent, published)
@@ -115,27 +156,36 @@ def differences(sent, published):
     return [line for _, line in sorted(lines, key=lambda line: line[0])]
 
 
+def about(entry):
+    """What a fault of a command is about."""
+    return f"order {entry.command.who},{entry.command.name}"
+
+
 def moved_line(one, other):
     shown = journal.command_line(one.command)
-    return f"sent record {one.record} is moved: record {other.record} of the journal is out of its order: {shown}"
+    words = f"sent record {one.record} is moved: record {other.record} of the journal is out of its order: {shown}"
+    return Fault(words, "moved", other.record, about(one))
 
 
 def changed_line(one, other):
     was, now = journal.command_line(one.command), journal.command_line(other.command)
-    return f"sent record {one.record} is changed: it was '{was}', and record {other.record} of the journal is '{now}'"
+    words = f"sent record {one.record} is changed: it was '{was}', and record {other.record} of the journal is '{now}'"
+    return Fault(words, "changed", other.record, about(one))
 
 
 def missing_line(one):
-    return f"sent record {one.record} is missing in the journal: {journal.command_line(one.command)}"
+    words = f"sent record {one.record} is missing in the journal: {journal.command_line(one.command)}"
+    return Fault(words, "missing", None, about(one))
 
 
 def more_line(other, times):
     """What is said of a record that wasn't sent; its command was sent `count` times."""
     shown = journal.command_line(other.command)
     if not times:
-        return f"record {other.record} of the journal was not sent: {shown}"
+        return Fault(f"record {other.record} of the journal was not sent: {shown}", "unsent", other.record, about(other))
     count = "once" if times == 1 else f"{times} times"
-    return f"record {other.record} of the journal repeats what was sent {count}: {shown}"
+    words = f"record {other.record} of the journal repeats what was sent {count}: {shown}"
+    return Fault(words, "repeated", other.record, about(other))
 
 
 def place_of(one, sent, published, pairs):

@@ -5,7 +5,7 @@ import json
 import re
 import zoneinfo
 
-from . import rules, spans
+from . import rules, spans, text
 
 ZONE = "Europe/Berlin"  # Central European Time
 UNITS = {"_eur_mwh": "EUR/MWh", "_mwh": "MWh", "_mw": "MW", "_eur": "EUR"}
@@ -24,22 +24,27 @@ def date_of(words):
             return datetime.date.fromisoformat(words)
     except ValueError:
         pass
-    raise Wrong(f"{words}: it should be a day, such as 2026-11-25")
+    raise Wrong(f"{text.safe(words)}: it should be a day, such as 2026-11-25")
 
 
 def as_date(date):
-    """A date, or that of a text."""
-    if not isinstance(date, (datetime.date, str)):
-        raise Wrong(f"{date!r}: it should be a datetime.date, or a text such as 2026-11-25")
-    return date_of(date) if isinstance(date, str) else date
+    """A date, that of a time, or that of a text."""
+    if isinstance(date, str):
+        return date_of(date)
+    try:
+        return datetime.date(date.year, date.month, date.day)
+    except (AttributeError, TypeError, ValueError):
+        raise Wrong(f"{text.safe(repr(date))}: it should be a datetime.date, or a text such as 2026-11-25") from None
 
 
 def begins(date, periods):
     """When each period of a delivery day begins, and when the last one ends, in Central European Time."""
     zone, utc = zoneinfo.ZoneInfo(ZONE), datetime.timezone.utc
-    first, behind = (
-        datetime.datetime.combine(day, datetime.time(), zone).astimezone(utc) for day in (date, date + datetime.timedelta(1))
-    )
+    try:
+        days = date, date + datetime.timedelta(1)
+        first, behind = (datetime.datetime.combine(day, datetime.time(), zone).astimezone(utc) for day in days)
+    except OverflowError:
+        raise Wrong(f"{date} is the first or the last day of the calendar: it should be another") from None
     length = datetime.timedelta(hours=float(rules.DAYS[periods]))
     if first + periods * length != behind:
         hours = int((behind - first) / datetime.timedelta(hours=1))
@@ -66,6 +71,15 @@ def of_periods(rows, numbers):
     yield heads
     at = heads.index("period")
     yield from (row for row in rows if row[at] in numbers)
+
+
+def of_participant(rows, who):
+    """The rows of a participant."""
+    rows = iter(rows)
+    heads = next(rows)
+    yield heads
+    at = heads.index("participant")
+    yield from (row for row in rows if row[at] == who)
 
 
 def day_of_periods(periods, date=None):
@@ -107,11 +121,13 @@ def typed(kind, name, cell, row):
     return cell == "yes" if kind == "boolean" else cell
 
 
-def records(rows):
-    """The rows of a table as dictionaries with numbers, lists and None instead of texts."""
+def records(rows, flat=False):
+    """The rows of a table as dictionaries with numbers, lists and None instead of texts. If they are to be flat, lists stay texts."""
     rows = iter(rows)
     heads = next(rows)
     kinds = [column(name, heads)["type"] for name in heads]
+    if flat:
+        kinds = ["string" if kind == "array" else kind for kind in kinds]
     for row in rows:
         named = dict(zip(heads, row))
         yield {name: typed(kind, name, cell, named) for kind, (name, cell) in zip(kinds, named.items())}

@@ -248,7 +248,8 @@ def better(problem, accepted, welfare, progress, tell=lambda words: None):
 
 def offered(looked):
     """How far the search is, in words, as long as nothing better was offered."""
-    return f"HiGHS has offered {looked} other selection{'s' * (looked > 1)} and isn't done" if looked else "HiGHS isn't done"
+    found = f", and has offered {looked} other selection{'s' * (looked > 1)}" if looked else ""
+    return f"HiGHS is still searching{found}"
 
 
 def asked(model, progress, looked):

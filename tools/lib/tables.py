@@ -2,22 +2,15 @@
 
 A table is a list of rows of which the first names the columns. docs/TABLES.md describes each column, and the form as JSON."""
 
-import csv
-import io
+from typing import NamedTuple
 
 from . import decisions, journal, published, selection, spans, text, trades
+from .book import REASONS
 
 # The columns of a table of orders that make a journal: `order_table` reads them.
 ORDER = ["participant", "order", "kind", "side", "price_eur_mwh", "periods", "volume_mw", "parent", "group"]
 # What the table of a result's orders has in addition.
 RESULT = ["offered_mwh", "executed_mwh", "outcome", "surplus_eur", "amount_eur"]
-
-
-def written(rows):
-    """The text of a table."""
-    out = io.StringIO()
-    csv.writer(out, lineterminator="\n").writerows(rows)
-    return out.getvalue()
 
 
 def euros(day, amount):
@@ -77,7 +70,7 @@ def plain_amount(amount, hours):
 def blocks(day):
     """A row for each block: its order, what became of it and why, and, if it is rejected, what its best family was worth."""
     family_heads = ["family", "family_gain_eur", "family_welfare_eur"]
-    yield [*ORDER, "offered_mwh", "executed_mwh", "outcome", "surplus_eur", *family_heads, "why"]
+    yield [*ORDER, "offered_mwh", "executed_mwh", "outcome", "surplus_eur", *family_heads, "why", "code"]
     found = decisions.decisions(day.problem, day.said.accepted, day.outcome, plain_amount)
     for block, surplus, decision in zip(day.problem.blocks, day.said.surpluses, found):
         offered = sum(tenths for _, tenths in block.order.volumes)
@@ -88,7 +81,7 @@ def blocks(day):
             welfare = decision.other.welfare
             family = [names, euros(day, decision.family.gain()), "" if welfare is None else euros(day, welfare)]
         energies = [energy(day, tenths) for tenths in (offered, executed)]
-        yield [*order_cells(block), *energies, decision.kind, euros(day, surplus), *family, decision.why]
+        yield [*order_cells(block), *energies, decision.kind, euros(day, surplus), *family, decision.why, decision.code]
 
 
 def participants(day):
@@ -120,6 +113,62 @@ def commands(read, reasons):
         yield [number, *command_cells(command), "refused" if reason else "done", reason or ""]
 
 
+class Result(NamedTuple):
+    """What became of an order of the book."""
+
+    outcome: str
+    surplus: str  # of a block, in EUR
+    executed: str  # MWh
+    amount: str  # EUR
+    code: str
+    why: str
+
+
+def results_by_row(day):
+    """What became of each order of the book, by participant and name."""
+    found = iter(zip(decisions.decisions(day.problem, day.said.accepted, day.outcome, plain_amount), day.said.surpluses))
+    executed = iter(day.said.executed)
+    made = {}
+    for row, trades_made in trades.row_trades(day):
+        amount = sum(trade.amount() if trade.side == "sell" else -trade.amount() for trade in trades_made)
+        sums = energy(day, sum(trade.volume for trade in trades_made)), euros(day, amount)
+        if row.order.kind == "hour":
+            done = next(executed)
+            made[row.who, row.name] = Result(trades.how_far(row.order, done), "", *sums, *decisions.hourly(day, row, done))
+        else:
+            decision, surplus = next(found)
+            made[row.who, row.name] = Result(decision.kind, euros(day, surplus), *sums, decision.code, decision.why)
+    return made
+
+
+def last_commands(day):
+    """The number of the command after which each order of the book wasn't changed any more, by participant and name; and of the
+    commands whose order was changed later, the number of the next one that did."""
+    last, replaced = {}, {}
+    for number, (command, reason) in enumerate(zip(day.journal.commands, day.reasons), 1):
+        if reason is None and not isinstance(command, journal.Close):
+            key = command.who, command.name
+            if key in last:
+                replaced[last[key]] = number
+            last[key] = number
+    return last, replaced
+
+
+def statement(day):
+    """Each command with the book's reply, and with what became of its order if no later command changed it."""
+    yield ["command", "what", *ORDER, "reply", "reason", "outcome", "executed_mwh", "surplus_eur", "amount_eur", "code", "why"]
+    became, (last, replaced) = results_by_row(day), last_commands(day)
+    for number, (command, reason) in enumerate(zip(day.journal.commands, day.reasons), 1):
+        key = getattr(command, "who", None), getattr(command, "name", None)
+        cells = [number, *command_cells(command), "refused" if reason else "done", reason or ""]
+        result = became.get(key) if last.get(key) == number else None
+        if result:
+            yield [*cells, result.outcome, result.executed, result.surplus, result.amount, result.code, result.why]
+        else:
+            why = REASONS[reason] if reason else f"command {replaced[number]} changes it" if number in replaced else ""
+            yield [*cells, "", "", "", "", "", why]
+
+
 def refused(reasons):
     """How many commands were refused, in words; None if none was."""
     count = sum(reason is not None for reason in reasons)
@@ -142,6 +191,7 @@ TABLES = {
     "blocks": blocks,
     "curves": published.curves,
     "commands": lambda day: commands(day.journal, day.reasons),
+    "statement": statement,
     "figures": published.figures,
 }
 # The same in a long form: a row for each period of each thing, or for each number of a period.

@@ -35,19 +35,31 @@ def records(text):
 
 def placed_records(text, comma=b","):
     """The same, each with its offset in the text; also of a text whose fields are separated by something other than commas."""
+    return ((begin, fields) for begin, fields, _ in scanned(text, comma))
+
+
+def open_quote(text, comma=b","):
+    """Where a quote begins that isn't closed on its line; None if there is none."""
+    return next((quote for _, _, quote in scanned(text, comma) if quote is not None), None)
+
+
+def scanned(text, comma):
+    """The offset and the fields of each record, and where a quote begins in it that isn't closed on its line, or None."""
     field_from = field_of(comma)
     at = LINE_ENDS.match(text).end()
     while at < len(text):
-        begin, fields = at, []
+        begin, fields, quote = at, [], None
         while True:
             field = field_from.match(text, at)
             quoted, behind, plain = field.groups()
+            if quote is None and quoted is not None and (behind is None or LINE_END.search(quoted)):
+                quote = at
             fields.append(plain if quoted is None else quoted.replace(b'""', b'"') + (behind or b""))
             at = field.end()
             if text[at : at + 1] != comma:
                 break
             at += 1
-        yield begin, fields
+        yield begin, fields, quote
         at = LINE_ENDS.match(text, at).end()
 
 
@@ -88,6 +100,40 @@ def name(text):
     return text.decode() if NAME.fullmatch(text) else None
 
 
+MOST_SHOWN = 80  # characters of a stranger's text in a message
+
+
+def escaped(words):
+    """A text of which each character that isn't printable is escaped, such as an escape or a line end. Of a text with bytes that aren't
+    UTF-8, as names of files may have, these bytes are."""
+
+    def shown(character):
+        if character.isprintable():
+            return character
+        at = ord(character)
+        return f"\\x{at - 0xDC00:02x}" if 0xDC80 <= at <= 0xDCFF else character.encode("unicode_escape", "surrogatepass").decode()
+
+    return words if words.isprintable() else "".join(map(shown, words))
+
+
+def cut(words, most):
+    """The beginning of a stranger's text or bytes, as it may be printed, and how long the whole is if that is longer."""
+    words = words.decode(errors="surrogateescape") if isinstance(words, bytes) else words
+    return escaped(words[:most]), f" ({len(words):,} characters)" if len(words) > most else ""
+
+
+def safe(words, most=MOST_SHOWN):
+    """A stranger's text or bytes in a message: on one line, with nothing that a terminal would obey, and cut, with its length said."""
+    shown, length = cut(words, most)
+    return f"{shown}..{length}" if length else shown
+
+
+def quoted(words, most=MOST_SHOWN):
+    """The same in quotes."""
+    shown, length = cut(words, most)
+    return f"'{shown}..'{length}" if length else f"'{shown}'"
+
+
 def counted(count, one, several=None):
     """A number of things, such as `1 block` or `2 blocks`."""
     return f"{count} {one if count == 1 else several or one + 's'}"
@@ -101,6 +147,13 @@ def fixed(value, digits, thousands=""):
     sign = "-" if value < 0 else ""
     point = f".{int(rest):0{digits}d}" if digits else ""
     return f"{sign}{whole:,}".replace(",", thousands) + point
+
+
+def grouped(number):
+    """An exact amount such as `-1234.500` for readers: with commas between thousands, and no zeros after its second digit."""
+    whole, _, digits = number.partition(".")
+    sign = "-" if whole.startswith("-") else ""
+    return f"{sign}{abs(int(whole)):,}.{digits[:2]}{digits[2:].rstrip('0')}"
 
 
 def cents(price, thousands=""):
@@ -125,10 +178,10 @@ def exact_euros(amount, hours):
     return f"{whole}.{digits[:2]}{digits[2:].rstrip('0')}"
 
 
-NARROW = "\u202f"  # the narrow space between thousands, which no line is broken at
+THOUSANDS = ","  # between thousands, for readers
 
 
-def shown(value, digits, thousands=NARROW):
+def shown(value, digits, thousands=THOUSANDS):
     """A number for readers, rounded to this many digits after the point. What would round to nothing and isn't has more."""
     value = Fraction(value)
     scaled = int(abs(value) * 10**digits + Fraction(1, 2))
@@ -147,7 +200,7 @@ def shown_volume(tenths):
     return shown(Fraction(tenths, 10), 1)
 
 
-def amount(value, hours, thousands=NARROW):
+def amount(value, hours, thousands=THOUSANDS):
     """An amount as `euros` takes it, for readers: in EUR with two digits."""
     return shown(Fraction(value) * hours / 1_000, 2, thousands)
 

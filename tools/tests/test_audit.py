@@ -13,7 +13,7 @@ import support
 from support import AUCTION, cleared_cases, journal_of, printed, problem, results_of, tool
 
 import days
-from lib import best, book, check, command, journal, period, results, rules, selection, tables
+from lib import best, book, check, command, journal, period, results, rules, selection, sheets, tables
 from lib.progress import Progress
 from lib.text import exact_euros
 from small_days import ranked, small_problems
@@ -317,7 +317,7 @@ class Best(unittest.TestCase):
         for method in self.methods():
             with self.subTest(method):
                 status, out, _ = audit(data, results_of(data, frozenset({1})), "--best", "--by", method)
-                self.assertEqual((status, b"ranks above" in out), (1, True))
+                self.assertEqual((status, b"an equally good selection takes precedence: it accepts A,K1, which is earlier" in out), (1, True))
 
 
 def audit(data, text, *words):
@@ -346,9 +346,8 @@ class CommandLine(unittest.TestCase):
         data, text = journal_of("cancel,A,B,,,,,,"), b"day,24\n1,refused,UnknownOrder\n2,done\n"
         self.assertEqual(audit(data, text, "--replies")[0], command.DONE)
         for other, said in (
-            (text[:-1], "the last line of the replies has no line end"),
-            (text + b"3,done\n", "replies line 4: '3,done' doesn't belong there"),
-            (b"1,done\n" + text, "replies line 1: '1,done' doesn't belong there"),
+            (text + b"3,done\n", "replies line 4: '3,done' is not a line of these replies"),
+            (b"1,done\n" + text, "replies line 1: '1,done' is not a line of these replies"),
             (text.replace(b"1,refused,UnknownOrder\n", b""), "replies line 2: '1,refused,UnknownOrder' is missing"),
             (
                 text.replace(b"refused,UnknownOrder", b"done"),
@@ -357,26 +356,28 @@ class CommandLine(unittest.TestCase):
         ):
             self.assertEqual(audit(data, other, "--replies"), (command.DIFFERS, f"{said}\n".encode(), ""))
         self.assertEqual(audit(data, b"", "--replies")[0], command.DIFFERS)
+        said = b"the encoding differs: the last line has no line end\nas the rules say: 2 replies, 1 of 2 commands refused\n"
+        self.assertEqual(audit(data, text[:-1], "--replies"), (command.ENCODING, said, ""))
 
     def test_the_text_of_a_day(self):
         day = AUCTION.read_bytes() + b"results\n" + printed(AUCTION)
         self.assertEqual(tool("audit", "-", data=day)[0], command.DONE)
         self.assertEqual(tool("audit", "-", data=day.replace(b"welfare,3", b"welfare,4"))[0], command.DIFFERS)
-        self.assertEqual(tool("audit", "-", data=day.replace(b"day,24,", b'"day",24,'))[0], command.DIFFERS)
+        self.assertEqual(tool("audit", "-", data=day.replace(b"day,24,", b'"day",24,'))[0], command.ENCODING)
         self.assertEqual(tool("audit", "-", data=AUCTION.read_bytes())[0], command.NO_INPUT)
 
     def test_the_most_blocks(self):
         blocks = [f"submit,A,K{number},block,sell,1,1:1,," for number in range(24)]
         data = journal_of(*blocks)
         text = results_of(data, frozenset())
-        wanted = command.DONE if command.has("numpy") or command.elsewhere("numpy") else command.NO_PACKAGE
+        wanted = command.DONE if command.has("numpy") or command.elsewhere("numpy") else command.FAILED
         self.assertEqual(audit(data, text, "--best")[0], wanted)
 
     def test_too_little_time(self):
         """The other rules have been checked, and it is said how far the search is."""
         methods = {"enumeration": "0 of 512 selections have been tried"}
         if command.has("scipy"):
-            methods["highs"] = "HiGHS isn't done"
+            methods["highs"] = "HiGHS is still searching"
         for method, far in methods.items():
             status, out, err = audit(AUCTION.read_bytes(), printed(AUCTION), "--best", "--by", method, "--seconds", "0")
             said = f"audit: the results obey the other rules, but after 0 seconds, {far}: --seconds gives more time\n"
@@ -398,32 +399,18 @@ class CommandLine(unittest.TestCase):
             told = []
             with unittest.mock.patch.object(solver.Model, "next", lambda *_: next(answers)):
                 self.assertEqual(solver.better(day, accepted, welfare, Progress("audit", 60), told.append), (None, said))
-            many = "HiGHS has offered 2 other selections and isn't done"
-            words = ["HiGHS isn't done", "HiGHS has offered 1 other selection and isn't done", many]
+            many = "HiGHS is still searching, and has offered 2 other selections"
+            words = ["HiGHS is still searching", "HiGHS is still searching, and has offered 1 other selection", many]
             self.assertEqual(told, words[: len(offers)])
 
-    def test_lines_that_end_with_two_bytes(self):
-        """One line says it, of results, replies and days; and what else is wrong is said too."""
-        returned = printed(AUCTION).replace(b"\n", b"\r\n")
-        said = b"the lines end with CR LF instead of LF alone\n"
-        self.assertEqual(audit(AUCTION.read_bytes(), returned), (command.DIFFERS, said, ""))
-        status, out, _ = audit(AUCTION.read_bytes(), returned.replace(b"welfare,3", b"welfare,4"))
-        self.assertEqual((status, out.startswith(said), out.count(b"\n")), (command.DIFFERS, True, 2))
-        replies = b"day,24\r\n1,done\r\n"
-        self.assertEqual(audit(journal_of(), replies, "--replies"), (command.DIFFERS, said, ""))
-        day = (AUCTION.read_bytes() + b"results\n" + printed(AUCTION)).replace(b"\n", b"\r\n")
-        self.assertEqual(tool("audit", "-", data=day), (command.DIFFERS, said, ""))
-        self.assertEqual(audit(AUCTION.read_bytes().replace(b"\n", b"\r\n"), printed(AUCTION))[0], command.DONE)
-        mark = b"\xef\xbb\xbf"
-        said = b"the text begins with a byte order mark\n"
-        self.assertEqual(audit(AUCTION.read_bytes(), mark + printed(AUCTION)), (command.DIFFERS, said, ""))
+    def test_an_empty_line_is_no_encoding(self):
         said = b"results line 4: the line is empty, and should not be there\n"
         self.assertEqual(audit(AUCTION.read_bytes(), printed(AUCTION).replace(b"period,2,", b"\nperiod,2,")), (command.DIFFERS, said, ""))
 
     def test_a_text_in_the_place_of_another_is_named(self):
         journal_data, text = AUCTION.read_bytes(), printed(AUCTION)
         replies, day = b"day,24\n1,done\n", journal_data + b"results\n" + text
-        orders = tables.written([tables.ORDER]).encode()
+        orders = sheets.written([tables.ORDER]).encode()
         for words, one, other, said in (
             ([], text, journal_data, "journal has results instead of a journal"),
             ([], journal_data, journal_data, "results has a journal instead of results"),
@@ -440,8 +427,8 @@ class CommandLine(unittest.TestCase):
     def test_one_stray_or_missing_line_is_one_message(self):
         data, lines = AUCTION.read_bytes(), printed(AUCTION).splitlines(keepends=True)
         for at in (0, 1, 2, 30, len(lines)):
-            stray = b"".join([*lines[:at], b"stray,\xff\r\x1b,line\n", *lines[at:]])
-            said = f"results line {at + 1}: 'stray,\\xff\\r\\x1b,line' doesn't belong there\n".encode()
+            stray = b"".join([*lines[:at], b"stray,\xff\x0b\x1b,line\n", *lines[at:]])
+            said = f"results line {at + 1}: 'stray,\\xff\\x0b\\x1b,line' is not a line of these results\n".encode()
             self.assertEqual(audit(data, stray), (command.DIFFERS, said, ""))
         for at, about in (0, "the day"), (1, "the welfare"), (4, "period 3"), (len(lines) - 1, "block OLD,UNIT-7"):
             missing = b"".join(lines[:at] + lines[at + 1 :])

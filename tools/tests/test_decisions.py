@@ -4,9 +4,9 @@ import random
 import re
 import unittest
 
-from support import AUCTION, day_of, journal_of, printed, problem, results_of
+from support import AUCTION, TOP, day_of, journal_of, printed, problem, results_of
 
-from lib import book, decisions, journal, selection, text
+from lib import book, decisions, journal, selection, tables, text
 from plain import Plain
 
 # Periods in which 50 MW are bought at 80 EUR, and offered at 60. Without a block the price is 70 EUR; with a selling one it is 60,
@@ -152,6 +152,40 @@ class Hand(unittest.TestCase):
         self.assertTrue(told(data, {0})[1][1].endswith(f"{end} of equals the one with the earlier block is taken"))
         self.assertTrue(told(data, {1})[0][1].endswith(f"{end} it ranks above"))
 
+    def test_a_twin_that_stands_earlier(self):
+        """It is the reason, whatever would happen if both were accepted."""
+        data = journal_of("submit,A,B,hour,buy,6000,8:10,,", "submit,A,K1,block,sell,100,8:10,,", "submit,B,K1,block,sell,100,8:10,,")
+        self.assertEqual(best_of(data), {0})
+        why = "would gain 59.00 EUR at the prices, but A,K1 offers the same and stands earlier in the book"
+        self.assertEqual(told(data, {0})[1], (decisions.PARADOX, why))
+        other = data.replace(b"submit,B,K1,block,sell,100", b"submit,B,K1,block,sell,101")
+        self.assertIn("with it period 8 wouldn't balance", told(other, {0})[1][1])
+
+    def test_codes(self):
+        """Each is in the page of the tables, and each of a block that results can have is found."""
+        page = (TOP / "docs" / "TABLES.md").read_text()
+        names = [name for name in vars(decisions) if name.isupper() and isinstance(getattr(decisions, name), str)]
+        codes = {getattr(decisions, name) for name in names} - {decisions.ACCEPTED, decisions.REJECTED, decisions.PARADOX}
+        self.assertEqual(set(re.findall(r"^\| `([a-z-]+)` \| an? (?:hourly|accepted|rejected|block)", page, re.MULTILINE)), codes)
+        found = set()
+        for data, _, best in drawn(400):
+            day = problem(data)
+            found |= {decision.code for decision in decisions.decisions(day, best, selection.outcome(day, best))}
+        right = {"gains", "covered", "loses", "group", "parent", "never", "would-lose", "unbalanced", "less-welfare", "tie"}
+        self.assertLessEqual(found, right)
+        self.assertLessEqual(right - {"tie", "never", "less-welfare"}, found)
+
+    def test_hourly_orders(self):
+        day = day_of(AUCTION.read_bytes(), printed(AUCTION))
+        found = {name: (row.code, row.outcome, row.why) for (_, name), row in tables.results_by_row(day).items()}
+        said = "its limit is the price, 92.00 EUR/MWh; not all that is offered at it is needed"
+        self.assertEqual(found["FLEX-1"], ("at-the-price", "in part", said))
+        self.assertEqual(found["FLEX-2"], ("out-of-the-money", "not", "its limit is worse than the price, 47.00 EUR/MWh"))
+        self.assertEqual(found["LOAD-1"], ("in-the-money", "in full", "its limit is better than the price, 92.00 EUR/MWh"))
+        data = journal_of("submit,A,B,hour,buy,6000,8:10,,")
+        day = day_of(data, results_of(data, frozenset()))
+        self.assertEqual(tables.results_by_row(day)["A", "B"].why, "nothing is traded in period 8")
+
     def test_the_auction_day(self):
         day = day_of(AUCTION.read_bytes(), printed(AUCTION))
         found = decisions.decisions(day.problem, day.said.accepted, day.outcome, amount)
@@ -238,7 +272,8 @@ class Random(unittest.TestCase):
         named = set(re.findall(r"K\d", decision.why))
         if welfare is None:
             seen["unbalanced"] += 1
-            self.assertTrue("wouldn't balance" in decision.why or surpluses[place] < 0, decision.why)
+            said = "wouldn't balance" in decision.why or "offers the same" in decision.why
+            self.assertTrue(said or surpluses[place] < 0, decision.why)
         else:
             losers = plain.losers(choices[family], plain.surpluses(choices[family]))
             self.assertEqual(decision.other.losers, losers)

@@ -233,10 +233,14 @@ class CommandLine(unittest.TestCase):
         self.assertEqual(status, command.DIFFERS)
         self.assertTrue(lines[0].startswith(f"a better selection accepts {names}: it has a greater welfare, {euros} EUR, which is "))
         self.assertEqual(lines[1], f"unlike the results it accepts {names}")
-        prices = [str(cleared.price) for cleared in selection.outcome(day, found.accepted).cleared.values()]
-        self.assertEqual(lines[2], f"its prices, from period 1 on, are {' '.join(prices)}")
-        self.assertRegex(lines[3], r"^the results have other prices in periods \d+( \d+)*$")
-        self.assertEqual(len(lines), 4)
+        better, published = (selection.outcome(day, accepted).cleared for accepted in (found.accepted, frozenset()))
+        changed = [
+            f"its price in period {number} is {one.price / 100:.2f} EUR/MWh, and the results have {published[number].price / 100:.2f}"
+            for number, one in better.items()
+            if one.price != published[number].price
+        ]
+        self.assertEqual(lines[2:], changed)
+        self.assertGreater(len(changed), 3)
 
     @unittest.skipUnless(command.is_debians(), "this isn't Debian's Python")
     def test_without_numpy_fewer_blocks_are_tried(self):

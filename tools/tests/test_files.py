@@ -89,7 +89,7 @@ class Files(unittest.TestCase):
                 self.assertEqual(status, 0)
                 if name != "report":  # which says it too
                     self.assertEqual(out, right[1])
-                self.assertEqual(err, f"{right[2]}{name}: the results break the rules ({said}): see tools/audit\n")
+                self.assertEqual(err, f"{right[2]}{name}: the encoding of the results differs ({said}): see tools/audit\n")
 
     def test_results_that_break_the_rules_are_said_to(self):
         self.write(AUCTION.read_bytes(), printed(AUCTION).replace(b"welfare,3", b"welfare,4"))

@@ -115,6 +115,40 @@ class Fuzz(unittest.TestCase):
         self.assertEqual(out.splitlines()[-1], "0 passed, 1 failed")
 
 
+class Doctored(unittest.TestCase):
+    """The fuzzer of doctored pairs, with a program that is right and with ones that aren't."""
+
+    def doctored(self, *words, defect=""):
+        with tempfile.TemporaryDirectory() as folder:
+            run = [sys.executable, support.TOP / "tests" / "fuzz" / "doctored.py", fake_program(folder, "dam"), *words]
+            ran = subprocess.run(run, capture_output=True, text=True, env={**os.environ, "DAM_DEFECT": defect})
+            return ran.returncode, ran.stdout + ran.stderr
+
+    def test_a_program_that_is_right(self):
+        status, out = self.doctored("--count", "12")
+        self.assertEqual((status, out.splitlines()[-1]), (0, "12 passed, 0 failed"), out)
+        self.assertRegex(out, r"^by status: .*\d with 1")
+
+    def test_a_price_on_which_the_audit_and_the_program_differ_is_found(self):
+        status, out = self.doctored("--count", "12", defect="price")
+        self.assertEqual(status, 1)
+        self.assertRegex(out, r"case \d+ of seed 1: .*: the status is \d and should be \d\n")
+
+    def test_the_changes(self):
+        """Each kind of change alters the text, except for a field that was so before; the content is what is left of an encoding."""
+        import doctor
+
+        data, alike = support.printed(support.AUCTION), 0
+        for number in range(500):
+            rng = random.Random(number)
+            alike += doctor.doctored(rng, data)[1] == data
+            words, other = doctor.encoded(rng, data)
+            self.assertEqual((other != data, doctor.decoded(other)), (True, data), words)
+        self.assertLess(alike, 50)
+        for text in (b"a,b\n\nc\n", b'"a,b",c\n', b"\xff\n"):
+            self.assertIsNone(doctor.decoded(text))
+
+
 @unittest.skipUnless(command.has("numpy"), "numpy is missing (Debian's python3-numpy)")
 class Selections(unittest.TestCase):
     def selections(self, *words, defect=""):

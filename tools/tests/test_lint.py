@@ -59,6 +59,36 @@ class Hand(unittest.TestCase):
         self.check(GOOD + b"results\n" + text, ("line 5", "the results of a day begin here, which aren't part of a journal"))
         self.check(b"day,24,,,,,,,\n" + text[7:], ("line 2", "these are results"), ("line 2", "no command closes the book"))
 
+    def test_quotes_that_are_not_closed(self):
+        """Each is reported on its line, and what follows is read as if it weren't there."""
+        said = "a quote begins a field and isn't closed on its line: remove it, or close it"
+        self.check(GOOD.replace(b"WIND", b'"WIND'), ("line 2", said))
+        self.check(GOOD.replace(b"WIND", b'"WIND').replace(b"UNIT", b'"UNIT'), ("line 2", said), ("line 3", said))
+        self.check(GOOD.replace(b"WIND", b'"wind'), ("line 2", said), ("line 2, order", "write WIND-8"))
+        self.check(GOOD.replace(b"close", b'"close'), ("line 4", said))
+        self.check(GOOD.replace(b"day", b'"day'), ("line 1", said))
+        self.assertEqual("\n".join(told(b'"a\n' * 100)).count(said), lint.MOST_QUOTES)
+
+    def test_a_line_with_other_separators(self):
+        """It alone; its fields are read nevertheless if there are nine."""
+        for mark, name in ((";", "semicolons"), ("\t", "tabs")):
+            said = ("line 2", f"the fields of this line are separated by {name}: separate them by commas")
+            line = HOUR.decode().replace(",", mark).encode()
+            self.check(GOOD.replace(HOUR, line), said)
+            self.check(GOOD.replace(HOUR, line.replace(b"1200", b"12.5")), said, ("line 2, price", "write 1250"))
+            self.check(GOOD.replace(HOUR, line + mark.encode()), said)
+        self.check(GOOD.replace(BLOCK, BLOCK.replace(b",", b";")), ("line 3", "separated by semicolons"))
+
+    def test_excel_workbooks(self):
+        old = b"\xd0\xcf\x11\xe0\xa1\xb1\x1a\xe1"
+        for signature, said in (b"PK\x03\x04", "this is an Excel workbook: "), (old, "this is an old Excel workbook: "):
+            data = signature + bytes(range(256)) * 100
+            self.check(data, ("line 1", said))
+            for words in (["audit", "-", AUCTION], ["audit", AUCTION, "-"], ["table", "-", AUCTION], ["plot", AUCTION, "-"]):
+                status, out, err = tool(*words, data=data)
+                self.assertEqual((status, out, err.count("\n") <= 2), (command.NO_INPUT, b"", True), err)
+                self.assertIn("xcel workbook", err)
+
     def test_other_kinds_of_files(self):
         """One line says what the file seems to be, and which tool reads it."""
         orders = tool("table", "--rows", "orders", AUCTION, AUCTION.with_suffix(".stdout"))[1]

@@ -14,8 +14,9 @@ import support
 from support import AUCTION, FIRST, TOP, printed
 
 import dam_tools
-from lib import command, shapes, tables
+from lib import command, shapes, sheets, tables
 
+END = "is the first or the last day of the calendar: it should be another"
 FAKE = support.TOOLS / "tests" / "fake_dam.py"
 
 
@@ -37,11 +38,44 @@ class Module(unittest.TestCase):
             self.assertEqual(dam_tools.records(day, name), dam_tools.records(again, name))
         self.assertEqual(dam_tools.TABLES, tuple(tables.TABLES))
 
+    def test_replies_of_the_program(self):
+        replies = dam_tools.replay(FIRST, program=self.program)
+        self.assertEqual((len(replies), replies[0], replies[0].done), (15, (1, None), True))
+        self.assertEqual([reply.command for reply in replies if not reply.done], [9, 12, 13, 15])
+        self.assertEqual(replies[8].reason, "NameTaken")
+        wrong = Path(self.program.parent, "wrong")
+        wrong.write_text("#!/bin/sh\nprintf 'day,24\\n1,done\\n'\n")
+        wrong.chmod(0o755)
+        with self.assertRaisesRegex(dam_tools.Fault, "^the program printed other replies than those of the journal$"):
+            dam_tools.replay(FIRST, program=wrong)
+
+    def test_what_is_printed_of_objects_is_short(self):
+        self.assertEqual(repr(dam_tools.read_journal(FIRST)), "<Journal: 24 periods, 15 commands>")
+        day = dam_tools.read_results(AUCTION, AUCTION.with_suffix(".stdout"))
+        self.assertEqual(repr(day), "<Day: 24 periods, 80 hourly orders, 9 blocks, welfare 3,021,520.00 EUR>")
+        day = dam_tools.read_results(AUCTION, printed(AUCTION).replace(b"welfare,3", b"welfare,4"))
+        self.assertTrue(repr(day).endswith(", 1 fault>"), day)
+        self.assertRegex(dam_tools.__version__, r"^\d+\.\d+\.\d+$")
+
+    def test_several_tables_of_orders(self):
+        heads = b"participant,order,kind,side,price_eur_mwh,periods,volume_mw\n"
+        made = dam_tools.journal_of_orders(heads + b"A,H,hour,buy,1,8,5\n", heads + b"B,H,hour,sell,1,07:00-08:00,5\n", close=False)
+        self.assertEqual([(command.who, command.order.volumes) for command in made.commands], [("A", ((8, 50),)), ("B", ((8, 50),))])
+        with self.assertRaisesRegex(dam_tools.Fault, "^/nowhere/a.xlsx can't be read"):
+            dam_tools.journal_of_orders("/nowhere/a.xlsx")
+
+    def test_flat_records(self):
+        day = dam_tools.read_results(AUCTION, AUCTION.with_suffix(".stdout"))
+        for name in dam_tools.TABLES:
+            for row in dam_tools.records(day, name, flat=True):
+                self.assertFalse([value for value in row.values() if isinstance(value, list)])
+        self.assertEqual(dam_tools.records(day, "orders", flat=True)[-1]["periods"], "18-20")
+
     def test_bytes_and_tables_of_orders(self):
         journal = dam_tools.read_journal(FIRST)
         self.assertEqual(dam_tools.records(journal, "commands")[12]["reason"], "PeriodOutOfDay")
         day = dam_tools.read_results(AUCTION.read_bytes(), printed(AUCTION))
-        text = tables.written(tables.orders(day)).encode()
+        text = sheets.written(tables.orders(day)).encode()
         made = dam_tools.journal_of_orders(text)
         self.assertEqual(dam_tools.clear(made, program=self.program).said.welfare, day.said.welfare)
 
@@ -58,7 +92,7 @@ class Module(unittest.TestCase):
         with self.assertRaises(dam_tools.Fault):
             dam_tools.journal_of_orders(b"x\n")
         with self.assertRaisesRegex(dam_tools.Fault, "a day has 23, 24, 25, 92, 96 or 100 periods, not 26"):
-            dam_tools.journal_of_orders(tables.written([tables.ORDER]).encode(), periods=26)
+            dam_tools.journal_of_orders(sheets.written([tables.ORDER]).encode(), periods=26)
         day = dam_tools.read_results(AUCTION, AUCTION.with_suffix(".stdout"))
         for words in ({"table": "none"}, {"table": "curves", "long": True}):
             with self.assertRaises(ValueError):
@@ -79,13 +113,16 @@ class Module(unittest.TestCase):
             (lambda: dam_tools.records(day, date="25.11.2026"), "25.11.2026: it should be a day, such as 2026-11-25"),
             (lambda: dam_tools.records(day, date=20261125), "20261125: it should be a datetime.date, or a text such as 2026-11-25"),
             (lambda: dam_tools.records(day, date="2026-03-29"), "2026-03-29 has 23 hours, so 23 or 92 periods, but the day has 24"),
+            (lambda: dam_tools.records(day, date="9999-12-31"), f"9999-12-31 {END}"),
+            (lambda: dam_tools.records(day, date=datetime.date.min), f"0001-01-01 {END}"),
+            (lambda: dam_tools.records(day, date=20.5), "20.5: it should be a datetime.date, or a text such as 2026-11-25"),
             (
                 lambda: dam_tools.records(day, "orders", date="2026-11-25"),
-                "a date has no use with orders, which has no column of periods: long=True",
+                "a date can't be used with orders, which has no column of periods: long=True",
             ),
             (
                 lambda: dam_tools.records(day, "figures", date="2026-11-25"),
-                "a date has no use with figures, which has no column of periods",
+                "a date can't be used with figures, which has no column of periods",
             ),
         ):
             if "date" in said and not command.has_zone(shapes.ZONE):
@@ -98,7 +135,8 @@ class Module(unittest.TestCase):
             (text.replace(b"\n", b"\r\n"), "the lines end with CR LF instead of LF alone"),
             (b"\xef\xbb\xbf" + text, "the text begins with a byte order mark"),
         ):
-            self.assertEqual(dam_tools.read_results(AUCTION, other).wrong, [said])
+            day = dam_tools.read_results(AUCTION, other)
+            self.assertEqual((day.wrong, day.odd), ([], [said]))
 
     def test_what_is_a_number_is_one_everywhere(self):
         """A whole number in the figures of JSON, in its rows, and in records."""
@@ -158,7 +196,7 @@ class Module(unittest.TestCase):
 
     @unittest.skipUnless(command.has("pandas") and command.has_zone(shapes.ZONE), "pandas or the time zones are missing")
     def test_the_example_of_the_pages(self):
-        (example,) = re.findall(r"```python\n([^`]*import dam_tools.*?)```", (TOP / "docs" / "USING.md").read_text(), re.DOTALL)
+        example = self.examples()[0]
         built = '"crates/dam_cli/out/dam_cli"'
         self.assertIn(built, example)
         Path(self.program.parent, "day.csv").write_bytes(AUCTION.read_bytes())
@@ -168,6 +206,29 @@ class Module(unittest.TestCase):
         self.assertEqual((ran.returncode, ran.stderr), (0, ""))
         self.assertIn("OLD UNIT-7 paradoxically rejected would gain", ran.stdout)
         self.assertRegex(ran.stdout, r"STAD +-1193050\.0")
+
+    def examples(self):
+        return re.findall(r"```python\n([^`]*import dam_tools.*?)```", (TOP / "docs" / "USING.md").read_text(), re.DOTALL)
+
+    def test_the_example_for_parquet(self):
+        """It is run if pyarrow is there, and its query too if DuckDB is; otherwise the frames are written as CSV, which needs less."""
+        self.assertEqual(len(self.examples()), 2)
+        example, folder = self.examples()[1], self.program.parent
+        if not command.has("pandas"):
+            self.skipTest("pandas is missing (Debian's python3-pandas)")
+        Path(folder, "day.csv").write_bytes(AUCTION.read_bytes())
+        Path(folder, "results.txt").write_bytes(printed(AUCTION))
+        if not command.has("pyarrow"):
+            example = example.replace("to_parquet", "to_csv")
+        ran = subprocess.run([sys.executable, "-B", "-c", example], cwd=folder, env={**os.environ, "PYTHONPATH": str(support.TOOLS)})
+        self.assertEqual(ran.returncode, 0)
+        self.assertTrue(Path(folder, "orders.parquet").stat().st_size and Path(folder, "executions.parquet").stat().st_size)
+        if command.has("pyarrow") and command.has("duckdb"):
+            import duckdb
+
+            query = re.search(r"```sql\n(.*?)```", (TOP / "docs" / "USING.md").read_text(), re.DOTALL)[1]
+            found = duckdb.sql(query.replace("executions.parquet", str(Path(folder, "executions.parquet")))).fetchall()
+            self.assertAlmostEqual(dict(found)["STAD"], -1_193_050.0)
 
     def test_frames_without_pandas(self):
         day = dam_tools.read_results(AUCTION, AUCTION.with_suffix(".stdout"))

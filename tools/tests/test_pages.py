@@ -1,9 +1,16 @@
 """The pages: that links lead somewhere, that lines and cells can be read, and that README's first example is printed."""
 
 import re
+import shlex
+import subprocess
+import sys
+import tempfile
 import unittest
+from pathlib import Path
 
-from support import TOP, book, cases, journal, printed, tool
+from support import AUCTION, TOP, book, cases, journal, printed, selection, tool
+
+from lib import best
 
 CRATES = sorted(path for path in (TOP / "crates").iterdir() if (path / "src").is_dir())
 PAGES = [TOP / "README.md", TOP / "CHANGELOG.md", *sorted((TOP / "docs").glob("*.md")), *(crate / "README.md" for crate in CRATES)]
@@ -101,8 +108,33 @@ class Pages(unittest.TestCase):
         table = re.search(r"```text\n(participant,order,.*?)```", (TOP / "docs" / "USING.md").read_text(), re.DOTALL)[1]
         status, made, said = tool("table", "--journal", "-", data=table.encode())
         self.assertEqual((status, said), (0, ""))
-        _, reasons = book.run(journal.read_journal(made))
+        closed, reasons = book.run(journal.read_journal(made))
         self.assertEqual(reasons, [None] * len(table.splitlines()))
+        problem = selection.Problem(closed)
+        found, _ = best.enumerate_all(problem)
+        prices = {number: cleared.price for number, cleared in selection.outcome(problem, found.accepted).cleared.items()}
+        self.assertEqual((found.accepted, prices[8], prices[9]), (frozenset({0, 1}), 9_500, 9_500))
+
+    def test_the_recipe_for_many_days(self):
+        """A day that can't be cleared is named and leaves nothing; the others are audited."""
+        (recipe,) = re.findall(r"```sh\n(ls days.*?)```", (TOP / "docs" / "USING.md").read_text(), re.DOTALL)
+        with tempfile.TemporaryDirectory() as folder:
+            Path(folder, "days").mkdir()
+            Path(folder, "tools").symlink_to(TOP / "tools")
+            answer = f'if grep -q "^day,24,"; then cat "{AUCTION.with_suffix(".stdout")}"; else echo input: NotDay >&2; exit 1; fi'
+            Path(folder, "dam").write_text(f"#!/bin/sh\n{answer}\n")
+            Path(folder, "dam").chmod(0o755)
+            for name, data in ("a", AUCTION.read_bytes()), ("b", b"x\n"), ("c d", AUCTION.read_bytes()):
+                Path(folder, "days", f"{name}.csv").write_bytes(data)
+            Path(folder, "days", "b.txt").write_bytes(b"of an earlier run\n")
+            python = f"{shlex.quote(sys.executable)} -B tools/audit"
+            ran = subprocess.run(["sh", "-c", recipe.replace("tools/audit", python)], cwd=folder, capture_output=True, text=True)
+            self.assertEqual(ran.returncode, 3, ran.stderr)
+            self.assertEqual(sorted(ran.stderr.splitlines()), ["days/b.csv was not cleared", "input: NotDay"])
+            self.assertEqual([line.split()[:2] for line in ran.stdout.splitlines()[1:3]], [["a", "right"], ["b", "unread"]])
+            self.assertIn("2 right, 1 unread", ran.stdout)
+            names = {path.name for path in Path(folder, "days").iterdir()}
+            self.assertEqual(names, {"a.csv", "a.txt", "b.csv", "c d.csv", "c d.txt"})
 
     def test_the_refused_commands_are_refused(self):
         text = (TOP / "docs" / "USING.md").read_text()

@@ -27,13 +27,13 @@ class Missing(unittest.TestCase):
         package = "python3-matplotlib"
         for name in ("plot", "report"):
             status, out, err = tool(name, AUCTION, python=without)
-            self.assertEqual((status, out), (command.NO_PACKAGE, b""))
+            self.assertEqual((status, out), (command.FAILED, b""))
             self.assertEqual(err, f"{name}: it needs {self.words('matplotlib')}\n")
         blocks = [f"submit,A,K{number},block,sell,1,1:1,," for number in range(24)]
         day = journal_of(*blocks)
         text = day + b"results\n" + results_of(day, frozenset())
         status, out, err = tool("audit", "--best", "-", data=text, python=without)
-        self.assertEqual((status, out), (command.NO_PACKAGE, b""))
+        self.assertEqual((status, out), (command.FAILED, b""))
         self.assertEqual(err, f"audit: it needs {self.words('numpy')}\n")
 
 
@@ -98,7 +98,7 @@ class Pictures(unittest.TestCase):
             self.assertEqual([tuple(note.xy)[0] for note in arrows], [10.5, 16.5])
             self.assertEqual([text.get_text() for text in axes.texts].count("FILL"), 1)
             drawn = pictures.picture(figure, "svg", words_as_text=True).decode()
-            for words in ("-8\u202f960.00", "146\u202f520.00", "GAS START", "sell 80 MW at 120.00 EUR/MWh"):
+            for words in ("-8,960.00", "146,520.00", "GAS START", "sell 80 MW at 120.00 EUR/MWh"):
                 self.assertIn(words, drawn)
 
     def test_days_of_quarter_hours_have_no_outline_for_each_period(self):
@@ -155,7 +155,7 @@ class Pictures(unittest.TestCase):
                 self.assertEqual(tool("plot", *texts, *words)[0], command.COMMAND_LINE)
             self.assertEqual(tool("plot", *texts, "-o", f"{folder}/none/a.svg")[0], command.NO_INPUT)
             status, _, err = tool("plot", AUCTION, AUCTION, "-o", f"{folder}/a.svg")
-            self.assertEqual((status, "has no results of this journal" in err), (command.NO_INPUT, True))
+            self.assertEqual((status, "has a journal instead of results" in err), (command.NO_INPUT, True))
 
 
 if __name__ == "__main__":

@@ -7,7 +7,7 @@ from unittest import mock
 
 import support  # noqa: F401 (it makes lib found)
 
-from lib.progress import Progress
+from lib.progress import Bar, Progress
 
 
 class Terminal(io.StringIO):
@@ -35,6 +35,28 @@ class Told(unittest.TestCase):
         self.assertEqual(self.told(Terminal(), quiet=True), "")
 
 
+class Bars(unittest.TestCase):
+    def told(self, stream, seconds, **more):
+        """What is shown of ten steps, which take so many seconds each."""
+        with mock.patch("sys.stderr", stream), mock.patch("time.monotonic", side_effect=(seconds * at for at in range(99))):
+            bar = Bar("audit", 10, "days", **more)
+            for _ in range(10):
+                bar.step(1, "1 wrong")
+            bar.end()
+        return stream.getvalue()
+
+    def test_a_bar_is_shown_after_a_moment(self):
+        lines = self.told(Terminal(), 0.2).split("\r")[1:-1]
+        self.assertEqual(lines[0], "audit: [#########.....................] 3 of 10 days, 1 wrong, 1 s")
+        self.assertEqual(lines[-2], f"audit: [{'#' * 30}] 10 of 10 days, 1 wrong, 2 s")
+        self.assertEqual((lines[-1].strip(), len(lines)), ("", 9))
+
+    def test_elsewhere_and_of_short_runs_nothing_is_told(self):
+        self.assertEqual(self.told(Terminal(), 0.01), "")
+        self.assertEqual(self.told(io.StringIO(), 1), "")
+        self.assertEqual(self.told(Terminal(), 1, quiet=True), "")
+
+
 class Time(unittest.TestCase):
     def test_no_step_is_made_when_the_time_is_over(self):
         with self.assertRaisesRegex(TimeoutError, "^after 0 seconds, 0 of 0 selections have been tried: --seconds gives"):
@@ -56,10 +78,10 @@ class Time(unittest.TestCase):
     def test_words_and_the_time_are_shown(self):
         with mock.patch("sys.stderr", Terminal()) as stream:
             progress = Progress("audit", 60)
-            progress.look("HiGHS isn't done")
-        self.assertEqual(stream.getvalue(), "\raudit: HiGHS isn't done, 0 s")
-        with self.assertRaisesRegex(TimeoutError, "^after 0 seconds, HiGHS isn't done: --seconds gives more time$"):
-            Progress("audit", 0).look("HiGHS isn't done")
+            progress.look("HiGHS is still searching")
+        self.assertEqual(stream.getvalue(), "\raudit: HiGHS is still searching, 0 s")
+        with self.assertRaisesRegex(TimeoutError, "^after 0 seconds, HiGHS is still searching: --seconds gives more time$"):
+            Progress("audit", 0).look("HiGHS is still searching")
 
     def test_threads_end_when_it_is_over(self):
         progress, ended = Progress("audit", 60), []

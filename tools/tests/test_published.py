@@ -11,13 +11,13 @@ from fractions import Fraction
 import support
 from support import AUCTION, FIRST, QUARTERS, TOP, day_of, printed, results_of, tool
 
-from lib import clock, command, published, rules, shapes, tables, trades
+from lib import clock, command, published, rules, shapes, sheets, tables, trades
 
 PAGE = (TOP / "docs" / "TABLES.md").read_text()
 
 
 def read(rows):
-    return list(csv.DictReader(io.StringIO(tables.written(rows))))
+    return list(csv.DictReader(io.StringIO(sheets.written(rows))))
 
 
 def days():
@@ -155,10 +155,10 @@ class Times(unittest.TestCase):
             (["--date", "29.3.2026"], "it should be a day, such as 2026-11-25"),
             (["--date", "20261125"], "it should be a day, such as 2026-11-25"),
             (["--date", "2026-02-29"], "it should be a day, such as 2026-11-25"),
-            (["--date", "2026-11-25", "--rows", "orders"], "--date has no use with orders"),
-            (["--only", "3", "--rows", "orders"], "--only has no use with orders"),
+            (["--date", "2026-11-25", "--rows", "orders"], "--date can't be used with orders"),
+            (["--only", "3", "--rows", "orders"], "--only can't be used with orders"),
             (["--only", "25"], "from 1 to 24"),
-            (["--long", "--rows", "curves"], "--long has no use with curves"),
+            (["--long", "--rows", "curves"], "--long can't be used with curves"),
         ):
             status, out, err = tool("table", *texts, *words)
             self.assertEqual((status, out, said in err), (command.COMMAND_LINE, b"", True), err)
@@ -171,8 +171,10 @@ class Json(unittest.TestCase):
             heads = next(iter(of(day)))
             section = re.search(rf"^\*\*{name}\*\*.*?(?=^\*\*|^## )", PAGE, re.MULTILINE | re.DOTALL)[0]
             told = re.findall(r"`([a-z_]+)`", section)
-            if name in ("blocks", "commands"):
+            if name in ("blocks", "commands", "statement"):
                 told += tables.ORDER + tables.RESULT
+            if name == "statement":
+                told += next(tables.commands(day.journal, day.reasons))
             with self.subTest(name):
                 self.assertLessEqual(set(heads), set(told))
         for name, of in tables.LONG.items():

@@ -14,7 +14,7 @@ from lib import command, trades
 
 # Elements that have no end.
 VOID = {"meta", "br", "use", "path", "rect", "stop", "line", "circle"}
-THIN = "\u202f"
+THIN = ","
 
 
 class Reader(html.parser.HTMLParser):
@@ -91,10 +91,12 @@ class Page(unittest.TestCase):
             text = self.page(case.read_bytes(), printed(case), [1, 2])
             read = Reader(text)
             with self.subTest(name):
-                self.assertEqual(read.wrong, [])
+                self.assertEqual((read.wrong, text.startswith("<!doctype html>\n")), ([], True))
                 self.assertEqual(len(read.names), len(set(read.names)))
                 self.assertEqual(read.cited - set(read.names), set())
-                self.assertFalse({"script", "link", "img", "iframe"} & set(read.elements))
+                self.assertFalse({"link", "img", "iframe"} & set(read.elements))
+                self.assertEqual((read.elements.count("script"), "<script>" in text), (1, True))
+                self.assertNotRegex(text, r"(?i)<script [^>]|\bsrc=|@import|https?://(?!www\.w3\.org/|.*\.dtd)|fetch\(")
                 self.assertIn("A <day> & its results", read.texts)
                 self.assertEqual(re.findall(r'(?:fill|stroke)[:=] ?"?(#[0-9a-f]{6})', text), [])
 
@@ -110,7 +112,7 @@ class Page(unittest.TestCase):
             "8 to 20",
             "group FILL",
             "paradoxically rejected",
-            "loses at the prices by itself, and with STAY and EVENING it gains 9\u202f760.00 EUR",
+            "loses at the prices by itself, and with STAY and EVENING it gains 9,760.00 EUR",
             "HasChildren",
             f"521{THIN}550.00",
         ):
@@ -125,7 +127,7 @@ class Page(unittest.TestCase):
             "65 to 84",
             f"3{THIN}098{THIN}696.75",
             "paradoxically rejected",
-            "would gain 675.00 EUR at the prices, but with it the block itself would lose 6\u202f660.00 EUR, COAL,PEAK would lose 3\u202f780.00 EUR",
+            "would gain 675.00 EUR at the prices, but with it the block itself would lose 6,660.00 EUR, COAL,PEAK would lose 3,780.00 EUR",
             "PeriodOutOfDay",
         ):
             self.assertTrue(any(words in text for text in read.texts), words)
@@ -161,7 +163,7 @@ class Page(unittest.TestCase):
             read = Reader(text)
             tables, pictures = read.elements.count("table"), read.elements.count("figure")
             self.assertGreater(tables, 5)
-            self.assertEqual((read.elements.count("caption"), text.count("<caption></caption>")), (tables, 0))
+            self.assertEqual((read.elements.count("caption"), text.count("<caption><span></span></caption>")), (tables, 0))
             self.assertEqual(read.elements.count("figcaption"), pictures)
             self.assertEqual(read.elements.count("th"), text.count("<th scope="))
             # Each picture has a form for broad screens and one for narrow ones.
@@ -169,19 +171,71 @@ class Page(unittest.TestCase):
                 self.assertEqual(text.count(f'<svg class="{kind}" role="img" aria-label="'), pictures)
         self.assertIn("The price goes from 50.00 EUR/MWh in period 1 to 165.00 EUR/MWh in period 75.", text)
 
+    def test_areas_that_show_values(self):
+        text = self.page(AUCTION.read_bytes(), printed(AUCTION), [19])
+        for words in (
+            "<title>period 19, 18:00 to 19:00: 165.00 EUR/MWh, 730.0 MW</title>",
+            "<title>GAS START: accepted; loses at the prices by itself, and with STAY and EVENING it gains 9,760.00 EUR</title>",
+        ):
+            self.assertGreaterEqual(text.count(words), 2, words)
+        self.assertRegex(text, r"<title>supply: [0-9.,]+ to [0-9.,]+ MW at [0-9.,]+ EUR/MWh</title>")
+
+    def test_the_tables_have_the_decision_first(self):
+        text = self.page(AUCTION.read_bytes(), printed(AUCTION))
+        heads = re.findall(r"<th scope=\"col\"[^>]*>([^<]*)</th>", text[text.index('id="blocks"') :])
+        self.assertEqual(heads[:4], ["block", "decision", "what decided", "surplus, EUR"])
+        self.assertIn("blocks name this one as their parent", text)
+
+    def test_the_page_of_a_participant(self):
+        texts = [AUCTION, AUCTION.with_suffix(".stdout"), "-o", "-"]
+        status, out, err = tool("report", *texts, "--participant", "GAS")
+        read, text = Reader(out.decode()), out.decode()
+        self.assertEqual((status, err, read.wrong), (0, "", []))
+        self.assertIn("auction-day: GAS", read.texts)
+        for words in ("FLEX-1", "refused: HasChildren", "2,760.00", "428,340.00", "blocks name this one as their parent"):
+            self.assertIn(words, read.texts)
+        self.assertNotIn("LOAD-1", read.texts)
+        self.assertFalse([words for words in ("STAD", "COAL BASE", "PUMP") if words in text])
+        status, _, err = tool("report", *texts, "--participant", "NOBODY", "--curves", "none")
+        self.assertEqual((status, err), (0, "report: NOBODY has no command in the journal\n"))
+        self.assertEqual(tool("report", *texts, "--participant", "gas")[0], command.COMMAND_LINE)
+
+    def test_many_curves_are_the_same_as_few(self):
+        """Several processes draw them, in their order."""
+        from lib import page
+
+        day = day_of(QUARTERS.read_bytes(), printed(QUARTERS))
+        numbers = list(range(60, 60 + page.FEW_CURVES + 2))
+        many = page.curves_of(day, numbers)
+        self.assertEqual(many, [page.curve(day, number, True) for number in numbers])
+
+    def test_the_axis_is_cut_about_the_price(self):
+        """The limits go from -40 to 3,000 EUR/MWh; those far from the price are said in words."""
+        from lib import pictures
+
+        case = support.cases("clear-merit-order")[0]
+        day = day_of(case.read_bytes(), printed(case))
+        for number in (13, 20):
+            drawn = pictures.picture(pictures.period_picture(day, number), "svg", words_as_text=True).decode()
+            self.assertIn("limits go up to 3,000.00 EUR/MWh", drawn)
+            demand, supply = pictures.steps(day.problem.orders[number], "buy", 0), pictures.steps(day.problem.orders[number], "sell", 0)
+            bottom, top = pictures.price_range(day, number, (demand, supply))
+            self.assertLess(top - bottom, 700)
+            self.assertTrue(bottom < day.said.prices[number - 1] / 100 < top)
+
     def test_wrong_results_are_said_to_be_wrong(self):
         wrong = printed(AUCTION).replace(b"period,1,9200", b"period,1,9300")
         text = self.page(AUCTION.read_bytes(), wrong)
-        self.assertIn("The results are not as the rules say", text)
+        self.assertIn("These results break the rules of the market.", text)
         self.assertIn("period 1: the price is 9300", text)
-        self.assertNotIn("The results are not as the rules say", self.page(AUCTION.read_bytes(), printed(AUCTION)))
+        self.assertNotIn("These results break the rules of the market.", self.page(AUCTION.read_bytes(), printed(AUCTION)))
 
     def test_results_that_cannot_be_are_shown_as_wrong(self):
         case = AUCTION.with_name("too-large-block.csv")
         text = self.page(case.read_bytes(), printed(case).replace(b"rejected", b"accepted"), [1])
         self.assertIn("period 1: no execution balances", text)
         worse = results_of(AUCTION.read_bytes(), frozenset({0}))
-        self.assertRegex(self.page(AUCTION.read_bytes(), worse), r"the welfare would be [0-9.\u202f]+ EUR greater")
+        self.assertRegex(self.page(AUCTION.read_bytes(), worse), r"the welfare would be [0-9.,]+ EUR greater")
 
     def test_a_participant_without_trades(self):
         data = journal_of("submit,A,B1,hour,buy,6000,1:10,,")

@@ -38,6 +38,7 @@ PUBLISHED = journal_of(
     "submit,A,K1,block,buy,100,1:10;2:10,,",
 )
 OWN = own_lines(PUBLISHED, "A")
+AS_SENT = "as sent: 4 commands of A, each once, in their order, and no others"
 
 
 class Worked(unittest.TestCase):
@@ -97,13 +98,57 @@ class Worked(unittest.TestCase):
         table = b"participant,order,kind,side,price_eur_mwh,periods,volume_mw\nB,H1,hour,sell,0.50,1,1\n"
         self.assertEqual(audit(PUBLISHED.replace(b"cancel,B,H1,,,,,,\n", b""), table, "B")[0], command.DONE)
         self.assertEqual(audit(PUBLISHED, table, "B")[1], "record 6 of the journal was not sent: cancel,B,H1,,,,,,\n")
+        # A whole market's file: of it, the participant's alone count.
+        status, out, _ = audit(PUBLISHED, PUBLISHED)
+        self.assertEqual((status, out.splitlines()[0]), (command.DONE, f"{AS_SENT}, 1 of 4 commands refused (2 of others left out)"))
         self.assertEqual(audit(PUBLISHED, b"", "C")[0], command.NO_INPUT)
         said = "as sent: 0 commands of C, each once, in their order, and no others\n"
         self.assertEqual(audit(PUBLISHED, b"day,24,,,,,,,\n", "C")[:2], (command.DONE, said))
 
+    def test_a_table_of_what_the_orders_are_at_the_end(self):
+        """A table can't have an amend, and so is compared with the book too."""
+        heads = "participant,order,kind,side,price_eur_mwh,periods,volume_mw"
+        rows = ["A,H1,hour,buy,3.00,1,1", "A,K1,block,buy,1.00,1-2,1", "C,H9,hour,buy,3.00,1,1"]
+        status, out, _ = audit(PUBLISHED, text_of([heads, *rows]))
+        said = "as in the table: 2 orders of A in the book at the end, and no others, after 4 commands of A, 1 of 4 commands refused"
+        self.assertEqual((status, out), (command.DONE, f"{said} (1 of others left out)\n"))
+        for other in ([rows[1], rows[0]], rows[:1], [rows[0].replace("3.00", "3.01"), rows[1]]):
+            self.assertEqual(audit(PUBLISHED, text_of([heads, *other]))[0], command.DIFFERS)
+
+    @unittest.skipUnless(command.has("openpyxl"), "openpyxl is missing (Debian's python3-openpyxl)")
+    def test_a_workbook(self):
+        with tempfile.TemporaryDirectory() as folder:
+            path = Path(folder, "orders.xlsx")
+            tool("table", "--quiet", "--rows", "orders", AUCTION, AUCTION.with_suffix(".stdout"), "-o", path)
+            status, out, err = tool("audit", AUCTION, "--sent", path, "--participant", "STAD")
+            said = "as sent: 24 commands of STAD, each once, in their order, and no others (65 of others left out)"
+            self.assertEqual((status, out.decode().splitlines()[0], err), (command.DONE, said, ""))
+
+    def test_with_results_the_lines_are_checked_too(self):
+        data, right = AUCTION.read_bytes(), printed(AUCTION)
+        own = text_of(own_lines(data, "GAS"))
+        with tempfile.TemporaryDirectory() as folder:
+            paths = [Path(folder, name) for name in ("journal", "results", "sent")]
+            words = [*paths[:2], "--sent", paths[2], "--participant", "GAS"]
+
+            def run(results, sent, *more):
+                for path, content in zip(paths, (data, results, sent)):
+                    path.write_bytes(content)
+                status, out, _ = tool("audit", *words, *more)
+                return status, out.decode()
+
+            status, out = run(right, own, "--best")
+            lines = [line for line in right.decode().splitlines() if line.split(",")[1] == "GAS"]
+            self.assertEqual(status, command.DONE)
+            self.assertEqual([line.split(": ", 1)[1] for line in out.splitlines() if line.startswith("results line ")], lines)
+            self.assertIn("no selection is better", out)
+            self.assertEqual(run(right.replace(b"STAY,accepted", b"STAY,rejected"), own)[0], command.DIFFERS)
+            status, out = run(right, own.replace(b"STAY", b"STAI"))
+            self.assertEqual((status, "is missing in the journal" in out), (command.DIFFERS, True))
+
     def test_what_no_participant_sends(self):
         for own, said in (
-            ([OWN[0], "cancel,B,H1,,,,,,"], "record 2 is of B: the file should have commands of A alone"),
+            (["submit,B,H1,hour,buy,100,1:10,,", "cancel,B,H1,,,,,,"], "it has 2 commands of others, and none of A"),
             (["day,23,,,,,,,", *OWN], "it is for a day of 23 periods, but the journal is for one of 24"),
             (
                 [OWN[0], "cancel,A,H1"],
@@ -122,8 +167,7 @@ class Worked(unittest.TestCase):
             (
                 ["Submit" + OWN[0].removeprefix("submit"), "cancel;A;H1;;;;;;"],
                 "line 1, command: 'Submit': it should be submit, amend, cancel or close: write submit\n"
-                "  line 2: it has 1 field and should have 9, so 8 commas are missing: add what is missing at its end\n"
-                "  line 2, command: 'cancel;A;H1;;;;;;': it should be submit, amend, cancel or close",
+                "  line 2: the fields of this line are separated by semicolons: separate them by commas",
             ),
         ):
             self.assertEqual(audit(PUBLISHED, text_of(own)), (command.NO_INPUT, "", f"audit: sent isn't what A sent: {said}\n"))
@@ -137,9 +181,8 @@ class Worked(unittest.TestCase):
             ["--sent", AUCTION],
             ["--participant", "GAS"],
             ["--sent", AUCTION, "--participant", "gas"],
-            ["--sent", AUCTION, "--participant", "GAS", "--best"],
             ["--sent", AUCTION, "--participant", "GAS", "--replies"],
-            [AUCTION, "--sent", AUCTION, "--participant", "GAS"],
+            [AUCTION, "--sent", AUCTION, "--participant", "GAS", "--replies"],
         ):
             self.assertEqual(tool("audit", AUCTION, *words)[:2], (command.COMMAND_LINE, b""), words)
         self.assertEqual(tool("audit", "-", "--sent", "-", "--participant", "GAS")[0], command.COMMAND_LINE)

@@ -10,7 +10,7 @@ from pathlib import Path
 import support
 from support import AUCTION, FIRST, QUARTERS, day_of, printed, results_of, tool
 
-from lib import book, command, journal, order_table, tables
+from lib import book, command, journal, order_table, sheets, tables
 
 HEADER = "participant,order,kind,side,price_eur_mwh,periods,volume_mw,parent,group"
 HOUR = "NORD,WIND-8,hour,sell,12.5,8,45,,"
@@ -19,7 +19,7 @@ BLOCK = "COAL,PEAK,block,sell,80,8-20,90,,FILL"
 
 def read(rows):
     """The rows of a written table as dictionaries."""
-    return list(csv.DictReader(io.StringIO(tables.written(rows))))
+    return list(csv.DictReader(io.StringIO(sheets.written(rows))))
 
 
 def total(rows, column):
@@ -66,7 +66,7 @@ class Results(unittest.TestCase):
 
     def test_the_table_of_orders_makes_the_same_book(self):
         for day in self.days():
-            text = tables.written(tables.orders(day)).encode()
+            text = sheets.written(tables.orders(day)).encode()
             again = order_table.read_orders(text, day.problem.periods, True)
             made, reasons = book.run(again)
             self.assertEqual(set(reasons), {None})
@@ -189,7 +189,9 @@ class Orders(unittest.TestCase):
             self.made(HOUR, periods=26)
 
     def test_tables_that_are_none(self):
-        self.assertIn("line 1, column 3: 'typ' is not a column", self.wrong(header=HEADER.replace("kind", "typ")))
+        said = "line 1: there is no column kind; the columns are participant"
+        self.assertTrue(self.wrong(header=HEADER.replace("kind", "typ")).startswith(said))
+        self.assertEqual(self.wrong(header=HEADER.replace("parent", "parnt")), "line 1, column 8: 'parnt' is not a column: write parent")
         self.assertIn("'side' appears twice", self.wrong(header=HEADER.replace("kind", "side")))
         self.assertIn("there is no column kind", self.wrong(header=HEADER.replace("kind,", "")))
         self.assertIn("the table is empty", self.wrong(header=""))
@@ -215,7 +217,7 @@ class CommandLine(unittest.TestCase):
             note = "table: 1 of 94 commands was refused: see --rows commands\n"
             self.assertEqual(tool("table", *texts, "--all", folder), (0, b"", note))
             for name in tables.TABLES:
-                said = "" if name == "commands" else note
+                said = "" if name in ("commands", "statement") else note
                 self.assertEqual(tool("table", *texts, "--rows", name), (0, Path(folder, f"{name}.csv").read_bytes(), said))
             status, out, _ = tool("table", "--journal", Path(folder, "orders.csv"))
             self.assertEqual((status, out.splitlines()[0], out.splitlines()[-1]), (0, b"day,24,,,,,,,", b"close,,,,,,,,"))
@@ -263,6 +265,15 @@ class CommandLine(unittest.TestCase):
             rows = tool("table", *texts, "--only", words)[1].decode().splitlines()[1:]
             self.assertEqual([row.split(",")[0] for row in rows], ["1", "3", "5", "6", "7"])
 
+    @unittest.skipUnless(command.has_zone("Europe/Berlin"), "the time zones are missing (Debian's tzdata)")
+    def test_dates_at_the_ends_of_the_calendar(self):
+        texts = [AUCTION, AUCTION.with_suffix(".stdout")]
+        for date in ("9999-12-31", "0001-01-01"):
+            said = f"--date {date} is the first or the last day of the calendar: it should be another\n"
+            self.assertEqual(tool("table", *texts, "--date", date), (command.COMMAND_LINE, b"", f"table: {said}"))
+            if command.has("matplotlib") and command.has("jinja2"):
+                self.assertEqual(tool("report", *texts, "-o", "-", "--date", date), (command.COMMAND_LINE, b"", f"report: {said}"))
+
     def test_a_table_without_orders(self):
         status, out, err = tool("table", "--journal", "-", data=f"{HEADER}\n".encode())
         self.assertEqual((status, out), (0, b"day,24,,,,,,,\nclose,,,,,,,,\n"))
@@ -274,7 +285,11 @@ class CommandLine(unittest.TestCase):
         self.assertEqual((status, out), (command.NO_INPUT, b""))
         self.assertEqual(err, "table: standard input: line 2, it has 10 cells, but the header has 9\n")
         for words in (
-            ["--journal", AUCTION, AUCTION],
+            ["--journal", AUCTION, "--participant", "GAS"],
+            ["--journal", AUCTION, "-o", "a.xlsx"],
+            [*texts, "-o", "a.xlsx", "--json"],
+            [*texts, "--json", "--decimal-comma"],
+            [*texts, "--participant", "GAS", "--rows", "periods"],
             ["--journal", AUCTION, "--rows", "orders"],
             ["--journal", AUCTION, "--all", "."],
             [*texts, "--periods", "24"],
@@ -283,8 +298,8 @@ class CommandLine(unittest.TestCase):
             [*texts, "--all", ".", "-o", "a.csv"],
         ):
             status, out, err = tool("table", *words)
-            self.assertEqual((status, out, "has no use with" in err), (command.COMMAND_LINE, b"", True), words)
-        said = "table: --periods has no use with tables of results: it belongs to --journal\n"
+            self.assertEqual((status, out, "can't be used with" in err), (command.COMMAND_LINE, b"", True), words)
+        said = "table: --periods can't be used with tables of results: it belongs to --journal\n"
         self.assertEqual(tool("table", *texts, "--periods", "24"), (command.COMMAND_LINE, b"", said))
         said = "table: --only 99: it should be periods and runs of them, such as 8, 8-20 or 1,3,5-7, from 1 to 24\n"
         self.assertEqual(tool("table", *texts, "--only", "99"), (command.COMMAND_LINE, b"", said))

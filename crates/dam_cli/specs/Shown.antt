@@ -4,7 +4,7 @@ use Rattle.dam_cli.specs.declared.progress.Count.{Count}
 
 -- how many pieces of a search have ended, and how many it has
 abbrev pub pieces_text : Count → List ℕ
-pieces_text count = codes "dam: " ++ (decimal count.ended ++ (codes " of " ++ (decimal count.pieces ++ codes " pieces are searched")))
+pieces_text count = codes "dam: searched " ++ (decimal count.ended ++ (codes " of " ++ (decimal count.pieces ++ codes " pieces")))
 
 -- how many commands the book refused
 abbrev pub refused_text : ℕ → List ℕ

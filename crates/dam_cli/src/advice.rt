@@ -110,3 +110,14 @@ pub fn file_in(words: &[String]) -> Option<(&str, &str)>
     }
     None
 }
+
+/// Whether a word asks for the version, which the program doesn't know.
+pub fn asks_version(words: &[String]) -> bool {
+    for word in words {
+        let word = word.as_str();
+        if word == "--version" || word == "-V" {
+            return true;
+        }
+    }
+    false
+}

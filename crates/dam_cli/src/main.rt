@@ -13,7 +13,7 @@ ghost use Rattle.std.specs.Process.{exit_status};
 ghost use Rattle.dam_engines.specs.Fault.{fault_status};
 ghost use Rattle.dam_cli.specs.Status.{IsLineStatus, run_status};
 
-use advice::{file_in, rule_of};
+use advice::{asks_version, file_in, rule_of};
 use dam_book::Seed;
 use dam_engines::{RunFault, Sink, Source, fault_line, status, write_text};
 use dam_line::{Job, LineFault, read_line};
@@ -24,6 +24,7 @@ use std::env;
 use std::io::{ErrorKind, IsTerminal, Write};
 use std::process::ExitCode;
 use std::sync::Wait;
+use std::time::Clock;
 
 /// The status of a command line that is refused.
 const REFUSED_LINE: u8 = 2;
@@ -51,7 +52,7 @@ fn main(rt: HostRuntime) -> ExitCode {
 
 /// The status of a run that ended so. After a fault its line is printed; otherwise, at a terminal, how many commands
 /// were refused.
-fn ended<R: Wait + Eprint>(
+fn ended<R: Wait + Eprint + Clock>(
     rt: &HostRuntime,
     progress: &Progress<'_, R>,
     done: Result<(), RunFault>,
@@ -106,9 +107,7 @@ fn not_text(alloc: Global) -> LineFault {
 /// Says to a person at a terminal, who may wait for an answer, that a journal is read from there.
 fn hint(rt: &HostRuntime) {
     if rt.stdin().is_terminal() && rt.stderr().is_terminal() {
-        let _ = eprintln!(rt;
-            "dam: a journal is read from this terminal, up to Ctrl-D on a line of its own"
-        );
+        let _ = eprintln!(rt; "dam: reading a journal from this terminal; end it with Ctrl-D");
     }
 }
 
@@ -145,13 +144,15 @@ fn answer(rt: &HostRuntime, fault: &LineFault, words: &[String]) -> ExitCode
 }
 
 /// Prints why the words are refused. At a terminal, if one of them may be a journal's file, a last line says how it is
-/// read.
+/// read; if they ask for the version, it says what prints that.
 fn refuse(rt: &HostRuntime, text: &str, words: &[String]) -> ExitCode
     ensures { exit_status result ≡ 2 }
 {
     let _ = eprint!(rt; "command line\n{text}");
-    if let Some((command, file)) = file_in(words) {
-        if rt.stderr().is_terminal() {
+    if rt.stderr().is_terminal() {
+        if asks_version(words) {
+            let _ = eprintln!(rt; "dam: the launcher prints the version: ./dam --version");
+        } else if let Some((command, file)) = file_in(words) {
             let _ = eprintln!(rt;
                 "dam: a journal is read from standard input: dam {command} < {file}"
             );

@@ -6,6 +6,7 @@ use dam_engines::Watch;
 use dam_search::Turnstile;
 use std::fmt;
 use std::sync::{Mutex, Wait};
+use std::time::{Clock, Duration, Instant};
 
 /// Takes a terminal to the beginning of the line, and clears it.
 const CLEAR: &str = "\r\u{1b}[K";
@@ -54,11 +55,7 @@ impl fmt::Display for Count {
     ghost output = { λ count. Some (pieces_text count) };
 
     fn fmt<W: fmt::Write>(&self, f: &mut fmt::Formatter<W>) -> fmt::Result {
-        write!(
-            f,
-            "dam: {} of {} pieces are searched",
-            self.ended, self.pieces
-        )
+        write!(f, "dam: searched {} of {} pieces", self.ended, self.pieces)
     }
 }
 
@@ -86,66 +83,98 @@ impl fmt::Display for Refused {
     }
 }
 
-/// Shows at a terminal how many pieces of a search have ended, in one line that is written again as each ends and taken
-/// away before anything else is printed; and then, if it is asked to, how many commands the book refused.
+/// How many milliseconds a search runs before anything is shown of it.
+const MOMENT: u64 = 500;
+
+/// What is counted, when the search began if the clock could be read, and whether its line stands at the terminal.
 #[derive(Drop)]
-pub struct Progress<'a, R: Wait + Eprint> {
-    rt: &'a R,
-    is_shown: bool,
-    count: Mutex<Count>,
+struct State {
+    count: Count,
+    begun: Option<Instant>,
+    is_written: bool,
 }
 
-impl<'a, R: Wait + Eprint> Progress<'a, R> {
+/// Shows at a terminal how many pieces of a search have ended, once it has run for a moment: in one line that is written again
+/// as each ends and taken away before anything else is printed; and then, if it is asked to, how many commands the book refused.
+#[derive(Drop)]
+pub struct Progress<'a, R: Wait + Eprint + Clock> {
+    rt: &'a R,
+    is_shown: bool,
+    state: Mutex<State>,
+}
+
+impl<'a, R: Wait + Eprint + Clock> Progress<'a, R> {
     /// Shows nothing, unless `is_shown`.
     pub fn new(rt: &'a R, is_shown: bool) -> Progress<'a, R> {
+        let state = State {
+            count: Count::new(),
+            begun: None,
+            is_written: false,
+        };
         Progress {
             rt,
             is_shown,
-            count: Mutex::new(Count::new()),
+            state: Mutex::new(state),
         }
     }
 
     /// Says how many commands the book refused, if any. The results don't mention them.
     pub fn say_refused(&self) {
-        let refused = self.count.lock(self.rt).refused;
+        let refused = self.state.lock(self.rt).count.refused;
         if !self.is_shown || refused == 0 {
             return;
         }
         let _ = eprintln!(self.rt; "{}", Refused(refused));
     }
 
-    /// Writes the line again.
-    fn show(&self, count: &Count) {
-        if self.is_shown {
-            let _ = eprint!(self.rt; "{CLEAR}{count}");
+    /// Writes the line again, if the search has run for a moment.
+    fn show(&self, state: &mut State) {
+        if self.is_shown && self.has_run(state.begun) {
+            let _ = eprint!(self.rt; "{CLEAR}{}", state.count);
+            state.is_written = true;
+        }
+    }
+
+    /// Whether a moment has passed since this time.
+    fn has_run(&self, begun: Option<Instant>) -> bool {
+        match begun {
+            Some(begun) => match begun.elapsed(self.rt) {
+                Ok(took) => took >= Duration::from_millis(MOMENT),
+                Err(_) => false,
+            },
+            None => false,
         }
     }
 }
 
-impl<'a, R: Wait + Eprint> Turnstile for Progress<'a, R> {
+impl<'a, R: Wait + Eprint + Clock> Turnstile for Progress<'a, R> {
     fn before(&self, _job: u32) {}
 
     fn after(&self, _job: u32) {
-        let mut count = self.count.lock(self.rt);
-        count.end_piece();
-        self.show(&count);
+        let mut state = self.state.lock(self.rt);
+        state.count.end_piece();
+        self.show(&mut state);
     }
 }
 
-impl<'a, R: Wait + Eprint> Watch for Progress<'a, R> {
+impl<'a, R: Wait + Eprint + Clock> Watch for Progress<'a, R> {
     fn refused(&self, commands: u32) {
-        self.count.lock(self.rt).refused = commands;
+        self.state.lock(self.rt).count.refused = commands;
     }
 
     fn begin(&self, pieces: u32) {
-        let mut count = self.count.lock(self.rt);
-        count.begin(pieces);
-        self.show(&count);
+        let mut state = self.state.lock(self.rt);
+        state.count.begin(pieces);
+        if self.is_shown {
+            state.begun = Instant::now(self.rt).ok();
+        }
     }
 
     fn end(&self) {
-        if self.is_shown {
+        let mut state = self.state.lock(self.rt);
+        if state.is_written {
             let _ = eprint!(self.rt; "{CLEAR}");
+            state.is_written = false;
         }
     }
 }

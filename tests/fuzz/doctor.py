@@ -1,0 +1,90 @@
+"""Changes of a text, as somebody makes them who doctors it or whose program breaks it; and its content without what concerns only how it
+is encoded, by a plain reading of its own that uses nothing of `lib`."""
+
+import csv
+import io
+
+INTERESTING = b"0123456789,-\n\r\" ;ABKacejr\x00\xff"
+
+
+def a_byte(rng, data):
+    at = rng.randrange(len(data) + 1)
+    kind = rng.randrange(4)
+    byte = bytes([rng.choice(INTERESTING) if rng.random() < 0.8 else rng.randrange(256)])
+    if kind == 0:
+        return "a byte more", data[:at] + byte + data[at:]
+    if kind == 1:
+        return "a byte less", data[:at] + data[at + 1 :]
+    return "another byte", data[:at] + byte + data[at + 1 :]
+
+
+def a_field(rng, data):
+    """A field of a line, made larger, smaller, empty, or that of another line."""
+    lines = [line.split(b",") for line in data.split(b"\n")]
+    line = rng.choice([line for line in lines if len(line) > 1] or [lines[0]])
+    at = rng.randrange(len(line))
+    other = rng.choice(rng.choice(lines))
+    number = line[at].removeprefix(b"-").isdigit()
+    step = rng.choice([-10, -1, 1, 10])
+    stepped = b"%d" % (int(line[at]) + step) if number else other
+    line[at] = rng.choice([stepped, other, b"", b"0" + line[at], b"-" + line[at], line[at] + b"0"])
+    return "a field", b"\n".join(b",".join(line) for line in lines)
+
+
+def a_line(rng, data):
+    """A line less, twice, moved, or swapped with the next; or one of the text's words changed throughout."""
+    lines = data.splitlines(keepends=True)
+    at, to = rng.randrange(len(lines)), rng.randrange(len(lines))
+    kind = rng.randrange(5)
+    if kind == 0:
+        return "a line less", b"".join(lines[:at] + lines[at + 1 :])
+    if kind == 1:
+        return "a line twice", b"".join(lines[: at + 1] + lines[at:])
+    if kind == 2:
+        line = lines.pop(at)
+        return "a line moved", b"".join(lines[:to] + [line] + lines[to:])
+    if kind == 3:
+        lines[at], lines[to] = lines[to], lines[at]
+        return "two lines swapped", b"".join(lines)
+    one, other = rng.choice([(b"accepted", b"rejected"), (b"rejected", b"accepted"), (b"sell", b"buy"), (b"hour", b"block")])
+    return "a word changed", data.replace(one, other, rng.choice([1, -1]))
+
+
+def a_cut(rng, data):
+    return "the end cut off", data[: rng.randrange(len(data) + 1)]
+
+
+def doctored(rng, data):
+    """In words what was changed, and the changed text."""
+    return rng.choice([a_byte, a_field, a_field, a_line, a_line, a_cut])(rng, data)
+
+
+def encoded(rng, data):
+    """The same content in another encoding."""
+    kind = rng.randrange(5)
+    if kind == 0:
+        return "CR LF", data.replace(b"\n", b"\r\n")
+    if kind == 1:
+        return "a byte order mark", b"\xef\xbb\xbf" + data
+    if kind == 2:
+        return "no last line end", data[:-1]
+    if kind == 3:
+        return "quotes", b"".join(b",".join(b'"%s"' % field for field in line.split(b",")) + b"\n" for line in data.splitlines())
+    return "UTF-16", data.decode().encode("utf-16")
+
+
+def decoded(data):
+    """The text in the encoding of results, read by Python's own modules; None if it isn't one."""
+    for mark, encoding in ((b"\xef\xbb\xbf", "utf-8-sig"), (b"\xff\xfe", "utf-16"), (b"\xfe\xff", "utf-16")):
+        if data.startswith(mark):
+            break
+    else:
+        encoding = "ascii"
+    try:
+        text = data.decode(encoding)
+        rows = list(csv.reader(io.StringIO(text, newline=""), strict=True))
+    except (UnicodeDecodeError, csv.Error):
+        return None
+    if [] in rows or any(character in field for row in rows for field in row for character in '\r\n",'):
+        return None
+    return "".join(f"{','.join(row)}\n" for row in rows).encode()

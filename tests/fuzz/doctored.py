@@ -1,0 +1,177 @@
+#!/usr/bin/env python3
+"""Doctors journals and their results, and judges the audit by the program: it must accept a pair exactly if the program prints these
+results for this journal, and end with no status but the documented ones.
+
+Each case is a random day of few blocks with the results that the program prints. One of them is changed: a byte, a field, a line, its
+order or its encoding, or another journal or other results take its place. The audit of the changed pair then must have
+
+    0  if the program prints the very bytes of the results for the journal
+    6  if it prints the same but for line ends, a byte order mark or quotes
+    1  if it prints anything else
+    3  if the program refuses the journal, or one of the texts is of another kind
+
+Each case depends only on the seed and its number. A case that goes wrong is kept in a folder. The last line is 'N passed, M failed'."""
+
+import argparse
+import contextlib
+import io
+import json
+import random
+import re
+import sys
+import tempfile
+from collections import Counter
+from pathlib import Path
+
+sys.dont_write_bytecode = True
+
+import compare
+import days
+import doctor
+from lib import best, book, command, journal, kinds, results, selection, verdict
+
+MOST_BLOCKS = 6
+RIGHT, WRONG, UNREAD, ENCODING = command.DONE, command.DIFFERS, command.NO_INPUT, command.ENCODING
+
+
+def arguments():
+    form = argparse.RawDescriptionHelpFormatter
+    parser = argparse.ArgumentParser(prog="tests/fuzz/doctored.py", description=__doc__, formatter_class=form)
+    parser.add_argument("program", metavar="PROGRAM", help="the built program, crates/dam_cli/out/dam_cli")
+    parser.add_argument("--seed", default="1", help="the seed of the random cases (1)")
+    parser.add_argument("--first", type=int, default=1, help="the number of the first case (1)")
+    parser.add_argument("--count", type=int, default=5_000, help="how many cases (5000)")
+    parser.add_argument("--keep", metavar="FOLDER", help="keeps each pair on which the audit is wrong here")
+    return parser.parse_args()
+
+
+class Pairs:
+    """Random days with the results that the program prints; some are kept for later cases."""
+
+    def __init__(self, program):
+        self.program = compare.Program(program)
+        self.other = (b"day,24,,,,,,,\nclose,,,,,,,,\n", b"")
+
+    def drawn(self, rng):
+        """A closed journal that the program clears, and the results."""
+        while True:
+            data = days.text(rng, MOST_BLOCKS)
+            ran = self.program.printed(["clear"], data)
+            if ran.status == 0 and len(data) < 100_000:
+                return data, ran.stdout
+
+    def printed(self, data):
+        """The results that the program prints for a journal, or None if it refuses it."""
+        ran = self.program.printed(["clear"], data)
+        return ran.stdout if ran.status == 0 else None
+
+
+def is_open(data):
+    """Whether a text is a journal that no command closes."""
+    try:
+        return not book.run(journal.read_journal(data))[0].closed
+    except journal.Fault:
+        return False
+
+
+def wanted(pairs, data, text):
+    """The status that the audit of a pair must have, by the program."""
+    if kinds.kind_of(data) not in (None, kinds.JOURNAL) or kinds.kind_of(text) not in (None, kinds.RESULTS):
+        return UNREAD
+    right = pairs.printed(data)
+    if right is None:
+        return WRONG if is_open(data) else UNREAD
+    if text == right:
+        return RIGHT
+    return ENCODING if doctor.decoded(text) == right else WRONG
+
+
+def audited(folder, data, text):
+    """The status and the record of the audit of a pair."""
+    paths = Path(folder, "journal"), Path(folder, "results")
+    for path, content in zip(paths, (data, text)):
+        path.write_bytes(content)
+    options = argparse.Namespace(
+        journal=str(paths[0]), results=str(paths[1]), best=True, by=None, seconds=60, jobs=None, replies=False, sent=None, quiet=True
+    )
+    audit = verdict.Audit(options)
+    try:
+        with contextlib.redirect_stderr(io.StringIO()):
+            audit.run()
+    except command.Stop as stop:
+        return stop.status, audit.record(stop.status, str(stop))
+    return audit.status, audit.record(audit.status)
+
+
+def worse(rng, data):
+    """The results of another selection of a day's blocks, eligible or not; None if it has no other whose periods balance."""
+    problem = selection.Problem(book.run(journal.read_journal(data))[0])
+    for _ in range(8):
+        accepted = frozenset(place for place in range(len(problem.blocks)) if rng.random() < 0.5)
+        outcome = selection.outcome(problem, accepted)
+        if outcome.welfare is not None and accepted != best.enumerate_all(problem)[0].accepted:
+            return results.results_text(problem, accepted, outcome).encode()
+    return None
+
+
+def changed(rng, pairs, data, text):
+    """A doctored pair, and in words how."""
+    kind = rng.randrange(10)
+    if kind == 0:
+        return data, pairs.other[1], "results of another journal"
+    if kind == 1:
+        return pairs.other[0], text, "another journal"
+    if kind == 2:
+        other = worse(rng, data)
+        if other is not None:
+            return data, other, "another selection"
+    if kind == 3:
+        words, other = doctor.encoded(rng, text)
+        return data, other, words
+    if kind in (4, 5):
+        words, other = doctor.doctored(rng, data)
+        return other, text, f"{words} of the journal"
+    words, other = doctor.doctored(rng, text)
+    return data, other, f"{words} of the results"
+
+
+def trouble(folder, pairs, data, text):
+    """What is wrong with the audit of a pair; nothing if all is right."""
+    right = wanted(pairs, data, text)
+    try:
+        status, record = audited(folder, data, text)
+        json.dumps(record)
+    except Exception as fault:
+        return right, f"the audit fails: {fault!r}"
+    if status != right:
+        return right, f"the status is {status} and should be {right}"
+    if (status == WRONG) != any(fault["kind"] != "encoding" for fault in record["faults"]):
+        return right, "a verdict without a fault, or a fault without a verdict"
+    return right, None
+
+
+def main():
+    args = arguments()
+    pairs, seen, failed = Pairs(args.program), Counter(), 0
+    with tempfile.TemporaryDirectory() as folder:
+        for number in range(args.first, args.first + args.count):
+            rng = random.Random(f"doctored {args.seed} {number}")
+            pairs.other = pairs.drawn(random.Random(f"other {args.seed} {number}"))
+            pair = pairs.drawn(rng)
+            data, text, words = changed(rng, pairs, *pair)
+            status, wrong = trouble(folder, pairs, data, text)
+            seen[status] += 1
+            if wrong:
+                failed += 1
+                print(f"case {number} of seed {args.seed}: {words}: {wrong}")
+                if args.keep:
+                    Path(args.keep).mkdir(parents=True, exist_ok=True)
+                    for name, content in (("csv", data), ("txt", text)):
+                        Path(args.keep, f"{re.sub('[^A-Za-z0-9]', '-', args.seed)}-{number}.{name}").write_bytes(content)
+    print(f"by status: {', '.join(f'{seen[status]} with {status}' for status in sorted(seen))}")
+    print(f"{args.count - failed} passed, {failed} failed")
+    return failed > 0
+
+
+if __name__ == "__main__":
+    sys.exit(main())

@@ -1,0 +1,49 @@
+"""How a tool ends if it fails itself, because memory runs out or it has a defect: with one line on standard error, and a status that is
+no verdict. With DAM_DEBUG=1 in the environment Python's traceback comes before the line.
+
+A tool calls `watch` before it imports anything else of this folder, since an import may fail too."""
+
+import os
+import sys
+
+FAILED = 5
+INTERRUPTED = 130  # as shells have it for Ctrl-C
+
+# What the system's loader and Python's threads say if there is no memory for them.
+NO_MEMORY = ("cannot allocate memory", "failed to map segment", "can't start new thread", "can't allocate", "out of memory")
+
+
+def is_memory(fault):
+    """Whether a failure says that memory ran out."""
+    return isinstance(fault, MemoryError) or any(words in str(fault).lower() for words in NO_MEMORY)
+
+
+def words(fault):
+    """What is said of a failure."""
+    if is_memory(fault):
+        return "out of memory"
+    first = ascii(str(fault))[1:-1][:200]
+    return f"a defect of this tool, please report it: {type(fault).__name__}: {first} (DAM_DEBUG=1 shows where)"
+
+
+def fail(tool, fault):
+    """Ends the process at once."""
+    status = FAILED
+    try:
+        if isinstance(fault, KeyboardInterrupt):
+            status, said = INTERRUPTED, "interrupted"
+        else:
+            said = words(fault)
+            if os.environ.get("DAM_DEBUG") == "1":
+                sys.__excepthook__(type(fault), fault, fault.__traceback__)
+        os.write(2, f"{tool}: {said}\n".encode(errors="backslashreplace"))
+    finally:
+        os._exit(status)
+
+
+def watch(tool):
+    """From now on any exception that nothing handles ends the tool in this way. An old Python ends it at once."""
+    if sys.version_info < (3, 10):
+        os.write(2, f"{tool}: it needs Python 3.10 or newer\n".encode())
+        sys.exit(FAILED)
+    sys.excepthook = lambda _, fault, trace: fail(tool, fault.with_traceback(trace))

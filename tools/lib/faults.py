@@ -1,0 +1,42 @@
+"""What is wrong with a text, as a line for readers that has parts for programs."""
+
+# The kinds of faults, in words; docs/TABLES.md lists them for users.
+KINDS = {
+    "form": "a line that isn't one of these results, or the end of the text",
+    "missing": "a line, or a command that was sent, is missing",
+    "moved": "a line or a command stands in another place",
+    "stray": "a line that doesn't belong there",
+    "journal": "the results seem to be of another journal, or the journal has none",
+    "link": "a block is accepted and its parent isn't",
+    "group": "more than one block of an exclusive group is accepted",
+    "loss": "an accepted block loses",
+    "balance": "no execution balances the accepted blocks in a period",
+    "welfare": "the welfare",
+    "price": "the price of a period",
+    "volume": "the volume of a period",
+    "executed": "the executed volume of an hourly order",
+    "surplus": "the surplus of a block",
+    "reply": "a reply of the book",
+    "better": "another selection of blocks ranks above",
+    "changed": "a command differs from what was sent",
+    "repeated": "a command was sent fewer times",
+    "unsent": "a command was not sent",
+    "encoding": "line ends, a byte order mark or quotes: no number or word differs",
+}
+
+
+class Fault(str):
+    """A line that says what is wrong; its kind, the number of the line of the text if it has one, and what that line is about."""
+
+    def __new__(cls, words, kind, line=None, about=None):
+        made = super().__new__(cls, words)
+        made.kind, made.line, made.about = kind, line, about
+        return made
+
+    def record(self):
+        return {"kind": self.kind, "line": self.line, "about": self.about, "words": str(self)}
+
+
+def of_line(kind, line, about, words):
+    """What is wrong with a line of results."""
+    return Fault(f"results line {line}: {words}", kind, line, about)

@@ -1,0 +1,214 @@
+"""The verdict of an audit: what was checked, what is wrong, the status that says so, and the same as a record for programs."""
+
+import hashlib
+import time
+
+from . import better, book, check, command, journal, kinds, lines, results, selection, sent, text
+from .faults import Fault
+from .progress import Progress
+from .version import VERSION
+
+RIGHT, WRONG, ENCODING, UNREAD, UNDECIDED, FAILED = "right", "wrong", "encoding", "unread", "undecided", "failed"
+# Of each status, the verdict.
+OF_STATUS = {
+    command.DONE: RIGHT,
+    command.DIFFERS: WRONG,
+    command.COMMAND_LINE: FAILED,
+    command.NO_INPUT: UNREAD,
+    command.UNDECIDED: UNDECIDED,
+    command.FAILED: FAILED,
+    command.ENCODING: ENCODING,
+}
+SECONDS = 600  # that the search for a better selection may take
+NOT_LOOKED = "no better selection was looked for, since the results break other rules"
+HINTS = {
+    kinds.REPLIES: "; --replies checks replies",
+    kinds.DAY: "; give it as the only file",
+    kinds.ORDERS: "; tools/table --journal makes a journal of it",
+}
+
+
+class Audit:
+    """An audit of one day by the options of the command line. It keeps what it reads, checks and finds, so that a record can be made of
+    it at any time, also if it fails."""
+
+    def __init__(self, options):
+        self.options = options
+        self.begun = time.monotonic()
+        self.inputs = []  # a record of each file
+        self.checked = []
+        self.day = None  # figures of the day, if its journal could be read
+        self.wrong, self.odd = [], []  # faults, and differences of encoding alone
+        self.search = None  # a record of the search for a better selection
+        self.right, self.last = [], None  # lines about what is right, and one after what is wrong
+        self.progress = None
+
+    def run(self):
+        """Checks what the options ask for. Ends with `command.Stop` if that can't be done."""
+        options = self.options
+        written, published = self.texts()
+        read = self.read_journal(written)
+        closed, reasons = book.run(read)
+        self.day = {"periods": read.periods, "commands": len(reasons), "refused": sum(reason is not None for reason in reasons)}
+        if options.sent is not None:
+            self.check_sent(read, reasons, closed)
+        if options.replies:
+            self.check_replies(read, reasons, published)
+        elif published is not None:
+            self.check_results(closed, reasons, published)
+
+    @property
+    def status(self):
+        if self.wrong:
+            return command.DIFFERS
+        return command.ENCODING if self.odd else command.DONE
+
+    def read(self, role, path):
+        data = command.read_bytes(path)
+        name = "-" if path == "-" else str(path)
+        self.inputs.append({"role": role, "file": name, "bytes": len(data), "sha256": hashlib.sha256(data).hexdigest()})
+        return data
+
+    def texts(self):
+        """The bytes of the journal, and of the results or replies; None if there are none, which only --sent allows."""
+        options = self.options
+        if options.results is not None:
+            written, published = self.read("journal", options.journal), self.read("results", options.results)
+            command.refuse_kind(options.journal, written, kinds.JOURNAL, HINTS)
+            command.refuse_kind(options.results, published, kinds.REPLIES if options.replies else kinds.RESULTS, HINTS)
+            return written, published
+        data = self.read("day", options.journal)
+        written, published = results.split_day(data) or (data, None)
+        if published is not None and data[len(written) :].startswith(b"results\r") and b"\r" not in published:
+            self.odd.append(Fault("the line 'results' ends with CR LF instead of LF alone", "encoding"))
+        command.refuse_kind(options.journal, written, kinds.JOURNAL, HINTS)
+        if published is None:
+            if options.sent is None or options.best:
+                raise command.Stop(f"{command.shown(options.journal)} has no line 'results': give the results file after the journal")
+            self.inputs[0]["role"] = "journal"
+        return written, published
+
+    def read_journal(self, written):
+        read = command.parse_journal(self.options.journal, written)
+        is_of_day = self.inputs[0]["role"] == "day"
+        if is_of_day and journal.journal_text(read).encode() != written:
+            self.odd.append(Fault("the journal of the day isn't in its written form, but has the same commands", "encoding"))
+        return read
+
+    def check_replies(self, read, reasons, published):
+        self.checked.append("replies")
+        data, odd = results.plain(published)
+        self.odd += odd
+        self.wrong += reply_faults(read, data)
+        self.right.append(f"as the rules say: {text.counted(len(reasons), 'reply', 'replies')}{sent.refused(reasons)}")
+
+    def check_results(self, closed, reasons, published):
+        self.checked.append("results")
+        data, odd = results.plain(published)
+        self.odd += odd
+        if not closed.closed:
+            self.wrong.append(Fault("no command closes the book, so it has no results", "journal"))
+            return
+        problem = selection.Problem(closed)
+        said, wrong = check.differences(problem, data)
+        self.wrong += wrong
+        self.day.update(figures(problem, said))
+        if wrong:
+            self.last = NOT_LOOKED if self.options.best else None
+            return
+        how = self.look(problem, said) if self.options.best else None
+        if self.search is None or self.search["better"] is None:
+            self.right.append(right_line(problem, said, reasons) + (f"; no selection is better: {how}" if how else ""))
+            if self.options.sent is not None:
+                self.right += own_lines(data, self.options.participant)
+
+    def look(self, problem, said):
+        """Looks for a better selection than that of right results, and says how."""
+        options = self.options
+        seconds = SECONDS if options.seconds is None else options.seconds
+        by, whole = options.by or better.ENUMERATION, 2 ** len(problem.blocks)
+        self.progress = Progress("audit", seconds, options.quiet, whole)
+        self.search = {"by": by, "selections": whole, "tried": 0, "better": None, "how": None}
+        try:
+            found, how = better.look(problem, said, by, self.progress, options.jobs or 1)
+        finally:
+            self.search["tried"] = None if by == better.HIGHS else self.progress.tried_count()
+        self.checked.append("best selection")
+        self.search["how"] = how
+        if by == better.ENUMERATION:
+            self.search["tried"] = whole
+        if found is not None:
+            words = list(better.told(problem, said, found))
+            self.wrong.append(Fault("\n".join(words), "better"))
+            self.search["better"] = [str(problem.blocks[place]) for place in sorted(found.accepted)]
+        return how
+
+    def check_sent(self, read, reasons, closed):
+        """Compares what a participant sent with the journal."""
+        options = self.options
+        self.checked.append("commands sent")
+        try:
+            own = sent.read_sent(self.read("sent", options.sent), options.participant, read.periods)
+        except sent.Wrong as fault:
+            raise command.Stop(f"{command.shown(options.sent)} isn't what {options.participant} sent: {fault}") from None
+        published = sent.published_of(read, reasons, options.participant)
+        wrong, right = sent.compared(own, published, closed, options.participant)
+        self.wrong += wrong
+        self.right += right
+
+    def record(self, status, message=None):
+        """The verdict for programs."""
+        made = {
+            "verdict": OF_STATUS[status],
+            "status": status,
+            "message": message,
+            "version": VERSION,
+            "seconds": round(time.monotonic() - self.begun, 3),
+            "inputs": self.inputs,
+            "checked": self.checked,
+            "day": self.day,
+            "search": self.search,
+        }
+        made["faults"] = [fault.record() for fault in [*self.wrong, *self.odd]]
+        return made
+
+
+def reply_faults(read, data):
+    """The lines of a replies text that differ from the book's replies."""
+    wanted, found = (part.removesuffix(b"\n").split(b"\n") for part in (book.replies_text(read).encode(), data))
+    numbers = [[line.split(b",")[0] for line in part] for part in (wanted, found)]
+    wrong, last = [] if data else [Fault("the replies are empty", "form")], 0
+    for at, place in lines.matched(*numbers):
+        last = last if place is None else place + 1
+        if place is None:
+            wrong.append(Fault(f"replies line {last + 1}: {text.quoted(wanted[at])} is missing", "missing", last + 1))
+        elif at is None:
+            wrong.append(Fault(f"replies line {last}: {text.quoted(found[place])} is not a line of these replies", "stray", last))
+        elif wanted[at] != found[place]:
+            words = f"replies line {last}: it is {text.quoted(found[place])} and should be {text.quoted(wanted[at])}"
+            wrong.append(Fault(words, "reply", last))
+    return wrong
+
+
+def figures(problem, said):
+    """What a day comes to, for a record; as the rules have it if the results can't be read."""
+    made = {"hourly_orders": len(problem.rows) - len(problem.blocks), "blocks": len(problem.blocks)}
+    if said is not None:
+        made.update(accepted=len(said.accepted), welfare_eur=text.euros(said.welfare, problem.hours, ""))
+    return made
+
+
+def own_lines(data, who):
+    """The lines of the results about a participant's orders."""
+    for number, line in enumerate(data.decode(errors="replace").splitlines(), 1):
+        kind, *fields = line.split(",")
+        if kind in ("hour", "block") and fields[0] == who:
+            yield f"results line {number}: {line}"
+
+
+def right_line(problem, said, reasons):
+    hourly = text.counted(len(problem.rows) - len(problem.blocks), "hourly order")
+    return (
+        f"as the rules say: {problem.periods} periods, {hourly}, {len(said.accepted)} of"
+        f" {text.counted(len(problem.blocks), 'block')} accepted, welfare {problem.euros(said.welfare)} EUR{sent.refused(reasons)}"
+    )

@@ -1,0 +1,3 @@
+"""The version of these tools, that of CHANGELOG.md and pyproject.toml."""
+
+VERSION = "1.0.0"

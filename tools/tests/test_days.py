@@ -1,0 +1,110 @@
+"""The audit of many days: one broken pair doesn't end the rest, and the status is that of the worst."""
+
+import json
+import tempfile
+import unittest
+from pathlib import Path
+
+from support import AUCTION, QUARTERS, printed, results_of, tool
+
+from lib import command, days, text, verdict
+
+DATA, TEXT = AUCTION.read_bytes(), printed(AUCTION)
+
+
+class Days(unittest.TestCase):
+    def setUp(self):
+        folder = tempfile.TemporaryDirectory()
+        self.addCleanup(folder.cleanup)
+        self.folder = Path(folder.name)
+
+    def write(self, **texts):
+        for name, (data, text) in texts.items():
+            (self.folder / f"{name}.csv").write_bytes(data)
+            if text is not None:
+                (self.folder / f"{name}.txt").write_bytes(text)
+
+    def audit(self, *words, place=None):
+        status, out, err = tool("audit", "--days", place or self.folder, *words)
+        return status, out.decode(), err
+
+    def test_right_days(self):
+        self.write(a=(DATA, TEXT), b=(QUARTERS.read_bytes(), printed(QUARTERS)), c=(DATA + b"results\n" + TEXT, None))
+        status, out, err = self.audit("--best", "--jobs", "2")
+        lines = [line.split() for line in out.splitlines()]
+        self.assertEqual((status, err, lines[0][:3]), (0, "", ["day", "verdict", "periods"]))
+        self.assertEqual([line[:3] for line in lines[1:4]], [["a", "right", "24"], ["b", "right", "96"], ["c", "right", "24"]])
+        self.assertEqual(lines[4][:4], ["3", "days", "3", "right"])
+        self.assertEqual(lines[1][6], "3,021,520.00")
+        self.assertEqual(self.audit("--quiet"), (0, "", ""))
+
+    def test_one_broken_pair_does_not_end_the_rest(self):
+        wrong = TEXT.replace(b"welfare,3", b"welfare,4")
+        self.write(
+            a=(DATA, wrong),
+            b=(b"\x1b[31m", TEXT),
+            c=(DATA, TEXT.replace(b"\n", b"\r\n")),
+            d=(DATA, None),
+            e=(DATA, results_of(DATA, frozenset({0, 1}))),
+            f=(DATA, TEXT),
+        )
+        (self.folder / "g.txt").write_bytes(TEXT)
+        status, out, err = self.audit("--best")
+        found = {line.split()[0]: line.split()[1] for line in out.splitlines()[1:-1]}
+        kinds = [verdict.WRONG, verdict.UNREAD, verdict.ENCODING, verdict.UNREAD, verdict.WRONG, verdict.RIGHT, verdict.UNREAD]
+        self.assertEqual((status, err, list(found.values())), (command.DIFFERS, "", kinds))
+        self.assertEqual("".join(found), "abcdefg")
+        self.assertTrue(out.replace("\n", "").isprintable())
+        self.assertIn("7 days  1 right, 2 wrong, 1 encoding, 3 unread", out)
+        self.assertIn("a better selection accepts", out)
+        self.assertIn("/d.txt is missing", out)
+
+    def test_the_status_is_that_of_the_worst(self):
+        self.write(a=(DATA, TEXT))
+        for texts, wanted in (
+            ({"b": (DATA, TEXT[:-1])}, command.ENCODING),
+            ({"c": (b"", TEXT)}, command.NO_INPUT),
+            ({"d": (DATA, b"")}, command.DIFFERS),
+        ):
+            self.write(**texts)
+            self.assertEqual(self.audit()[0], wanted)
+        for statuses, worst in (((0, 4, 6), 4), ((3, 4, 5), 5), ((0, 0), 0), ((5, 1, 3), 1)):
+            self.assertEqual(days.status_of([{"status": status} for status in statuses]), worst)
+
+    def test_the_time_that_each_may_take(self):
+        self.write(a=(DATA, TEXT))
+        status, out, _ = self.audit("--best", "--seconds", "0")
+        self.assertEqual((status, out.splitlines()[1].split()[1]), (command.UNDECIDED, "undecided"))
+
+    def test_amounts_for_readers(self):
+        for number, shown in (("-1234567.500", "-1,234,567.50"), ("-0.001", "-0.001"), ("0.000", "0.00"), ("12.12500", "12.125")):
+            self.assertEqual(text.grouped(number), shown)
+
+    def test_records(self):
+        self.write(a=(DATA, TEXT), b=(DATA, None))
+        status, out, _ = self.audit("--json")
+        made = json.loads(out)
+        self.assertEqual((status, made["status"], [day["verdict"] for day in made["days"]]), (3, 3, ["right", "unread"]))
+        self.assertEqual(made["counts"], {**dict.fromkeys(days.VERDICTS, 0), "right": 1, "unread": 1})
+        self.assertEqual(made["days"][0]["day"]["periods"], 24)
+
+    def test_a_manifest(self):
+        self.write(a=(DATA, TEXT), b=(DATA + b"results\n" + TEXT, None))
+        (self.folder / "list").write_text("\ufeffday,journal,results\nMonday,a.csv,a.txt\n,b.csv,\n\nnone,c.csv,a.txt\n")
+        status, out, _ = self.audit(place=self.folder / "list")
+        self.assertEqual([line.split()[:2] for line in out.splitlines()[1:4]], [["Monday", "right"], ["b", "right"], ["none", "unread"]])
+        self.assertEqual(status, command.NO_INPUT)
+        (self.folder / "list").write_text("journal\na.csv\n")
+        said = f"audit: {self.folder / 'list'} isn't a table of days: its first line should name the columns journal, results\n"
+        self.assertEqual(self.audit(place=self.folder / "list"), (command.NO_INPUT, "", said))
+
+    def test_command_lines(self):
+        said = f"audit: {self.folder} has no days: a day is NAME.csv with its results NAME.txt\n"
+        self.assertEqual(self.audit(), (command.NO_INPUT, "", said))
+        self.assertEqual(self.audit(place="/nowhere")[0], command.NO_INPUT)
+        for words in ([AUCTION], ["--replies"], ["--sent", AUCTION, "--participant", "GAS"], ["--seconds", "3"]):
+            self.assertEqual(self.audit(*words)[0], command.COMMAND_LINE)
+
+
+if __name__ == "__main__":
+    unittest.main()

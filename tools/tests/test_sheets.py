@@ -1,0 +1,253 @@
+"""Tables of orders as spreadsheets have them, and tables for spreadsheets."""
+
+import csv
+import io
+import tempfile
+import unittest
+from pathlib import Path
+
+from support import AUCTION, journal_of, printed, results_of, tool
+
+from lib import clock, command, journal, order_table, rules, sheets
+
+HEADER = "participant,order,kind,side,price_eur_mwh,periods,volume_mw,parent,group"
+TEXTS = [AUCTION, AUCTION.with_suffix(".stdout")]
+WITH_EXCEL = unittest.skipUnless(command.has("openpyxl"), "openpyxl is missing (Debian's python3-openpyxl)")
+
+
+def table(*rows, header=HEADER):
+    return "".join(f"{row}\n" for row in [header, *rows]).encode()
+
+
+def made(*rows, header=HEADER, periods=24):
+    orders = order_table.read_tables([("", table(*rows, header=header))], periods)
+    return journal.journal_text(order_table.journal_of(orders, periods, False)).splitlines()[1:], orders.notes
+
+
+def wrong(*rows, header=HEADER, periods=24):
+    try:
+        made(*rows, header=header, periods=periods)
+    except order_table.Wrong as fault:
+        return str(fault).split("\n")
+    raise AssertionError("the table is right")
+
+
+class Columns(unittest.TestCase):
+    ROW = "A,H,hour,buy,1,8,5,,"
+
+    def test_other_columns_are_ignored_with_a_note(self):
+        lines, notes = made(f"{self.ROW},seen by Jo,7", header=f"{HEADER},comment,x\x1b")
+        self.assertEqual(lines, ["submit,A,H,hour,buy,100,8:50,,"])
+        self.assertEqual(notes, ["the column 'comment' isn't used", "the column 'x\\x1b' isn't used"])
+        data = table(f"{self.ROW},a", header=f"{HEADER},comment")
+        self.assertEqual(tool("table", "--journal", "-", data=data)[2], "table: standard input: the column 'comment' isn't used\n")
+        self.assertEqual(tool("table", "--journal", "--quiet", "-", data=data)[2], "")
+
+    def test_all_wrong_columns_at_once(self):
+        found = wrong(self.ROW, header="participants,order,order,side,price,periods,volume,parnt,group")
+        self.assertEqual(found[0], "line 1, column 1: 'participants' is not a column: write participant")
+        self.assertEqual(found[1], "line 1, column 3: the column 'order' appears twice")
+        self.assertIn("line 1, column 8: 'parnt' is not a column: write parent", found)
+        self.assertIn("line 1, column 7: 'volume' is not a column: write volume_mw", found)
+        said = "line 1: there is no column participant, kind, price_eur_mwh, volume_mw; the columns are participant, order"
+        self.assertTrue(any(line.startswith(said) for line in found), found)
+
+    def test_headers_of_tables_put_together(self):
+        lines, notes = made(self.ROW, HEADER, self.ROW.replace("A,", "B,"))
+        self.assertEqual((len(lines), notes), (2, ["line 3 names the columns once more"]))
+
+    def test_several_files(self):
+        with tempfile.TemporaryDirectory() as folder:
+            one, other = Path(folder, "a.csv"), Path(folder, "b.csv")
+            one.write_bytes(table("A,K1,block,buy,1,8,5,,"))
+            other.write_bytes(table("A,K2,block,buy,1,8,5,K1,", "B,H,hour,buy,1,8,5,,").replace(b",", b";"))
+            status, out, err = tool("table", "--journal", "--open", one, other)
+            self.assertEqual((status, err, out.count(b"submit")), (0, "", 3))
+            other.write_bytes(table("A,K1,block,buy,1,8,x,,", "B,H,hour,buy,1,8,5,,"))
+            status, out, err = tool("table", "--journal", one, other)
+            said = [
+                f"table: {other}: line 2, column volume_mw: 'x' should be a number of MW, such as 92.5",
+                f"table: {other}: line 2, column order: A has an order K1 in line 2 of {one} (NameTaken)",
+            ]
+            self.assertEqual((status, out, err.splitlines()), (command.NO_INPUT, b"", said))
+
+
+class Times(unittest.TestCase):
+    def periods(self, cell, periods=24):
+        lines, _ = made(f"A,K,block,buy,1,{cell},5,,", periods=periods)
+        return [int(pair.split(":")[0]) for pair in lines[0].split(",")[6].split(";")]
+
+    def test_times_are_periods(self):
+        self.assertEqual(self.periods("07:00-08:00"), [8])
+        self.assertEqual(self.periods("7:00 - 9:00; 22:00\u201324:00"), [8, 9, 23, 24])
+        self.assertEqual(self.periods("00:00-00:00"), list(range(1, 25)))
+        self.assertEqual(self.periods("07:15-08:00", 96), [30, 31, 32])
+
+    def test_days_on_which_the_clocks_change(self):
+        self.assertEqual(self.periods("01:00-02:00", 23), [2])
+        self.assertEqual(self.periods("00:00-04:00", 23), [1, 2, 3])
+        self.assertEqual(self.periods("00:00-04:00", 25), [1, 2, 3, 4, 5])
+        self.assertEqual(self.periods("03:00-04:00", 25), [5])
+        said = "line 2, column periods: '02:00-03:00': 02:00 comes twice on this day: write the numbers of periods, such as 3 or 4"
+        self.assertEqual(wrong("A,H,hour,buy,1,02:00-03:00,5,,", periods=25), [said])
+        self.assertIn("no period of the day begins at 02:00", wrong("A,H,hour,buy,1,02:00-03:00,5,,", periods=23)[0])
+
+    def test_each_period_by_its_own_times(self):
+        for periods in rules.DAYS:
+            for number in range(1, periods + 1):
+                first, last = clock.span(periods, number).split(" to ")
+                times = [clock.begins(periods, at) for at in range(1, periods + 1)]
+                if times.count(first) == 1 and times.count(last) <= 1:
+                    self.assertEqual(clock.periods_between(periods, first, last), [number], (periods, first, last))
+
+    def test_times_that_are_none(self):
+        for cell, said in (
+            ("07:30-08:00", "'07:30-08:00': no period of the day begins at 07:30"),
+            ("07:00-08:30", "'07:00-08:30': no period of the day ends at 08:30"),
+            ("07:00-24:01", "no period of the day ends at 24:01"),
+            ("08:00-07:00", "'08:00-07:00': 07:00 isn't after 08:00"),
+            ("07:00", "'07:00' should be two clock times, such as 07:00-08:00"),
+            ("08:00-09:00;07:00-08:00", "the periods '08:00-09:00;07:00-08:00' should increase"),
+            ("2026-08-20", "a spreadsheet has taken it for a date, so make the cell one of text"),
+        ):
+            self.assertIn(said, wrong(f"A,K,block,buy,1,{cell},5,,")[0])
+
+
+class ForSpreadsheets(unittest.TestCase):
+    def test_words_are_never_a_formula(self):
+        data = journal_of("submit,A,-1,hour,buy,100,8:10,,", "submit,A,-K-2,block,sell,-100,8:10,,-G")
+        results = results_of(data, frozenset())
+        status, out, _ = tool("table", "--rows", "orders", "-", data=data + b"results\n" + results)
+        rows = list(csv.reader(io.StringIO(out.decode())))
+        self.assertEqual((status, rows[1][1], rows[2][1], rows[2][4], rows[2][8]), (0, "'-1", "'-K-2", "-1.00", "'-G"))
+        status, again, _ = tool("table", "--journal", "-", data=out)
+        self.assertEqual((status, again), (0, data))
+        for name in ("orders", "blocks", "commands", "statement", "participants"):
+            out = tool("table", "--rows", name, "-", data=data + b"results\n" + results)[1].decode()
+            for row in csv.reader(io.StringIO(out)):
+                for cell in row:
+                    if cell.startswith(sheets.FORMULA):
+                        float(cell)
+
+    def test_a_decimal_comma(self):
+        status, out, _ = tool("table", "--decimal-comma", "--rows", "orders", *TEXTS)
+        rows = list(csv.reader(io.StringIO(out.decode()), delimiter=";"))
+        self.assertEqual((status, rows[1][4:7]), (0, ["300,00", "1", "360,0"]))
+        self.assertNotIn(".", out.decode())
+        right = tool("table", "--journal", "-", data=tool("table", "--rows", "orders", *TEXTS)[1])[1]
+        self.assertEqual(tool("table", "--journal", "-", data=out)[1], right)
+
+    @WITH_EXCEL
+    def test_workbooks(self):
+        import openpyxl
+
+        with tempfile.TemporaryDirectory() as folder:
+            path, every = Path(folder, "a.xlsx"), Path(folder, "all.XLSX")
+            self.assertEqual(tool("table", "--quiet", "--rows", "orders", *TEXTS, "-o", path)[::2], (0, ""))
+            self.assertEqual(tool("table", "--quiet", "--all", every, *TEXTS)[::2], (0, ""))
+            sheet = openpyxl.load_workbook(path)["orders"]
+            self.assertEqual([cell.value for cell in sheet[2]][:7], ["STAD", "LOAD-1", "hour", "buy", 300.0, "1", "360.0"])
+            self.assertEqual(sheet.freeze_panes, "A2")
+            book = openpyxl.load_workbook(every)
+            self.assertEqual(len(book.sheetnames), 8)
+            self.assertEqual([cell.value for cell in book["periods"][20]][:5], [19, 1.0, 165.0, 730.0, True])
+            right = tool("table", "--journal", "-", data=tool("table", "--rows", "orders", *TEXTS)[1])[1]
+            for name in (path, every):
+                self.assertEqual(tool("table", "--journal", name), (0, right, ""))
+            data = journal_of("submit,A,-1,hour,buy,100,8:10,,")
+            Path(folder, "day").write_bytes(data + b"results\n" + results_of(data, frozenset()))
+            tool("table", "--rows", "orders", Path(folder, "day"), "-o", path)
+            cell = openpyxl.load_workbook(path)["orders"]["B2"]
+            self.assertEqual((cell.value, cell.data_type), ("-1", "s"))
+            self.assertEqual(tool("table", "--journal", path)[1], data)
+
+    @WITH_EXCEL
+    def test_cells_of_workbooks(self):
+        import datetime
+
+        import openpyxl
+
+        book = openpyxl.Workbook()
+        sheet = book.active
+        sheet.append([*HEADER.split(","), "note"])
+        sheet.append(["A", "H1", "hour", "buy", 0.1 + 0.2, 8, 45, None, None, datetime.date(2026, 1, 1)])
+        sheet.append(["A", "K1", "block", "buy", "12,5", "08:00-10:00", "1;2,5"])
+        sheet.append(["A", "H2", "hour", "buy", 1, datetime.datetime(2026, 8, 20), 1])
+        out = io.BytesIO()
+        book.save(out)
+        status, _, err = tool("table", "--journal", "-", data=out.getvalue())
+        said = "table: standard input: line 4, column periods: '2026-08-20' should be periods and runs of them, such as 8, 8-20 or 1;3;5-7,"
+        self.assertEqual((status, err.startswith(said)), (command.NO_INPUT, True), err)
+        sheet.delete_rows(4)
+        out = io.BytesIO()
+        book.save(out)
+        status, text, _ = tool("table", "--journal", "-", "--open", data=out.getvalue())
+        self.assertEqual(text.decode().splitlines()[1:], ["submit,A,H1,hour,buy,30,8:450,,", "submit,A,K1,block,buy,1250,9:10;10:25,,"])
+
+    @WITH_EXCEL
+    def test_broken_workbooks(self):
+        for data in (sheets.XLSX, sheets.XLSX + bytes(1_000)):
+            status, out, err = tool("table", "--journal", "-", data=data)
+            said = "table: standard input: line 1: the Excel workbook can't be read: "
+            self.assertEqual((status, out, err.startswith(said)), (command.NO_INPUT, b"", True), err)
+
+
+class Statement(unittest.TestCase):
+    DATA = journal_of(
+        "submit,A,H1,hour,buy,6000,8:10,,",
+        "submit,B,S1,hour,sell,5000,8:10,,",
+        "submit,A,H2,hour,buy,6000,9:10,,",
+        "amend,A,H1,,,5500,8:10,,",
+        "cancel,A,H2,,,,,,",
+        "cancel,A,H9,,,,,,",
+        "submit,A,K1,block,buy,4000,8:10,,",
+    )
+    DAY = DATA + b"results\n" + results_of(DATA, frozenset())
+
+    def rows(self, *words):
+        status, out, err = tool("table", "--quiet", *words, "-", data=self.DAY)
+        self.assertEqual((status, err), (0, ""))
+        return list(csv.DictReader(io.StringIO(out.decode())))
+
+    def test_what_was_sent_and_what_became_of_it(self):
+        heads = ["command", "what", "order", "reply", "reason", "outcome", "executed_mwh", "amount_eur", "code"]
+        found = [[row[head] for head in heads] for row in self.rows("--participant", "A")]
+        self.assertEqual(
+            found,
+            [
+                ["1", "submit", "H1", "done", "", "", "", "", ""],
+                ["3", "submit", "H2", "done", "", "", "", "", ""],
+                ["4", "amend", "H1", "done", "", "in full", "1.0", "-52.500", "in-the-money"],
+                ["5", "cancel", "H2", "done", "", "", "", "", ""],
+                ["6", "cancel", "H9", "refused", "UnknownOrder", "", "", "", ""],
+                ["7", "submit", "K1", "done", "", "rejected", "0.0", "0.000", "loses"],
+            ],
+        )
+        whys = [row["why"] for row in self.rows("--participant", "A")]
+        self.assertEqual(whys[:2], ["command 4 changes it", "command 5 changes it"])
+        self.assertEqual(whys[2], "its limit is better than the price, 52.50 EUR/MWh")
+        self.assertEqual(whys[4], "the participant has no such order: it was cancelled, refused, or never entered")
+
+    def test_each_participants_statements_are_all_of_them(self):
+        whole = self.rows("--rows", "statement")
+        parts = [row for who in "AB" for row in self.rows("--participant", who)]
+        self.assertEqual(sorted(parts, key=lambda row: int(row["command"])), whole[:-1])
+        self.assertEqual(whole[-1]["what"], "close")
+
+    def test_other_tables_of_a_participant(self):
+        self.assertEqual([row["participant"] for row in self.rows("--participant", "A", "--rows", "participants")], ["A"])
+        self.assertEqual(len(self.rows("--participant", "B", "--rows", "orders", "--long")), 1)
+        self.assertEqual([row["command"] for row in self.rows("--participant", "B", "--rows", "commands")], ["2"])
+        status, out, err = tool("table", "--participant", "C", "-", data=self.DAY)
+        self.assertEqual((status, out.count(b"\n"), err), (0, 1, "table: C has no command in the journal\n"))
+
+    def test_amounts_add_up(self):
+        texts = [AUCTION, AUCTION.with_suffix(".stdout")]
+        out = tool("table", "--rows", "statement", *texts)[1].decode()
+        total = sum(float(row["amount_eur"] or 0) for row in csv.DictReader(io.StringIO(out)))
+        self.assertAlmostEqual(total, 0)
+        self.assertIn(printed(AUCTION).decode().splitlines()[-1].split(",")[2], out)
+
+
+if __name__ == "__main__":
+    unittest.main()

@@ -1,0 +1,151 @@
+"""The verdict of the audit as programs see it: its status, its record, and that an encoding alone is no wrong number."""
+
+import hashlib
+import json
+import re
+import tempfile
+import unittest
+from pathlib import Path
+
+from support import AUCTION, TOP, cases, journal_of, printed, results_of, tool
+
+from lib import command, faults, verdict, version
+
+DATA, TEXT = AUCTION.read_bytes(), printed(AUCTION)
+MARK = b"\xef\xbb\xbf"
+PRINTED = {"CR LF": TEXT.replace(b"\n", b"\r\n"), "CR": TEXT.replace(b"\n", b"\r")}
+
+
+def audit(data, text, *words):
+    """A run of the tool on a journal and results."""
+    with tempfile.TemporaryDirectory() as folder:
+        paths = Path(folder, "journal"), Path(folder, "results")
+        for path, content in zip(paths, (data, text)):
+            path.write_bytes(content)
+        return tool("audit", *words, *paths)
+
+
+class Encoding(unittest.TestCase):
+    """What other programs add to a text is no wrong number: it has a status of its own."""
+
+    RIGHT = "as the rules say: 24 periods, 80 hourly orders, 6 of 9 blocks accepted, welfare 3,021,520.00 EUR, 1 of 94 commands refused\n"
+
+    def others(self):
+        yield PRINTED["CR LF"], "the lines end with CR LF instead of LF alone"
+        yield PRINTED["CR"], "the lines end with CR instead of LF alone"
+        yield MARK + TEXT, "the text begins with a byte order mark"
+        yield TEXT.decode().encode("utf-16"), "the text begins with a byte order mark of UTF-16"
+        yield TEXT[:-1], "the last line has no line end"
+        yield re.sub(rb"[^,\n]+", rb'"\g<0>"', TEXT), "fields stand in quotes"
+        yield TEXT.replace(b",GAS,", b',"GAS",'), "fields stand in quotes"
+
+    def test_each_is_said_apart_from_what_is_wrong(self):
+        for text, said in self.others():
+            with self.subTest(said):
+                wanted = f"the encoding differs: {said}\n{self.RIGHT}"
+                self.assertEqual(audit(DATA, text), (command.ENCODING, wanted.encode(), ""))
+                for one, other in (b"welfare,3", b"welfare,4"), (b"accepted", b"rejected"), (b"period,2,", b"period,3,"):
+                    encoding = "utf-16" if said.endswith("UTF-16") else "latin-1"
+                    wrong = text.decode(encoding).replace(one.decode(), other.decode(), 1).encode(encoding)
+                    if wrong != text:
+                        status, out, _ = audit(DATA, wrong, "--best")
+                        self.assertEqual((status, out.startswith(wanted.splitlines()[0].encode())), (command.DIFFERS, True))
+        both = MARK + PRINTED["CR LF"]
+        status, out, _ = audit(DATA, both)
+        self.assertEqual((status, out.count(b"the encoding differs: ")), (command.ENCODING, 2))
+
+    def test_replies_and_days(self):
+        replies = b"day,24\r\n1,done\r\n"
+        said = b"the encoding differs: the lines end with CR LF instead of LF alone\nas the rules say: 1 reply\n"
+        self.assertEqual(audit(journal_of(), replies, "--replies"), (command.ENCODING, said, ""))
+        day = DATA + b"results\n" + TEXT
+        for other, part in (
+            (day.replace(b"\n", b"\r\n"), b"the journal of the day isn't in its written form"),
+            (day.replace(b"day,24,", b'"day",24,'), b"the journal of the day isn't in its written form"),
+            (day.replace(b"results\n", b"results\r\n"), b"the line 'results' ends with CR LF instead of LF alone"),
+        ):
+            status, out, _ = tool("audit", "-", data=other)
+            self.assertEqual((status, part in out), (command.ENCODING, True))
+        self.assertEqual(audit(DATA.replace(b"\n", b"\r\n"), TEXT)[0], command.DONE)
+
+    def test_a_better_selection_is_wrong_in_each_encoding(self):
+        worse = results_of(DATA, frozenset({0, 1})).replace(b"\n", b"\r\n")
+        self.assertEqual(audit(DATA, worse)[0], command.ENCODING)
+        self.assertEqual(audit(DATA, worse, "--best")[0], command.DIFFERS)
+
+
+class Record(unittest.TestCase):
+    def record(self, data, text, *words):
+        status, out, err = audit(data, text, "--json", *words)
+        made = json.loads(out)
+        self.assertEqual((made["status"], made["verdict"]), (status, verdict.OF_STATUS[status]))
+        self.assertEqual((made["version"], made["seconds"] >= 0), (version.VERSION, True))
+        return made, err
+
+    def test_right_results(self):
+        made, err = self.record(DATA, TEXT, "--best")
+        self.assertEqual((made["verdict"], made["status"], made["message"], made["faults"], err), ("right", 0, None, [], ""))
+        self.assertEqual(made["checked"], ["results", "best selection"])
+        inputs = [(entry["role"], entry["bytes"], entry["sha256"]) for entry in made["inputs"]]
+        wanted = [(role, len(data), hashlib.sha256(data).hexdigest()) for role, data in (("journal", DATA), ("results", TEXT))]
+        self.assertEqual(inputs, wanted)
+        self.assertEqual((made["search"]["selections"], made["search"]["tried"], made["search"]["better"]), (512, 512, None))
+        self.assertEqual((made["day"]["welfare_eur"], made["day"]["accepted"], made["day"]["refused"]), ("3021520.000", 6, 1))
+
+    def test_each_fault_is_a_record(self):
+        made, _ = self.record(DATA, TEXT.replace(b"period,19,16500,", b"period,19,16501,"))
+        (fault,) = [fault for fault in made["faults"] if fault["kind"] == "price"]
+        words = "results line 21: period 19: the price is 16501; the only supporting price is 16500"
+        self.assertEqual(fault, {"kind": "price", "line": 21, "about": "period 19", "words": words})
+        made, _ = self.record(DATA, results_of(DATA, frozenset({0, 1})), "--best")
+        self.assertEqual([fault["kind"] for fault in made["faults"]], ["better"])
+        self.assertIn("GAS,START", made["search"]["better"])
+        made, _ = self.record(DATA, MARK + TEXT)
+        self.assertEqual([fault["kind"] for fault in made["faults"]], ["encoding"])
+        junk = b"".join(b"%d\n" % number for number in range(500))
+        self.assertEqual(len(self.record(DATA, TEXT + junk)[0]["faults"]), 500)
+
+    def test_every_kind_is_described(self):
+        page = (TOP / "docs" / "FORMATS.md").read_text()
+        for kind, words in faults.KINDS.items():
+            self.assertIn(f"| `{kind}` |", page)
+            self.assertTrue(words)
+        source = "".join(path.read_text() for path in (TOP / "tools" / "lib").glob("*.py") if path.name != "faults.py")
+        for kind in faults.KINDS:
+            self.assertIn(f'"{kind}"', source)
+
+    def test_no_verdict_is_a_record_too(self):
+        made, err = self.record(b"day,24\n", TEXT)
+        self.assertEqual((made["verdict"], err), ("unread", f"audit: {made['message']}\n"))
+        self.assertEqual([entry["role"] for entry in made["inputs"]], ["journal", "results"])
+        made, _ = self.record(DATA, TEXT, "--best", "--seconds", "0")
+        self.assertEqual((made["verdict"], made["search"]["tried"], made["search"]["selections"]), ("undecided", 0, 512))
+        for words in ("--quiet", "--all"):
+            self.assertEqual(audit(DATA, TEXT, "--json", words)[0], command.COMMAND_LINE)
+
+    def test_other_texts(self):
+        made, _ = self.record(journal_of(), b"day,24\n1,refused,Closed\n", "--replies")
+        self.assertEqual((made["checked"], [fault["kind"] for fault in made["faults"]]), (["replies"], ["reply"]))
+        status, out, _ = tool("audit", "--json", "-", data=DATA + b"results\n" + TEXT)
+        self.assertEqual((status, json.loads(out)["inputs"][0]["role"]), (0, "day"))
+        status, out, _ = tool("audit", "--json", AUCTION, "--sent", "-", "--participant", "A", data=b"submit,A,B,hour,buy,1,1:1,,\n")
+        self.assertEqual((status, [fault["kind"] for fault in json.loads(out)["faults"]]), (1, ["missing"]))
+
+    def test_the_worked_cases(self):
+        for case in cases("clear"):
+            if not case.with_suffix(".status").exists():
+                made, _ = self.record(case.read_bytes(), printed(case))
+                self.assertEqual(made["verdict"], "right")
+
+
+class Version(unittest.TestCase):
+    def test_it_is_that_of_the_changelog_and_of_the_package(self):
+        heads = re.findall(r"^## (\S+)$", (TOP / "CHANGELOG.md").read_text(), re.MULTILINE)
+        self.assertEqual(heads[0], version.VERSION)
+        self.assertIn(f'version = "{version.VERSION}"', (TOP / "pyproject.toml").read_text())
+        for name in ("audit", "lint", "plot", "report", "table"):
+            self.assertEqual(tool(name, "--version"), (0, f"{name} {version.VERSION}\n".encode(), ""))
+
+
+if __name__ == "__main__":
+    unittest.main()
