@@ -10,6 +10,7 @@ import sys
 import tempfile
 import time
 import unittest
+import unittest.mock
 from pathlib import Path
 
 import support
@@ -89,6 +90,34 @@ class Limits(unittest.TestCase):
         held, _ = book.run(journal.read_journal(journal_of(*SMALL)))
         with self.assertRaisesRegex(engine.Fault, "^memory$"):
             limits.Search(held, ("GEN", "UNIT"), lambda text: engine.Fault("memory", 4)).worst()
+
+
+class Page(unittest.TestCase):
+    """The sentence of a page for each rejected block."""
+
+    def said(self, lines, answer=lambda text, nodes: (None, support.results_of(text, best(text))), results=None):
+        data = journal_of(*lines)
+        day = support.day_of(data, results or support.results_of(data, best(data)))
+        with unittest.mock.patch.object(engine, "answer", answer):
+            return limit_words.of_rejected(day)
+
+    def test_the_sentence(self):
+        high = SMALL[0], SMALL[1].replace("4000", "6000")
+        sentence = "With a limit of 50.00 EUR/MWh or lower it would have been accepted."
+        self.assertEqual(self.said(high), {0: sentence})
+        low = BUYER[0], BUYER[1].replace("3000", "1999")
+        self.assertEqual(self.said(low), {0: sentence.replace("50", "20").replace("lower", "higher")})
+        self.assertEqual(self.said(NEVER)[1], "With no limit would it have been accepted.")
+        self.assertEqual(self.said(SMALL), {})
+
+    def test_when_there_is_none(self):
+        high = SMALL[0], SMALL[1].replace("4000", "6000")
+        self.assertEqual(self.said(high, lambda text, nodes: (3, "unfinished: piece 0 after 100000 nodes")), {})
+        self.assertEqual(self.said(high, lambda text, nodes: (0, "no program was found")), {})
+        wrong = support.results_of(journal_of(*high), frozenset()).replace(b"welfare,0", b"welfare,1")
+        self.assertEqual(self.said(high, results=wrong), {})
+        with unittest.mock.patch.object(limit_words, "SECONDS", -1):
+            self.assertEqual(self.said(high), {})
 
 
 class Day(unittest.TestCase):
