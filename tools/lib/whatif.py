@@ -217,7 +217,7 @@ def change(args):
 
 
 def add_scenarios(commands, epilog):
-    parser = commands.add_parser("scenarios", description=scenarios.__doc__, epilog=epilog, help="what becomes of many scenarios")
+    parser = commands.add_parser("scenarios", description=run_scenarios.__doc__, epilog=epilog, help="what becomes of many scenarios")
     add_common(parser)
     add = parser.add_argument
     words = "a table with the column scenario and those of a table of orders, or of commands with the column what (CSV or Excel)"
@@ -315,6 +315,8 @@ def first_line(fault):
 
 
 def run_scenarios(args):
+    """What becomes of many scenarios: those of a table, each a name with the orders or commands that it adds to the journal; or with --sample
+    random ones, in which the orders of all but one participant have other limits and volumes."""
     output.check_options(args, args.journal, args.scenarios)
     check_scenarios(args)
     if is_picture(args.out):

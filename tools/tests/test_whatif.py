@@ -4,6 +4,7 @@ import csv
 import io
 import json
 import os
+import re
 import signal
 import subprocess
 import sys
@@ -17,7 +18,7 @@ import support
 from support import AUCTION, FIRST, QUARTERS, journal_of, printed, tool
 
 import compare
-from lib import book, changes, cleared, engine, journal, limit_words, limits, tables
+from lib import book, changes, cleared, command, engine, journal, limit_words, limits, tables
 from test_many import ends
 
 FAKE = Path(__file__).with_name("fake_dam.py")
@@ -289,6 +290,45 @@ class Tools(unittest.TestCase):
         who = next(command.who for command in journal.read_journal(FIRST).commands if hasattr(command, "who"))
         status, out, err = self.whatif("change", path, "-", "--participant", who, data=b"day,24,,,,,,,\n")
         self.assertEqual((status, len(self.rows(out))), (0, 2), err)
+
+
+@unittest.skipUnless(engine.BUILT.exists() and command.has("numpy") and command.has("matplotlib"), "the program or a package is missing")
+class Examples(unittest.TestCase):
+    """The section of the page: that its commands work, one after another, and print what it quotes."""
+
+    def setUp(self):
+        folder = tempfile.TemporaryDirectory()
+        self.addCleanup(folder.cleanup)
+        self.folder = folder.name
+        for name, target in (("tools", support.TOOLS), ("examples", support.TOP / "examples"), ("dam", engine.BUILT)):
+            Path(self.folder, name).symlink_to(target)
+        page = (support.TOP / "docs" / "USING.md").read_text().partition("\n## What if")[2].partition("\n## ")[0]
+        self.blocks = re.findall(r"^```(\w+)\n(.*?)^```$", page, re.MULTILINE | re.DOTALL)
+
+    def ran(self, words):
+        path = f"{Path(sys.executable).parent}:{os.environ['PATH']}"
+        environment = {**os.environ, "PATH": path, "PYTHONPATH": str(support.TOOLS), "PYTHONDONTWRITEBYTECODE": "1"}
+        return subprocess.run(words, cwd=self.folder, env=environment, capture_output=True, text=True)
+
+    def test_the_commands_print_what_is_quoted(self):
+        following = [*self.blocks[1:], ("", "")]
+        shown = [(block, after) for (kind, block), (other, after) in zip(self.blocks, following) if kind == "sh" and other == "text"]
+        self.assertEqual(len(shown), 3)
+        quoted = dict(shown)
+        for kind, block in self.blocks:
+            if kind == "sh":
+                with self.subTest(block):
+                    ran = self.ran(["sh", "-ec", block.replace("--sample 1000", "--sample 50")])
+                    self.assertEqual(ran.returncode, 0, ran.stderr)
+                    if block in quoted:
+                        self.assertEqual(ran.stdout, quoted[block])
+
+    def test_the_python_program(self):
+        program = next(block for kind, block in self.blocks if kind == "python")
+        ran = self.ran([sys.executable, "-c", program])
+        self.assertEqual((ran.returncode, ran.stderr), (0, ""))
+        self.assertIn("auction-day.csv 3021520000 in the units of the program\n", ran.stdout)
+        self.assertEqual(len(ran.stdout.splitlines()), len(list((support.TOP / "examples").glob("*.csv"))))
 
 
 if __name__ == "__main__":
