@@ -52,10 +52,9 @@ def record(search, found):
     own = search.order.price
 
     def case(name, limit, day):
-        accepted, eur = day.orders[search.key], [float(text.euros(amount, day.hours, "")) for amount in (day.surplus(search.key), day.welfare)]
-        prices = [price / 100 for price in day.prices]
-        numbers = {"limit_eur_mwh": limit / 100, "accepted": accepted, "surplus_eur": eur[0], "welfare_eur": eur[1]}
-        return {"case": name, **numbers, "prices_eur_mwh": prices}
+        surplus, welfare = (float(text.euros(amount, day.hours, "")) for amount in (day.surplus(search.key), day.welfare))
+        numbers = {"limit_eur_mwh": limit / 100, "accepted": day.orders[search.key], "surplus_eur": surplus, "welfare_eur": welfare}
+        return {"case": name, **numbers, "prices_eur_mwh": [price / 100 for price in day.prices]}
 
     def other(key):
         energies = [float(text.energy(day.executed(key), day.hours, "")) for day in (found.past, found.at)]
@@ -80,16 +79,16 @@ def sentences(search, found):
     order, who = search.order, " ".join(search.key)
     does, worse = ("buys", "lower") if order.side == "buy" else ("sells", "higher")
     outcome = search.at(order.price).outcome(search.key)
-    yield f"{who} {does} {text.energy(sum(volume for _, volume in order.volumes), search.at(order.price).hours)} MWh in a block" \
-        f" with a limit of {text.shown_price(order.price)} EUR/MWh, and is {outcome}."
+    energy = text.energy(sum(volume for _, volume in order.volumes), search.at(order.price).hours)
+    yield f"{who} {does} {energy} MWh in a block with a limit of {text.shown_price(order.price)} EUR/MWh, and is {outcome}."
     if found.limit is None:
         best = text.shown_price(found.past_limit)
         yield f"No limit of the range is enough: with the best, {best} EUR/MWh, it {why_never(search, found)}."
     elif found.past is None:
         yield f"Every limit of the range is enough, up to the worst, {text.shown_price(found.limit)} EUR/MWh."
     else:
-        yield f"Its worst limit is {text.shown_price(found.limit)} EUR/MWh: with it, and with every {BETTER[order.side]} limit, it is accepted; with a" \
-            f" {worse} one it is rejected."
+        start = f"Its worst limit is {text.shown_price(found.limit)} EUR/MWh: with it, and with every {BETTER[order.side]} limit"
+        yield f"{start}, it is accepted; with a {worse} one it is rejected."
     yield f"This is exact, since {LAW}. It took {text.counted(found.clearings, 'clearing')} more than the day itself."
 
 
@@ -101,8 +100,8 @@ def short(search, found):
 
 
 def of_rejected(day):
-    """The same for each rejected block of a day that can be had soon, by place. Nothing of results that are wrong, or if there is no program
-    to run."""
+    """The same for each rejected block of a day that can be had soon, by place. Nothing of results that are wrong, or if there is no
+    program to run."""
     said = {}
     if day.wrong:
         return said

@@ -1,4 +1,4 @@
-"""What if: worst limits, further commands, and comparisons of two days; with the built program, or one that answers by the rules of tools/lib."""
+"""What if: worst limits, further commands, and comparisons of two days; with the built program, or one that answers by the rules."""
 
 import csv
 import io
@@ -265,8 +265,8 @@ class Tools(unittest.TestCase):
         status, out, err = tool("whatif", "limit", "--program", "/nowhere/dam", self.journal, "--participant", "GEN", "--order", "UNIT")
         self.assertEqual((status, out, err), (3, b"", "whatif: /nowhere/dam can't be run: No such file or directory\n"))
         self.program = self.script("fails", "echo memory >&2; exit 4")
-        for words in (["limit", self.journal, "--participant", "GEN", "--order", "UNIT"], ["limit", self.journal, "--participant", "GEN", "--all"]):
-            self.assertEqual(self.whatif(*words), (3, b"", "whatif: memory\n"))
+        for words in (["--order", "UNIT"], ["--all"]):
+            self.assertEqual(self.whatif("limit", self.journal, "--participant", "GEN", *words), (3, b"", "whatif: memory\n"))
 
     def test_an_interrupt_ends_the_program_too(self):
         hang = self.script("hang", f"echo $$ >> {self.folder}/pids; exec sleep 600")
