@@ -126,6 +126,7 @@ class Pages(unittest.TestCase):
             Path(folder, "dam").chmod(0o755)
             for name, data in ("a", AUCTION.read_bytes()), ("b", b"x\n"), ("c d", AUCTION.read_bytes()):
                 Path(folder, "days", f"{name}.csv").write_bytes(data)
+            Path(folder, "days", "b.txt").write_bytes(b"of an earlier run\n")
             python = f"{shlex.quote(sys.executable)} -B tools/audit"
             ran = subprocess.run(["sh", "-c", recipe.replace("tools/audit", python)], cwd=folder, capture_output=True, text=True)
             self.assertEqual(ran.returncode, 3, ran.stderr)
