@@ -15,3 +15,14 @@ pub mod Walking
 pub mod Volumes
 pub mod Gains
 pub mod Members
+pub mod Steering
+pub mod Pricing
+pub mod BuildingClasses
+pub mod BuildingPairs
+pub mod BuildingSupplies
+pub mod BuildingRanges
+pub mod BuildingCurves
+pub mod BuildingTouches
+pub mod BuildingWrites
+pub mod BuildingDay
+pub mod BuildingLots

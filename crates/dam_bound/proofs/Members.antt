@@ -1,9 +1,10 @@
 -- The blocks that descend from one, place by place, and the sum of what they gain.
 use Rattle.std.proofs.Common.{◌≡◌, ◌≢◌, ℕ, zero, suc, ◌+◌, ◌<◌, ◌≤◌, ℤ, pos, ◌+ℤ◌, Bool, true, false, Option, Some, List, [], ◌∷◌, length}
-use Rattle.std.proofs.Common.{drop, slice_set, option_map, unwrap_or, ap, ◌∙◌, sym, refl, inl, inr, arith}
+use Rattle.std.proofs.Common.{drop, get_or, slice_set, option_map, unwrap_or, ap, ◌∙◌, sym, refl, inl, inr, arith}
 use Rattle.std.specs.List.{slice_get}
 use Rattle.std.proofs.lemmas.Int.{ints}
 use Rattle.std.proofs.lemmas.Bool.{cases_eq}
+use Rattle.std.proofs.lemmas.Option.{slice_get_read}
 use Rattle.std.proofs.lemmas.List.{get_or-set_same, get_or-set_other, length-set}
 use Rattle.dam_book.specs.Terms.{BlockTerms}
 use Rattle.dam_book.specs.Limits.{most_blocks}
@@ -11,6 +12,7 @@ use Rattle.dam_blocks.specs.declared.problem.Block.{Block}
 use Rattle.dam_blocks.specs.Selection.{accepts, over_accepted}
 use Rattle.dam_blocks.specs.Family.{descends}
 use Rattle.dam_blocks.specs.Eligible.{surplus_of, surplus_at}
+use Rattle.dam_bound.specs.inside.Families.{IsFamily, AreFamilies}
 use Rattle.dam_bound.proofs.Extending.{if_accepted}
 
 -- ---- the descendants among the first places
@@ -111,3 +113,13 @@ no_members f [] members h = refl
 no_members f (b ∷ bs) [] h = refl
 no_members f (b ∷ bs) (true ∷ members) h = absurd (let wrong = h 0 (omega arith) in cc)
 no_members f (b ∷ bs) (false ∷ members) h = no_members f bs members (λ i l. h (suc i) (omega (arith, l)))
+
+-- ---- the family that is kept
+pub family_read : (blocks : List Block) (families read : List (Option (List Bool))) (place : ℕ) (family : Option (List Bool))
+    → read ≡ families → AreFamilies blocks families → place < length blocks → family ≡ get_or read place family → IsFamily blocks place family
+family_read blocks families read place family same are inside is =
+    let many = are.as_many in
+    are.each place family
+    (ap (λ (fs : List (Option (List Bool))). slice_get fs place) (sym same)
+    ∙ slice_get_read read (length families) place family (ap (λ (fs : List (Option (List Bool))). length fs) (sym same))
+    (omega (arith, inside, many)) is)

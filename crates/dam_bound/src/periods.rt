@@ -1,7 +1,9 @@
 //! The periods of a day while its tables are made, block by block.
 
-ghost use Rattle.std.specs.Prelude.{◌≡◌, ◌<◌, ◌≤◌, ◌+◌, pos, ℕ, Some, List, ◌++◌, length, slice_get, IfOk, ◌≤ℤ◌};
+ghost use Rattle.std.specs.Prelude.{◌≡◌, ◌<◌, ◌≤◌, ◌+◌, pos, ℕ, Some, List, ◌++◌, length, slice_get, IfOk, ◌≤ℤ◌, neg_ℤ, ◌+ℤ◌};
 ghost use Rattle.dam_book.specs.Limits.{last_period, most_blocks};
+ghost use Rattle.dam_book.specs.declared.order.Side.TheVariants.{Buy, Sell};
+ghost use Rattle.dam_hour.specs.Limits.{greatest_net};
 ghost use Rattle.dam_curve.specs.Supply.{IsSupplyOf};
 ghost use Rattle.dam_curve.specs.Curve.{Keeps};
 ghost use Rattle.dam_hour.specs.declared.step.Step.{Step};
@@ -9,7 +11,7 @@ ghost use Rattle.dam_blocks.specs.declared.problem.Block.{Block};
 ghost use Rattle.dam_blocks.specs.Problem.{ProblemState, AreBlocks};
 ghost use Rattle.dam_bound.specs.Relaxed.{as_steps, without_rows};
 ghost use Rattle.dam_bound.specs.Tables.{IsClassCurve};
-ghost use Rattle.dam_bound.specs.inside.Building.{AreSupplies, AreRanges, IsClass, AreDecided, class_size};
+ghost use Rattle.dam_bound.specs.inside.Building.{AreSupplies, AreRanges, IsClass, AreDecided, class_size, side_net};
 
 use crate::classes::firsts_of;
 use crate::levels::relaxed_steps;
@@ -29,7 +31,12 @@ pub(crate) struct Range {
 
 impl Range {
     /// The range with the volume of one of a side's blocks more.
-    fn wider(self, side: Side, volume: u32) -> Range {
+    fn wider(self, side: Side, volume: u32) -> Range
+        requires least { neg_ℤ (pos greatest_net) ≤ℤ self.least }
+        requires most { self.most ≤ℤ pos greatest_net }
+        ensures least { result.least ≡ self.least +ℤ side_net Buy side volume }
+        ensures most { result.most ≡ self.most +ℤ side_net Sell side volume }
+    {
         let volume = i64::from(volume);
         match side {
             Side::Sell => Range {
@@ -77,9 +84,10 @@ fn supply_at<A: Allocator + Copy, B: Allocator>(
     ensures { (ss : List Step) → slice_get problem.now.hours at ≡ Some ss
         → IfOk result (IsSupplyOf (ss ++ as_steps (at + 1) problem.now.blocks)) }
 {
+    let blocks = problem.blocks();
     let period = Period::at(at);
     let steps = problem.steps(period).unwrap();
-    let relaxed = relaxed_steps(alloc, steps, problem.blocks(), period)?;
+    let relaxed = relaxed_steps(alloc, steps, blocks, period)?;
     Supply::of(alloc, &relaxed)
 }
 
@@ -99,16 +107,16 @@ fn supplies_of<A: Allocator + Copy, B: Allocator>(
 }
 
 /// Takes the block, as a step, away from each of its periods.
-fn take_away<A: Allocator>(supplies: &mut [Supply<A>], order: &BlockOrder)
+fn take_away<A: Allocator>(supplies: &mut Vec<Supply<A>, A>, order: &BlockOrder)
     requires { (problem : ProblemState) × (depth : ℕ) × (b : Block)
         × (slice_get problem.blocks depth ≡ Some b) × (b.order ≡ order.now)
         × AreBlocks (length problem.hours) problem.blocks
-        × AreSupplies problem depth supplies.old }
+        × AreSupplies problem depth supplies.old.items }
     ensures { (problem : ProblemState) (depth : ℕ) (b : Block)
         → slice_get problem.blocks depth ≡ Some b → b.order ≡ order.now
         → AreBlocks (length problem.hours) problem.blocks
-        → AreSupplies problem depth supplies.old
-        → AreSupplies problem (depth + 1) supplies.new }
+        → AreSupplies problem depth supplies.old.items
+        → AreSupplies problem (depth + 1) supplies.new.items }
 {
     for (period, qty) in order.volumes().pairs() {
         let at = usize::from(period.get()) - 1;
@@ -208,12 +216,12 @@ impl<A: Allocator> Periods<A> {
         ensures some { pos 0 ≤ℤ result }
         ensures few { result ≤ℤ pos last_period }
     {
-        let mut size = 0;
+        let mut size = 0usize;
         for at in 0..self.supplies.len() {
             if self.firsts[at] as usize == class {
                 size += 1;
             }
         }
-        size
+        size as i64
     }
 }

@@ -8,20 +8,24 @@ ghost use Rattle.dam_blocks.specs.declared.problem.Block.{Block};
 ghost use Rattle.dam_blocks.specs.Problem.{ProblemState};
 ghost use Rattle.dam_bound.specs.Day.{IsDay};
 ghost use Rattle.dam_bound.specs.Relaxed.{without_rows};
-ghost use Rattle.dam_bound.specs.Tables.{AreCurves, IsTouch, AreTouches, AreLots, AreFirsts, ArePlaces, AreTablesOf, rejected};
+ghost use Rattle.dam_bound.specs.Tables.{AreCurves, class_value, IsTouch, AreTouches, AreLots, AreFirsts, ArePlaces, AreTablesOf, rejected};
+ghost use Rattle.dam_bound.specs.inside.Change.{greatest_class_value};
 ghost use Rattle.dam_bound.specs.inside.Building.{IsClass, AreDecided, IsDeciding};
 ghost use Rattle.dam_curve.specs.declared.line.Line.{Line};
 ghost use Rattle.dam_blocks.specs.Selection.{volume_in};
 ghost use Rattle.dam_hour.specs.Best.{signed};
+ghost use Rattle.dam_hour.specs.Limits.{greatest_value};
+ghost use Rattle.dam_blocks.specs.Magnitude.{IsWithin};
 
 use crate::classes::firsts_of;
 use crate::day::{Day, Position};
 use crate::families::families_of;
 use crate::periods::Periods;
 use crate::touch::{Lot, Touch};
-use dam_blocks::{Block, MOST_PERIODS, Problem, Selection};
-use dam_book::{BlockOrder, Qty, Side};
+use dam_blocks::{Block, MOST_PERIODS, Problem, Selection, value_of};
+use dam_book::{BlockOrder, Period, Qty, Side};
 use dam_curve::{Curve, Curves, Sum};
+use dam_hour::laws;
 use std::alloc::{AllocError, Allocator, Global};
 use std::marker::Model;
 
@@ -74,18 +78,15 @@ fn net_of(side: Side, qty: Qty) -> i32
     }
 }
 
-/// What the accepted block is worth in this number of periods in which it has this volume, in cents per MWh times
-/// tenths of a MW.
-fn worth_of(order: &BlockOrder, qty: Qty, periods: i64) -> i64
+/// What is worth this much in one period, in this number of periods.
+fn times(worth: i64, periods: i64) -> i64
+    requires worth { IsWithin greatest_value worth }
     requires some { pos 0 ≤ℤ periods }
     requires few { periods ≤ℤ pos last_period }
-    ensures { result ≡ signed order.now.side (order.now.price *ℤ pos qty) *ℤ periods }
+    ensures value { result ≡ worth *ℤ periods }
+    ensures size { IsWithin greatest_class_value result }
 {
-    let worth = i64::from(order.price().get()) * i64::from(qty.get());
-    match order.side() {
-        Side::Sell => -worth * periods,
-        Side::Buy => worth * periods,
-    }
+    worth * periods
 }
 
 /// What is lost by accepting the block, at the prices of the class near this net volume, or below 0 gained. It only
@@ -123,6 +124,18 @@ impl<'a, A: Allocator> Model for Deciding<'a, A> {
 }
 
 impl<A: Allocator> Deciding<'_, A> {
+    /// What the accepted block is worth in all periods of the class that begins at the place.
+    fn value(&self, at: usize) -> i64
+        requires { (problem : ProblemState) × (k : ℕ) × (b : Block) × IsDeciding problem k b self.now
+            × IsClass problem at }
+        ensures value { (problem : ProblemState) (k : ℕ) (b : Block)
+            → IsDeciding problem k b self.now → IsClass problem at
+            → result ≡ class_value problem b.order at }
+        ensures size { IsWithin greatest_class_value result }
+    {
+        times(value_of(self.order, Period::at(at)), self.periods.size(at))
+    }
+
     /// The accepted block in the class that begins at the place.
     fn touch<B: Allocator, C: Allocator>(
         &self,
@@ -141,7 +154,7 @@ impl<A: Allocator> Deciding<'_, A> {
         ensures kept { Keeps curves.old curves.new }
     {
         let curve = self.periods.curve(curves, sum, at)?;
-        let value = worth_of(self.order, qty, self.periods.size(at));
+        let value = self.value(at);
         Ok(Touch {
             at: at as u32,
             from: self.places[at],
@@ -167,11 +180,12 @@ impl<A: Allocator> Deciding<'_, A> {
             → IfOk result (λ touches. AreTouches problem curves.new k b true touches.items) }
         ensures kept { Keeps curves.old curves.new }
     {
+        let periods = self.periods;
         let pairs = self.order.volumes().pairs();
         let mut touches = Vec::with_capacity(alloc, pairs.len())?;
         for (period, qty) in pairs {
             let at = usize::from(period.get()) - 1;
-            if self.periods.firsts[at] as usize == at {
+            if periods.firsts[at] as usize == at {
                 touches.push(self.touch(curves, sum, at, *qty)?)?;
             }
         }
@@ -260,6 +274,8 @@ fn root_of<A: Allocator>(curves: &Curves<A>, firsts: &[u32], ends: &[Curve]) -> 
         → AreCurves problem curves.now 0 ends.now → length problem.hours ≤ last_period
         → IsDay problem [] result }
 {
+    laws::balance();
+    laws::welfare();
     let mut root = Day::empty();
     for at in 0..ends.len() {
         if firsts[at] as usize == at {

@@ -25,16 +25,18 @@ use std::marker::Model;
 pub struct Walk<'a, A: Allocator, B: Allocator> {
     problem: &'a Problem<A>,
     tables: &'a Tables<B>,
-    ghost fit: { AreTablesOf (without_rows problem.now) tables.now },
 }
 
 impl<'a, A: Allocator, B: Allocator> Model for Walk<'a, A, B> {
     ghost use Rattle.dam_blocks.specs.Problem.{ProblemState};
     ghost use Rattle.dam_bound.specs.Relaxed.{without_rows};
+    ghost use Rattle.dam_bound.specs.Tables.{AreTablesOf};
 
     ghost Value = { ProblemState };
 
     ghost view = { λ w. without_rows w.problem.now };
+
+    ghost invariant = { λ w. AreTablesOf (without_rows w.problem.now) w.tables.now };
 }
 
 /// What a walk can be made of: the bounds of a problem's prefixes.
@@ -61,8 +63,9 @@ impl<'a, A: Allocator, B: Allocator> Walk<'a, A, B> {
     pub fn begin(&self, trail: &mut Trail) -> i64
         ensures { IsDayIn self.now [] trail.new result }
     {
-        write_root(&self.tables.root, trail, self.tables.count);
-        self.tables.root.total
+        let tables = self.tables;
+        write_root(&tables.root, trail, tables.count);
+        tables.root.total
     }
 
     /// Extends the day of a prefix by the decision on the block at the depth, and returns the relaxed
@@ -102,7 +105,8 @@ impl<'a, A: Allocator, B: Allocator> Walk<'a, A, B> {
         ensures { (prefix : List Bool) → length prefix ≡ length self.now.blocks
             → IsDayIn self.now prefix trail.now total → IsDay self.now prefix result }
     {
-        day_of(trail, &self.tables.places, self.tables.count, total)
+        let tables = self.tables;
+        day_of(trail, &tables.places, tables.count, total)
     }
 
     /// Makes `to` a day of whichever prefix `from` is the day of. Only what belongs to the problem's
@@ -111,7 +115,8 @@ impl<'a, A: Allocator, B: Allocator> Walk<'a, A, B> {
         ensures { (prefix : List Bool) → IsDay self.now prefix from.now
             → IsDay self.now prefix to.new }
     {
-        copy_classes(from, to, self.tables.count);
+        let tables = self.tables;
+        copy_classes(from, to, tables.count);
     }
 
     /// Turns the decision on the block at the place round into this one, on a day on which every block

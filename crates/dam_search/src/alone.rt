@@ -13,7 +13,7 @@ use crate::laws;
 use crate::piece::search_piece;
 use crate::space::kept;
 use dam_blocks::{Best, Problem};
-use dam_bound::Tables;
+use dam_bound::{Tables, Walk};
 use std::alloc::Global;
 
 /// The selection that a finished walk over the one piece found, if this welfare was offered before it.
@@ -71,9 +71,10 @@ pub fn search_alone(alloc: Global, problem: &Problem, nodes: u32) -> Result<Best
     ensures whole { (piece : ℕ) → ¬ (IsErrOf result (SearchFault.Collected piece)) }
 {
     let tables = Tables::of(alloc, problem)?;
-    let first = first_selection(problem, &tables);
+    let walk = &Walk::new(problem, &tables);
+    let first = first_selection(problem, walk);
     let mut incumbent = Private::new();
     incumbent.offer(first.welfare);
-    let answer = search_piece(problem, &tables, 0, 0, nodes, &mut incumbent);
+    let answer = search_piece(problem, walk, 0, 0, nodes, &mut incumbent);
     concluded(problem, first.welfare, nodes, &answer)
 }

@@ -224,7 +224,7 @@ pub fn search_piece<A: Allocator, B: Allocator, R: Bounds<B>, I: Incumbent>(
     nodes: u32,
     incumbent: &mut I,
 ) -> PieceAnswer
-    requires same { relaxed.now ≡ without_rows problem.now }
+    requires same { R.bounded relaxed.now ≡ without_rows problem.now }
     requires depth { depth ≤ length problem.now.blocks }
     requires piece { piece < 2 ^ depth }
     ensures piece { result.piece ≡ piece }

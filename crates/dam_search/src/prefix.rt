@@ -158,7 +158,11 @@ impl Prefix {
 
     /// The day of the prefix, which decides every block; `None` only if it has no bound or one below 0.
     /// It is made in the slots.
-    pub(crate) fn day<A: Allocator, B: Allocator>(&self, walk: &Walk<A, B>, trail: &mut Trail) -> Option<Day>
+    pub(crate) fn day<A: Allocator, B: Allocator>(
+        &self,
+        walk: &Walk<A, B>,
+        trail: &mut Trail,
+    ) -> Option<Day>
         requires { length self.now ≡ length walk.now.blocks }
         ensures { IsDayFrom walk.now self.now 0 result }
     {

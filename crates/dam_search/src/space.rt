@@ -6,7 +6,7 @@ use dam_blocks::Problem;
 use dam_bound::Walk;
 use std::alloc::Allocator;
 
-/// What a walk reads: a problem, and its bounds with the tables that they are looked up in.
+/// What a search reads: a problem, and the walk over its tables.
 #[derive(Drop)]
 pub(crate) struct SearchSpace<'a, A: Allocator, B: Allocator> {
     pub(crate) problem: &'a Problem<A>,

@@ -32,7 +32,7 @@ pub fn work<A: Allocator, B: Allocator, C: Allocator, R: Bounds<B>, T: Turnstile
     seat: &mut Shared,
     turnstile: &T,
 ) -> Result<Vec<PieceAnswer, C>, AllocError>
-    requires same { relaxed.now ≡ without_rows problem.now }
+    requires same { R.bounded relaxed.now ≡ without_rows problem.now }
     requires depth { depth ≤ length problem.now.blocks }
 
     requires fresh { IsFresh (2 ^ depth) (view_of seat.old.seat) }

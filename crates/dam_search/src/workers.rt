@@ -2,6 +2,7 @@ ghost use Rattle.std.specs.Prelude.{◌≡◌, ◌<◌, ◌≤◌, ◌-◌, ◌^
 ghost use Rattle.std.specs.Prelude.{vec_len, All, IfOk, IsErrOf};
 ghost use Rattle.atomic_table.specs.Seated.{TableId};
 ghost use Rattle.dam_blocks.specs.Result.{IsResult};
+ghost use Rattle.dam_bound.specs.Relaxed.{without_rows};
 ghost use Rattle.dam_plan.specs.Limits.{most_workers, most_cut};
 ghost use Rattle.dam_search.specs.Search.{IsUnfinished};
 ghost use Rattle.dam_search.specs.Words.{view_of};
@@ -17,7 +18,7 @@ use crate::turnstile::Turnstile;
 use crate::words::{ClosedWords, close, new_words};
 use crate::worker::work;
 use dam_blocks::{Best, Problem};
-use dam_bound::{Bounds, Tables};
+use dam_bound::{Tables, Walk};
 use dam_plan::Plan;
 use std::alloc::{AllocError, Global};
 use std::thread;
@@ -35,13 +36,14 @@ pub(crate) struct Share<'a> {
 pub(crate) struct Task<'a> {
     pub(crate) alloc: Global,
     pub(crate) problem: &'a Problem,
-    pub(crate) tables: &'a Tables,
+    pub(crate) walk: &'a Walk<'a, Global, Global>,
     pub(crate) depth: usize,
     pub(crate) nodes: u32,
     pub(crate) workers: u8,
     /// The welfare that is offered before any worker starts.
     pub(crate) first: u64,
     ghost inside: { depth ≤ length problem.now.blocks },
+    ghost same: { walk.now ≡ without_rows problem.now },
 }
 
 /// A seat for each worker, split off the first one.
@@ -76,7 +78,7 @@ fn share_of<'a, T: Turnstile>(task: &Task, turnstile: &T, seat: Shared<'a>) -> S
     let answers = work(
         task.alloc,
         task.problem,
-        task.tables,
+        task.walk,
         task.depth,
         task.nodes,
         &mut seat,
@@ -218,14 +220,15 @@ pub fn search<R: Threads + Sync, T: Turnstile + Sync>(
     ensures whole { (piece : ℕ) → ¬ (IsErrOf result (SearchFault.Collected piece)) }
 {
     let tables = Tables::of(alloc, problem)?;
+    let walk = Walk::new(problem, &tables);
     let task = Task {
         alloc,
         problem,
-        tables: &tables,
+        walk: &walk,
         depth: plan.depth(problem.block_count()),
         nodes: plan.nodes(),
         workers: plan.workers(),
-        first: first_selection(problem, &tables).welfare,
+        first: first_selection(problem, &walk).welfare,
     };
     let explored = explore_all(rt, &task, turnstile)?;
     collected(problem, task.depth, task.nodes, &explored.answers)

@@ -1,14 +1,16 @@
 -- What the tables are made from, block by block.
-use Rattle.std.specs.Prelude.{◌≡◌, ℕ, ◌+◌, ◌*◌, ◌<◌, ◌≤◌, ℤ, pos, Some, List, ◌++◌, length, drop, slice_get, slice_index_or}
+use Rattle.std.specs.Prelude.{◌≡◌, ℕ, ◌+◌, ◌*◌, ◌<◌, ◌≤◌, ℤ, pos, neg_ℤ, Some, List, ◌++◌, length, drop, slice_get, slice_index_or}
 use Rattle.dam_book.specs.Limits.{last_period, most_blocks}
 use Rattle.dam_book.specs.Terms.{BlockTerms}
+use Rattle.dam_book.specs.declared.order.Side.{Side}
+use Rattle.dam_hour.specs.Best.{signed}
 use Rattle.dam_hour.specs.declared.step.Step.{Step}
 use Rattle.dam_curve.specs.Supply.{IsSupplyOf}
 use Rattle.dam_blocks.specs.declared.problem.Block.{Block}
 use Rattle.dam_blocks.specs.Problem.{ProblemState, AreBlocks}
 use Rattle.dam_bound.specs.Classes.{first_of, over_class}
 use Rattle.dam_bound.specs.Relaxed.{as_steps}
-use Rattle.dam_bound.specs.Tables.{least_net, most_net, AreFirsts, ArePlaces}
+use Rattle.dam_bound.specs.Tables.{if_of, least_net, most_net, AreFirsts, ArePlaces}
 use Rattle.dam_bound.specs.declared.periods.Range.{Range}
 
 -- the supply of each period: the hourly orders, and after them the blocks that as many decisions leave undecided
@@ -16,6 +18,10 @@ pub record AreSupplies (problem : ProblemState) (depth : ℕ) (supplies : List (
   pub as_many : length supplies ≡ length problem.hours
   pub each : (i : ℕ) (ss d : List Step) → slice_get problem.hours i ≡ Some ss
       → IsSupplyOf (ss ++ as_steps (i + 1) (drop depth problem.blocks)) (slice_index_or supplies i d)
+
+-- what a block of a side, with a volume in a period, adds to the net volume there, if it is of the side that is asked for
+abbrev pub side_net : Side → Side → ℕ → ℤ
+side_net side own volume = if_of side own (neg_ℤ (signed own (pos volume)))
 
 -- the net volumes of each period that the decided blocks can make
 pub record AreRanges (problem : ProblemState) (depth : ℕ) (ranges : List Range) : Type 0 where

@@ -1,5 +1,5 @@
 -- A member more, and all of them.
-use Rattle.std.proofs.Common.{◌≡◌, pos, List, Bool, true, false, ◌&&◌, refl, ◌∙◌, sym, arith}
+use Rattle.std.proofs.Common.{◌≡◌, ◌<◌, pos, List, Bool, true, false, ◌&&◌, length, refl, ◌∙◌, sym, arith}
 use Rattle.std.proofs.lemmas.Int.{ints}
 use Rattle.std.proofs.lemmas.Bool.{and_from, and_left, and_right}
 use Rattle.std.proofs.lemmas.List.{drop_all}
@@ -15,7 +15,8 @@ use Rattle.dam_bound.proofs.gain.surplus_of_family.Goals.{else-has-via-else-has}
 pub loop-place-preserved : goal.loop-place-preserved
 loop-place-preserved g c =
     let low = c.loop-place.invariant.low in let high = c.loop-place.invariant.high in
-    let inside = c.loop-place-test.true in let few = c.requires.tables.few_blocks in
+    let count = c.block_count-place-end.ensures.value in let test = c.loop-place-test.true in
+    let inside : c.loop-place.place < length c.args.problem.now.blocks = omega (arith, count, test) in let few = c.requires.tables.few_blocks in
     elim c.if-has.branch [
       | then-has+then-has-2 w ↦
           (let least = w.surplus_of-total.ensures.size.at_least in let most = w.surplus_of-total.ensures.size.at_most in let is =
@@ -24,7 +25,7 @@ loop-place-preserved g c =
             low = omega (arith, ints, low, high, least, most, inside, few, is);
             high = omega (arith, ints, low, high, least, most, inside, few, is);
             so_far = λ prefix members prices long day are both.
-                member_more prices c.args.blocks.now members c.loop-place.place true (to_z w64 c.loop-place.total-bits)
+                member_more prices c.args.problem.now.blocks members c.loop-place.place true (to_z w64 c.loop-place.total-bits)
                 w.surplus_of-total.result (to_z w64 c.if-has.total-bits) inside
                 (both c.loop-place.place inside ∙ and_from _ _ (sym c.has.ensures.value ∙ w.if-has.true)
                 (sym w.has-then-has.ensures.value ∙ w.if-has-2.true))
@@ -44,7 +45,7 @@ loop-place-preserved g c =
             low = omega (arith, ints, low, is);
             high = omega (arith, ints, high, is);
             so_far = λ prefix members prices long day are both.
-                member_more prices c.args.blocks.now members c.loop-place.place false (to_z w64 c.loop-place.total-bits) (pos 0)
+                member_more prices c.args.problem.now.blocks members c.loop-place.place false (to_z w64 c.loop-place.total-bits) (pos 0)
                 (to_z w64 c.if-has.total-bits) inside
                 (rejected members (both c.loop-place.place inside)) refl (omega (arith, ints, is))
                 (c.loop-place.invariant.so_far prefix members prices long day are both);
@@ -53,6 +54,6 @@ loop-place-preserved g c =
 
 pub returns-clause-value : goal.returns-clause-value
 returns-clause-value g c prefix members prices long day are both =
-    all_members (surplus_of prices) c.args.blocks.now members c.loop-place.place (to_z w64 c.loop-place.total-bits) _
-    (drop_all c.loop-place.place c.args.blocks.now c.loop-place-test.false)
+    all_members (surplus_of prices) c.args.problem.now.blocks members c.loop-place.place (to_z w64 c.loop-place.total-bits) _
+    (drop_all c.loop-place.place c.args.problem.now.blocks (omega (arith, c.block_count-place-end.ensures.value, c.loop-place-test.false)))
     (c.loop-place.invariant.so_far prefix members prices long day are both)

@@ -22,7 +22,7 @@ sound problem prefix best read done f covers = record {
 pub walked-total-requires : goal.walked-total-requires
 walked-total-requires g c =
     let long = as_long c.of_piece-prefix.result c.args.depth c.args.piece c.of_piece-prefix.ensures in
-    let blocks = ap (λ (p : ProblemState). length p.blocks) c.requires.same in
+    let blocks = ap (λ (p : ProblemState). length p.blocks) c.walk.ensures in
     omega (arith, long, blocks, c.requires.depth)
 
 pub explore-done-requires-clause-depth : goal.explore-done-requires-clause-depth

@@ -19,10 +19,10 @@ loop-share-init c =
     record {
       table = refl;
       few = omega arith;
-      joined = subst (λ (n : ℕ). AreJoined task.space.problem.now task.depth task.nodes v n v c.args.answers.items)
+      joined = subst (λ (n : ℕ). AreJoined task.problem.now task.depth task.nodes v n v c.args.answers.items)
           (nothing (vec_len c.args.shares))
-          (subst (λ (xs : List PieceAnswer). AreJoined task.space.problem.now task.depth task.nodes v 0 v xs) (sym c.requires.empty)
-          (none_joined task.space.problem.now task.depth task.nodes v c.requires.undrawn));
+          (subst (λ (xs : List PieceAnswer). AreJoined task.problem.now task.depth task.nodes v 0 v xs) (sym c.requires.empty)
+          (none_joined task.problem.now task.depth task.nodes v c.requires.undrawn));
       shares = c.requires.shares;
     }
   where
@@ -32,31 +32,31 @@ loop-share-init c =
 pub join-requires : goal.join-requires
 join-requires c =
     let task = c.args.task.now in let i = c.loop-share.invariant in
-    let popped = All-pop (λ (s : Share). IsShare task.space.problem.now task.depth task.nodes c.args.first.now.seat.table_id s)
+    let popped = All-pop (λ (s : Share). IsShare task.problem.now task.depth task.nodes c.args.first.now.seat.table_id s)
     c.loop-share.shares.items c.pop.new.self.items (Some c.in-Some.share) c.in-Some.ensures.items i.shares in
     popped.1.table_is ∙ sym i.table
 
 pub loop-share-preserved : goal.loop-share-preserved
 loop-share-preserved c =
     let task = c.args.task.now in let i = c.loop-share.invariant in
-    let popped = All-pop (λ (s : Share). IsShare task.space.problem.now task.depth task.nodes c.args.first.now.seat.table_id s)
+    let popped = All-pop (λ (s : Share). IsShare task.problem.now task.depth task.nodes c.args.first.now.seat.table_id s)
     c.loop-share.shares.items c.pop.new.self.items (Some c.in-Some.share) c.in-Some.ensures.items i.shares in
     let share = popped.1 in let v = c.args.first.now.seat.me.0 in let w = c.loop-share.first.seat.me.0 in
     let u = c.in-Some.share.seat.seat.me.0 in let found = c.in_ok-found.field-0 in
     let answered = subst (λ (r : Result (Vec PieceAnswer Global) AllocError). IfOk r
-    (λ (xs : Vec PieceAnswer Global). (u.draws_past_the_end ≡ 1) × AreAnswersOf task.space.problem.now task.depth task.nodes 0 u
+    (λ (xs : Vec PieceAnswer Global). (u.draws_past_the_end ≡ 1) × AreAnswersOf task.problem.now task.depth task.nodes 0 u
     xs.items)) c.in_ok-found.was share.answers in
-    let one = one_joined task.space.problem.now task.depth task.nodes v (vec_len c.args.shares - vec_len c.loop-share.shares) w u
+    let one = one_joined task.problem.now task.depth task.nodes v (vec_len c.args.shares - vec_len c.loop-share.shares) w u
     c.join.new.self.seat.me.0 c.loop-share.answers.items found.items i.joined
     share.one_seat share.none_left answered.0 answered.1 c.join.ensures.view in
     let few = i.few in let fewer = c.in-Some.ensures.cases in
     record {
       table = c.join.ensures.table ∙ i.table;
       few = omega (arith, few, fewer);
-      joined = subst (λ (n : ℕ). AreJoined task.space.problem.now task.depth task.nodes v n c.join.new.self.seat.me.0
+      joined = subst (λ (n : ℕ). AreJoined task.problem.now task.depth task.nodes v n c.join.new.self.seat.me.0
           c.extend_from_slice.new.self.items) (one_fewer (vec_len c.args.shares) (vec_len c.loop-share.shares)
           (vec_len c.pop.new.self) few fewer)
-          (subst (λ (xs : List PieceAnswer). AreJoined task.space.problem.now task.depth task.nodes v
+          (subst (λ (xs : List PieceAnswer). AreJoined task.problem.now task.depth task.nodes v
           ((vec_len c.args.shares - vec_len c.loop-share.shares) + 1) c.join.new.self.seat.me.0 xs)
           (sym (c.in_ok-extend_from_slice.ensures.items
           ∙ ap (λ (xs : List PieceAnswer). c.loop-share.answers.items ++ xs) c.deref.ensures.value)) one);

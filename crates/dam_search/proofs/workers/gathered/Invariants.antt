@@ -9,9 +9,9 @@ abbrev pub invariant-loop-share : goal.invariant-loop-share
 invariant-loop-share l = record {
   table : l.first.seat.table_id ≡ l.fn.first.seat.table_id;
   few : vec_len l.shares ≤ vec_len l.fn.shares;
-  joined : AreJoined l.task.space.problem.now l.task.depth l.task.nodes l.fn.first.seat.me.0 (vec_len l.fn.shares - vec_len l.shares)
+  joined : AreJoined l.task.problem.now l.task.depth l.task.nodes l.fn.first.seat.me.0 (vec_len l.fn.shares - vec_len l.shares)
       l.first.seat.me.0 l.answers.items;
-  shares : All (λ (s : Share). IsShare l.task.space.problem.now l.task.depth l.task.nodes l.fn.first.seat.table_id s) l.shares.items;
+  shares : All (λ (s : Share). IsShare l.task.problem.now l.task.depth l.task.nodes l.fn.first.seat.table_id s) l.shares.items;
 }
 
 abbrev pub decreases-loop-share : goal.decreases-loop-share

@@ -12,5 +12,5 @@ gathered-requires-clause-shares g c =
     let task = c.args.task.now in let table = c.args.first.now.seat.table_id in
     let new = subst (λ (n : ℕ). All (λ (s : Shared). IsNewSeat table n s) c.in_ok-seats.seats.items) c.requires.pieces
     c.in_ok-seats.ensures.seats in
-    subst (λ (t : TableId). All (λ (s : Share). IsShare task.space.problem.now task.depth task.nodes t s) c.in_ok-shares.shares.items)
+    subst (λ (t : TableId). All (λ (s : Share). IsShare task.problem.now task.depth task.nodes t s) c.in_ok-shares.shares.items)
     (sym c.in_ok-seats.ensures.table) (c.in_ok-shares.ensures.shares table new)

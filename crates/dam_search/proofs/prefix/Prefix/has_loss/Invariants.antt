@@ -6,5 +6,5 @@ use Rattle.dam_search.proofs.prefix.Prefix.has_loss.Given as goal
 
 abbrev pub invariant-loop-place : goal.invariant-loop-place
 invariant-loop-place g l =
-    (prices : List ℤ) → ArePrices l.relaxed.blocks (padded l.self) 1 l.relaxed.hours prices
-    → (i : ℕ) → i < l.place → accepts (padded l.self) i ≡ true → pos 0 ≤ℤ gain_at l.relaxed.blocks (padded l.self) prices i
+    (prices : List ℤ) → ArePrices l.walk.blocks (padded l.self) 1 l.walk.hours prices
+    → (i : ℕ) → i < l.place → accepts (padded l.self) i ≡ true → pos 0 ≤ℤ gain_at l.walk.blocks (padded l.self) prices i

@@ -27,8 +27,8 @@ loop-place-preserved g c =
     let more = decided_more c.self.inside.taken c.args.self.now c.self.inside.depth c.loop-place.place c.self.view_is c.self.invariant.0
     c.self.invariant.1 c.loop-place-test.true
     ∙ ap (λ (b : Bool). front ++ b ∷ []) (sym c.has.ensures.value) in
-    as_passed c.args.relaxed.now (take (c.loop-place.place + 1) c.args.self.now) c.extend-next.new.trail c.in-Some.next (search rules)
-    (subst (λ (xs : List Bool). IsDayIn c.args.relaxed.now xs c.extend-next.new.trail c.in-Some.next) (sym more)
+    as_passed c.args.walk.now (take (c.loop-place.place + 1) c.args.self.now) c.extend-next.new.trail c.in-Some.next (search rules)
+    (subst (λ (xs : List Bool). IsDayIn c.args.walk.now xs c.extend-next.new.trail c.in-Some.next) (sym more)
     (c.in-Some.ensures.day front (front_long c.self.inside.taken c.args.self.now c.self.inside.depth c.loop-place.place c.self.view_is
     c.self.invariant.0 c.self.invariant.1 c.loop-place-test.true) c.loop-place.invariant))
 
@@ -43,7 +43,7 @@ returns-in_default g c w e =
     ∙ take-append-drop (c.loop-place.place + 1) c.args.self.now in
     let under = c.in_default.ensures.day front (front_long c.self.inside.taken c.args.self.now c.self.inside.depth c.loop-place.place
     c.self.view_is c.self.invariant.0 c.self.invariant.1 c.loop-place-test.true) c.loop-place.invariant in
-    let most = c.extension.ensures.most c.args.relaxed.now (front ++ c.has.result ∷ []) rest w
-    (ap (relaxed_welfare c.args.relaxed.now) whole ∙ e) in
+    let most = c.extension.ensures.most c.args.walk.now (front ++ c.has.result ∷ []) rest w
+    (ap (relaxed_welfare c.args.walk.now) whole ∙ e) in
     let at_most = most.2 in let less = under most.0 most.1 in
     omega (arith, ints, at_most, less)

@@ -4,4 +4,4 @@ use Rattle.dam_bound.specs.Trail.{IsDayIn}
 use Rattle.dam_search.proofs.prefix.Prefix.walked.Given as goal
 
 abbrev pub invariant-loop-place : goal.invariant-loop-place
-invariant-loop-place g l = IsDayIn l.relaxed (take l.place l.self) l.trail l.total
+invariant-loop-place g l = IsDayIn l.walk (take l.place l.self) l.trail l.total

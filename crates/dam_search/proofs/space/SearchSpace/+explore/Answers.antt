@@ -70,7 +70,7 @@ decide-returns-then-not-is_still_admissible-clause-walked g t c =
 
 pub decide-explore-requires : goal.decide-explore-requires
 decide-explore-requires g t c =
-    let blocks = c.args.self.now.problem.now.blocks in let relaxed = c.args.self.now.relaxed.now in let prefix = c.args.prefix.now in
+    let blocks = c.args.self.now.problem.now.blocks in let relaxed = c.args.self.now.walk.now in let prefix = c.args.prefix.now in
     let next = c.extended-extended.result in let is = c.extended-extended.ensures in let read = c.args.found.now.read in
     let total = c.extend-next.result in let trail = c.extend-next.new.trail in
     let long : length next ≡ length prefix + 1 =
@@ -144,7 +144,7 @@ explore-returns-then-depth-block_count-clause-walked g t c =
 
 pub explore-returns-in_default-clause-walked : goal.explore-returns-in_default-clause-walked
 explore-returns-in_default-clause-walked g t c =
-    let problem = c.args.self.now.problem.now in let relaxed = c.args.self.now.relaxed.now in let prefix = c.args.prefix in
+    let problem = c.args.self.now.problem.now in let relaxed = c.args.self.now.walk.now in let prefix = c.args.prefix in
     let found = c.args.found.now in
     let left = length problem.blocks - length prefix in let told = g.I.Incumbent.greatest_read in
     let going = c.requires.going in let read = going.read in let offered = going.offered in
@@ -171,7 +171,7 @@ explore-returns-in_default-clause-walked g t c =
 
 pub explore-decide-requires : goal.explore-decide-requires
 explore-decide-requires g t c =
-    let problem = c.args.self.now.problem.now in let relaxed = c.args.self.now.relaxed.now in let prefix = c.args.prefix in
+    let problem = c.args.self.now.problem.now in let relaxed = c.args.self.now.walk.now in let prefix = c.args.prefix in
     let low : c.args.found.now.read ≤ c.read-found.result = omega (arith, c.requires.going.read, c.read-found.ensures.rises) in
     let is = c.in-Some.ensures relaxed c.args.trail.now c.args.found.now.read low c.requires.day in
     let depth : length prefix < length problem.blocks =
@@ -197,7 +197,7 @@ explore-returns-then-not-decide-clause-walked g t c =
     let first = c.equals-accept.result in
     let nodes = c.args.nodes in let told = g.I.Incumbent.greatest_read in
     let low : c.args.found.now.read ≤ c.read-found.result = omega (arith, c.requires.going.read, c.read-found.ensures.rises) in
-    let is = c.in-Some.ensures c.args.self.now.relaxed.now c.args.trail.now c.args.found.now.read low c.requires.day in
+    let is = c.in-Some.ensures c.args.self.now.walk.now c.args.trail.now c.args.found.now.read low c.requires.day in
     let inside =
     undecided prefix c.depth.result c.block_count.result n c.depth.ensures.value c.block_count.ensures.value
     c.requires.depth c.if-depth-block_count.false in
@@ -218,7 +218,7 @@ explore-returns-then-not-decide-clause-walked g t c =
       covers = λ done. absurd (cc);
       spends =
           spends_first problem prefix first n (told c.args.incumbent.now) least nodes before after inside c.read-found.ensures.rises
-          (alive_here problem c.args.self.now.relaxed.now prefix least c.args.self.now.same is.0) unfinished;
+          (alive_here problem c.args.self.now.walk.now prefix least c.args.self.now.same is.0) unfinished;
       reads =
           reads_asked (n - length prefix) before after c.args.found.now.read c.decide.new.found.read (told c.args.incumbent.now)
           (told c.decide.new.incumbent) (omega (arith, inside)) (omega (arith, more)) c.requires.going.read
@@ -228,7 +228,7 @@ explore-returns-then-not-decide-clause-walked g t c =
 
 pub explore-decide-requires-2 : goal.explore-decide-requires-2
 explore-decide-requires-2 g t c =
-    let problem = c.args.self.now.problem.now in let relaxed = c.args.self.now.relaxed.now in let prefix = c.args.prefix in
+    let problem = c.args.self.now.problem.now in let relaxed = c.args.self.now.walk.now in let prefix = c.args.prefix in
     let low : c.args.found.now.read ≤ c.read-found.result = omega (arith, c.requires.going.read, c.read-found.ensures.rises) in
     let is = c.in-Some.ensures relaxed c.args.trail.now c.args.found.now.read low c.requires.day in
     let depth : length prefix < length problem.blocks =
@@ -251,7 +251,7 @@ explore-returns-clause-walked g t c =
     let first = c.equals-accept.result in
     let nodes = c.args.nodes in let told = g.I.Incumbent.greatest_read in
     let low : c.args.found.now.read ≤ c.read-found.result = omega (arith, c.requires.going.read, c.read-found.ensures.rises) in
-    let is = c.in-Some.ensures c.args.self.now.relaxed.now c.args.trail.now c.args.found.now.read low c.requires.day in
+    let is = c.in-Some.ensures c.args.self.now.walk.now c.args.trail.now c.args.found.now.read low c.requires.day in
     let inside =
     undecided prefix c.depth.result c.block_count.result n c.depth.ensures.value c.block_count.ensures.value
     c.requires.depth c.if-depth-block_count.false in
@@ -286,7 +286,7 @@ explore-returns-clause-walked g t c =
       spends =
           spends_both problem prefix first n (told c.args.incumbent.now) least later nodes before middle after c.decide-2.result inside
           c.read-found.ensures.rises (omega (arith, asked, raised))
-          (alive_here problem c.args.self.now.relaxed.now prefix least c.args.self.now.same is.0) one other;
+          (alive_here problem c.args.self.now.walk.now prefix least c.args.self.now.same is.0) one other;
       reads =
           reads_asked (n - length prefix) before after c.args.found.now.read c.decide-2.new.found.read (told c.args.incumbent.now)
           (told c.decide-2.new.incumbent) (omega (arith, inside)) (omega (arith, more, more')) c.requires.going.read

@@ -20,12 +20,12 @@ returns-clause-eligible g c =
     let full = c.requires.full in let blocks = c.kept.ensures.few_blocks in
     let few : length prefix ≤ most_blocks = omega (arith, full, blocks) in
     let whole = c.completions.ensures.padded prefix few in
-    let total = welfare_is_total problem c.args.self.now.relaxed.now prefix (padded prefix) c.args.day.now c.args.self.now.same
+    let total = welfare_is_total problem c.args.self.now.walk.now prefix (padded prefix) c.args.day.now c.args.self.now.same
     c.requires.day (c.decided.ensures problem prefix (padded prefix) (omega (arith, full)) whole) in
     let fits : SFits w64 c.args.day.now.total = search rules in
     let value = to_z-of_z w64 c.args.day.now.total fits in
     let is = not_losing problem prefix c.has_loss.result c.args.day.now.total c.if-has_loss.false
-    (tells_of problem c.args.self.now.relaxed.now prefix c.has_loss.result c.args.self.now.same c.has_loss.ensures)
+    (tells_of problem c.args.self.now.walk.now prefix c.has_loss.result c.args.self.now.same c.has_loss.ensures)
     whole (c.is_admissible.ensures.value.0 (search rules)) total
     (c.prices.ensures problem (padded prefix) c.args.day.now.total c.kept.ensures total) in
     subst (λ (xs : List Bool). IsEligible problem xs (pos (nat_abs (to_z w64 (of_z w64 c.args.day.now.total))))) (sym c.selection.ensures)

@@ -18,20 +18,20 @@ returns-in_default-clause-finds g c = finds_nothing c.args.self.now.problem.now 
 
 pub returns-in_default-clause-covers : goal.returns-in_default-clause-covers
 returns-in_default-clause-covers g c sel w whole e =
-    inl (under_read c.args.self.now.problem.now c.args.self.now.relaxed.now c.args.prefix.now sel
+    inl (under_read c.args.self.now.problem.now c.args.self.now.walk.now c.args.prefix.now sel
     c.args.found.now.read w c.args.self.now.same
-    (unless_told c.args.total c.args.self.now.relaxed.now c.args.prefix.now c.args.trail.now c.args.found.now.read
+    (unless_told c.args.total c.args.self.now.walk.now c.args.prefix.now c.args.trail.now c.args.found.now.read
     c.in_default.is c.requires.day)
     (c.decided.ensures c.args.self.now.problem.now c.args.prefix.now sel (omega (arith, c.requires.full)) whole) e.welfare_is)
 
 pub has_loss-requires-clause-day : goal.has_loss-requires-clause-day
 has_loss-requires-clause-day g c =
     let prefix = c.args.prefix.now in
-    let is = if_told c.args.total c.in-Some.total c.args.self.now.relaxed.now prefix c.args.trail.now c.args.found.now.read
+    let is = if_told c.args.total c.in-Some.total c.args.self.now.walk.now prefix c.args.trail.now c.args.found.now.read
     c.in-Some.is c.requires.day in
     let blocks = ap (λ (p : ProblemState). length p.blocks) c.args.self.now.same in
     c.day_at-day.ensures prefix (omega (arith, c.requires.full, blocks))
-    (as_passed c.args.self.now.relaxed.now prefix c.args.trail.now c.in-Some.total (search rules) is)
+    (as_passed c.args.self.now.walk.now prefix c.args.trail.now c.in-Some.total (search rules) is)
 
 pub returns-in_default-candidate-clause-finds : goal.returns-in_default-candidate-clause-finds
 returns-in_default-candidate-clause-finds g c = finds_nothing c.args.self.now.problem.now c.args.prefix.now c.args.found.now.best
@@ -41,9 +41,9 @@ returns-in_default-candidate-clause-covers g c sel w whole e =
     let problem = c.args.self.now.problem.now in let prefix = c.args.prefix.now in
     let only = c.completions.ensures.only problem prefix sel (omega (arith, c.requires.full)) whole e.admissible
     ∙ sym c.selection.ensures in
-    let is = if_told c.args.total c.in-Some.total c.args.self.now.relaxed.now prefix c.args.trail.now c.args.found.now.read
+    let is = if_told c.args.total c.in-Some.total c.args.self.now.walk.now prefix c.args.trail.now c.args.found.now.read
     c.in-Some.is c.requires.day in
-    let total = welfare_is_told problem c.args.self.now.relaxed.now prefix sel c.args.trail.now c.in-Some.total c.args.self.now.same is
+    let total = welfare_is_told problem c.args.self.now.walk.now prefix sel c.args.trail.now c.in-Some.total c.args.self.now.same is
     (c.decided.ensures problem prefix sel (omega (arith, c.requires.full)) whole) in
     let same = same_welfare _ w c.in-Some.total e.welfare_is total in
     let fits : SFits w64 c.in-Some.total = search rules in
@@ -60,7 +60,7 @@ returns-then-has_loss-clause-covers g c sel w whole e =
     let problem = c.args.self.now.problem.now in let prefix = c.args.prefix.now in
     let only = c.completions.ensures.only problem prefix sel (omega (arith, c.requires.full)) whole e.admissible in
     absurd (losing problem prefix c.has_loss.result w c.if-has_loss.true
-    (tells_of problem c.args.self.now.relaxed.now prefix c.has_loss.result c.args.self.now.same c.has_loss.ensures)
+    (tells_of problem c.args.self.now.walk.now prefix c.has_loss.result c.args.self.now.same c.has_loss.ensures)
     (subst (λ (xs : List Bool). IsEligible problem xs w) only e))
 
 pub returns-clause-finds : goal.returns-clause-finds
@@ -69,15 +69,15 @@ returns-clause-finds g c =
     let full = c.requires.full in let blocks = c.kept.ensures.few_blocks in
     let few : length prefix ≤ most_blocks = omega (arith, full, blocks) in
     let whole = c.completions.ensures.padded prefix few in
-    let is = if_told c.args.total c.in-Some.total c.args.self.now.relaxed.now prefix c.args.trail.now c.args.found.now.read
+    let is = if_told c.args.total c.in-Some.total c.args.self.now.walk.now prefix c.args.trail.now c.args.found.now.read
     c.in-Some.is c.requires.day in
-    let total = welfare_is_told problem c.args.self.now.relaxed.now prefix (padded prefix) c.args.trail.now c.in-Some.total
+    let total = welfare_is_told problem c.args.self.now.walk.now prefix (padded prefix) c.args.trail.now c.in-Some.total
     c.args.self.now.same is (c.decided.ensures problem prefix (padded prefix) (omega (arith, full)) whole) in
     let fits : SFits w64 c.in-Some.total = search rules in
     let value = to_z-of_z w64 c.in-Some.total fits in
     let found = c.in-Some-candidate.ensures.some in
     let is = not_losing problem prefix c.has_loss.result c.in-Some.total c.if-has_loss.false
-    (tells_of problem c.args.self.now.relaxed.now prefix c.has_loss.result c.args.self.now.same c.has_loss.ensures)
+    (tells_of problem c.args.self.now.walk.now prefix c.has_loss.result c.args.self.now.same c.has_loss.ensures)
     whole c.requires.admissible total (c.prices.ensures problem (padded prefix) c.in-Some.total c.kept.ensures total) in
     finds_selection problem prefix c.args.found.now.best c.in-Some-candidate.best c.in-Some.total (found.0 ∙ c.selection.ensures)
     (found.1 ∙ value) whole is found.2
@@ -86,9 +86,9 @@ pub returns-clause-covers : goal.returns-clause-covers
 returns-clause-covers g c sel w whole e =
     let problem = c.args.self.now.problem.now in let prefix = c.args.prefix.now in
     let only = c.completions.ensures.only problem prefix sel (omega (arith, c.requires.full)) whole e.admissible in
-    let is = if_told c.args.total c.in-Some.total c.args.self.now.relaxed.now prefix c.args.trail.now c.args.found.now.read
+    let is = if_told c.args.total c.in-Some.total c.args.self.now.walk.now prefix c.args.trail.now c.args.found.now.read
     c.in-Some.is c.requires.day in
-    let total = welfare_is_told problem c.args.self.now.relaxed.now prefix sel c.args.trail.now c.in-Some.total c.args.self.now.same is
+    let total = welfare_is_told problem c.args.self.now.walk.now prefix sel c.args.trail.now c.in-Some.total c.args.self.now.same is
     (c.decided.ensures problem prefix sel (omega (arith, c.requires.full)) whole) in
     let same = same_welfare _ w c.in-Some.total e.welfare_is total in
     let fits : SFits w64 c.in-Some.total = search rules in
