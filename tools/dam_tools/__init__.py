@@ -91,8 +91,9 @@ def read_results(source, results):
 
 def clear(source, program=None, workers=None, cut=None, nodes=None, timeout=None):
     """The results of a journal, by a run of the program. The options are those of `dam clear`; none but a limit on nodes changes the
-    answer. If neither a program nor an option is named, the library for C is called if it was built from the present sources or is installed: it
-    gives the same answer, on one thread. The environment variable DAM names the program to run, and DAM_LIBRARY the library."""
+    answer. If neither a program nor an option is named, the library for C is called if it was built from the present sources or is
+    installed: it gives the same answer, on one thread. The environment variable DAM names the program to run, and DAM_LIBRARY the
+    library."""
     read = as_journal(source)
     path = engine.library() if (program, workers, cut, nodes, timeout) == (None,) * 5 else None
     if path:

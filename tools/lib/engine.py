@@ -78,10 +78,10 @@ def clear_call(path):
     return call
 
 
-def called(path, text):
+def called(path, text, nodes=MOST_NODES):
     """The status and what the library prints for a text; names are hashed with random bytes. Other threads run in the meantime."""
     secret, buffer = os.urandom(16), ctypes.create_string_buffer(MOST_ANSWER)
-    answer = clear_call(path)(secret, len(secret), text, len(text), MOST_NODES, buffer, MOST_ANSWER)
+    answer = clear_call(path)(secret, len(secret), text, len(text), nodes, buffer, MOST_ANSWER)
     return answer.status, ctypes.string_at(buffer, min(answer.length, MOST_ANSWER))
 
 
@@ -159,17 +159,17 @@ def threads_of(jobs):
         threads.shutdown(wait=False, cancel_futures=True)
 
 
-def answer(text, program=None, running=None):
+def answer(text, program=None, running=None, nodes=MOST_NODES):
     """What `dam clear` prints for the text of a journal, as a pair of None and these bytes; or else of the status (0 if there is none) and
     the words of the fault. By the library if there is one, unless a program is named. The pair has no type of this package, so that any
     executor can send it."""
     try:
         path = None if program else library()
         if path:
-            status, out = called(path, text)
+            status, out = called(path, text, nodes)
             said = out
         else:
-            status, out, said = ran([program_of(program), *ONE_WORKER], text, running=running)
+            status, out, said = ran([program_of(program), *ONE_WORKER, f"--nodes={nodes}"], text, running=running)
     except Fault as fault:
         return 0, str(fault)
     if not status:

@@ -1,8 +1,12 @@
 """What is said of the worst limit of a block: in words with a table, as a record, and as a row of a table."""
 
-from . import changes, command, decisions, journal, text
+import time
+
+from . import changes, command, decisions, engine, journal, limits, text
 from .limits import LAW
 
+SECONDS, NODES = 0.5, 100_000  # that a sentence of a page may take, and a clearing for it
+BETTER = {"buy": "higher", "sell": "lower"}
 MOST_OTHERS = 20  # orders whose result differs that are named
 HEADS = ["participant", "order", "side", "price_eur_mwh", "outcome", "worst_limit_eur_mwh", "surplus_eur", "welfare_eur", "others", "why"]
 
@@ -48,10 +52,9 @@ def record(search, found):
     own = search.order.price
 
     def case(name, limit, day):
-        accepted, eur = day.orders[search.key], [float(text.euros(amount, day.hours, "")) for amount in (day.surplus(search.key), day.welfare)]
-        prices = [price / 100 for price in day.prices]
-        numbers = {"limit_eur_mwh": limit / 100, "accepted": accepted, "surplus_eur": eur[0], "welfare_eur": eur[1]}
-        return {"case": name, **numbers, "prices_eur_mwh": prices}
+        surplus, welfare = (float(text.euros(amount, day.hours, "")) for amount in (day.surplus(search.key), day.welfare))
+        numbers = {"limit_eur_mwh": limit / 100, "accepted": day.orders[search.key], "surplus_eur": surplus, "welfare_eur": welfare}
+        return {"case": name, **numbers, "prices_eur_mwh": [price / 100 for price in day.prices]}
 
     def other(key):
         energies = [float(text.energy(day.executed(key), day.hours, "")) for day in (found.past, found.at)]
@@ -74,19 +77,51 @@ def record(search, found):
 def sentences(search, found):
     """The answer in words."""
     order, who = search.order, " ".join(search.key)
-    does, better, worse = ("buys", "higher", "lower") if order.side == "buy" else ("sells", "lower", "higher")
+    does, worse = ("buys", "lower") if order.side == "buy" else ("sells", "higher")
     outcome = search.at(order.price).outcome(search.key)
-    yield f"{who} {does} {text.energy(sum(volume for _, volume in order.volumes), search.at(order.price).hours)} MWh in a block" \
-        f" with a limit of {text.shown_price(order.price)} EUR/MWh, and is {outcome}."
+    energy = text.energy(sum(volume for _, volume in order.volumes), search.at(order.price).hours)
+    yield f"{who} {does} {energy} MWh in a block with a limit of {text.shown_price(order.price)} EUR/MWh, and is {outcome}."
     if found.limit is None:
         best = text.shown_price(found.past_limit)
         yield f"No limit of the range is enough: with the best, {best} EUR/MWh, it {why_never(search, found)}."
     elif found.past is None:
         yield f"Every limit of the range is enough, up to the worst, {text.shown_price(found.limit)} EUR/MWh."
     else:
-        yield f"Its worst limit is {text.shown_price(found.limit)} EUR/MWh: with it, and with every {better} limit, it is accepted; with a" \
-            f" {worse} one it is rejected."
+        start = f"Its worst limit is {text.shown_price(found.limit)} EUR/MWh: with it, and with every {BETTER[order.side]} limit"
+        yield f"{start}, it is accepted; with a {worse} one it is rejected."
     yield f"This is exact, since {LAW}. It took {text.counted(found.clearings, 'clearing')} more than the day itself."
+
+
+def short(search, found):
+    """The worst limit of a rejected block in one sentence."""
+    if found.limit is None:
+        return "With no limit would it have been accepted."
+    return f"With a limit of {text.shown_price(found.limit)} EUR/MWh or {BETTER[search.order.side]} it would have been accepted."
+
+
+def of_rejected(day):
+    """The same for each rejected block of a day that can be had soon, by place. Nothing of results that are wrong, or if there is no
+    program to run."""
+    said = {}
+    if day.wrong:
+        return said
+    for place, block in enumerate(day.problem.blocks):
+        if place not in day.said.accepted:
+            until = time.monotonic() + SECONDS
+            search = limits.Search(day.book, (block.who, block.name), lambda given: soon(given, until))
+            try:
+                if not search.accepts(block.order.price):
+                    said[place] = short(search, search.worst())
+            except engine.Fault:
+                continue
+    return said
+
+
+def soon(given, until):
+    """What is printed for a text, unless it is too late or the search is long."""
+    if time.monotonic() > until:
+        return engine.Fault("no time is left")
+    return engine.result(engine.answer(given, nodes=NODES))
 
 
 def columns(rows):

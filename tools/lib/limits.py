@@ -1,5 +1,5 @@
-"""The worst limit at which a block is accepted, by bisection: a better limit keeps a block (a law of docs/MARKET.md, which is proved). And an
-hourly order under limits of a grid, since no such law holds of one."""
+"""The worst limit at which a block is accepted, by bisection: a better limit keeps a block (a law of docs/MARKET.md, which is proved). And
+an hourly order under limits of a grid, since no such law holds of one."""
 
 from typing import NamedTuple
 

@@ -11,7 +11,7 @@ from typing import NamedTuple
 import jinja2
 from markupsafe import Markup, escape
 
-from . import book, clock, decisions, pictures, published, spans, tables, text, trades
+from . import book, clock, decisions, limit_words, pictures, published, spans, tables, text, trades
 from .journal import command_line
 from .progress import Bar
 
@@ -174,14 +174,15 @@ def periods_of(order):
 
 
 def block_table(day, found):
-    rows = []
-    for block, surplus, decision in zip(day.problem.blocks, day.said.surpluses, found):
+    rows, limits = [], limit_words.of_rejected(day)
+    for place, (block, surplus, decision) in enumerate(zip(day.problem.blocks, day.said.surpluses, found)):
         order = block.order
+        why = f"{decision.why}. {limits[place]}" if place in limits else decision.why
         mark = Markup('<span class="mark {}"></span>{}').format(MARKS[decision.kind], decision.kind)
         total = energy(day, sum(tenths for _, tenths in order.volumes))
         links = [f"{word} {name}" for word, name in (("parent", order.parent), ("group", order.group)) if name]
         row = [order.side, text.shown_price(order.price), periods_of(order), total, ", ".join(links)]
-        rows.append([f"{block.who} {block.name}", mark, decision.why, euros(day, surplus), *row])
+        rows.append([f"{block.who} {block.name}", mark, why, euros(day, surplus), *row])
     columns = heads("surplus, EUR", "side", "limit, EUR/MWh", "periods", "offered, MWh", "linked by")
     caption = "Each block, the reason, and its surplus at the prices; for a rejected block, with the best family that it belongs to"
     return Table(caption, [Head("block"), Head("decision", "decision"), Head("what decided", "why"), *columns], rows)

@@ -3,6 +3,7 @@
 import argparse
 import collections
 import contextlib
+import inspect
 import json
 import re
 import socket
@@ -39,15 +40,18 @@ def jobs(word):
     return int(word)
 
 
-def add_common(parser, journal_words="a closed journal; - for standard input"):
-    parser.add_argument("journal", metavar="JOURNAL", help=journal_words)
+def add_command(commands, call, name, epilog, words):
+    """The parser of a command, with what all commands read."""
+    parser = commands.add_parser(name, description=inspect.cleandoc(call.__doc__), epilog=epilog, help=words)
+    parser.add_argument("journal", metavar="JOURNAL", help="a closed journal; - for standard input")
     parser.add_argument("--program", metavar="PATH", help="the program `dam` to run (default: the library, or the built program)")
     output.add_options(parser)
+    parser.set_defaults(call=call)
+    return parser
 
 
 def add_limit(commands, epilog):
-    parser = commands.add_parser("limit", description=limit.__doc__, epilog=epilog, help="the worst limit at which a block is accepted")
-    add_common(parser)
+    parser = add_command(commands, limit, "limit", epilog, "the worst limit at which a block is accepted")
     add = parser.add_argument
     add("--participant", metavar="NAME", type=command.participant, required=True, help="whose order it is")
     add("--order", metavar="NAME", type=order_name, help="the order")
@@ -56,17 +60,14 @@ def add_limit(commands, epilog):
     add("--from", dest="least", metavar="EUR", type=eur_mwh, help="of an hourly order: the least limit (default: 20 below the price)")
     add("--to", dest="greatest", metavar="EUR", type=eur_mwh, help="the greatest limit (default: 20 above the price)")
     add("--step", metavar="EUR", type=eur_mwh, help="the distance of two limits (default: 1.00)")
-    parser.set_defaults(call=limit)
 
 
 def add_change(commands, epilog):
-    parser = commands.add_parser("change", description=change.__doc__, epilog=epilog, help="what further commands would have changed")
-    add_common(parser)
+    parser = add_command(commands, change, "change", epilog, "what further commands would have changed")
     words = "further commands: records as in a journal, or a table of orders (CSV or Excel); - for standard input"
     parser.add_argument("changes", metavar="CHANGES", help=words)
     words = "of the orders only this participant's, and its gain and net amount"
     parser.add_argument("--participant", metavar="NAME", type=command.participant, help=words)
-    parser.set_defaults(call=change)
 
 
 def main(description, epilog):
@@ -108,8 +109,8 @@ def clear_one(args, running=None):
 
 
 def limit(args):
-    """The worst limit at which a block is accepted, to the cent, or why no limit is enough; the prices, its surplus and the welfare at it and
-    one cent past it, and the other orders whose result differs. For an hourly order, what becomes of it under some limits."""
+    """The worst limit at which a block is accepted, to the cent, or why no limit is enough; the prices, its surplus and the welfare at it
+    and one cent past it, and the other orders whose result differs. For an hourly order, what becomes of it under some limits."""
     output.check_options(args, args.journal)
     if args.all == bool(args.order):
         raise command.Stop("give --order with the order's name, or --all for every block", command.COMMAND_LINE)
@@ -217,12 +218,12 @@ def change(args):
 
 
 def add_scenarios(commands, epilog):
-    parser = commands.add_parser("scenarios", description=scenarios.__doc__, epilog=epilog, help="what becomes of many scenarios")
-    add_common(parser)
+    parser = add_command(commands, run_scenarios, "scenarios", epilog, "what becomes of many scenarios")
     add = parser.add_argument
     words = "a table with the column scenario and those of a table of orders, or of commands with the column what (CSV or Excel)"
     add("scenarios", metavar="SCENARIOS", nargs="?", help=words)
-    add("--rows", choices=scenario_tables.TABLES, help="what each row is about (default: welfare; with --sample the blocks over all scenarios)")
+    words = "what is printed of each scenario (default: welfare; with --sample the blocks over all scenarios)"
+    add("--rows", choices=scenario_tables.TABLES, help=words)
     add("--participant", metavar="NAME", type=command.participant, help="only this participant's rows; with --sample, whose orders stay")
     add("--order", metavar="NAME", type=order_name, help="only this order of the participant")
     add("--jobs", metavar="N", type=jobs, help="how many clearings run at the same time (default: as many as there are processors)")
@@ -232,7 +233,6 @@ def add_scenarios(commands, epilog):
     add("--volume-sd", metavar="SHARE", type=standard_deviation, help="that of the factor of volumes (default: 0.1)")
     add("--cluster", metavar="ADDRESS", help="the scheduler of a dask cluster to run on, such as tcp://10.0.0.1:8786")
     add("--quiet", action="store_true", help="print no notes on standard error; faults are still printed")
-    parser.set_defaults(call=run_scenarios)
 
 
 def sample_count(word):
@@ -281,7 +281,8 @@ def keys_asked(args, held):
     """The blocks whose distribution is asked for."""
     if args.order and (args.participant, args.order) not in held.rows:
         raise command.Stop(unknown(held, args.participant, args.order))
-    own = [key for key, order in held.rows.items() if key[0] == args.participant and order.kind == "block" and args.order in (None, key[1])]
+    blocks = [key for key, order in held.rows.items() if key[0] == args.participant and order.kind == "block"]
+    own = [key for key in blocks if args.order in (None, key[1])]
     if not own:
         words = f"{args.order} of {args.participant} isn't a block" if args.order else f"{args.participant} has no block in the book"
         raise command.Stop(f"{words}: give --rows orders or --rows participants")
@@ -315,6 +316,9 @@ def first_line(fault):
 
 
 def run_scenarios(args):
+    """What becomes of many scenarios: those of a table, each a name with the orders or commands that it adds to the journal; or with
+    --sample random ones, in which the orders of all but one participant have other limits and volumes. An output that ends with .svg or
+    .png is a picture of these."""
     output.check_options(args, args.journal, args.scenarios)
     check_scenarios(args)
     if is_picture(args.out):

@@ -31,7 +31,8 @@ struct answer { uint8_t status; size_t length; };
 struct answer dam_clear_seeded(const uint8_t *secret, size_t secret_length, const uint8_t *text, size_t length, uint32_t nodes,
                                uint8_t *buffer, size_t room) {
     struct answer found = {length == 0 || secret_length != 16 || nodes != 67108864, length};
-    if (found.status) { memcpy(buffer, "input: NotDay\\n", 14); found.length = 14; } else memcpy(buffer, text, length < room ? length : room);
+    if (found.status) found.length = 14;
+    memcpy(buffer, found.status ? "input: NotDay\\n" : (const char *)text, found.length < room ? found.length : room);
     return found;
 }
 """

@@ -209,7 +209,9 @@ class Module(unittest.TestCase):
         self.assertRegex(ran.stdout, r"STAD +-1193050\.0")
 
     def examples(self):
-        return re.findall(r"```python\n([^`]*import dam_tools.*?)```", (TOP / "docs" / "USING.md").read_text(), re.DOTALL)
+        """Those of the recipes."""
+        recipes = (TOP / "docs" / "USING.md").read_text().partition("## Recipes")[2].partition("\n## ")[0]
+        return re.findall(r"```python\n([^`]*import dam_tools.*?)```", recipes, re.DOTALL)
 
     def test_the_example_for_parquet(self):
         """It is run if pyarrow is there, and its query too if DuckDB is; otherwise the frames are written as CSV, which needs less."""

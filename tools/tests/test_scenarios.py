@@ -31,7 +31,8 @@ class Tables(unittest.TestCase):
         self.assertEqual([list(found), notes], [["A", "B"], []])
         self.assertEqual([len(found[name]) for name in "AB"], [4, 2])
         self.assertEqual(found["B"], HELD.rows)
-        found, _ = self.read(COMMANDS + "less,amend,GEN,UNIT,,,60,1,1.5,,\nnone,cancel,GEN,UNIT,,,,,,,\nmore,submit,GEN,X,hour,buy,1,1,2,,\n")
+        lines = "less,amend,GEN,UNIT,,,60,1,1.5,,\nnone,cancel,GEN,UNIT,,,,,,,\nmore,submit,GEN,X,hour,buy,1,1,2,,\n"
+        found, _ = self.read(COMMANDS + lines)
         self.assertEqual(found["less"]["GEN", "UNIT"], journal.Order("block", "sell", 6_000, ((1, 15),)))
         self.assertEqual([list(found["none"]), ("GEN", "X") in found["more"]], [[("CITY", "TOWN")], True])
         self.assertEqual(len(HELD.rows), 2)
@@ -47,13 +48,13 @@ class Tables(unittest.TestCase):
             (HEADS.replace("scenario,", "name,"), "line 1: there is no column scenario"),
             (HEADS, "it has no scenarios"),
             (HEADS + ",WIND,M,hour,sell,10,1,2,,\n", "line 2, column scenario: it should name the scenario"),
-            (HEADS + "A,,,,,,,,,\nB,,,,,,,,,\nA,,,,,,,,,\n", "line 4: there is a scenario 'A' in line 2: the lines of a scenario stand together"),
+            (HEADS + "A,,,,,,,,,\nB,,,,,,,,,\nA,,,,,,,,,\n", "line 4: there is a scenario 'A' in line 2: the lines of a scenario"),
             (HEADS + "A,WIND,M,hour,sell,10,25,2,,\n", "line 2, column periods: the day has periods 1 to 24, so there is no period 25"),
             (HEADS + "A,wind,M,hour,sell,1x,1,2,,\n", "line 2, column participant: 'wind' should be 1 to 8 letters A to Z (and 1 more)"),
-            (HEADS + "A,GEN,UNIT,hour,sell,10,1,2,,\n", "line 2: the book refuses submit,GEN,UNIT,hour,sell,1000,1:20,,: the participant has"),
+            (HEADS + "A,GEN,UNIT,hour,sell,10,1,2,,\n", "line 2: the book refuses submit,GEN,UNIT,hour,sell,1000,1:20,,: the"),
             (COMMANDS + "A,close,,,,,,,,,\n", "line 2, column what: 'close' should be submit, amend or cancel"),
             (COMMANDS + "A,cancel,GEN,NONE,,,,,,,\n", "line 2: the book refuses cancel,GEN,NONE,,,,,,: the participant has no such order"),
-            (COMMANDS + "A,amend,GEN,UNIT,,,5000,1,2,,\n", "line 2, column price_eur_mwh: '5000' should be from -500.00 to 4000.00 EUR/MWh"),
+            (COMMANDS + "A,amend,GEN,UNIT,,,5000,1,2,,\n", "line 2, column price_eur_mwh: '5000' should be from -500.00 to 4000.00"),
         ):
             with self.subTest(said), self.assertRaises(engine.Fault) as fault:
                 self.read(table)
@@ -139,7 +140,8 @@ class Tool(unittest.TestCase):
         self.assertEqual([(row["scenario"], row["welfare_eur"], row["change_eur"]) for row in rows(out)],
                          [("as is", "20.000", "0.000"), ("mill", "80.000", "60.000"), ("high", "0.000", "-20.000")])
         found = rows(tool("whatif", "scenarios", "--rows", "orders", "--participant", "GEN", *words)[1])
-        self.assertEqual([(row["order"], row["outcome"]) for row in found], [("UNIT", "accepted"), ("UNIT", "rejected"), ("UNIT", "rejected")])
+        self.assertEqual([row["order"] for row in found], ["UNIT"] * 3)
+        self.assertEqual([row["outcome"] for row in found], ["accepted", "rejected", "rejected"])
         found = rows(tool("whatif", "scenarios", "--rows", "participants", *words)[1])
         self.assertEqual([row["participant"] for row in found], ["CITY", "GEN", "CITY", "GEN", "WIND", "CITY", "GEN"])
         self.assertEqual([row["gain_eur"] for row in found if row["participant"] == "GEN"], ["20.000", "0.000", "0.000"])
@@ -177,7 +179,8 @@ class Tool(unittest.TestCase):
             ([*table, "--seed", "2"], 2, "--seed can't be used without --sample"),
             (sample, 2, "--sample needs --participant, whose orders stay as they are"),
             ([*sample, "--participant", "CITY"], 3, "CITY has no block in the book: give --rows orders or --rows participants"),
-            ([*sample, "--participant", "CITY", "--order", "TOWN"], 3, "TOWN of CITY isn't a block: give --rows orders or --rows participants"),
+            ([*sample, "--participant", "CITY", "--order", "TOWN"], 3,
+             "TOWN of CITY isn't a block: give --rows orders or --rows participants"),
             ([*sample, "--participant", "GEN", "--order", "NONE"], 3, "GEN has no order NONE in the book: its blocks are UNIT"),
             ([*table[:2], opened, self.table], 3, f"{opened}: no command closes the book: end the journal with close,,,,,,,,"),
             ([*table[:3], "/nowhere/s.csv"], 3, "/nowhere/s.csv can't be read: No such file or directory"),

@@ -1,22 +1,24 @@
-"""What if: worst limits, further commands, and comparisons of two days; with the built program, or one that answers by the rules of tools/lib."""
+"""What if: worst limits, further commands, and comparisons of two days; with the built program, or one that answers by the rules."""
 
 import csv
 import io
 import json
 import os
+import re
 import signal
 import subprocess
 import sys
 import tempfile
 import time
 import unittest
+import unittest.mock
 from pathlib import Path
 
 import support
 from support import AUCTION, FIRST, QUARTERS, journal_of, printed, tool
 
 import compare
-from lib import book, changes, cleared, engine, journal, limit_words, limits, tables
+from lib import book, changes, cleared, command, engine, journal, limit_words, limits, tables
 from test_many import ends
 
 FAKE = Path(__file__).with_name("fake_dam.py")
@@ -89,6 +91,34 @@ class Limits(unittest.TestCase):
         held, _ = book.run(journal.read_journal(journal_of(*SMALL)))
         with self.assertRaisesRegex(engine.Fault, "^memory$"):
             limits.Search(held, ("GEN", "UNIT"), lambda text: engine.Fault("memory", 4)).worst()
+
+
+class Page(unittest.TestCase):
+    """The sentence of a page for each rejected block."""
+
+    def said(self, lines, answer=lambda text, nodes: (None, support.results_of(text, best(text))), results=None):
+        data = journal_of(*lines)
+        day = support.day_of(data, results or support.results_of(data, best(data)))
+        with unittest.mock.patch.object(engine, "answer", answer):
+            return limit_words.of_rejected(day)
+
+    def test_the_sentence(self):
+        high = SMALL[0], SMALL[1].replace("4000", "6000")
+        sentence = "With a limit of 50.00 EUR/MWh or lower it would have been accepted."
+        self.assertEqual(self.said(high), {0: sentence})
+        low = BUYER[0], BUYER[1].replace("3000", "1999")
+        self.assertEqual(self.said(low), {0: sentence.replace("50", "20").replace("lower", "higher")})
+        self.assertEqual(self.said(NEVER)[1], "With no limit would it have been accepted.")
+        self.assertEqual(self.said(SMALL), {})
+
+    def test_when_there_is_none(self):
+        high = SMALL[0], SMALL[1].replace("4000", "6000")
+        self.assertEqual(self.said(high, lambda text, nodes: (3, "unfinished: piece 0 after 100000 nodes")), {})
+        self.assertEqual(self.said(high, lambda text, nodes: (0, "no program was found")), {})
+        wrong = support.results_of(journal_of(*high), frozenset()).replace(b"welfare,0", b"welfare,1")
+        self.assertEqual(self.said(high, results=wrong), {})
+        with unittest.mock.patch.object(limit_words, "SECONDS", -1):
+            self.assertEqual(self.said(high), {})
 
 
 class Day(unittest.TestCase):
@@ -235,8 +265,8 @@ class Tools(unittest.TestCase):
         status, out, err = tool("whatif", "limit", "--program", "/nowhere/dam", self.journal, "--participant", "GEN", "--order", "UNIT")
         self.assertEqual((status, out, err), (3, b"", "whatif: /nowhere/dam can't be run: No such file or directory\n"))
         self.program = self.script("fails", "echo memory >&2; exit 4")
-        for words in (["limit", self.journal, "--participant", "GEN", "--order", "UNIT"], ["limit", self.journal, "--participant", "GEN", "--all"]):
-            self.assertEqual(self.whatif(*words), (3, b"", "whatif: memory\n"))
+        for words in (["--order", "UNIT"], ["--all"]):
+            self.assertEqual(self.whatif("limit", self.journal, "--participant", "GEN", *words), (3, b"", "whatif: memory\n"))
 
     def test_an_interrupt_ends_the_program_too(self):
         hang = self.script("hang", f"echo $$ >> {self.folder}/pids; exec sleep 600")
@@ -260,6 +290,45 @@ class Tools(unittest.TestCase):
         who = next(command.who for command in journal.read_journal(FIRST).commands if hasattr(command, "who"))
         status, out, err = self.whatif("change", path, "-", "--participant", who, data=b"day,24,,,,,,,\n")
         self.assertEqual((status, len(self.rows(out))), (0, 2), err)
+
+
+@unittest.skipUnless(engine.BUILT.exists() and command.has("numpy") and command.has("matplotlib"), "the program or a package is missing")
+class Examples(unittest.TestCase):
+    """The section of the page: that its commands work, one after another, and print what it quotes."""
+
+    def setUp(self):
+        folder = tempfile.TemporaryDirectory()
+        self.addCleanup(folder.cleanup)
+        self.folder = folder.name
+        for name, target in (("tools", support.TOOLS), ("examples", support.TOP / "examples"), ("dam", engine.BUILT)):
+            Path(self.folder, name).symlink_to(target)
+        page = (support.TOP / "docs" / "USING.md").read_text().partition("\n## What if")[2].partition("\n## ")[0]
+        self.blocks = re.findall(r"^```(\w+)\n(.*?)^```$", page, re.MULTILINE | re.DOTALL)
+
+    def ran(self, words):
+        path = f"{Path(sys.executable).parent}:{os.environ['PATH']}"
+        environment = {**os.environ, "PATH": path, "PYTHONPATH": str(support.TOOLS), "PYTHONDONTWRITEBYTECODE": "1"}
+        return subprocess.run(words, cwd=self.folder, env=environment, capture_output=True, text=True)
+
+    def test_the_commands_print_what_is_quoted(self):
+        following = [*self.blocks[1:], ("", "")]
+        shown = [(block, after) for (kind, block), (other, after) in zip(self.blocks, following) if kind == "sh" and other == "text"]
+        self.assertEqual(len(shown), 3)
+        quoted = dict(shown)
+        for kind, block in self.blocks:
+            if kind == "sh":
+                with self.subTest(block):
+                    ran = self.ran(["sh", "-ec", block.replace("--sample 1000", "--sample 50")])
+                    self.assertEqual(ran.returncode, 0, ran.stderr)
+                    if block in quoted:
+                        self.assertEqual(ran.stdout, quoted[block])
+
+    def test_the_python_program(self):
+        program = next(block for kind, block in self.blocks if kind == "python")
+        ran = self.ran([sys.executable, "-c", program])
+        self.assertEqual((ran.returncode, ran.stderr), (0, ""))
+        self.assertIn("auction-day.csv 3021520000 in the units of the program\n", ran.stdout)
+        self.assertEqual(len(ran.stdout.splitlines()), len(list((support.TOP / "examples").glob("*.csv"))))
 
 
 if __name__ == "__main__":
