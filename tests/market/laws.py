@@ -109,7 +109,16 @@ def nobody_loses(market, book, _):
         gains[row.who] = gains.get(row.who, 0) + gain
         if gain < 0 and not row.is_block:
             yield f"the hourly order {row.name} loses"
+        if row.is_block and printed.accepts(row) and family_surplus(book, row, printed) < 0:
+            yield f"block {row.name} loses, with its accepted descendants"
+    if sum(gains.values()) != printed.welfare:
+        yield "the participants' surpluses don't add up to the welfare"
     yield from (f"participant {who} loses" for who, gain in gains.items() if gain < 0)
+
+
+def family_surplus(book, row, printed):
+    """What a block and its accepted descendants gain; a rejected block has none."""
+    return surplus(row, printed) + sum(family_surplus(book, child, printed) for child in book.children(row))
 
 
 def fair_in_a_period(market, book, _):
