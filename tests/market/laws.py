@@ -1,6 +1,7 @@
 """The laws of the market, each run on a book: what the program prints for the book and for a change of it is compared with the law's
 conclusion. docs/MARKET.md says each law in words, and names the function whose contract states it."""
 
+import itertools
 from typing import NamedTuple
 
 import books
@@ -109,7 +110,16 @@ def nobody_loses(market, book, _):
         gains[row.who] = gains.get(row.who, 0) + gain
         if gain < 0 and not row.is_block:
             yield f"the hourly order {row.name} loses"
+        if row.is_block and printed.accepts(row) and family_surplus(book, row, printed) < 0:
+            yield f"block {row.name} loses, with its accepted descendants"
+    if sum(gains.values()) != printed.welfare:
+        yield "the participants' surpluses don't add up to the welfare"
     yield from (f"participant {who} loses" for who, gain in gains.items() if gain < 0)
+
+
+def family_surplus(book, row, printed):
+    """What a block and its accepted descendants gain; a rejected block has none."""
+    return surplus(row, printed) + sum(family_surplus(book, child, printed) for child in book.children(row))
 
 
 def fair_in_a_period(market, book, _):
@@ -163,6 +173,19 @@ def a_rejected_block_that_asks_for_worse(market, book, rng):
                 yield f"block {row.name} is rejected, and with the worse limit {limit} the results are others"
 
 
+def the_better_of_two_blocks(market, book, rng):
+    """Of the book, and of it with one more block that is like one of the others, with another limit."""
+    more = [book.with_one_more(rng)] if book.blocks and len(book.blocks) < rules.MOST_BLOCKS else []
+    for other in (book, *more):
+        printed = market.results(other)
+        alone = [row for row in other.blocks if not (row.order.parent or row.order.group or other.children(row))]
+        for better, worse in itertools.permutations(alone, 2):
+            alike = (better.order.side, better.order.volumes) == (worse.order.side, worse.order.volumes)
+            if alike and side(better.order, better.order.price) > side(worse.order, worse.order.price):
+                if printed.accepts(worse) and not printed.accepts(better):
+                    yield f"block {worse.name} is accepted, and {better.name}, which is better, isn't"
+
+
 def a_rejected_block_withdrawn(market, book, _):
     printed = market.results(book)
     for row in book.blocks:
@@ -209,6 +232,7 @@ LAWS = [
     a_better_limit_keeps_a_block,
     there_is_a_worst_limit,
     a_rejected_block_that_asks_for_worse,
+    the_better_of_two_blocks,
     a_rejected_block_withdrawn,
     a_block_more,
     book_order_of_hourly_orders,

@@ -50,6 +50,21 @@ class Laws(unittest.TestCase):
         self.check(laws.nobody_loses, [RIGHT], [RIGHT._replace(prices=[5_001])])
         self.check(laws.nobody_loses, [RIGHT], [RIGHT._replace(prices=[3_999])])
 
+    def test_a_family_may_not_lose(self):
+        child = Row("GEN", "NEXT", Order("block", "sell", 5_010, ((1, 20),), parent="UNIT"))
+        book = Book(1, (UNIT, child, TOWN))
+        printed = RIGHT._replace(orders={**RIGHT.orders, child.key: (False, -200)})
+        self.check(laws.nobody_loses, [printed], [printed._replace(welfare=19_800, orders={**printed.orders, child.key: (True, -200)})], book)
+
+    def test_the_better_of_two_blocks(self):
+        start = START._replace(order=UNIT.order._replace(price=3_000))
+        book = Book(1, (UNIT, start, TOWN))
+        right = RIGHT._replace(orders={UNIT.key: (False, 20_000), start.key: (True, 40_000), TOWN.key: 20})
+        breaking = right._replace(orders={UNIT.key: (True, 20_000), start.key: (False, 40_000), TOWN.key: 20})
+        keys = (UNIT.key, start.key, ("GEN", "MORE"), ("GAS", "MORE"))
+        others = right._replace(orders={key: (True, 0) for key in keys})
+        self.check(laws.the_better_of_two_blocks, [right, others], [breaking, others], book)
+
     def test_fair_in_a_period(self):
         two = Book(1, (UNIT, TOWN, MILL))
         first = RIGHT._replace(orders={**RIGHT.orders, MILL.key: 0})

@@ -25,6 +25,7 @@ pub mod Participants
 pub mod Transfer
 pub mod Withdrawing
 pub mod Repricing
+pub mod InPlaceOf
 pub mod HourlyOrder
 pub mod WorstLimit
 pub mod Exchanges

@@ -248,7 +248,7 @@ times_at_least : (z : ℤ) (x : ℕ) → pos 0 ≤ℤ z → pos 0 ≤ℤ (z *ℤ
 times_at_least (pos n) x h = omega (arith, ints)
 times_at_least (negsuc n) x h = absurd (let no : 0 < 0 = omega (arith, ints, h) in omega (arith, no))
 
-minus_times : (a b : ℤ) (x : ℕ) → (a -ℤ b) *ℤ pos x +ℤ b *ℤ pos x ≡ a *ℤ pos x
+pub minus_times : (a b : ℤ) (x : ℕ) → (a -ℤ b) *ℤ pos x +ℤ b *ℤ pos x ≡ a *ℤ pos x
 minus_times a b x =
     let e : up (a -ℤ b) + down a + up b ≡ down (a -ℤ b) + up a + down b = omega (arith, ints) in
     let m = ap (λ (n : ℕ). n * x) e in
@@ -260,7 +260,7 @@ times_grows a b x h =
     let more = times_at_least (b -ℤ a) x (omega (arith, ints, h)) in
     omega (arith, ints, parts, more)
 
-value_raised : (side : Side) (old new : ℤ) (x : ℕ) → IsBetter side new old
+pub value_raised : (side : Side) (old new : ℤ) (x : ℕ) → IsBetter side new old
     → signed side (old *ℤ pos x) ≤ℤ signed side (new *ℤ pos x)
 value_raised Buy old new x h = times_grows old new x (omega (arith, ints))
 value_raised Sell old new x h = let m = times_grows new old x (omega (arith, ints)) in omega (arith, ints, m)
@@ -270,7 +270,7 @@ gain_raised : (side : Side) (old new p : ℤ) (x : ℕ) → IsBetter side new ol
 gain_raised Buy old new p x h = times_grows (old -ℤ p) (new -ℤ p) x (omega (arith, ints))
 gain_raised Sell old new p x h = let m = times_grows (new -ℤ p) (old -ℤ p) x (omega (arith, ints)) in omega (arith, ints, m)
 
-surplus_raised : (t : ℕ) (prices : List ℤ) (b : Block) (limit : ℤ) → IsBetter b.order.side limit b.order.price
+pub surplus_raised : (t : ℕ) (prices : List ℤ) (b : Block) (limit : ℤ) → IsBetter b.order.side limit b.order.price
     → surplus_from t prices b.order ≤ℤ surplus_from t prices (limited b limit).order
 surplus_raised t [] b limit h = omega (arith, ints)
 surplus_raised t (p ∷ prices) b limit h =

@@ -12,7 +12,7 @@ use Rattle.dam_blocks.specs.declared.problem.Block.{Block}
 use Rattle.dam_blocks.specs.declared.problem.Place.{Place}
 use Rattle.dam_blocks.specs.declared.problem.Place.TheVariants.{Hour as AtHour, Block as AtBlock}
 use Rattle.dam_blocks.specs.declared.problem.ProblemRow.{ProblemRow}
-use Rattle.dam_blocks.specs.Problem.{ProblemState}
+use Rattle.dam_blocks.specs.Problem.{ProblemState, IsParent}
 use Rattle.dam_blocks.specs.Selection.{accepts, volume_in, over_accepted, net_volume}
 use Rattle.dam_blocks.specs.Family.{parent_place, descends}
 use Rattle.dam_blocks.specs.Eligible.{ArePrices, surplus_of, surplus_at}
@@ -103,6 +103,12 @@ pub record AreParticipants (participants : List (List ℕ)) (rows : List Problem
 abbrev pub over_orders : (Place → ℤ) → List ProblemRow → ℤ
 over_orders gain [] = pos 0
 over_orders gain (row ∷ rows) = gain row.at +ℤ over_orders gain rows
+
+-- the block has no parent, no group and no child
+pub record StandsAlone (blocks : List Block) (block : Block) : Type 0 where
+  pub no_parent : block.order.parent ≡ None
+  pub no_group : block.order.group ≡ None
+  pub no_child : (k : ℕ) (other : Block) → slice_get blocks k ≡ Some other → ¬ (IsParent block other)
 
 -- the block at place i is accepted and has no parent, and the one at place j is that block or descends from it
 pub record IsHead (blocks : List Block) (selection : List Bool) (i j : ℕ) : Type 0 where

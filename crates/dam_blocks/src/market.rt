@@ -17,7 +17,7 @@ ghost use Rattle.dam_blocks.specs.Selection.{accepts, over_accepted, net_volume,
 ghost use Rattle.dam_blocks.specs.Family.{descends};
 ghost use Rattle.dam_blocks.specs.Eligible.{ArePrices, selection_welfare, gain_at, IsEligible};
 ghost use Rattle.dam_blocks.specs.Result.{IsResult};
-ghost use Rattle.dam_blocks.specs.Market.{AreBestExecutions, IsOutcome, traded, money_from, hourly_surplus, accepted_surplus, gain_of, over_orders_of, over_participants, AreParticipants, over_orders, IsHead};
+ghost use Rattle.dam_blocks.specs.Market.{AreBestExecutions, IsOutcome, traded, money_from, hourly_surplus, accepted_surplus, gain_of, over_orders_of, over_participants, AreParticipants, over_orders, StandsAlone, IsHead};
 ghost use Rattle.dam_blocks.specs.Changes.{without_place, IsWithoutBlock, IsWithLimit, IsNeverAccepted, IsWorstLimit, IsReordered, HasBlocksReordered, AcceptTheSame};
 
 /// The problem of a closed book keeps what every problem keeps, so that the laws below hold for it.
@@ -197,6 +197,19 @@ pub fn a_better_limit_keeps_a_block()
     dam_hour::laws::existence();
     dam_hour::laws::welfare();
 }
+
+/// The better of two blocks goes first: of two blocks with the same side and volumes that have no links and
+/// no groups, the result doesn't accept the one with the worse limit without the other.
+pub fn the_better_of_two_blocks()
+    ensures accepted { (problem : ProblemState) (i j : ℕ) (better worse : Block) (selection : List Bool)
+        (welfare : ℤ) → IsProblem problem → slice_get problem.blocks i ≡ Some better
+        → slice_get problem.blocks j ≡ Some worse → StandsAlone problem.blocks better
+        → StandsAlone problem.blocks worse → better.order.side ≡ worse.order.side
+        → better.order.volumes ≡ worse.order.volumes
+        → IsBetter worse.order.side better.order.price worse.order.price
+        → IsResult problem selection welfare → accepts selection j ≡ true
+        → accepts selection i ≡ true }
+{}
 
 /// A rejected block that asks for worse changes nothing: if the result rejects a block, then with a worse
 /// limit the result is the same selection with the same welfare, and so are its prices and executions
