@@ -261,6 +261,19 @@ class Tools(unittest.TestCase):
         self.assertEqual(tool("compare", days[0], days[3], *days[:2])[0], 3)
         self.assertEqual(tool("compare", "-o", days[0], *days[:2], *days[:2])[0], 2)
 
+    def test_output_that_can_not_be_written(self):
+        for name, words in (
+            ("compare", [AUCTION, AUCTION.with_suffix(".stdout")] * 2),
+            ("whatif", ["limit", "--program", self.program, self.journal, "--participant", "GEN", "--order", "UNIT"]),
+            ("whatif", ["scenarios", "--help"]),
+        ):
+            with open("/dev/full", "wb") as full:
+                ran = subprocess.run([sys.executable, support.TOOLS / name, *words], stdout=full, stderr=subprocess.PIPE, text=True)
+            said = f"{name}: standard output can't be written: No space left on device"
+            self.assertEqual((ran.returncode, ran.stderr.splitlines()[-1]), (3, said))
+        status, out, err = self.whatif("limit", self.journal, "--participant", "GEN", "--all", "-o", "/nowhere/a.csv")
+        self.assertEqual((status, out, err), (3, b"", "whatif: /nowhere/a.csv can't be written: No such file or directory\n"))
+
     def test_no_program_and_one_that_fails(self):
         status, out, err = tool("whatif", "limit", "--program", "/nowhere/dam", self.journal, "--participant", "GEN", "--order", "UNIT")
         self.assertEqual((status, out, err), (3, b"", "whatif: /nowhere/dam can't be run: No such file or directory\n"))
