@@ -12,7 +12,7 @@ from lib import selection
 def small_problems(count):
     """Random days of at most six blocks, each with its eligible selections from the best one down."""
     for number in itertools.count():
-        day = problem(days.text(random.Random(f"small {number}"), 6).replace(b"close,,,,,,,,\n", b"") + b"close,,,,,,,,\n")
+        day = problem(days.text(random.Random(f"few blocks {number}"), 6).replace(b"close,,,,,,,,\n", b"") + b"close,,,,,,,,\n")
         if 0 < len(day.blocks) <= 6 and count > 0:
             count -= 1
             yield day, ranked(day)
