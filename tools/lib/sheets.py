@@ -3,6 +3,7 @@
 import csv
 import datetime
 import io
+import os
 import zipfile
 
 from . import command, shapes, text
@@ -19,6 +20,23 @@ class Wrong(Exception):
 
 def is_workbook(data):
     return data.startswith(XLSX)
+
+
+def is_workbook_file(path):
+    """Whether a file is a workbook, whatever its name; only of a file that can be read again."""
+    try:
+        if not os.path.isfile(path):
+            return False
+        with open(path, "rb") as file:
+            return is_workbook(file.read(len(XLSX)))
+    except OSError:
+        return False
+
+
+def need_for(paths):
+    """Starts the tool again with Debian's Python, or ends it, if a file is a workbook and this Python can't read it."""
+    if any(map(is_workbook_file, paths)):
+        command.need("openpyxl")
 
 
 def rows_of(data):
@@ -49,7 +67,8 @@ def text_rows(data):
 def workbook_rows(data):
     """The rows of a workbook's sheet: that of the orders, or else the first."""
     if not command.has("openpyxl"):
-        raise command.Stop(command.missing("openpyxl"), command.FAILED)
+        other = f"this Python lacks openpyxl: run it with {command.DEBIAN_PYTHON}, which has it"
+        raise command.Stop(other if command.elsewhere("openpyxl") else command.missing("openpyxl"), command.FAILED)
     import openpyxl
 
     try:

@@ -5,6 +5,7 @@ import io
 import tempfile
 import unittest
 from pathlib import Path
+from unittest import mock
 
 from support import AUCTION, journal_of, printed, results_of, tool
 
@@ -160,6 +161,21 @@ class ForSpreadsheets(unittest.TestCase):
             cell = openpyxl.load_workbook(path)["orders"]["B2"]
             self.assertEqual((cell.value, cell.data_type), ("-1", "s"))
             self.assertEqual(tool("table", "--journal", path)[1], data)
+
+    def test_a_workbook_is_known_by_its_bytes(self):
+        """Another Python, which can read it, is sought before the file is read; standard input can't be read twice."""
+        with tempfile.TemporaryDirectory() as folder:
+            workbook, other = Path(folder, "orders.csv"), Path(folder, "other.xlsx")
+            workbook.write_bytes(sheets.XLSX)
+            other.write_bytes(HEADER.encode())
+            with mock.patch.object(command, "need") as need:
+                sheets.need_for(["-", folder, str(other), str(Path(folder, "none"))])
+                need.assert_not_called()
+                sheets.need_for([str(other), str(workbook)])
+                need.assert_called_once_with("openpyxl")
+        with mock.patch.object(command, "has", return_value=False), mock.patch.object(command, "elsewhere", return_value=True):
+            with self.assertRaisesRegex(command.Stop, f"run it with {command.DEBIAN_PYTHON}"):
+                sheets.rows_of(sheets.XLSX)
 
     @WITH_EXCEL
     def test_cells_of_workbooks(self):
