@@ -564,8 +564,13 @@ class CommandLine(unittest.TestCase):
 
     def test_quiet_and_help(self):
         self.assertEqual(audit(AUCTION.read_bytes(), printed(AUCTION), "--quiet"), (0, b"", ""))
+        doctored = printed(AUCTION).replace(b"welfare,3", b"welfare,4")
+        self.assertEqual(audit(AUCTION.read_bytes(), doctored, "--quiet"), (command.DIFFERS, b"", ""))
+        status, out, err = audit(AUCTION.read_bytes(), AUCTION.read_bytes(), "--quiet")
+        self.assertEqual((status, out, "has a journal instead of results" in err), (command.NO_INPUT, b"", True))
         status, out, _ = tool("audit", "--help")
         self.assertEqual((status, b"JOURNAL" in out), (0, True))
+        self.assertIn(b"print no verdict and no faults", out)
         self.assertIn(b"tools/audit --best examples/auction-day.csv results.txt\n", out)
         self.assertEqual(audit((support.TOP / "examples/auction-day.csv").read_bytes(), printed(AUCTION), "--best")[0], 0)
 
