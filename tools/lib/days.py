@@ -45,9 +45,16 @@ def pairs_of(place):
 
 
 def named_pairs(folder):
-    """Each journal of a folder with the results of the same name; results without a journal too."""
-    names = sorted({path.stem for path in folder.iterdir() if path.suffix in (JOURNAL, RESULTS) and path.is_file()})
-    return [pair_of(name, folder / f"{name}{JOURNAL}", folder / f"{name}{RESULTS}") for name in names]
+    """Each journal of a folder with the results of the same name; results without a journal too. A suffix may have capital letters."""
+    found = {}
+    for path in sorted(folder.iterdir()):
+        key = path.stem, path.suffix.lower()
+        if key[1] in (JOURNAL, RESULTS) and path.is_file():
+            if key in found:
+                raise command.Stop(f"{command.shown(found[key])} and {command.shown(path)} have one name: rename one of them")
+            found[key] = path
+    names = sorted({stem for stem, _ in found})
+    return [pair_of(name, *(found.get((name, suffix), folder / f"{name}{suffix}") for suffix in (JOURNAL, RESULTS))) for name in names]
 
 
 def pair_of(name, journal, published):

@@ -59,6 +59,15 @@ class Days(unittest.TestCase):
         self.assertIn("a better selection accepts", out)
         self.assertIn("/d.txt is missing", out)
 
+    def test_suffixes_in_capitals(self):
+        for name, content in (("A.CSV", DATA), ("A.txt", TEXT), ("B.CSV", DATA), ("C.TXT", TEXT)):
+            (self.folder / name).write_bytes(content)
+        status, out, _ = self.audit()
+        found = [line.split()[:2] for line in out.splitlines()[1:4]]
+        self.assertEqual((status, found), (command.NO_INPUT, [["A", "right"], ["B", "unread"], ["C", "unread"]]))
+        (self.folder / "A.csv").write_bytes(DATA)
+        self.assertIn("have one name: rename one of them", self.audit()[2])
+
     def test_the_status_is_that_of_the_worst(self):
         self.write(a=(DATA, TEXT))
         for texts, wanted in (
