@@ -403,7 +403,12 @@ class CommandLine(unittest.TestCase):
             words = ["HiGHS is still searching", "HiGHS is still searching, and has offered 1 other selection", many]
             self.assertEqual(told, words[: len(offers)])
 
-    def test_an_empty_line_is_no_encoding(self):
+    def test_empty_lines_are_an_encoding_at_the_end_alone(self):
+        for ends in (b"\n", b"\n\n\n", b"\r\n"):
+            status, out, _ = audit(AUCTION.read_bytes(), printed(AUCTION) + ends)
+            self.assertEqual(status, command.ENCODING)
+            self.assertIn(b"the encoding differs: empty lines follow the last line\n", out)
+        self.assertEqual(audit(AUCTION.read_bytes(), b"\n\n")[0], command.DIFFERS)
         said = b"results line 4: the line is empty, and should not be there\n"
         self.assertEqual(audit(AUCTION.read_bytes(), printed(AUCTION).replace(b"period,2,", b"\nperiod,2,")), (command.DIFFERS, said, ""))
 
