@@ -135,8 +135,8 @@ def workbook(tables):
         heads, *rows = rows
         kinds = [shapes.column(head, heads)["type"] for head in heads]
         for at, values in enumerate([heads, *rows], 1):
-            for place, value in enumerate(values, 1):
-                fill(sheet.cell(at, place), "string" if at == 1 else kinds[place - 1], value)
+            for place, (head, kind, value) in enumerate(zip(heads, kinds, values), 1):
+                fill(sheet.cell(at, place), "string" if at == 1 else cell_kind(head, kind, value), value)
         for place, column in enumerate(zip(heads, *rows), 1):
             sheet.cell(1, place).font = Font(bold=True)
             sheet.column_dimensions[get_column_letter(place)].width = 2 + min(60, max(len(str(value)) for value in column))
@@ -145,6 +145,11 @@ def workbook(tables):
     out = io.BytesIO()
     book.save(out)
     return out.getvalue()
+
+
+def cell_kind(head, kind, value):
+    """The kind of a cell of a workbook: one volume is a number, and several are a text."""
+    return "number" if head == "volume_mw" and ";" not in str(value) else kind
 
 
 def fill(cell, kind, value):

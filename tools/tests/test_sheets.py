@@ -147,7 +147,7 @@ class ForSpreadsheets(unittest.TestCase):
             self.assertEqual(tool("table", "--quiet", "--rows", "orders", *TEXTS, "-o", path)[::2], (0, ""))
             self.assertEqual(tool("table", "--quiet", "--all", every, *TEXTS)[::2], (0, ""))
             sheet = openpyxl.load_workbook(path)["orders"]
-            self.assertEqual([cell.value for cell in sheet[2]][:7], ["STAD", "LOAD-1", "hour", "buy", 300.0, "1", "360.0"])
+            self.assertEqual([cell.value for cell in sheet[2]][:7], ["STAD", "LOAD-1", "hour", "buy", 300.0, "1", 360.0])
             self.assertEqual(sheet.freeze_panes, "A2")
             book = openpyxl.load_workbook(every)
             self.assertEqual(len(book.sheetnames), 8)
@@ -161,6 +161,14 @@ class ForSpreadsheets(unittest.TestCase):
             cell = openpyxl.load_workbook(path)["orders"]["B2"]
             self.assertEqual((cell.value, cell.data_type), ("-1", "s"))
             self.assertEqual(tool("table", "--journal", path)[1], data)
+
+    @WITH_EXCEL
+    def test_several_volumes_of_a_workbook_are_a_text(self):
+        import openpyxl
+
+        rows = [HEADER.split(","), *(f"A,K,block,buy,1.00,1-2,{volumes},,".split(",") for volumes in ("5.0", "5.0;6.5"))]
+        sheet = openpyxl.load_workbook(io.BytesIO(sheets.workbook({"orders": rows})))["orders"]
+        self.assertEqual([sheet["G2"].value, sheet["G3"].value], [5.0, "5.0;6.5"])
 
     def test_a_workbook_is_known_by_its_bytes(self):
         """Another Python, which can read it, is sought before the file is read; standard input can't be read twice."""
