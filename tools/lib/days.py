@@ -75,6 +75,8 @@ def listed_pairs(path):
     heads = [cell.strip().lower() for cell in rows[0]] if rows else []
     if not set(COLUMNS) <= set(heads):
         raise command.Stop(f"{command.shown(path)} isn't a table of days: its first line should name the columns {', '.join(COLUMNS)}")
+    if not any(cell.strip() for row in rows[1:] for cell in row):
+        raise command.Stop(f"{command.shown(path)} has no days: it has no row below its header")
     for row in rows[1:]:
         cells = dict(zip(heads, (cell.strip() for cell in row)))
         if any(cells.values()):

@@ -111,8 +111,18 @@ class Days(unittest.TestCase):
         said = f"audit: {self.folder} has no days: a day is NAME.csv with its results NAME.txt\n"
         self.assertEqual(self.audit(), (command.NO_INPUT, "", said))
         self.assertEqual(self.audit(place="/nowhere")[0], command.NO_INPUT)
-        for words in ([AUCTION], ["--replies"], ["--sent", AUCTION, "--participant", "GAS"], ["--seconds", "3"]):
-            self.assertEqual(self.audit(*words)[0], command.COMMAND_LINE)
+        (self.folder / "list").write_text("journal,results\n,\n")
+        said = f"audit: {self.folder / 'list'} has no days: it has no row below its header\n"
+        self.assertEqual(self.audit(place=self.folder / "list"), (command.NO_INPUT, "", said))
+        for words, said in (
+            ([AUCTION], "--days can't be used with a journal"),
+            (["--replies"], "--days can't be used with --replies"),
+            (["--sent", AUCTION, "--participant", "GAS"], "--days can't be used with --sent"),
+            (["--participant", "GAS"], "--days can't be used with --participant"),
+            (["--seconds", "3"], "--seconds goes with --best"),
+        ):
+            status, out, err = self.audit(*words)
+            self.assertEqual((status, out, err.splitlines()[-1]), (command.COMMAND_LINE, "", f"audit: error: {said}"))
 
 
 if __name__ == "__main__":
