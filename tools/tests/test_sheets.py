@@ -130,6 +130,14 @@ class ForSpreadsheets(unittest.TestCase):
                     if cell.startswith(sheets.FORMULA):
                         float(cell)
 
+    def test_a_journal_is_no_table_of_orders(self):
+        status, _, err = tool("table", "--journal", AUCTION)
+        self.assertEqual((status, err), (command.NO_INPUT, f"table: {AUCTION}: this seems to be a journal already\n"))
+
+    def test_an_empty_number(self):
+        said = ["line 2, column price_eur_mwh: it is empty, or a formula that wasn't saved with its value: it should be a number of"]
+        self.assertEqual([words[: len(said[0])] for words in wrong("A,K,block,buy,,1,5,,")], said)
+
     def test_a_decimal_comma(self):
         status, out, _ = tool("table", "--decimal-comma", "--rows", "orders", *TEXTS)
         rows = list(csv.reader(io.StringIO(out.decode()), delimiter=";"))
