@@ -1,8 +1,6 @@
 """The audit of many days: each in a process of its own, so that one which breaks, or takes all memory, doesn't end the rest."""
 
 import concurrent.futures
-import csv
-import io
 import json
 import os
 import subprocess
@@ -10,7 +8,7 @@ import sys
 from pathlib import Path
 from typing import NamedTuple
 
-from . import command, results, text, verdict
+from . import command, results, sheets, text, verdict
 from .progress import Bar
 
 TOOL = Path(__file__).resolve().parents[1] / "audit"
@@ -69,8 +67,8 @@ def pair_of(name, journal, published):
 def listed_pairs(path):
     """The pairs of a manifest: a table with the columns `journal` and `results`, whose files are sought from its own folder."""
     try:
-        rows = list(csv.reader(io.StringIO(path.read_bytes().decode("utf-8-sig"), newline=""), strict=True))
-    except (UnicodeDecodeError, csv.Error) as fault:
+        rows = [cells for _, cells in sheets.text_rows(path.read_bytes())[0]]
+    except sheets.Wrong as fault:
         raise command.Stop(f"{command.shown(path)} isn't a table of days: {fault}") from None
     heads = [cell.strip().lower() for cell in rows[0]] if rows else []
     if not set(COLUMNS) <= set(heads):
