@@ -483,7 +483,7 @@ class CommandLine(unittest.TestCase):
 
     def test_a_price_without_a_choice(self):
         status, out, _ = audit(AUCTION.read_bytes(), printed(AUCTION).replace(b"period,19,16500,", b"period,19,16501,"))
-        self.assertIn(b"the price is 16501; the only supporting price is 16500\n", out)
+        self.assertIn(b"the price is 16501; the only supporting price is 16500 (cents)\n", out)
 
     def test_no_better_selection_is_looked_for_if_the_results_are_wrong(self):
         wrong = printed(AUCTION).replace(b"welfare,3", b"welfare,4")
