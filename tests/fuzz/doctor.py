@@ -85,6 +85,8 @@ def decoded(data):
         rows = list(csv.reader(io.StringIO(text, newline=""), strict=True))
     except (UnicodeDecodeError, csv.Error):
         return None
+    while rows and not rows[-1]:
+        rows.pop()
     if [] in rows or any(character in field for row in rows for field in row for character in '\r\n",'):
         return None
     return "".join(f"{','.join(row)}\n" for row in rows).encode()

@@ -16,6 +16,7 @@ encoding differs from the program's."""
 
 import collections
 import contextlib
+import sys
 from pathlib import Path
 from typing import NamedTuple
 
@@ -215,7 +216,8 @@ def frame(day, table="periods", long=False, date=None, flat=False):
         import pandas
     except ImportError:
         package = command.PACKAGES["pandas"]
-        raise Fault(f"frames need pandas, which Debian has in the package {package}: apt-get install {package}") from None
+        words = f"this Python ({sys.executable}) has no pandas, which frames need: Debian has it in the package {package}"
+        raise Fault(f"{words}: apt-get install {package}") from None
     rows = list(rows_of(day, table, long, date))
     made = pandas.DataFrame(list(shapes.records(rows, flat)), columns=rows[0])
     for name in rows[0]:

@@ -69,8 +69,8 @@ def welfare_difference(said, follows):
 def right_price(found):
     """Which price a period has, and why."""
     if found.low == found.high:
-        return f"the only supporting price is {found.price}"
-    return f"the supporting prices go from {found.low} to {found.high}, and the rule takes {found.price}, {found.case}"
+        return f"the only supporting price is {found.price} (cents)"
+    return f"the supporting prices go from {found.low} to {found.high} (cents), and the rule takes {found.price}, {found.case}"
 
 
 def period_differences(problem, said, follows):

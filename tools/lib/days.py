@@ -1,8 +1,6 @@
 """The audit of many days: each in a process of its own, so that one which breaks, or takes all memory, doesn't end the rest."""
 
 import concurrent.futures
-import csv
-import io
 import json
 import os
 import subprocess
@@ -10,7 +8,7 @@ import sys
 from pathlib import Path
 from typing import NamedTuple
 
-from . import command, results, text, verdict
+from . import command, results, sheets, text, verdict
 from .progress import Bar
 
 TOOL = Path(__file__).resolve().parents[1] / "audit"
@@ -45,9 +43,16 @@ def pairs_of(place):
 
 
 def named_pairs(folder):
-    """Each journal of a folder with the results of the same name; results without a journal too."""
-    names = sorted({path.stem for path in folder.iterdir() if path.suffix in (JOURNAL, RESULTS) and path.is_file()})
-    return [pair_of(name, folder / f"{name}{JOURNAL}", folder / f"{name}{RESULTS}") for name in names]
+    """Each journal of a folder with the results of the same name; results without a journal too. A suffix may have capital letters."""
+    found = {}
+    for path in sorted(folder.iterdir()):
+        key = path.stem, path.suffix.lower()
+        if key[1] in (JOURNAL, RESULTS) and path.is_file():
+            if key in found:
+                raise command.Stop(f"{command.shown(found[key])} and {command.shown(path)} have one name: rename one of them")
+            found[key] = path
+    names = sorted({stem for stem, _ in found})
+    return [pair_of(name, *(found.get((name, suffix), folder / f"{name}{suffix}") for suffix in (JOURNAL, RESULTS))) for name in names]
 
 
 def pair_of(name, journal, published):
@@ -62,12 +67,14 @@ def pair_of(name, journal, published):
 def listed_pairs(path):
     """The pairs of a manifest: a table with the columns `journal` and `results`, whose files are sought from its own folder."""
     try:
-        rows = list(csv.reader(io.StringIO(path.read_bytes().decode("utf-8-sig"), newline=""), strict=True))
-    except (UnicodeDecodeError, csv.Error) as fault:
+        rows = [cells for _, cells in sheets.text_rows(path.read_bytes())[0]]
+    except sheets.Wrong as fault:
         raise command.Stop(f"{command.shown(path)} isn't a table of days: {fault}") from None
     heads = [cell.strip().lower() for cell in rows[0]] if rows else []
     if not set(COLUMNS) <= set(heads):
         raise command.Stop(f"{command.shown(path)} isn't a table of days: its first line should name the columns {', '.join(COLUMNS)}")
+    if not any(cell.strip() for row in rows[1:] for cell in row):
+        raise command.Stop(f"{command.shown(path)} has no days: it has no row below its header")
     for row in rows[1:]:
         cells = dict(zip(heads, (cell.strip() for cell in row)))
         if any(cells.values()):

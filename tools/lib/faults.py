@@ -21,7 +21,7 @@ KINDS = {
     "changed": "a command differs from what was sent",
     "repeated": "a command was sent fewer times",
     "unsent": "a command was not sent",
-    "encoding": "line ends, a byte order mark or quotes: no number or word differs",
+    "encoding": "line ends, empty lines at the end, a byte order mark or quotes: no number or word differs",
 }
 
 

@@ -6,7 +6,7 @@ import re
 from fractions import Fraction
 from typing import NamedTuple
 
-from . import book, clock, fields, journal, rules, sheets, spans, text
+from . import book, clock, fields, journal, kinds, rules, sheets, spans, text
 from .tables import ORDER, RESULT
 
 # The columns that a row may leave empty, or a table out.
@@ -62,6 +62,8 @@ def columns_of(header):
 
 def scaled(cell, factor, least, greatest, unit, decimal_comma):
     """A decimal number times a factor, which must be whole and in a range."""
+    if not cell:
+        raise Wrong(f"it is empty, or a formula that wasn't saved with its value: it should be a number of {unit}, such as 92.5")
     found = DECIMAL[decimal_comma].fullmatch(cell)
     if not found:
         raise Wrong(f"{text.quoted(cell)} should be a number of {unit}, such as 92.5")
@@ -251,6 +253,8 @@ class Table(NamedTuple):
 
 def table_of(name, data):
     """A table of orders, of which the header has been read."""
+    if kinds.kind_of(data) in (kinds.JOURNAL, kinds.DAY):
+        raise Wrong("this seems to be a journal already")
     try:
         rows, decimal_comma = sheets.rows_of(data)
     except sheets.Wrong as fault:

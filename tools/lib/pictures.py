@@ -132,6 +132,11 @@ def hover_of(figure):
     return getattr(figure, "hover", {})
 
 
+def digits_up_to(most):
+    """How many digits the numbers of an axis have that goes up to this volume in MW."""
+    return 0 if most >= 5 else 1
+
+
 def thousands(axis, digits=0):
     """Numbers along an axis in the same form as everywhere."""
     axis.set_major_formatter(lambda value, _: text.shown(Fraction(value).limit_denominator(10_000), digits))
@@ -281,7 +286,7 @@ def draw_volumes(axes, day):
         draw_share(axes, [sign * end for end in hourly], [sign * end for end in ends], hatched)
     axes.axhline(0, color=COLOURS["ink"], linewidth=0.9)
     axes.set_ylim(-1.12 * most, 1.12 * most)
-    axes.yaxis.set_major_formatter(lambda value, _: text.shown(abs(value), 0 if most >= 5 else 1))
+    axes.yaxis.set_major_formatter(lambda value, _: text.shown(abs(value), digits_up_to(most)))
     axes.set_ylabel("sold below, bought above, MW" if not is_narrow(axes) else "MW")
     axes.grid(axis="x", visible=False)
     key = [Patch(facecolor=COLOURS[side], edgecolor=COLOURS["ink"], linewidth=0.5) for side in ("buy", "sell")]
@@ -529,8 +534,10 @@ def draw_curves(axes, day, number):
         draw_clearing(axes, day, number, net)
     axes.set_xlim(0, most * 1.03)
     axes.set_ylim(bottom, top)
-    thousands(axes.xaxis)
+    thousands(axes.xaxis, digits_up_to(most))
     thousands(axes.yaxis)
+    if not orders and not traded:
+        without_orders(axes)
     hover_steps(axes, demand, "demand", "demand", bottom, top)
     hover_steps(axes, supply, "supply", "supply", bottom, top)
     mark_tails(axes, day, number, bottom, top)
@@ -539,6 +546,13 @@ def draw_curves(axes, day, number):
     if axes.get_legend_handles_labels()[0]:
         legend(axes, columns=1 if is_narrow(axes) else 2, below=True)
     heading(axes, f"Period {number}, {clock.span(day.problem.periods, number)}" + ("" if traded else ": no trade"))
+
+
+def without_orders(axes):
+    """Says that a period has no curves, and draws no numbers along the axes."""
+    axes.set_xticks([])
+    axes.set_yticks([])
+    axes.text(0.5, 0.5, "no hourly orders", transform=axes.transAxes, ha="center", va="center", color=COLOURS["soft"])
 
 
 def draw_clearing(axes, day, number, net):

@@ -88,6 +88,9 @@ def plain(data):
     if data and not data.endswith(b"\n"):
         data += b"\n"
         odd.append("the last line has no line end")
+    elif data.endswith(b"\n\n") and data.strip(b"\n"):
+        data = data.rstrip(b"\n") + b"\n"
+        odd.append("empty lines follow the last line")
     if QUOTED.search(data):
         data = QUOTED.sub(rb"\1", data)
         odd.append("fields stand in quotes")

@@ -3,6 +3,7 @@
 import csv
 import datetime
 import io
+import os
 import zipfile
 
 from . import command, shapes, text
@@ -19,6 +20,23 @@ class Wrong(Exception):
 
 def is_workbook(data):
     return data.startswith(XLSX)
+
+
+def is_workbook_file(path):
+    """Whether a file is a workbook, whatever its name; only of a file that can be read again."""
+    try:
+        if not os.path.isfile(path):
+            return False
+        with open(path, "rb") as file:
+            return is_workbook(file.read(len(XLSX)))
+    except OSError:
+        return False
+
+
+def need_for(paths):
+    """Starts the tool again with Debian's Python, or ends it, if a file is a workbook and this Python can't read it."""
+    if any(map(is_workbook_file, paths)):
+        command.need("openpyxl")
 
 
 def rows_of(data):
@@ -49,7 +67,8 @@ def text_rows(data):
 def workbook_rows(data):
     """The rows of a workbook's sheet: that of the orders, or else the first."""
     if not command.has("openpyxl"):
-        raise command.Stop(command.missing("openpyxl"), command.FAILED)
+        other = f"this Python lacks openpyxl: run it with {command.DEBIAN_PYTHON}, which has it"
+        raise command.Stop(other if command.elsewhere("openpyxl") else command.missing("openpyxl"), command.FAILED)
     import openpyxl
 
     try:
@@ -116,8 +135,8 @@ def workbook(tables):
         heads, *rows = rows
         kinds = [shapes.column(head, heads)["type"] for head in heads]
         for at, values in enumerate([heads, *rows], 1):
-            for place, value in enumerate(values, 1):
-                fill(sheet.cell(at, place), "string" if at == 1 else kinds[place - 1], value)
+            for place, (head, kind, value) in enumerate(zip(heads, kinds, values), 1):
+                fill(sheet.cell(at, place), "string" if at == 1 else cell_kind(head, kind, value), value)
         for place, column in enumerate(zip(heads, *rows), 1):
             sheet.cell(1, place).font = Font(bold=True)
             sheet.column_dimensions[get_column_letter(place)].width = 2 + min(60, max(len(str(value)) for value in column))
@@ -126,6 +145,11 @@ def workbook(tables):
     out = io.BytesIO()
     book.save(out)
     return out.getvalue()
+
+
+def cell_kind(head, kind, value):
+    """The kind of a cell of a workbook: one volume is a number, and several are a text."""
+    return "number" if head == "volume_mw" and ";" not in str(value) else kind
 
 
 def fill(cell, kind, value):

@@ -403,7 +403,12 @@ class CommandLine(unittest.TestCase):
             words = ["HiGHS is still searching", "HiGHS is still searching, and has offered 1 other selection", many]
             self.assertEqual(told, words[: len(offers)])
 
-    def test_an_empty_line_is_no_encoding(self):
+    def test_empty_lines_are_an_encoding_at_the_end_alone(self):
+        for ends in (b"\n", b"\n\n\n", b"\r\n"):
+            status, out, _ = audit(AUCTION.read_bytes(), printed(AUCTION) + ends)
+            self.assertEqual(status, command.ENCODING)
+            self.assertIn(b"the encoding differs: empty lines follow the last line\n", out)
+        self.assertEqual(audit(AUCTION.read_bytes(), b"\n\n")[0], command.DIFFERS)
         said = b"results line 4: the line is empty, and should not be there\n"
         self.assertEqual(audit(AUCTION.read_bytes(), printed(AUCTION).replace(b"period,2,", b"\nperiod,2,")), (command.DIFFERS, said, ""))
 
@@ -478,7 +483,7 @@ class CommandLine(unittest.TestCase):
 
     def test_a_price_without_a_choice(self):
         status, out, _ = audit(AUCTION.read_bytes(), printed(AUCTION).replace(b"period,19,16500,", b"period,19,16501,"))
-        self.assertIn(b"the price is 16501; the only supporting price is 16500\n", out)
+        self.assertIn(b"the price is 16501; the only supporting price is 16500 (cents)\n", out)
 
     def test_no_better_selection_is_looked_for_if_the_results_are_wrong(self):
         wrong = printed(AUCTION).replace(b"welfare,3", b"welfare,4")
@@ -564,8 +569,13 @@ class CommandLine(unittest.TestCase):
 
     def test_quiet_and_help(self):
         self.assertEqual(audit(AUCTION.read_bytes(), printed(AUCTION), "--quiet"), (0, b"", ""))
+        doctored = printed(AUCTION).replace(b"welfare,3", b"welfare,4")
+        self.assertEqual(audit(AUCTION.read_bytes(), doctored, "--quiet"), (command.DIFFERS, b"", ""))
+        status, out, err = audit(AUCTION.read_bytes(), AUCTION.read_bytes(), "--quiet")
+        self.assertEqual((status, out, "has a journal instead of results" in err), (command.NO_INPUT, b"", True))
         status, out, _ = tool("audit", "--help")
         self.assertEqual((status, b"JOURNAL" in out), (0, True))
+        self.assertIn(b"print no verdict and no faults", out)
         self.assertIn(b"tools/audit --best examples/auction-day.csv results.txt\n", out)
         self.assertEqual(audit((support.TOP / "examples/auction-day.csv").read_bytes(), printed(AUCTION), "--best")[0], 0)
 

@@ -59,6 +59,15 @@ class Days(unittest.TestCase):
         self.assertIn("a better selection accepts", out)
         self.assertIn("/d.txt is missing", out)
 
+    def test_suffixes_in_capitals(self):
+        for name, content in (("A.CSV", DATA), ("A.txt", TEXT), ("B.CSV", DATA), ("C.TXT", TEXT)):
+            (self.folder / name).write_bytes(content)
+        status, out, _ = self.audit()
+        found = [line.split()[:2] for line in out.splitlines()[1:4]]
+        self.assertEqual((status, found), (command.NO_INPUT, [["A", "right"], ["B", "unread"], ["C", "unread"]]))
+        (self.folder / "A.csv").write_bytes(DATA)
+        self.assertIn("have one name: rename one of them", self.audit()[2])
+
     def test_the_status_is_that_of_the_worst(self):
         self.write(a=(DATA, TEXT))
         for texts, wanted in (
@@ -94,6 +103,8 @@ class Days(unittest.TestCase):
         status, out, _ = self.audit(place=self.folder / "list")
         self.assertEqual([line.split()[:2] for line in out.splitlines()[1:4]], [["Monday", "right"], ["b", "right"], ["none", "unread"]])
         self.assertEqual(status, command.NO_INPUT)
+        (self.folder / "list").write_text("journal;results\na.csv;a.txt\n")
+        self.assertEqual(self.audit("--quiet", place=self.folder / "list"), (0, "", ""))
         (self.folder / "list").write_text("journal\na.csv\n")
         said = f"audit: {self.folder / 'list'} isn't a table of days: its first line should name the columns journal, results\n"
         self.assertEqual(self.audit(place=self.folder / "list"), (command.NO_INPUT, "", said))
@@ -102,8 +113,18 @@ class Days(unittest.TestCase):
         said = f"audit: {self.folder} has no days: a day is NAME.csv with its results NAME.txt\n"
         self.assertEqual(self.audit(), (command.NO_INPUT, "", said))
         self.assertEqual(self.audit(place="/nowhere")[0], command.NO_INPUT)
-        for words in ([AUCTION], ["--replies"], ["--sent", AUCTION, "--participant", "GAS"], ["--seconds", "3"]):
-            self.assertEqual(self.audit(*words)[0], command.COMMAND_LINE)
+        (self.folder / "list").write_text("journal,results\n,\n")
+        said = f"audit: {self.folder / 'list'} has no days: it has no row below its header\n"
+        self.assertEqual(self.audit(place=self.folder / "list"), (command.NO_INPUT, "", said))
+        for words, said in (
+            ([AUCTION], "--days can't be used with a journal"),
+            (["--replies"], "--days can't be used with --replies"),
+            (["--sent", AUCTION, "--participant", "GAS"], "--days can't be used with --sent"),
+            (["--participant", "GAS"], "--days can't be used with --participant"),
+            (["--seconds", "3"], "--seconds goes with --best"),
+        ):
+            status, out, err = self.audit(*words)
+            self.assertEqual((status, out, err.splitlines()[-1]), (command.COMMAND_LINE, "", f"audit: error: {said}"))
 
 
 if __name__ == "__main__":

@@ -117,14 +117,14 @@ class Pages(unittest.TestCase):
 
     def test_the_recipe_for_many_days(self):
         """A day that can't be cleared is named and leaves nothing; the others are audited."""
-        (recipe,) = re.findall(r"```sh\n(ls days.*?)```", (TOP / "docs" / "USING.md").read_text(), re.DOTALL)
+        (recipe,) = re.findall(r"```sh\n([^\n]*xargs.*?)```", (TOP / "docs" / "USING.md").read_text(), re.DOTALL)
         with tempfile.TemporaryDirectory() as folder:
             Path(folder, "days").mkdir()
             Path(folder, "tools").symlink_to(TOP / "tools")
             answer = f'if grep -q "^day,24,"; then cat "{AUCTION.with_suffix(".stdout")}"; else echo input: NotDay >&2; exit 1; fi'
             Path(folder, "dam").write_text(f"#!/bin/sh\n{answer}\n")
             Path(folder, "dam").chmod(0o755)
-            for name, data in ("a", AUCTION.read_bytes()), ("b", b"x\n"), ("c d", AUCTION.read_bytes()):
+            for name, data in ("a", AUCTION.read_bytes()), ("b", b"x\n"), ("c d", AUCTION.read_bytes()), ("o'e", AUCTION.read_bytes()):
                 Path(folder, "days", f"{name}.csv").write_bytes(data)
             Path(folder, "days", "b.txt").write_bytes(b"of an earlier run\n")
             python = f"{shlex.quote(sys.executable)} -B tools/audit"
@@ -132,9 +132,11 @@ class Pages(unittest.TestCase):
             self.assertEqual(ran.returncode, 3, ran.stderr)
             self.assertEqual(sorted(ran.stderr.splitlines()), ["days/b.csv was not cleared", "input: NotDay"])
             self.assertEqual([line.split()[:2] for line in ran.stdout.splitlines()[1:3]], [["a", "right"], ["b", "unread"]])
-            self.assertIn("2 right, 1 unread", ran.stdout)
+            self.assertIn("3 right, 1 unread", ran.stdout)
             names = {path.name for path in Path(folder, "days").iterdir()}
-            self.assertEqual(names, {"a.csv", "a.txt", "b.csv", "c d.csv", "c d.txt"})
+            self.assertEqual(names, {"a.csv", "a.txt", "b.csv", "c d.csv", "c d.txt", "o'e.csv", "o'e.txt"})
+            cleared = recipe.replace("tools/audit --best --days days", "")
+            self.assertEqual(subprocess.run(["sh", "-c", cleared], cwd=folder, capture_output=True).returncode, 123)
 
     def test_the_refused_commands_are_refused(self):
         text = (TOP / "docs" / "USING.md").read_text()

@@ -86,6 +86,22 @@ class Pictures(unittest.TestCase):
         drawn = pictures.picture(figure, "svg", words_as_text=True).decode()
         self.assertEqual(drawn.count(">no trade<"), 2)
 
+    def test_the_axes_of_small_volumes_and_of_no_orders(self):
+        from lib import pictures
+
+        data = journal_of("submit,A,B1,hour,buy,9000,8:8,,", "submit,B,S1,hour,sell,8000,8:8,,")
+        day = day_of(data, results_of(data, frozenset()))
+
+        def ticks(number):
+            axes = pictures.period_picture(day, number).axes[0]
+            axes.figure.canvas.draw()
+            return [[label.get_text() for label in axis.get_ticklabels()] for axis in (axes.xaxis, axes.yaxis)]
+
+        self.assertEqual(ticks(8)[0][:6], ["0.0", "0.2", "0.4", "0.6", "0.8", "1.0"])
+        self.assertEqual(ticks(19), [[], []])
+        drawn = pictures.picture(pictures.period_picture(day, 19), "svg", words_as_text=True).decode()
+        self.assertIn("no hourly orders", drawn)
+
     def test_links_groups_and_surpluses_of_blocks(self):
         from lib import pictures
 

@@ -159,6 +159,8 @@ class Times(unittest.TestCase):
             (["--only", "3", "--rows", "orders"], "--only can't be used with orders"),
             (["--only", "25"], "from 1 to 24"),
             (["--long", "--rows", "curves"], "--long can't be used with curves"),
+            (["--long", "--participant", "GAS"], "--long can't be used with statement: give --rows orders --long"),
+            (["--only", "8", "--participant", "GAS"], "statement, which has no column of periods: give --rows orders --long"),
         ):
             status, out, err = tool("table", *texts, *words)
             self.assertEqual((status, out, said in err), (command.COMMAND_LINE, b"", True), err)

@@ -5,6 +5,7 @@ import io
 import tempfile
 import unittest
 from pathlib import Path
+from unittest import mock
 
 from support import AUCTION, journal_of, printed, results_of, tool
 
@@ -129,6 +130,14 @@ class ForSpreadsheets(unittest.TestCase):
                     if cell.startswith(sheets.FORMULA):
                         float(cell)
 
+    def test_a_journal_is_no_table_of_orders(self):
+        status, _, err = tool("table", "--journal", AUCTION)
+        self.assertEqual((status, err), (command.NO_INPUT, f"table: {AUCTION}: this seems to be a journal already\n"))
+
+    def test_an_empty_number(self):
+        said = ["line 2, column price_eur_mwh: it is empty, or a formula that wasn't saved with its value: it should be a number of"]
+        self.assertEqual([words[: len(said[0])] for words in wrong("A,K,block,buy,,1,5,,")], said)
+
     def test_a_decimal_comma(self):
         status, out, _ = tool("table", "--decimal-comma", "--rows", "orders", *TEXTS)
         rows = list(csv.reader(io.StringIO(out.decode()), delimiter=";"))
@@ -146,7 +155,7 @@ class ForSpreadsheets(unittest.TestCase):
             self.assertEqual(tool("table", "--quiet", "--rows", "orders", *TEXTS, "-o", path)[::2], (0, ""))
             self.assertEqual(tool("table", "--quiet", "--all", every, *TEXTS)[::2], (0, ""))
             sheet = openpyxl.load_workbook(path)["orders"]
-            self.assertEqual([cell.value for cell in sheet[2]][:7], ["STAD", "LOAD-1", "hour", "buy", 300.0, "1", "360.0"])
+            self.assertEqual([cell.value for cell in sheet[2]][:7], ["STAD", "LOAD-1", "hour", "buy", 300.0, "1", 360.0])
             self.assertEqual(sheet.freeze_panes, "A2")
             book = openpyxl.load_workbook(every)
             self.assertEqual(len(book.sheetnames), 8)
@@ -160,6 +169,29 @@ class ForSpreadsheets(unittest.TestCase):
             cell = openpyxl.load_workbook(path)["orders"]["B2"]
             self.assertEqual((cell.value, cell.data_type), ("-1", "s"))
             self.assertEqual(tool("table", "--journal", path)[1], data)
+
+    @WITH_EXCEL
+    def test_several_volumes_of_a_workbook_are_a_text(self):
+        import openpyxl
+
+        rows = [HEADER.split(","), *(f"A,K,block,buy,1.00,1-2,{volumes},,".split(",") for volumes in ("5.0", "5.0;6.5"))]
+        sheet = openpyxl.load_workbook(io.BytesIO(sheets.workbook({"orders": rows})))["orders"]
+        self.assertEqual([sheet["G2"].value, sheet["G3"].value], [5.0, "5.0;6.5"])
+
+    def test_a_workbook_is_known_by_its_bytes(self):
+        """Another Python, which can read it, is sought before the file is read; standard input can't be read twice."""
+        with tempfile.TemporaryDirectory() as folder:
+            workbook, other = Path(folder, "orders.csv"), Path(folder, "other.xlsx")
+            workbook.write_bytes(sheets.XLSX)
+            other.write_bytes(HEADER.encode())
+            with mock.patch.object(command, "need") as need:
+                sheets.need_for(["-", folder, str(other), str(Path(folder, "none"))])
+                need.assert_not_called()
+                sheets.need_for([str(other), str(workbook)])
+                need.assert_called_once_with("openpyxl")
+        with mock.patch.object(command, "has", return_value=False), mock.patch.object(command, "elsewhere", return_value=True):
+            with self.assertRaisesRegex(command.Stop, f"run it with {command.DEBIAN_PYTHON}"):
+                sheets.rows_of(sheets.XLSX)
 
     @WITH_EXCEL
     def test_cells_of_workbooks(self):

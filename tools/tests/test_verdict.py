@@ -95,7 +95,7 @@ class Record(unittest.TestCase):
     def test_each_fault_is_a_record(self):
         made, _ = self.record(DATA, TEXT.replace(b"period,19,16500,", b"period,19,16501,"))
         (fault,) = [fault for fault in made["faults"] if fault["kind"] == "price"]
-        words = "results line 21: period 19: the price is 16501; the only supporting price is 16500"
+        words = "results line 21: period 19: the price is 16501; the only supporting price is 16500 (cents)"
         self.assertEqual(fault, {"kind": "price", "line": 21, "about": "period 19", "words": words})
         made, _ = self.record(DATA, results_of(DATA, frozenset({0, 1})), "--best")
         self.assertEqual([fault["kind"] for fault in made["faults"]], ["better"])
