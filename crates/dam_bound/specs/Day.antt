@@ -8,7 +8,8 @@ use Rattle.dam_bound.specs.Relaxed.{relaxed_welfare}
 use Rattle.dam_bound.specs.declared.day.Day.{Day}
 use Rattle.dam_bound.specs.declared.day.Position.{Position}
 
--- where the class stands: the net volume of the prefix's accepted blocks, and the welfare there
+-- where the class stands: the net volume of the prefix's accepted blocks, and the joint welfare there, without what
+-- these are worth
 pub record IsPosition (problem : ProblemState) (prefix : List Bool) (c : ℕ) (own : Position) : Type 0 where
   pub net_is : own.net ≡ net_volume problem.blocks prefix (c + 1)
   pub welfare_is : class_welfare problem (length prefix) c own.net ≡ Some own.welfare

@@ -13,17 +13,18 @@
 //! ```
 //!
 //! Two periods are in one class if every block has the same volume in both, so that they have the same net volume
-//! whatever is decided. A table is the relaxed welfare of a class over its net volume, as straight lines
-//! (`dam_curve`): one with no block decided, and one for each block with a volume there. It is proved to be the
-//! definition's welfare, which [`Relaxed::bound`] finds by clearing each period.
+//! whatever is decided. A table is the joint welfare of a class's periods over its net volume, without what the
+//! accepted blocks are worth, as straight lines (`dam_curve`): one with no block decided, and one for each block
+//! with a volume there. It is proved to be the definition's welfare, which [`Relaxed::bound`] finds by clearing
+//! each period.
 //!
 //! A walk down the tree of prefixes keeps the days of those on its way in the slots of a [`Trail`]. It begins
 //! with the day of the prefix that decides nothing (`begin`), and makes that of a prefix with one more
-//! decision (`extend`): the same welfare, with only the classes of the last block looked up, and no further
-//! than until it is seen to be less than what is asked for. Of a prefix that decides every block the day is
+//! decision (`extend`): the same welfare, with only the classes of the last block looked up, and only
+//! until it is seen to be less than what is asked for. Of a prefix that decides every block the day is
 //! read out (`day_at`) as a [`Day`]: `turn` makes that with one decision reversed, and `gain` says
 //! what an accepted block gains with its accepted descendants. It clears the hours of the problem at the net
-//! volumes of the day: a rule on prices at a leaf is kept there, and no table has a price.
+//! volumes of the day, since no table has the price of a period.
 //!
 //! What these words mean stands in `specs/`: prefixes and their completions, the relaxed welfare, the live count, the
 //! classes and the tables. A contract sees a [`Walk`] or a [`Relaxed`] as the problem that it was built of, without its

@@ -89,8 +89,8 @@ fn times(worth: i64, periods: i64) -> i64
     worth * periods
 }
 
-/// What is lost by accepting the block, at the prices of the class near this net volume, or below 0 gained. It only
-/// decides which class is looked at first.
+/// What is lost, or below 0 gained, by accepting the block, at this sum of the class's prices. It only decides which
+/// class is looked at first.
 fn stake_of(order: &BlockOrder, qty: Qty, worth: i64, price: i64) -> i64 {
     let sold = price.saturating_mul(i64::from(qty.get()));
     match order.side() {

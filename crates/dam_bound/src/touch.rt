@@ -18,9 +18,9 @@ pub(crate) struct Touch {
     pub(crate) net: i32,
     /// What the decided block is worth in all of the class's periods, in cents per MWh times tenths of a MW.
     pub(crate) value: i64,
-    /// The welfare of the class with the later blocks undecided.
+    /// The joint welfare of the class with the later blocks undecided, without what accepted blocks are worth.
     pub(crate) curve: Curve,
-    /// What is lost, or below 0 gained, by accepting the block, near the prices with it and all before it rejected.
+    /// What is lost, or below 0 gained, by accepting the block, at about the prices at a net volume of 0.
     pub(crate) stake: i64,
 }
 

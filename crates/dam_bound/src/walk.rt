@@ -59,7 +59,8 @@ impl<'a, A: Allocator, B: Allocator> Walk<'a, A, B> {
         Walk { problem, tables }
     }
 
-    /// Begins a walk: makes the day of the prefix that decides nothing, and returns its relaxed welfare.
+    /// Begins a walk: makes the day of the prefix that decides nothing, and returns its relaxed welfare, in cents per
+    /// MWh times tenths of a MW. The days of other prefixes may be lost.
     pub fn begin(&self, trail: &mut Trail) -> i64
         ensures { IsDayIn self.now [] trail.new result }
     {
@@ -69,10 +70,11 @@ impl<'a, A: Allocator, B: Allocator> Walk<'a, A, B> {
     }
 
     /// Extends the day of a prefix by the decision on the block at the depth, and returns the relaxed
-    /// welfare of the extension; `None` exactly if it has none or one under `least`. The days of the prefix
+    /// welfare of the extension; `None` exactly if it has none or one under `least`. `total` is what `begin` or
+    /// `extend` returned for the prefix; all are in cents per MWh times tenths of a MW. The days of the prefix
     /// and of shorter ones stay, so that the other decision can be made afterwards.
     ///
-    /// Only the classes of periods in which the block has a volume are looked at, and no further than until the
+    /// Only the classes of periods in which the block has a volume are looked at, and only until the
     /// relaxed welfare is seen to be under `least`. Takes no memory.
     pub fn extend(
         &self,
@@ -140,8 +142,8 @@ impl<'a, A: Allocator, B: Allocator> Walk<'a, A, B> {
     /// those blocks of the selection that descend from it; in cents per MWh times tenths of a MW, and
     /// below 0 if they lose together. The selection is the day's.
     ///
-    /// Only the prices of these blocks' own periods are asked for, each of the period's hourly orders at the
-    /// net volume of its class. Takes no memory.
+    /// Only the prices of these blocks' own periods are asked for, each found by clearing the period's hourly
+    /// orders at the net volume of its class. Takes no memory.
     pub fn gain(&self, day: &Day, selection: Selection, place: usize) -> i64
         requires place { place < length self.now.blocks }
         requires day { (prefix : List Bool) × (length prefix ≡ length self.now.blocks)

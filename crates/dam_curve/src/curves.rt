@@ -9,7 +9,7 @@ use dam_hour::laws;
 use std::alloc::{AllocError, Allocator, Global};
 use std::marker::Model;
 
-/// How many hints a curve has for each of its lines, at least.
+/// How many hints a curve has for each of its lines, at most, besides one for the whole curve.
 const HINTS: usize = 8;
 
 /// A curve among those of many: where its lines stand, and between which net volumes it has a welfare.
@@ -54,7 +54,7 @@ fn narrow(number: usize) -> Result<u32, AllocError>
     Ok(narrow)
 }
 
-/// By how many bits net volumes are shifted, so that this number of them has some `HINTS` hints for each line.
+/// By how many bits net volumes are shifted, so that this number of them has at most `HINTS` hints for each line.
 fn shift_of(range: u32, lines: usize) -> u32
     ensures { result ≤ 31 }
 {
@@ -147,7 +147,8 @@ impl<A: Allocator> Curves<A> {
         }
     }
 
-    /// The price of a line near the net volume: a hint, of which nothing is promised. It is 0 if there is none.
+    /// The price of a line near the net volume, in cents per MWh summed over the curve's periods: a hint, of which
+    /// nothing is promised. It is 0 if there is none.
     pub fn price_near(&self, curve: Curve, net: i64) -> i64 {
         let under = i64::from(curve.top).saturating_sub(net).max(0) as u64;
         let hint = (curve.hints as usize).saturating_add((under >> (curve.shift % 64)) as usize);

@@ -1,4 +1,5 @@
-/// A straight piece of a curve. It holds from its greatest net volume down to the next line's.
+/// A straight piece of a curve. It holds from its greatest net volume down to the next line's, and the last one at its
+/// greatest net volume alone.
 #[derive(Clone, Copy)]
 pub(crate) struct Line {
     /// The greatest net volume at which it holds, in tenths of a MW.

@@ -55,7 +55,7 @@ impl<A: Allocator + Copy> Sum<A> {
 
 impl<A: Allocator> Sum<A> {
     /// Begins again, with no period, over the net volumes from the least to the most, in tenths of a MW. The error
-    /// is out of memory.
+    /// is out of memory; the sum is then of use only for another `clear`.
     pub fn clear(&mut self, least: i64, most: i64) -> Result<(), AllocError>
         requires least { IsNetVolume least }
         requires most { IsNetVolume most }

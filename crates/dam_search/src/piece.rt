@@ -239,7 +239,7 @@ pub fn search_piece<A: Allocator, B: Allocator, R: Bounds<B>, I: Incumbent>(
         ≡ max (I.greatest_read incumbent.old) result.read }
     ensures kept { I.kept incumbent.new ≡ I.kept incumbent.old }
 
-    // The greatest value read in the call: the incumbent is read at each node under full depth.
+    // The greatest value read in the call. That the incumbent is read at each node under full depth is only tested.
     ensures read { 0 < result.visited → depth < length problem.now.blocks
         → result.read ≡ I.greatest_read incumbent.new }
     ensures unread { (result.visited ≡ 0) ⊎ (depth ≡ length problem.now.blocks)
