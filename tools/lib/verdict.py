@@ -100,6 +100,8 @@ class Audit:
         data, odd = results.plain(published)
         self.odd += odd
         self.wrong += reply_faults(read, data)
+        if self.wrong:
+            return
         self.right.append(f"as the rules say: {text.counted(len(reasons), 'reply', 'replies')}{sent.refused(reasons)}")
 
     def check_results(self, closed, reasons, published):
@@ -154,7 +156,7 @@ class Audit:
         published = sent.published_of(read, reasons, options.participant)
         wrong, right = sent.compared(own, published, closed, options.participant)
         self.wrong += wrong
-        self.right += right
+        self.right += right if not wrong else []
 
     def record(self, status, message=None):
         """The verdict for programs."""

@@ -142,9 +142,11 @@ class Worked(unittest.TestCase):
             self.assertEqual(status, command.DONE)
             self.assertEqual([line.split(": ", 1)[1] for line in out.splitlines() if line.startswith("results line ")], lines)
             self.assertIn("no selection is better", out)
-            self.assertEqual(run(right.replace(b"STAY,accepted", b"STAY,rejected"), own)[0], command.DIFFERS)
+            status, out = run(right.replace(b"STAY,accepted", b"STAY,rejected"), own)
+            self.assertEqual((status, "\nas sent: " in out, "as the rules say: " in out), (command.DIFFERS, True, False))
             status, out = run(right, own.replace(b"STAY", b"STAI"))
             self.assertEqual((status, "is missing in the journal" in out), (command.DIFFERS, True))
+            self.assertEqual(("as sent: " in out, "\nas the rules say: " in out), (False, True))
 
     def test_what_no_participant_sends(self):
         for own, said in (
