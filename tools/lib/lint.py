@@ -49,6 +49,7 @@ class Lint:
         self.closed = None  # the line of the first close
         self.is_cut = False  # whether records at the end weren't looked at
         self.data = data
+        self.has_semicolons = False  # between the fields of all lines
 
     def tell(self, line, words, field="", refusal=""):
         self.found.append(Found(line, field, words, refusal))
@@ -59,6 +60,7 @@ class Lint:
             self.tell(1, other)
             return self.found
         data, comma = self.readable(self.data)
+        self.has_semicolons = comma == b";"
         if self.periods and first_word(data, comma) != "day":
             self.held = book.Book(self.periods)
         line, behind, number = 1, 0, 0
@@ -139,6 +141,9 @@ class Lint:
     def record(self, line, record):
         record = self.separated(line, record)
         if record is None:
+            return
+        if self.has_semicolons and len(record) > len(fields.NAMES):
+            self.unclear.add((record[1], record[2]))  # those between volumes can't be told from those between fields
             return
         word = record[0].strip().lower()
         if self.held is None:

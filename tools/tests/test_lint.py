@@ -36,6 +36,7 @@ class Hand(unittest.TestCase):
         self.check(GOOD.decode().encode("utf-16"), ("line 1", "in UTF-16: save it as plain CSV"))
         semicolons = GOOD.replace(b"8:200;9:200", b'"8:200;9:200"').replace(b",", b";")
         self.check(semicolons, ("line 1", "separated by semicolons: separate them by commas"))
+        self.check(GOOD.replace(b",", b";"), ("line 1", "separated by semicolons: separate them by commas"))
         self.check(GOOD.replace(b",", b"\t"), ("line 1", "separated by tabs"))
         header = b"kind,participant,name,type,side,price,volumes,parent,group\n"
         self.check(header + GOOD, ("line 1", "this is a header, and a journal has none: begin with the day"))

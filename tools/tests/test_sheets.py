@@ -176,7 +176,7 @@ class ForSpreadsheets(unittest.TestCase):
 
         rows = [HEADER.split(","), *(f"A,K,block,buy,1.00,1-2,{volumes},,".split(",") for volumes in ("5.0", "5.0;6.5"))]
         sheet = openpyxl.load_workbook(io.BytesIO(sheets.workbook({"orders": rows})))["orders"]
-        self.assertEqual([sheet["G2"].value, sheet["G3"].value], [5.0, "5.0;6.5"])
+        self.assertEqual([sheet.cell(line, 7).value for line in (2, 3)], [5.0, "5.0;6.5"])
 
     def test_a_workbook_is_known_by_its_bytes(self):
         """Another Python, which can read it, is sought before the file is read; standard input can't be read twice."""
