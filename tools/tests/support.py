@@ -2,6 +2,7 @@
 
 import importlib.machinery
 import importlib.util
+import signal
 import subprocess
 import sys
 import tempfile
@@ -25,6 +26,11 @@ def loaded(name):
     module = importlib.util.module_from_spec(importlib.util.spec_from_loader(loader.name, loader))
     loader.exec_module(module)
     return module
+
+
+def heed_interrupts(case):
+    """Lets what a test starts be interrupted: a shell's command in the background ignores the signal, and so would all that it starts."""
+    case.addCleanup(signal.signal, signal.SIGINT, signal.signal(signal.SIGINT, signal.default_int_handler))
 
 
 def status(case):

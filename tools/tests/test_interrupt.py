@@ -14,7 +14,7 @@ import unittest
 from pathlib import Path
 from unittest import mock
 
-from support import AUCTION, TOOLS
+from support import AUCTION, TOOLS, heed_interrupts
 
 from lib import aside, command
 from lib.progress import Progress
@@ -47,8 +47,7 @@ def wait_until_asleep(process):
 
 class Interrupted(unittest.TestCase):
     def setUp(self):
-        # A command that a shell runs in the background ignores the signal, and so would the tools that it starts.
-        self.addCleanup(signal.signal, signal.SIGINT, signal.signal(signal.SIGINT, signal.default_int_handler))
+        heed_interrupts(self)
 
     def interrupted(self, name):
         """The end of a tool that is interrupted while it waits for its journal."""

@@ -106,6 +106,7 @@ class Many(unittest.TestCase):
         self.assertTrue(all(map(ends, Path(self.folder, "pids").read_text().split())))
 
     def test_an_interrupt_ends_what_runs(self):
+        support.heed_interrupts(self)
         hang = self.script("hang", f"echo $$ >> {self.folder}/pids; exec sleep 600")
         code = f"import dam_tools\nlist(dam_tools.clear_many([b'x'] * 9, 2, program={str(hang)!r}))"
         environment = {**os.environ, "PYTHONPATH": str(support.TOOLS)}

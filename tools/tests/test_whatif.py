@@ -282,6 +282,7 @@ class Tools(unittest.TestCase):
             self.assertEqual(self.whatif("limit", self.journal, "--participant", "GEN", *words), (3, b"", "whatif: memory\n"))
 
     def test_an_interrupt_ends_the_program_too(self):
+        support.heed_interrupts(self)
         hang = self.script("hang", f"echo $$ >> {self.folder}/pids; exec sleep 600")
         words = [sys.executable, support.TOOLS / "whatif", "limit", "--program", hang, self.journal, "--participant", "GEN", "--all"]
         running = subprocess.Popen(words, stderr=subprocess.PIPE, stdout=subprocess.PIPE, text=True, start_new_session=True)
