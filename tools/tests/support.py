@@ -81,3 +81,12 @@ def tool(name, *words, data=b"", python=(sys.executable,)):
     """A run of a tool: its status, output and errors."""
     ran = subprocess.run([*python, TOOLS / name, *map(str, words)], input=data, capture_output=True)
     return ran.returncode, ran.stdout, ran.stderr.decode()
+
+
+def audit(data, text, *words):
+    """A run of the audit on a journal and results."""
+    with tempfile.TemporaryDirectory() as folder:
+        paths = Path(folder, "journal"), Path(folder, "results")
+        for path, content in zip(paths, (data, text)):
+            path.write_bytes(content)
+        return tool("audit", *words, *paths)

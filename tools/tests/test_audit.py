@@ -3,14 +3,12 @@
 import itertools
 import random
 import re
-import tempfile
 import unittest
 import unittest.mock
 from fractions import Fraction
-from pathlib import Path
 
 import support
-from support import AUCTION, cleared_cases, journal_of, printed, problem, results_of, tool
+from support import AUCTION, audit, cleared_cases, journal_of, printed, problem, results_of, tool
 
 import days
 from lib import best, book, check, command, journal, period, results, rules, selection, sheets, tables
@@ -318,15 +316,6 @@ class Best(unittest.TestCase):
             with self.subTest(method):
                 status, out, _ = audit(data, results_of(data, frozenset({1})), "--best", "--by", method)
                 self.assertEqual((status, b"an equally good selection takes precedence: it accepts A,K1, which is earlier" in out), (1, True))
-
-
-def audit(data, text, *words):
-    """A run of the tool on a journal and results."""
-    with tempfile.TemporaryDirectory() as folder:
-        paths = Path(folder, "journal"), Path(folder, "results")
-        for path, content in zip(paths, (data, text)):
-            path.write_bytes(content)
-        return tool("audit", *words, *paths)
 
 
 class CommandLine(unittest.TestCase):

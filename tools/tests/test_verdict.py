@@ -3,26 +3,15 @@
 import hashlib
 import json
 import re
-import tempfile
 import unittest
-from pathlib import Path
 
-from support import AUCTION, TOP, cases, journal_of, printed, results_of, tool
+from support import AUCTION, TOP, audit, cases, journal_of, printed, results_of, tool
 
 from lib import command, faults, verdict, version
 
 DATA, TEXT = AUCTION.read_bytes(), printed(AUCTION)
 MARK = b"\xef\xbb\xbf"
 PRINTED = {"CR LF": TEXT.replace(b"\n", b"\r\n"), "CR": TEXT.replace(b"\n", b"\r")}
-
-
-def audit(data, text, *words):
-    """A run of the tool on a journal and results."""
-    with tempfile.TemporaryDirectory() as folder:
-        paths = Path(folder, "journal"), Path(folder, "results")
-        for path, content in zip(paths, (data, text)):
-            path.write_bytes(content)
-        return tool("audit", *words, *paths)
 
 
 class Encoding(unittest.TestCase):
