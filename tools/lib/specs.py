@@ -3,7 +3,7 @@
 import itertools
 import re
 
-from . import command
+from . import command, crates
 
 USE = re.compile(r"^[ ]*(?:pub )?(?:ghost )?use ([\w.]+?)(?:\.\{([^}]*)\})?(?: as \w+)?;?$", re.MULTILINE)
 IMPORT = re.compile(r"^use (\w+)(?:::\w+)*::(?:\{([^}]*)\}|(\w+));$", re.MULTILINE)
@@ -35,8 +35,7 @@ class Repository:
 
     def __init__(self, top):
         self.top = top
-        lines = (line.partition("#")[0] for line in command.read_bytes(top / "crates.txt").decode().splitlines())
-        self.crates = [line.split()[0].rstrip(":") for line in lines if ":" in line]
+        self.crates = list(crates.listed(command.read_bytes(top / "crates.txt").decode()))
         self.texts = {}
         self.modules = {}
 

@@ -1,0 +1,26 @@
+"""The list of crates: crates.txt, and the lists of the tests and of the bench that have its form. It runs with Python 3.8."""
+
+
+def listed(text):
+    """The libraries that each crate of such a list uses, by its name, in the order of the list. The kind of a library may come after its
+    name; `#` begins a comment. A crate that comes twice uses what both lines say."""
+    found = {}
+    for line in text.splitlines():
+        name, colon, below = line.partition("#")[0].partition(":")
+        if colon:
+            found.setdefault(name.split()[0], []).extend(below.split())
+    return found
+
+
+def own(crates):
+    """The same crates, each with those libraries alone that are in the list too."""
+    return {name: [library for library in below if library in crates] for name, below in crates.items()}
+
+
+def all_below(crates, name):
+    """The crates of the list that a crate uses, directly or not."""
+    found = set()
+    for library in crates[name]:
+        if library in crates:
+            found |= {library} | all_below(crates, library)
+    return found
