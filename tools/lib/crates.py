@@ -1,14 +1,15 @@
 """The list of crates: crates.txt, and the lists of the tests and of the bench that have its form. It runs with Python 3.8."""
 
 
-def listed(text):
-    """The libraries that each crate of such a list uses, by its name, in the order of the list. The kind of a library may come after its
-    name; `#` begins a comment. A crate that comes twice uses what both lines say."""
+def listed(text, with_kinds=False):
+    """The libraries that each crate of such a list uses, by its name, in the order of the list. A crate that comes twice uses what both
+    lines say. `#` begins a comment. The kind of a library may come after its name; it is kept in the name if that is asked for."""
     found = {}
     for line in text.splitlines():
         name, colon, below = line.partition("#")[0].partition(":")
         if colon:
-            found.setdefault(name.split()[0], []).extend(below.split())
+            words = name.split()
+            found.setdefault(" ".join(words) if with_kinds else words[0], []).extend(below.split())
     return found
 
 

@@ -18,6 +18,7 @@ class Crates(unittest.TestCase):
     def test_a_list(self):
         found = crates.listed(LIST)
         self.assertEqual(found, {"low": [], "high": ["low", "kit", "other"], "middle": ["low"], "top": ["high", "middle", "low"]})
+        self.assertEqual(list(crates.listed(LIST, with_kinds=True)), ["low", "high staticlib", "middle", "top", "high"])
         self.assertEqual(crates.own(found)["high"], ["low"])
         self.assertEqual(crates.all_below(found, "top"), {"low", "high", "middle"})
 
