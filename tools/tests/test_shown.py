@@ -36,8 +36,7 @@ class Shown(unittest.TestCase):
                 with self.subTest(commands):
                     status, printed, said = shown.ran(folder, commands)
                     self.assertEqual((status, said), (0, ""))
-                    # A page has no spaces at the end of a line, as `fold` leaves them.
-                    self.assertEqual([line.rstrip() for line in printed.splitlines()], (quoted or "").splitlines())
+                    self.assertEqual(printed, quoted or "")
 
     @NEEDS_NUMPY
     def test_trust(self):
