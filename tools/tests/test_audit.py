@@ -38,12 +38,14 @@ class Results(unittest.TestCase):
                 self.assertEqual(differences(data, text), [])
 
     def test_each_changed_number_is_refused_at_its_line(self):
+        """Whether the sums find it too or not: they never are the only check that does."""
         refused = 0
         for name, data, text in cleared_cases():
             day = problem(data)
             for other, line in changed_numbers(text):
+                wrong = [fault for fault in check.differences(day, other)[1] if fault.kind not in ("money", "sum")]
                 with self.subTest(name, line=line):
-                    self.assertIn(f"results line {line}:", "\n".join(check.differences(day, other)[1]))
+                    self.assertIn(f"results line {line}:", "\n".join(wrong))
                 refused += 1
         self.assertGreater(refused, 1_000)
 
