@@ -7,7 +7,7 @@ import support
 from support import AUCTION, QUARTERS, audit, cleared_cases, journal_of, printed, problem, results_of
 from test_audit import changed_numbers
 
-from lib import command, faults, results, sums
+from lib import command, results, sums, trades
 
 # ONE's sell of period 1 sets its price, 40 EUR; the block K1 loses there, and its child K2 gains more in period 2.
 FAMILY = journal_of(
@@ -117,12 +117,12 @@ class Sums(unittest.TestCase):
 
 class Tool(unittest.TestCase):
     def test_the_money_is_one_line(self):
-        for case, amount in (AUCTION, "1,238,670.00"), (QUARTERS, None):
+        for case in (AUCTION, QUARTERS):
+            day = support.day_of(case.read_bytes(), printed(case))
+            amount = day.problem.euros(sum(total.paid for total in trades.totals(day).values()))
             status, out, _ = audit(case.read_bytes(), printed(case))
-            (line,) = [line for line in out.decode().splitlines() if line.startswith("by adding: ")]
-            amounts = line.split(" EUR")
-            paid, received = amounts[0].split()[-1], amounts[1].split()[-1]
-            self.assertEqual((status, paid, paid == (amount or paid)), (command.DONE, received, True))
+            wanted = f"by adding: buyers pay {amount} EUR, sellers receive {amount} EUR; "
+            self.assertEqual((status, out.decode().count(f"\n{wanted}")), (command.DONE, 1))
 
     def test_faults_and_amounts_are_in_the_record(self):
         status, out, _ = audit(FAMILY, ACCEPTED.replace(b"K1,accepted,-5000", b"K1,accepted,-250001"), "--json")
@@ -142,9 +142,6 @@ class Tool(unittest.TestCase):
     def test_a_day_that_cannot_be_read_has_no_amounts(self):
         made = json.loads(audit(FAMILY, ACCEPTED[:-10], "--json")[1])
         self.assertNotIn("paid_eur", made["day"])
-
-    def test_each_kind_is_a_kind(self):
-        self.assertLessEqual({"money", "sum", "loss"}, set(faults.KINDS))
 
 
 if __name__ == "__main__":
