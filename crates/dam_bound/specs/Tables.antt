@@ -42,12 +42,12 @@ most_net blocks depth c = net_of_side Sell (c + 1) (take depth blocks)
 
 -- ---- the curves
 -- the curve of the class that begins at the place, with as many blocks decided
-abbrev pub IsClassCurve : ProblemState → List Line → ℕ → ℕ → Curve → Type 0
+abbrev pub IsClassCurve : ProblemState → CurvesState → ℕ → ℕ → Curve → Type 0
 IsClassCurve problem lines depth c curve =
     IsCurveAt lines curve (class_hours problem depth c) (least_net problem.blocks depth c) (most_net problem.blocks depth c)
 
 -- the curve of each class with as many blocks decided, at the place of its first period
-pub record AreCurves (problem : ProblemState) (lines : List Line) (depth : ℕ) (curves : List Curve) : Type 0 where
+pub record AreCurves (problem : ProblemState) (lines : CurvesState) (depth : ℕ) (curves : List Curve) : Type 0 where
   pub as_many : length curves ≡ length problem.hours
   pub each : (c : ℕ) (d : Curve) → c < length problem.hours → first_of problem.blocks c ≡ c
       → IsClassCurve problem lines depth c (slice_index_or curves c d)
@@ -58,7 +58,7 @@ abbrev pub class_value : ProblemState → BlockTerms → ℕ → ℤ
 class_value problem o c = over_class (λ t. value_of t o) problem.blocks c 0 (length problem.hours)
 
 -- what a decision on the block at the place makes of one of its classes
-pub record IsTouch (problem : ProblemState) (lines : List Line) (place : ℕ) (b : Block) (accept : Bool) (touch : Touch) : Type 0 where
+pub record IsTouch (problem : ProblemState) (lines : CurvesState) (place : ℕ) (b : Block) (accept : Bool) (touch : Touch) : Type 0 where
   pub inside : touch.at < length problem.hours
   pub first : first_of problem.blocks touch.at ≡ touch.at
   pub some : 0 < volume_in b.order.volumes (touch.at + 1)
@@ -78,7 +78,7 @@ abbrev pub touches_at : ℕ → List Touch → ℕ
 touches_at c touches = count_by (λ (touch : Touch). touch.at == c) touches
 
 -- one touch for each class in which the block has a volume, in any order
-pub record AreTouches (problem : ProblemState) (lines : List Line) (place : ℕ) (b : Block) (accept : Bool) (touches : List Touch)
+pub record AreTouches (problem : ProblemState) (lines : CurvesState) (place : ℕ) (b : Block) (accept : Bool) (touches : List Touch)
     : Type 0 where
   pub one_each : (c : ℕ) → touches_at c touches ≡ (if is_touched problem b c then 1 else 0)
   pub each : (j : ℕ) (touch : Touch) → slice_get touches j ≡ Some touch → IsTouch problem lines place b accept touch
@@ -92,12 +92,12 @@ pub record LotState : Type 0 where
   pub accepted : List Touch
   pub rejected : List Touch
 
-pub record IsLot (problem : ProblemState) (lines : List Line) (place : ℕ) (b : Block) (lot : LotState) : Type 0 where
+pub record IsLot (problem : ProblemState) (lines : CurvesState) (place : ℕ) (b : Block) (lot : LotState) : Type 0 where
   pub accepted : AreTouches problem lines place b true lot.accepted
   pub rejected : AreTouches problem lines place b false lot.rejected
 
 -- the lots of the first blocks
-pub record AreLots (problem : ProblemState) (lines : List Line) (count : ℕ) (lots : List LotState) : Type 0 where
+pub record AreLots (problem : ProblemState) (lines : CurvesState) (count : ℕ) (lots : List LotState) : Type 0 where
   pub as_many : length lots ≡ count
   pub each : (k : ℕ) (b : Block) (lot : LotState) → slice_get problem.blocks k ≡ Some b → slice_get lots k ≡ Some lot
       → IsLot problem lines k b lot
@@ -117,7 +117,7 @@ pub record AreFirsts (problem : ProblemState) (firsts : List ℕ) : Type 0 where
 -- all that a walk reads
 pub record TablesState : Type 0 where
   pub count : ℕ
-  pub lines : List Line
+  pub lines : CurvesState
   pub firsts : List ℕ
   pub ends : List Curve
   pub lots : List LotState

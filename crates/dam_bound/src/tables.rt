@@ -21,6 +21,7 @@ use crate::classes::firsts_of;
 use crate::day::{Day, Position};
 use crate::families::families_of;
 use crate::periods::Periods;
+use crate::room::first_with_values;
 use crate::touch::{Lot, Touch};
 use dam_blocks::{Block, MOST_PERIODS, Problem, Selection, value_of};
 use dam_book::{BlockOrder, Period, Qty, Side};
@@ -108,6 +109,8 @@ struct Deciding<'a, A: Allocator> {
     places: &'a [u32; MOST_PERIODS],
     /// The first slot of the block's row.
     row: u32,
+    /// Whether its tables keep a welfare for each net volume.
+    with_values: bool,
 }
 
 impl<'a, A: Allocator> Model for Deciding<'a, A> {
@@ -153,7 +156,7 @@ impl<A: Allocator> Deciding<'_, A> {
         ensures at { IfOk result (λ touch. touch.at ≡ at) }
         ensures kept { Keeps curves.old curves.new }
     {
-        let curve = self.periods.curve(curves, sum, at)?;
+        let curve = self.periods.curve(curves, sum, at, self.with_values)?;
         let value = self.value(at);
         Ok(Touch {
             at: at as u32,
@@ -257,7 +260,7 @@ fn first_curves<A: Allocator, B: Allocator, C: Allocator, D: Allocator>(
     for at in 0..periods.count() {
         let first = periods.firsts[at] as usize;
         let curve = if first == at {
-            periods.curve(curves, sum, at)?
+            periods.curve(curves, sum, at, false)?
         } else {
             ends[first]
         };
@@ -330,6 +333,7 @@ fn lots_of<A: Allocator, B: Allocator, C: Allocator + Copy>(
     let mut sum = Sum::new(alloc);
     let mut lots = Vec::with_capacity(alloc, blocks.len())?;
     let mut row = MOST_PERIODS as u32;
+    let valued = first_with_values(blocks, &periods.firsts, periods.count());
     for block in blocks {
         periods.decide(&block.order);
         let accepted = Deciding {
@@ -337,6 +341,7 @@ fn lots_of<A: Allocator, B: Allocator, C: Allocator + Copy>(
             order: &block.order,
             places,
             row,
+            with_values: lots.len() >= valued,
         }
         .touches(alloc, curves, &mut sum)?;
         take_over(places, ends, &accepted);
