@@ -11,7 +11,7 @@ ghost use Rattle.dam_bound.specs.Relaxed.{without_rows};
 ghost use Rattle.dam_bound.specs.Tables.{AreCurves, class_value, IsTouch, AreTouches, AreLots, AreFirsts, ArePlaces, AreTablesOf, rejected};
 ghost use Rattle.dam_bound.specs.inside.Change.{greatest_class_value};
 ghost use Rattle.dam_bound.specs.inside.Building.{IsClass, AreDecided, IsDeciding};
-ghost use Rattle.dam_curve.specs.declared.line.Line.{Line};
+ghost use Rattle.dam_curve.specs.Curve.{CurvesState};
 ghost use Rattle.dam_blocks.specs.Selection.{volume_in};
 ghost use Rattle.dam_hour.specs.Best.{signed};
 ghost use Rattle.dam_hour.specs.Limits.{greatest_value};
@@ -58,7 +58,7 @@ impl<A: Allocator> Model for Tables<A> {
 
     ghost view = { λ t. record {
       count = t.count;
-      lines = t.curves;
+      curves = t.curves;
       firsts = t.firsts;
       ends = t.ends.items;
       lots = t.lots.items;
@@ -221,20 +221,20 @@ fn by_stake<A: Allocator>(accepted: Vec<Touch, A>, rejected: Vec<Touch, A>) -> L
 
 /// Puts the block's own slots and curves in the place of those that its classes have before it.
 fn take_over(places: &mut [u32; MOST_PERIODS], ends: &mut [Curve], touches: &[Touch])
-    requires { (problem : ProblemState) × (lines : List Line) × (k : ℕ) × (b : Block)
+    requires { (problem : ProblemState) × (all : CurvesState) × (k : ℕ) × (b : Block)
         × (slice_get problem.blocks k ≡ Some b) × (k < most_blocks)
         × (length problem.hours ≤ last_period)
-        × AreTouches problem lines k b true touches.now
+        × AreTouches problem all k b true touches.now
         × (length ends.old ≡ length problem.hours) × (length places.old ≡ last_period) }
-    ensures places { (problem : ProblemState) (lines : List Line) (k : ℕ) (b : Block)
+    ensures places { (problem : ProblemState) (all : CurvesState) (k : ℕ) (b : Block)
         → slice_get problem.blocks k ≡ Some b → k < most_blocks
         → length problem.hours ≤ last_period
-        → AreTouches problem lines k b true touches.now
+        → AreTouches problem all k b true touches.now
         → ArePlaces problem k places.old → ArePlaces problem (k + 1) places.new }
-    ensures ends { (problem : ProblemState) (lines : List Line) (k : ℕ) (b : Block)
+    ensures ends { (problem : ProblemState) (all : CurvesState) (k : ℕ) (b : Block)
         → slice_get problem.blocks k ≡ Some b
-        → AreTouches problem lines k b true touches.now
-        → AreCurves problem lines k ends.old → AreCurves problem lines (k + 1) ends.new }
+        → AreTouches problem all k b true touches.now
+        → AreCurves problem all k ends.old → AreCurves problem all (k + 1) ends.new }
     ensures many { length ends.new ≡ length ends.old }
 {
     for touch in touches {

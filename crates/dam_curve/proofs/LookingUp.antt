@@ -57,7 +57,7 @@ values_kept ps ls xs ys (Values first) are =
 curve_kept : (old : CurvesState) (ls : List Line) (vs : List ℤ) → Keeps old (record { lines = old.lines ++ ls; values = old.values ++ vs })
 curve_kept old ls vs curve ps least most is =
     let same : lines_at (old.lines ++ ls) curve ≡ lines_at old.lines curve =
-        range_kept old.lines ls curve.first (curve.first + curve.count) (omega arith) is.within in
+    range_kept old.lines ls curve.first (curve.first + curve.count) (omega arith) is.within in
     let long = length-append old.lines ls in
     let within = is.within in
     record {
@@ -74,12 +74,12 @@ pub keeps_more : (old new : CurvesState) (ls : List Line) → new.lines ≡ old.
     → take (length old.values) new.values ≡ old.values → Keeps old new
 keeps_more old new ls lines values =
     let all : new.values ≡ old.values ++ drop (length old.values) new.values =
-        sym (take-append-drop (length old.values) new.values) ∙ ap (λ (xs : List ℤ). xs ++ drop (length old.values) new.values) values in
+    sym (take-append-drop (length old.values) new.values) ∙ ap (λ (xs : List ℤ). xs ++ drop (length old.values) new.values) values in
     λ curve ps least most is.
-        subst (λ (vs : List ℤ). IsCurveAt (record { lines = new.lines; values = vs }) curve ps least most) (sym all)
-        (subst (λ (ws : List Line). IsCurveAt (record { lines = ws; values = old.values ++ drop (length old.values) new.values }) curve ps
-        least most) (sym lines)
-        (curve_kept old ls (drop (length old.values) new.values) curve ps least most is))
+    subst (λ (vs : List ℤ). IsCurveAt (record { lines = new.lines; values = vs }) curve ps least most) (sym all)
+    (subst (λ (ws : List Line). IsCurveAt (record { lines = ws; values = old.values ++ drop (length old.values) new.values }) curve ps
+    least most) (sym lines)
+    (curve_kept old ls (drop (length old.values) new.values) curve ps least most is))
 
 count_is : (lines : List Line) (curve : Curve) → curve.first + curve.count ≤ length lines → length (lines_at lines curve) ≡ curve.count
 count_is lines curve l =

@@ -255,7 +255,10 @@ impl<A: Allocator> Curves<A> {
     /// nothing is promised. It is 0 if there is none.
     pub fn price_near(&self, curve: Curve, net: i64) -> i64 {
         let first = curve.first as usize;
-        let Some(lines) = self.lines.get(first..first.saturating_add(curve.count as usize)) else {
+        let Some(lines) = self
+            .lines
+            .get(first..first.saturating_add(curve.count as usize))
+        else {
             return 0;
         };
         let mut price = 0;

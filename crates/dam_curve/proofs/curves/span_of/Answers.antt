@@ -9,29 +9,29 @@ pub returns-then-bottom-top-clause-least : goal.returns-then-bottom-top-clause-l
 returns-then-bottom-top-clause-least c =
     let some = c.requires in
     let bottom = bottom_at c.args.lines.now (length c.args.lines.now - 1) (record { most = pos 0; price = pos 0; surplus = pos 0 })
-        (omega (arith, some)) in
+    (omega (arith, some)) in
     let own : to_z w64 (of_z w64 c.from-bottom.result)
-        ≡ (get_or c.args.lines.now (length c.args.lines.now - 1) (record { most = pos 0; price = pos 0; surplus = pos 0 })).most = search rules in
+    ≡ (get_or c.args.lines.now (length c.args.lines.now - 1) (record { most = pos 0; price = pos 0; surplus = pos 0 })).most = search rules in
     omega (arith, ints, bottom, own)
 
 pub returns-else-bottom-top-clause-least : goal.returns-else-bottom-top-clause-least
 returns-else-bottom-top-clause-least c =
     let some = c.requires in
     let bottom = bottom_at c.args.lines.now (length c.args.lines.now - 1) (record { most = pos 0; price = pos 0; surplus = pos 0 })
-        (omega (arith, some)) in
+    (omega (arith, some)) in
     let own : to_z w64 (of_z w64 c.from-bottom.result)
-        ≡ (get_or c.args.lines.now (length c.args.lines.now - 1) (record { most = pos 0; price = pos 0; surplus = pos 0 })).most = search rules in
+    ≡ (get_or c.args.lines.now (length c.args.lines.now - 1) (record { most = pos 0; price = pos 0; surplus = pos 0 })).most = search rules in
     omega (arith, ints, bottom, own)
 
 pub returns-then-bottom-top-clause-within : goal.returns-then-bottom-top-clause-within
 returns-then-bottom-top-clause-within c i l =
     let some = c.requires in
     let bottom = bottom_at c.args.lines.now (length c.args.lines.now - 1) (record { most = pos 0; price = pos 0; surplus = pos 0 })
-        (omega (arith, some)) in
+    (omega (arith, some)) in
     let own : to_z w64 (of_z w64 c.from-bottom.result)
-        ≡ (get_or c.args.lines.now (length c.args.lines.now - 1) (record { most = pos 0; price = pos 0; surplus = pos 0 })).most = search rules in
+    ≡ (get_or c.args.lines.now (length c.args.lines.now - 1) (record { most = pos 0; price = pos 0; surplus = pos 0 })).most = search rules in
     let wide : to_z w64 (of_z w64 (to_z w64 (of_z w64 c.from-top.result) -ℤ to_z w64 (of_z w64 c.from-bottom.result)))
-        ≡ to_z w64 (of_z w64 c.from-top.result) -ℤ to_z w64 (of_z w64 c.from-bottom.result) = search rules in
+    ≡ to_z w64 (of_z w64 c.from-top.result) -ℤ to_z w64 (of_z w64 c.from-bottom.result) = search rules in
     let order = c.if-bottom-top.true in
     omega (arith, ints, bottom, own, wide, order, l)
 
@@ -39,11 +39,11 @@ pub returns-then-bottom-top-clause-all : goal.returns-then-bottom-top-clause-all
 returns-then-bottom-top-clause-all c i net e low =
     let some = c.requires in
     let bottom = bottom_at c.args.lines.now (length c.args.lines.now - 1) (record { most = pos 0; price = pos 0; surplus = pos 0 })
-        (omega (arith, some)) in
+    (omega (arith, some)) in
     let own : to_z w64 (of_z w64 c.from-bottom.result)
-        ≡ (get_or c.args.lines.now (length c.args.lines.now - 1) (record { most = pos 0; price = pos 0; surplus = pos 0 })).most = search rules in
+    ≡ (get_or c.args.lines.now (length c.args.lines.now - 1) (record { most = pos 0; price = pos 0; surplus = pos 0 })).most = search rules in
     let wide : to_z w64 (of_z w64 (to_z w64 (of_z w64 c.from-top.result) -ℤ to_z w64 (of_z w64 c.from-bottom.result)))
-        ≡ to_z w64 (of_z w64 c.from-top.result) -ℤ to_z w64 (of_z w64 c.from-bottom.result) = search rules in
+    ≡ to_z w64 (of_z w64 c.from-top.result) -ℤ to_z w64 (of_z w64 c.from-bottom.result) = search rules in
     let order = c.if-bottom-top.true in
     omega (arith, ints, bottom, own, wide, order, e, low)
 
@@ -51,8 +51,8 @@ pub returns-else-bottom-top-clause-all : goal.returns-else-bottom-top-clause-all
 returns-else-bottom-top-clause-all c i net e low =
     let some = c.requires in
     let bottom = bottom_at c.args.lines.now (length c.args.lines.now - 1) (record { most = pos 0; price = pos 0; surplus = pos 0 })
-        (omega (arith, some)) in
+    (omega (arith, some)) in
     let own : to_z w64 (of_z w64 c.from-bottom.result)
-        ≡ (get_or c.args.lines.now (length c.args.lines.now - 1) (record { most = pos 0; price = pos 0; surplus = pos 0 })).most = search rules in
+    ≡ (get_or c.args.lines.now (length c.args.lines.now - 1) (record { most = pos 0; price = pos 0; surplus = pos 0 })).most = search rules in
     let order = c.if-bottom-top.false in
     omega (arith, ints, bottom, own, order, e, low)

@@ -10,10 +10,10 @@ index-requires g c =
     let net : to_z w64 (of_z w64 c.args.net) ≡ c.args.net = search rules in
     let high = c.requires.top in
     let wide : to_z w64 (of_z w64 (to_z w64 (of_z w64 c.from.result) -ℤ to_z w64 (of_z w64 c.args.net)))
-        ≡ to_z w64 (of_z w64 c.from.result) -ℤ to_z w64 (of_z w64 c.args.net) = search rules in
+    ≡ to_z w64 (of_z w64 c.from.result) -ℤ to_z w64 (of_z w64 c.args.net) = search rules in
     let there = value_there c.args.self.now c.args.curve c.requires.curve.0 c.requires.curve.1 c.requires.curve.2 c.args.net c.args.first
-        (nat_abs (to_z w64 (of_z w64 (to_z w64 (of_z w64 c.from.result) -ℤ to_z w64 (of_z w64 c.args.net))))) c.requires.curve.3
-        c.requires.lookup c.requires.bottom c.requires.top (omega (arith, ints, top, net, wide, high)) in
+    (nat_abs (to_z w64 (of_z w64 (to_z w64 (of_z w64 c.from.result) -ℤ to_z w64 (of_z w64 c.args.net))))) c.requires.curve.3
+    c.requires.lookup c.requires.bottom c.requires.top (omega (arith, ints, top, net, wide, high)) in
     let inside = there.inside in
     search (inside, rules)
 
@@ -23,7 +23,7 @@ returns g c ps least most is =
     let net : to_z w64 (of_z w64 c.args.net) ≡ c.args.net = search rules in
     let high = c.requires.top in
     let wide : to_z w64 (of_z w64 (to_z w64 (of_z w64 c.from.result) -ℤ to_z w64 (of_z w64 c.args.net)))
-        ≡ to_z w64 (of_z w64 c.from.result) -ℤ to_z w64 (of_z w64 c.args.net) = search rules in
+    ≡ to_z w64 (of_z w64 c.from.result) -ℤ to_z w64 (of_z w64 c.args.net) = search rules in
     let own : to_z w64 (of_z w64 c.index.result.now) ≡ c.index.result.now = search rules in
     let place = c.args.first + nat_abs (to_z w64 (of_z w64 (to_z w64 (of_z w64 c.from.result) -ℤ to_z w64 (of_z w64 c.args.net)))) in
     let same : c.self.inside.values.items ≡ c.args.self.now.values = search rules in
