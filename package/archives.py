@@ -23,7 +23,11 @@ class Entry(NamedTuple):
 
     kind: str
     mode: int
+    owner: tuple[int, int]
     data: bytes
+
+    def __str__(self):
+        return f"a {self.kind} of mode {self.mode:o} and owner {self.owner[0]}:{self.owner[1]}"
 
 
 def called(line, folder=None, seconds=0):
@@ -98,7 +102,7 @@ def entries(data, prefix=""):
         for member in archive:
             held = archive.extractfile(member).read() if member.isfile() else member.linkname.encode()
             kind = "file" if member.isfile() else "folder" if member.isdir() else "link"
-            found[prefix + member.name.removeprefix("./").rstrip("/")] = Entry(kind, member.mode, held)
+            found[prefix + member.name.removeprefix("./").rstrip("/")] = Entry(kind, member.mode, (member.uid, member.gid), held)
     return found
 
 

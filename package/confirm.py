@@ -37,8 +37,8 @@ def differences(there, here):
             yield f"{name} is not made here"
         elif theirs is None:
             yield f"{name} is missing"
-        elif (ours.kind, ours.mode) != (theirs.kind, theirs.mode):
-            yield f"{name} is a {theirs.kind} of mode {theirs.mode:o}, made here a {ours.kind} of mode {ours.mode:o}"
+        elif ours[:-1] != theirs[:-1]:
+            yield f"{name} is {theirs}, made here {ours}"
         elif ours.data != theirs.data and name == tree.PROVENANCE:
             words = "; ".join(of_provenance(json.loads(theirs.data), json.loads(ours.data)))
             yield f"{name} differs: {words or 'in its sums, or in how it is written'}"
