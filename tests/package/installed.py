@@ -70,6 +70,8 @@ def begin(root, name, place):
     ran = subprocess.run(["debootstrap", "--variant=minbase", name, root, place], stdout=subprocess.PIPE, stderr=subprocess.STDOUT)
     if ran.returncode:
         return ran.stdout.decode(errors="replace").splitlines()[-1:]
+    # in place of the one source that debootstrap writes
+    os.remove(f"{root}/etc/apt/sources.list")
     shutil.copytree("/etc/apt", f"{root}/etc/apt", dirs_exist_ok=True)
     shutil.copytree("/usr/share/keyrings", f"{root}/usr/share/keyrings", dirs_exist_ok=True)
     shutil.copy("/etc/resolv.conf", f"{root}/etc/resolv.conf")
