@@ -18,7 +18,15 @@ MADE_BY = {PROGRAM: "./dam clear", SHARED: "library/build", STATIC: "library/bui
 CHECKED = TOP / "out" / "check.json"
 SHOWN = 3  # changes that are named
 # The commands that make a package, with Debian's package of each.
-NEEDED = {"dpkg-deb": "dpkg", "dpkg-shlibdeps": "dpkg-dev", "gzip": "gzip", "help2man": "help2man", "tar": "tar", "xz": "xz-utils"}
+NEEDED = {
+    "dpkg-deb": "dpkg",
+    "dpkg-shlibdeps": "dpkg-dev",
+    "git": "git",
+    "gzip": "gzip",
+    "help2man": "help2man",
+    "tar": "tar",
+    "xz": "xz-utils",
+}
 
 
 def environment(seconds=0):
@@ -29,10 +37,7 @@ def environment(seconds=0):
 
 def git(*words):
     """What git prints."""
-    try:
-        ran = subprocess.run(["git", *words], cwd=TOP, capture_output=True)
-    except OSError as fault:
-        raise command.Stop(f"git can't be run: {fault.strerror}", command.FAILED) from None
+    ran = subprocess.run(["git", *words], cwd=TOP, capture_output=True)
     if ran.returncode:
         raise command.Stop(f"git {words[0]} failed: {ran.stderr.decode(errors='replace').strip()}")
     return ran.stdout.decode(errors="surrogateescape")
@@ -42,6 +47,7 @@ class Clone:
     """A clone without changes, whose program and libraries were built of its sources."""
 
     def __init__(self):
+        refuse_lack()
         self.version, self.commit = VERSION, git("rev-parse", "HEAD").strip()
         self.seconds = int(git("log", "-1", "--format=%ct"))
         self.date = datetime.datetime.fromtimestamp(self.seconds, datetime.timezone.utc).strftime("%Y-%m-%dT%H:%M:%SZ")
@@ -88,10 +94,14 @@ def totals_of(path, commit):
     raise command.Stop(f"{command.shown(path)} is of {'changed files' if of is None else f'commit {of}'}, and this clone of {commit}")
 
 
-def made_with():
-    """The versions of what makes the files of a package here; another one may make others."""
+def refuse_lack():
+    """Ends the tool if a command that it needs is missing."""
     for name, debian in NEEDED.items():
         if not shutil.which(name):
             words = f"it needs {name}, which Debian has in the package {debian}: apt-get install {debian}"
             raise command.Stop(words, command.FAILED)
-    return {name: sources.first_line([name, "--version"]) for name in NEEDED}
+
+
+def made_with():
+    """The versions of what makes the files of a package here; another one may make others."""
+    return {name: sources.first_line([name, "--version"]) for name in NEEDED if name != "git"}

@@ -1,5 +1,5 @@
-"""The package in a fresh minimal system that has neither kit, compiler nor clone: a day from end to end, a program in C, and that nothing is
-left when the package is removed. Debian's packages come from where this machine has them."""
+"""The package in a fresh minimal system that has neither kit, compiler nor clone: a day from end to end, a program in C, and that nothing
+is left when the package is removed. Debian's packages come from where this machine has them."""
 
 import json
 import os
@@ -33,7 +33,7 @@ class System:
     def run(self, *words, data=b""):
         """The status, the output and the errors of a command. It gets a /proc of its own, and what it starts ends with it."""
         inside = 'mount -t proc proc "$0/proc" && cd "$0" && exec chroot "$0" "$@"'
-        clean = ["env", "-i", "PATH=/usr/local/bin:/usr/bin:/usr/sbin:/bin:/sbin", f"HOME={DAY}", "LC_ALL=C.UTF-8", "DEBIAN_FRONTEND=noninteractive"]
+        clean = ["env", "-i", "PATH=/usr/bin:/usr/sbin:/bin:/sbin", f"HOME={DAY}", "LC_ALL=C.UTF-8", "DEBIAN_FRONTEND=noninteractive"]
         line = ["unshare", "--mount", "--pid", "--fork", "sh", "-c", inside, self.root, *clean, *words]
         ran = subprocess.run(line, input=data, capture_output=True, timeout=SECONDS)
         return ran.returncode, ran.stdout, ran.stderr.decode(errors="replace")
@@ -129,13 +129,16 @@ def tests(counts, package, caller):
         in_system(counts, System(root), package, caller)
 
 
+def field(package, name):
+    return subprocess.run(["dpkg-deb", "--field", package, name], stdout=subprocess.PIPE).stdout.decode().strip()
+
+
 def in_system(counts, system, package, caller):
     status, out, _ = system.shell(f"command -v {FOREIGN}")
     counts.check(f"a fresh system has none of {FOREIGN}: {out}", status != 0 and not out)
     shutil.copy(package, f"{system.root}/dam.deb")
     apt(counts, system, "update")
-    fields = [subprocess.run(["dpkg-deb", "--field", package, name], stdout=subprocess.PIPE).stdout.decode().strip() for name in ("Depends", "Recommends")]
-    apt(counts, system, "satisfy", ", ".join(fields))
+    apt(counts, system, "satisfy", f"{field(package, 'Depends')}, {field(package, 'Recommends')}")
     before = system.files()
     apt(counts, system, "install", "/dam.deb")
     day(counts, system)

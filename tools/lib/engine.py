@@ -89,7 +89,8 @@ def where():
 
 def built():
     """The program that belongs to this module, or that the system finds; None if there is none."""
-    for of, path in ("package", packaged("bin", "dam")), ("clone", BUILT if os.access(BUILT, os.X_OK) else None), ("system", shutil.which("dam")):
+    cloned = BUILT if os.access(BUILT, os.X_OK) else None
+    for of, path in ("package", packaged("bin", "dam")), ("clone", cloned), ("system", shutil.which("dam")):
         if path:
             return Where("program", of, os.fspath(path))
     return None

@@ -73,7 +73,8 @@ def sums(crate):
 def first_line(command):
     """Returns the first line that a command prints, or 'unknown'."""
     try:
-        ran = subprocess.run(command, cwd=TOP, stdin=subprocess.DEVNULL, stdout=subprocess.PIPE, stderr=subprocess.DEVNULL, errors="replace")
+        ran = subprocess.run(command, cwd=TOP, stdin=subprocess.DEVNULL, stdout=subprocess.PIPE, stderr=subprocess.DEVNULL,
+                             errors="replace")
     except OSError:
         return "unknown"
     return (ran.stdout.splitlines() or ["unknown"])[0]
@@ -110,9 +111,10 @@ def recorded(path):
     """Returns what is recorded of a file that was built, or None."""
     try:
         with open(record_of(path), encoding="utf-8") as file:
-            return json.load(file)
+            told = json.load(file)
     except (OSError, ValueError):
         return None
+    return told if isinstance(told, dict) and {"sha256", "kit", "sources"} <= told.keys() else None
 
 
 def fault(path, crate):
