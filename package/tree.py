@@ -82,6 +82,11 @@ def make(clone, folder, totals):
     settle(folder, clone.seconds)
 
 
+def recorded_of(clone, name):
+    """What is recorded of a file that was built, but for the sums of its sources."""
+    return {key: it for key, it in clone.records[name].items() if key != "sources"}
+
+
 def provenance(clone, folder, totals):
     """Of what a package was made, and the sum of each of its files but this one."""
     files = sorted(path for path in folder.rglob("*") if path.is_file() and not path.is_symlink())
@@ -90,7 +95,7 @@ def provenance(clone, folder, totals):
         "version": clone.version,
         "commit": clone.commit,
         "date": clone.date,
-        "built": {name: {key: it for key, it in told.items() if key != "sources"} for name, told in clone.records.items()},
+        "built": {target: recorded_of(clone, name) for target, name in TAKEN.items() if name in clone.records},
         "sources": {crate: it for told in clone.records.values() for crate, it in sorted(told["sources"].items())},
         "check": totals,
         "made_with": made_of.made_with(),

@@ -14,6 +14,7 @@ SUNNY = "/usr/share/doc/dam/examples/sunny-day.csv"
 DAY = "/tmp/day"  # in the system: the files of the day
 # What Debian's own tools keep there isn't the package's.
 KEPT = ("proc", "dev", "sys", "run", "tmp", "var/cache", "var/log", "var/lib/apt", "var/lib/dpkg/status-old", "var/lib/dpkg/triggers")
+OF_THE_REPORT = "python3-jinja2, python3-matplotlib"
 FOREIGN = "rt rattle cc gcc clang git"
 IN_PYTHON = """
 import dam_tools, json, sys
@@ -138,7 +139,7 @@ def in_system(counts, system, package, caller):
     counts.check(f"a fresh system has none of {FOREIGN}: {out}", status != 0 and not out)
     shutil.copy(package, f"{system.root}/dam.deb")
     apt(counts, system, "update")
-    apt(counts, system, "satisfy", f"{field(package, 'Depends')}, {field(package, 'Recommends')}")
+    apt(counts, system, "satisfy", f"{field(package, 'Depends')}, {field(package, 'Recommends')}, {OF_THE_REPORT}")
     before = system.files()
     apt(counts, system, "install", "/dam.deb")
     day(counts, system)
