@@ -2,8 +2,7 @@
 
     import dam_tools
 
-    journal = dam_tools.read_journal("day.csv")
-    day = dam_tools.clear(journal, program="crates/dam_cli/out/dam_cli")
+    day = dam_tools.clear("day.csv")
     for row in dam_tools.records(day, "periods"):
         print(row["period"], row["price_eur_mwh"])
     frame = dam_tools.frame(day, "orders", long=True)
@@ -26,7 +25,7 @@ if not Path(__file__).with_name("lib").is_dir():
 
 from .lib import book, command, engine, journal, order_table, shapes, tables
 from .lib.command import Day
-from .lib.engine import Fault
+from .lib.engine import Fault, where
 from .lib.journal import Journal
 from .lib.version import VERSION as __version__
 
@@ -45,6 +44,7 @@ __all__ = [
     "read_results",
     "records",
     "replay",
+    "where",
 ]
 
 TABLES = tuple(tables.TABLES)
@@ -59,24 +59,31 @@ def as_faults():
         raise Fault(str(fault)) from None
 
 
+def is_text(source):
+    """Whether a source is a text itself: bytes, or a string of several lines, which is no path."""
+    return isinstance(source, bytes) or isinstance(source, str) and "\n" in source
+
+
 def bytes_of(source):
     """The bytes of a file, or of a text that was given."""
+    if is_text(source):
+        return source if isinstance(source, bytes) else source.encode(errors="surrogatepass")
     try:
-        return source if isinstance(source, bytes) else Path(source).read_bytes()
+        return Path(source).read_bytes()
     except OSError as fault:
         raise Fault(f"{source} can't be read: {fault.strerror}") from None
 
 
 def read_journal(source):
-    """The journal of a file, or of bytes."""
+    """The journal of a file, or of a text: bytes, or a string with line ends."""
     with as_faults():
-        return command.parse_journal("the text" if isinstance(source, bytes) else str(source), bytes_of(source))
+        return command.parse_journal("the text" if is_text(source) else str(source), bytes_of(source))
 
 
 def journal_of_orders(*sources, periods=24, close=True):
     """The journal of tables of orders, as tools/table --journal makes it. Each is a file (CSV or an Excel workbook) or bytes."""
     with as_faults():
-        named = [("" if isinstance(source, bytes) else command.shown(source), bytes_of(source)) for source in sources]
+        named = [("" if is_text(source) else command.shown(source), bytes_of(source)) for source in sources]
         return order_table.journal_of(order_table.read_tables(named, periods), periods, close)
 
 
@@ -91,10 +98,10 @@ def read_results(source, results):
 
 
 def clear(source, program=None, workers=None, cut=None, nodes=None, timeout=None):
-    """The results of a journal, by a run of the program. The options are those of `dam clear`; none but a limit on nodes changes the
-    answer. If neither a program nor an option is named, the library for C is called if it was built from the present sources or is
-    installed: it gives the same answer, on one thread. The environment variable DAM names the program to run, and DAM_LIBRARY the
-    library."""
+    """The results of a journal: a file, its text, or one that was read. If neither a program nor an option is named, the library for C
+    is called if there is one; otherwise the program is run: `where` says which. Both give the same answer, the library on one thread. The
+    options are those of `dam clear`; none but a limit on nodes changes the answer. The environment variable DAM names the program to run,
+    and DAM_LIBRARY the library."""
     read = as_journal(source)
     path = engine.library() if (program, workers, cut, nodes, timeout) == (None,) * 5 else None
     if path:

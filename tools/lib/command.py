@@ -10,12 +10,13 @@ import sys
 import zoneinfo
 from pathlib import Path
 
-from . import book, ending, journal, kinds, lint, results, selection, text
+from . import book, ending, journal, kinds, lint, place, results, selection, text
 
 from .version import VERSION
 
 DEBIAN_PYTHON = "/usr/bin/python3"
 LONGEST_PATH = 400  # characters of the name of a file in a message
+SEE_AUDIT = place.as_here("see tools/audit")
 # Debian's packages; tests/packages lists them all.
 PACKAGES = {
     "distributed": "python3-distributed",
@@ -95,7 +96,8 @@ class Parser(argparse.ArgumentParser):
     """A tool's command line, with no shortened options. Its help is written as all output is."""
 
     def __init__(self, prog, description, epilog):
-        form = argparse.RawDescriptionHelpFormatter
+        form, prog = argparse.RawDescriptionHelpFormatter, place.command(prog)
+        description, epilog = place.as_here(description), place.as_here(epilog)
         super().__init__(prog=prog, description=description, epilog=epilog, formatter_class=form, allow_abbrev=False)
         self.add_argument("--version", action="version", version=f"{prog} {VERSION}", help="print the version")
 
@@ -256,9 +258,9 @@ class Day:
     def tell_wrong(self, tool):
         """Says on standard error if the results break the rules, or else if their encoding differs."""
         if self.wrong:
-            tell(tool, f"the results break the rules ({self.wrong[0]}): see tools/audit")
+            tell(tool, f"the results break the rules ({self.wrong[0]}): {SEE_AUDIT}")
         elif self.odd:
-            tell(tool, f"the encoding of the results differs ({self.odd[0]}): see tools/audit")
+            tell(tool, f"the encoding of the results differs ({self.odd[0]}): {SEE_AUDIT}")
 
 
 def has(module):

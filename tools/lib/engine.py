@@ -11,12 +11,20 @@ import shutil
 import subprocess
 import sys
 from pathlib import Path
+from typing import NamedTuple
+
+from . import place
 
 TOP = Path(__file__).resolve().parents[2]
 # Where the program is built, in the tree that this module is part of.
 BUILT = TOP / "crates" / "dam_cli" / "out" / "dam_cli"
 # And the path of the library for C, if library/build has made it; an installed one has the same name.
-LIBRARY = TOP / "library" / "out" / "libdam.so"
+LIBRARY = TOP / "library" / "out" / "libdam.so.1"
+# Where the Debian package, or the archive that runs in place, has both, if this module is part of it: all is below one folder, such as
+# /usr, and this module in lib/python3/dist-packages/dam_tools/.
+PREFIX = Path(*place.FOLDER.parts[:-4]) if place.FOLDER.parts[-4:-1] == ("lib", "python3", "dist-packages") else None
+# Where `pip install .` puts a library that was built.
+WHEELS = place.FOLDER / LIBRARY.name
 MOST_NODES, MOST_ANSWER = 67_108_864, 300_000  # of library/dam.h
 ONE_WORKER = ("clear", "--workers=1", "--cut=0")  # as the library searches: many days share the processors
 AHEAD = 2  # texts for each job that wait for a thread
@@ -45,16 +53,53 @@ def has_library():
     return all(source.stat().st_mtime <= LIBRARY.stat().st_mtime for source in sources)
 
 
-def library():
-    """The path of the library for C, or its name if the system has it; None if there is none, or if a program is to be run instead: that
-    of the environment variable DAM, or the one that is built in this tree."""
+class Where(NamedTuple):
+    """What clears a journal: the library or the program; of the package, the wheel or the clone that this module is part of, of the
+    system, or named by the environment; and its path, or a name that the system finds."""
+
+    what: str
+    of: str
+    path: str
+
+
+def packaged(*parts):
+    """The path of a file of the package that this module is part of; None if there is none."""
+    path = PREFIX and PREFIX.joinpath(*parts)
+    return path if path and path.exists() else None
+
+
+def where():
+    """What clears a journal if neither an option nor a program is named; None if there is neither library nor program. The library and
+    the program that belong to this module come before those that the system finds."""
     if "DAM_LIBRARY" in os.environ:
-        return os.environ["DAM_LIBRARY"]
+        return Where("library", "environment", os.environ["DAM_LIBRARY"])
     if "DAM" in os.environ:
-        return None
-    if has_library():
-        return os.fspath(LIBRARY)
-    return None if os.access(BUILT, os.X_OK) or not is_installed(LIBRARY.name) else LIBRARY.name
+        return Where("program", "environment", os.environ["DAM"])
+    for of, path in (
+        ("package", packaged("lib", "x86_64-linux-gnu", LIBRARY.name)),
+        ("wheel", WHEELS if WHEELS.exists() else None),
+        ("clone", LIBRARY if has_library() else None),
+    ):
+        if path:
+            return Where("library", of, os.fspath(path))
+    if not os.access(BUILT, os.X_OK) and is_installed(LIBRARY.name):
+        return Where("library", "system", LIBRARY.name)
+    return built()
+
+
+def built():
+    """The program that belongs to this module, or that the system finds; None if there is none."""
+    cloned = BUILT if os.access(BUILT, os.X_OK) else None
+    for of, path in ("package", packaged("bin", "dam")), ("clone", cloned), ("system", shutil.which("dam")):
+        if path:
+            return Where("program", of, os.fspath(path))
+    return None
+
+
+def library():
+    """The path of the library for C, or its name if the system has it; None if there is none, or if a program is to be run instead."""
+    found = where()
+    return found.path if found and found.what == "library" else None
 
 
 @functools.cache
@@ -86,10 +131,11 @@ def called(path, text, nodes=MOST_NODES):
 
 
 def program_of(program=None):
-    found = program or os.environ.get("DAM") or (BUILT if os.access(BUILT, os.X_OK) else shutil.which("dam"))
-    if not found:
+    named = program or os.environ.get("DAM")
+    found = None if named else built()
+    if not named and not found:
         raise Fault("no program was found: build it, or name it as `program` or in the environment variable DAM")
-    return os.fspath(found)
+    return os.fspath(named or found.path)
 
 
 def ran(words, text, timeout=None, running=None):

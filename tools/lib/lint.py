@@ -6,7 +6,7 @@ that the commands after it are judged as well, also those that the book would re
 import re
 from typing import NamedTuple
 
-from . import book, fields, journal, kinds, rules, text
+from . import book, fields, journal, kinds, place, rules, text
 
 DAY = "day,24,,,,,,,"
 CLOSE = "close,,,,,,,,"
@@ -15,13 +15,14 @@ MOST_LINES = 20  # of those with characters that aren't ASCII
 FEW = 5  # faults that other tools report
 MOST_QUOTES = 20  # that aren't closed and are reported
 SEPARATORS = {";": "semicolons", "\t": "tabs"}  # that stand in place of commas
+AUDIT, LINT, TABLE = map(place.as_here, ("tools/audit", "tools/lint", "tools/table"))
 # What a text of another kind is for.
 OTHERS = {
-    kinds.ORDERS: "this seems to be a table of orders: tools/table --journal makes a journal of it",
-    kinds.RESULTS: "these seem to be results, which aren't a journal: tools/audit reads them with their journal",
-    kinds.EXCEL: "this is an Excel workbook: tools/table --journal makes a journal of it, if it is a table of orders",
-    kinds.OLD_EXCEL: "this is an old Excel workbook: save it as .xlsx, from which tools/table --journal makes a journal, or as plain CSV",
-    kinds.REPLIES: "these seem to be replies of `dam replay`, which aren't a journal: tools/audit --replies reads them with their journal",
+    kinds.ORDERS: f"this seems to be a table of orders: {TABLE} --journal makes a journal of it",
+    kinds.RESULTS: f"these seem to be results, which aren't a journal: {AUDIT} reads them with their journal",
+    kinds.EXCEL: f"this is an Excel workbook: {TABLE} --journal makes a journal of it, if it is a table of orders",
+    kinds.OLD_EXCEL: f"this is an old Excel workbook: save it as .xlsx, from which {TABLE} --journal makes a journal, or as plain CSV",
+    kinds.REPLIES: f"these seem to be replies of `dam replay`, which aren't a journal: {AUDIT} --replies reads them with their journal",
 }
 BYTE_ORDER_MARKS = {b"\xef\xbb\xbf": "utf-8-sig", b"\xff\xfe": "utf-16", b"\xfe\xff": "utf-16"}
 
@@ -75,7 +76,7 @@ class Lint:
                 break
             if record in RESULTS or record[0] == b"welfare":
                 whole = "the results of a day begin here" if record in RESULTS else "these are results"
-                self.tell(line, f"{whole}, which aren't part of a journal: tools/audit reads both")
+                self.tell(line, f"{whole}, which aren't part of a journal: {AUDIT} reads both")
                 break
             self.record(line, [field.decode(errors="replace") for field in record])
         self.end(line, number)
@@ -326,5 +327,5 @@ def in_few_words(data, periods=None):
     """The first faults of a text that can't be read as a journal, each on a line of its own; or as the commands of a day of so many
     periods, with the day or without it."""
     lines = [str(fault) for fault in Lint(data, "replay", periods).run() if not fault.refusal]
-    more = [f"and {len(lines) - FEW} more: see tools/lint"] if len(lines) > FEW else []
+    more = [f"and {len(lines) - FEW} more: see {LINT}"] if len(lines) > FEW else []
     return "".join(f"\n  {line}" for line in lines[:FEW] + more)

@@ -3,7 +3,7 @@
 import hashlib
 import time
 
-from . import better, book, check, command, journal, kinds, lines, results, selection, sent, sums, text
+from . import better, book, check, command, journal, kinds, lines, place, results, selection, sent, sums, text
 from .faults import Fault
 from .progress import Progress
 from .version import VERSION
@@ -24,7 +24,7 @@ NOT_LOOKED = "no better selection was looked for, since the results break other 
 HINTS = {
     kinds.REPLIES: "; --replies checks replies",
     kinds.DAY: "; give it as the only file",
-    kinds.ORDERS: "; tools/table --journal makes a journal of it",
+    kinds.ORDERS: place.as_here("; tools/table --journal makes a journal of it"),
 }
 
 

@@ -8,7 +8,7 @@ import json
 import re
 import socket
 
-from . import changes, cleared, command, engine, limit_words, limits, output, rules, scenario_tables, scenarios, text
+from . import changes, cleared, command, engine, limit_words, limits, output, place, rules, scenario_tables, scenarios, text
 from .cleared import Cleared
 
 GRID = 2_000, 100  # cents per MWh: how far the limits of an hourly order reach from the price, and their distance
@@ -89,7 +89,8 @@ def check_program(args):
         try:
             args.program = engine.program_of(args.program)
         except engine.Fault:
-            words = "no program was found: ./dam clear builds it; or name it by --program or the environment variable DAM"
+            made = "the package dam has it" if place.IS_INSTALLED else "./dam clear builds it"
+            words = f"no program was found: {made}; or name it by --program or the environment variable DAM"
             raise command.Stop(words, command.FAILED) from None
 
 

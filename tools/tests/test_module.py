@@ -198,11 +198,11 @@ class Module(unittest.TestCase):
     @unittest.skipUnless(command.has("pandas") and command.has_zone(shapes.ZONE), "pandas or the time zones are missing")
     def test_the_example_of_the_pages(self):
         example = self.examples()[0]
-        built = '"crates/dam_cli/out/dam_cli"'
-        self.assertIn(built, example)
+        self.assertIn("dam_tools.clear(journal)", example)
         Path(self.program.parent, "day.csv").write_bytes(AUCTION.read_bytes())
-        words = [sys.executable, "-B", "-c", example.replace(built, repr(str(self.program)))]
-        path = {**os.environ, "PYTHONPATH": str(support.TOOLS)}
+        words = [sys.executable, "-B", "-c", example]
+        path = {**os.environ, "PYTHONPATH": str(support.TOOLS), "DAM": str(self.program)}
+        path.pop("DAM_LIBRARY", None)
         ran = subprocess.run(words, cwd=self.program.parent, env=path, capture_output=True, text=True)
         self.assertEqual((ran.returncode, ran.stderr), (0, ""))
         self.assertIn("OLD UNIT-7 paradoxically rejected would gain", ran.stdout)

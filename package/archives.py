@@ -1,0 +1,121 @@
+"""The two archives of a tree: a Debian package, and an archive that runs in place. They are read too, without unpacking them."""
+
+import hashlib
+import io
+import os
+import re
+import shutil
+import subprocess
+import tarfile
+from typing import NamedTuple
+
+from lib import command
+
+from . import clone as made_of
+
+HERE = made_of.TOP / "package"
+CONTROL = "control of the package: "
+SHARED = "lib/x86_64-linux-gnu/libdam.so.1"
+
+
+class Entry(NamedTuple):
+    """A file, a folder or a link of an archive."""
+
+    kind: str
+    mode: int
+    owner: tuple[int, int]
+    data: bytes
+
+    def __str__(self):
+        return f"a {self.kind} of mode {self.mode:o} and owner {self.owner[0]}:{self.owner[1]}"
+
+
+def called(line, folder=None, seconds=0):
+    """What a command prints."""
+    ran = subprocess.run(line, cwd=folder, env=made_of.environment(seconds), capture_output=True)
+    if ran.returncode:
+        raise command.Stop(f"{line[0]} failed: {ran.stderr.decode(errors='replace').strip()}", command.FAILED)
+    return ran.stdout
+
+
+def debian_name(version):
+    return f"dam_{version}_amd64.deb"
+
+
+def plain_name(version):
+    return f"dam-{version}-x86_64-linux.tar.xz"
+
+
+def depends(root, room):
+    """The packages that the program and the library need, by Debian's own tool: the C library, and since which version."""
+    (room / "debian").mkdir()
+    (room / "debian" / "control").write_text("Source: dam\n\nPackage: dam\nArchitecture: amd64\n", encoding="utf-8")
+    line = ["dpkg-shlibdeps", "-O", *(f"-e{root / 'usr' / name}" for name in ("bin/dam", SHARED))]
+    shown = called(line, room).decode()
+    return re.search(r"^shlibs:Depends=(.*)$", shown, re.MULTILINE)[1]
+
+
+def control(root, clone, room):
+    """Writes the control files of the Debian package."""
+    folder, files = root / "DEBIAN", sorted(path for path in root.rglob("*") if path.is_file() and not path.is_symlink())
+    sums = "".join(f"{hashlib.md5(path.read_bytes()).hexdigest()}  {path.relative_to(root)}\n" for path in files)
+    size = sum(-(-path.stat().st_size // 1024) for path in files)
+    folder.mkdir(mode=0o755)
+    words = {"VERSION": clone.version, "SIZE": str(size), "DEPENDS": depends(root, room)}
+    texts = {"md5sums": sums}
+    for name in ("control", "shlibs", "triggers", "postinst", "prerm"):
+        text = (HERE / name).read_text(encoding="utf-8")
+        texts[name] = re.sub("|".join(words), lambda found: words[found[0]], text) if name in ("control", "shlibs") else text
+    for name, text in texts.items():
+        (folder / name).write_text(text, encoding="utf-8")
+        (folder / name).chmod(0o755 if name in ("postinst", "prerm") else 0o644)
+        os.utime(folder / name, (clone.seconds, clone.seconds))
+    for path in (folder, root):
+        path.chmod(0o755)
+        os.utime(path, (clone.seconds, clone.seconds))
+
+
+def debian(tree, clone, target):
+    """Makes the Debian package of a tree, which goes to /usr."""
+    room = tree.parent / "debian"
+    root = room / "root"
+    root.mkdir(parents=True)
+    shutil.copytree(tree, root / "usr", symlinks=True)
+    control(root, clone, room)
+    line = ["dpkg-deb", "--root-owner-group", "-Zxz", "-z9", "--threads-max=1", "--build", root, target]
+    called(line, seconds=clone.seconds)
+
+
+def plain(tree, clone, target):
+    """Makes the archive that runs in place."""
+    name = plain_name(clone.version).removesuffix(".tar.xz")
+    how = ["--sort=name", "--format=gnu", "--owner=0", "--group=0", "--numeric-owner", f"--mtime=@{clone.seconds}"]
+    # a link's target stays as it is
+    how.append(f"--transform=flags=rSH;s,^\\.,{name},")
+    called(["tar", "--create", f"--file={target}", "--use-compress-program=xz -9 -T1", *how, "--directory", tree, "."])
+
+
+def entries(data, prefix=""):
+    """What a tar archive has, by name."""
+    found = {}
+    with tarfile.open(fileobj=io.BytesIO(data)) as archive:
+        for member in archive:
+            held = archive.extractfile(member).read() if member.isfile() else member.linkname.encode()
+            kind = "file" if member.isfile() else "folder" if member.isdir() else "link"
+            found[prefix + member.name.removeprefix("./").rstrip("/")] = Entry(kind, member.mode, (member.uid, member.gid), held)
+    return found
+
+
+def read(path):
+    """The files of a package by name: of the Debian package those of /usr and of its control, of the other archive those of its folder."""
+    try:
+        data = path.read_bytes()
+        if path.name.endswith(".deb"):
+            files, told = (called(["dpkg-deb", way, path]) for way in ("--fsys-tarfile", "--ctrl-tarfile"))
+            return {**entries(told, CONTROL), **{name.removeprefix("usr/"): it for name, it in entries(files).items()}}
+        found = entries(data)
+        return {name.partition("/")[2]: it for name, it in found.items()}
+    except OSError as fault:
+        raise command.Stop(f"{command.shown(path)} can't be read: {fault.strerror}") from None
+    except (command.Stop, tarfile.TarError, EOFError):
+        raise command.Stop(f"{command.shown(path)} isn't a package of dam: it is neither a Debian package nor a tar archive") from None

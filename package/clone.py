@@ -1,0 +1,107 @@
+"""What a package is made of: the clone's commit, its tracked files, and what was proved and built of them."""
+
+import datetime
+import json
+import os
+import shutil
+import subprocess
+from pathlib import Path
+
+from lib import command, sources
+from lib.version import VERSION
+
+TOP = Path(sources.TOP)
+PROGRAM = "crates/dam_cli/out/dam_cli"
+SHARED, STATIC = "library/out/libdam.so.1", "library/out/libdam.a"
+BUILT = {PROGRAM: "dam_cli", SHARED: sources.LIBRARY, STATIC: sources.LIBRARY}
+MADE_BY = {PROGRAM: "./dam clear", SHARED: "library/build", STATIC: "library/build"}
+CHECKED = TOP / "out" / "check.json"
+SHOWN = 3  # changes that are named
+# The commands that make a package, with Debian's package of each.
+NEEDED = {
+    "dpkg-deb": "dpkg",
+    "dpkg-shlibdeps": "dpkg-dev",
+    "git": "git",
+    "gzip": "gzip",
+    "help2man": "help2man",
+    "tar": "tar",
+    "xz": "xz-utils",
+}
+
+
+def environment(seconds=0):
+    """The environment of the commands that make a package: nothing else may get into their output."""
+    kept = {name: os.environ[name] for name in ("PATH", "HOME", "TMPDIR") if name in os.environ}
+    return {**kept, "LC_ALL": "C.UTF-8", "TZ": "UTC", "COLUMNS": "100", "SOURCE_DATE_EPOCH": str(seconds)}
+
+
+def git(*words):
+    """What git prints."""
+    ran = subprocess.run(["git", *words], cwd=TOP, capture_output=True)
+    if ran.returncode:
+        raise command.Stop(f"git {words[0]} failed: {ran.stderr.decode(errors='replace').strip()}")
+    return ran.stdout.decode(errors="surrogateescape")
+
+
+class Clone:
+    """A clone without changes, whose program and libraries were built of its sources."""
+
+    def __init__(self):
+        refuse_lack()
+        self.version, self.commit = VERSION, git("rev-parse", "HEAD").strip()
+        self.seconds = int(git("log", "-1", "--format=%ct"))
+        self.date = datetime.datetime.fromtimestamp(self.seconds, datetime.timezone.utc).strftime("%Y-%m-%dT%H:%M:%SZ")
+        self.tracked = [name for name in git("ls-files", "-z").split("\0") if name]
+        refuse_changes()
+        refuse_old()
+        self.records = {name: sources.recorded(TOP / name) for name in BUILT}
+
+    def below(self, folder, *endings):
+        """The tracked files of a folder, and of those below it, with one of these endings."""
+        return [name for name in self.tracked if name.startswith(f"{folder}/") and name.endswith(endings or ("",))]
+
+
+def refuse_changes():
+    """Ends the tool if a file differs from the commit."""
+    changed = [line[3:] for line in git("status", "--porcelain").splitlines()]
+    if changed:
+        more = f" and {len(changed) - SHOWN} more" if len(changed) > SHOWN else ""
+        raise command.Stop(f"the clone has changes: commit or remove {', '.join(changed[:SHOWN])}{more}")
+
+
+def refuse_old():
+    """Ends the tool if something that was built is missing, or not of the present sources."""
+    for name, crate in BUILT.items():
+        fault = sources.fault(TOP / name, crate)
+        if fault:
+            raise command.Stop(f"{fault}: run {MADE_BY[name]}")
+
+
+def totals_of(path, commit):
+    """The totals of a check of this commit. If no file is named, that is the last check of this clone, or None if it was of another
+    commit."""
+    try:
+        told = json.loads(Path(path or CHECKED).read_text(encoding="utf-8"))
+        of = told["commit"]
+    except (OSError, ValueError, KeyError, TypeError):
+        if path is None:
+            return None
+        raise command.Stop(f"{command.shown(path)} isn't what ./check writes to out/check.json") from None
+    if of == commit:
+        return told
+    if path is None:
+        return None
+    raise command.Stop(f"{command.shown(path)} is of {'changed files' if of is None else f'commit {of}'}, and this clone of {commit}")
+
+
+def refuse_lack():
+    """Ends the tool if a command that it needs is missing."""
+    for name, debian in NEEDED.items():
+        if not shutil.which(name):
+            words = f"it needs {name}, which Debian has in the package {debian}: apt-get install {debian}"
+            raise command.Stop(words, command.FAILED)
+
+
+def made_with():
+    """The versions of what makes the files of a package here; another one may make others."""
+    return {name: sources.first_line([name, "--version"]) for name in NEEDED if name != "git"}

@@ -1,0 +1,123 @@
+"""The man page of each command, made by help2man of its help. What is laid out in lines there, such as examples, stays so."""
+
+import concurrent.futures
+import re
+import subprocess
+import textwrap
+
+from lib import command
+from lib.place import TOOLS
+
+from .clone import environment
+
+# The commands, each with those of its words that have help of their own.
+COMMANDS = {"dam": ("replay", "clear", "day"), **{f"dam-{tool}": () for tool in TOOLS}, "dam-whatif": ("limit", "change", "scenarios")}
+HEADS = re.compile(r"(examples|statuses)\b[^:\n]*:", re.IGNORECASE)
+# How the help names a list of arguments or options, and help2man the section of it.
+LISTS = {"positional arguments:": "*Arguments*", "options:": "Options:", "commands:": "*Commands*"}
+
+
+def help_of(bin_folder, words):
+    """The help of a command, which is given with its words."""
+    ran = subprocess.run([bin_folder / words[0], *words[1:], "--help"], capture_output=True, env=environment())
+    if ran.returncode:
+        raise command.Stop(f"{' '.join(words)} --help failed: {ran.stderr.decode(errors='replace')}", command.FAILED)
+    return ran.stdout.decode()
+
+
+def usage(paragraph):
+    """The usage in the form that help2man knows: an alternative in each line."""
+    words = re.sub(r"^usage: +", "", paragraph, flags=re.IGNORECASE)
+    program = words.split()[0]
+    alternatives = re.split(rf"\n +(?={re.escape(program)} )", words)
+    return "Usage: " + "\n  or:  ".join(" ".join(one.split()) for one in alternatives)
+
+
+def roff(paragraph):
+    """A paragraph of a page: one in which lines are indented stays in lines."""
+    lines = [roff_line(line) for line in paragraph.split("\n")]
+    if all(line.startswith("  ") for line in lines):
+        return "\n".join([".PP", ".nf", *lines, ".fi"])
+    return "\n".join([".PP", *(line.strip() for line in lines)])
+
+
+def statuses(paragraph):
+    """The statuses, each with its meaning. A line that begins with an option is a paragraph of its own."""
+    found = []
+    for part in re.split(r"\n +(?=with --)", HEADS.sub("", paragraph)):
+        for one in re.split(r"; (?=\d+ )", " ".join(part.split())):
+            number, _, words = one.partition(" ")
+            found.append(f".TP\n.B {number}\n{roff_line(words)}" if number.isdigit() else roff(one))
+    return "\n".join(found)
+
+
+def roff_line(line):
+    line = line.replace("\\", "\\e").replace("-", "\\-")
+    return f"\\&{line}" if line[:1] in (".", "'") else line
+
+
+def split(text):
+    """A help as its usage, its name in a few words, the lists of options, and other paragraphs by the section of the page."""
+    first, second, *rest = text.strip("\n").split("\n\n")
+    paragraphs = [first, second, *rest] if first.lower().startswith("usage:") else [second, first, *rest]
+    lists, sections = [], {"DESCRIPTION": []}
+    for one in paragraphs[1:]:
+        head = HEADS.match(one)
+        title, _, rows = one.partition("\n")
+        if title.lower() in LISTS:
+            lists.append(listed(LISTS[title.lower()], rows))
+        elif head and head[1].lower() == "examples":
+            sections.setdefault("EXAMPLES", []).append(roff(one[len(head[0]) :].strip("\n")))
+        elif head:
+            sections.setdefault("EXIT STATUS", []).append(statuses(one))
+        else:
+            sections["DESCRIPTION"].append(roff(one))
+    return usage(paragraphs[0]), summary(paragraphs[1]), lists, sections
+
+
+def listed(title, rows):
+    """A list of arguments or options. One of commands stands below a row `COMMAND`."""
+    head, _, below = rows.partition("\n")
+    if head.strip() == "COMMAND":
+        title, rows = LISTS["commands:"], re.sub(r"(?m)^(  \S+)\n {10,}", r"\1  ", textwrap.indent(textwrap.dedent(below), "  "))
+    return f"{title}\n\n{rows}"
+
+
+def summary(paragraph):
+    """The first sentence, as the line of a page's name."""
+    words = re.split(r"(?<=\w[.;]) |\.\Z", " ".join(paragraph.split()))[0].rstrip(".;")
+    return words[:1].lower() + words[1:]
+
+
+def page(name, text, clone, room):
+    """The page of a command."""
+    told, words, lists, sections = split(text)
+    (room / f"{name}.help").write_text("\n\n".join([told, *lists]) + "\n", encoding="utf-8")
+    # help2man runs a command to see its help
+    shown, more = room / name, room / f"{name}.more"
+    shown.write_text(f"#!/bin/sh\nexec cat {name}.help\n", encoding="utf-8")
+    shown.chmod(0o755)
+    # in a section that help2man writes too, this comes first
+    blocks = [f"[{title}]\n" + "\n".join(parts) for title, parts in sections.items() if parts]
+    more.write_text("\n\n".join([*blocks, "[SEE ALSO]\n" + see_also(name)]) + "\n", encoding="utf-8")
+    line = ["help2man", "--no-info", "--section=1", f"--version-string={clone.version}", f"--name={words}", f"--include={more.name}"]
+    ran = subprocess.run([*line, f"./{name}"], cwd=room, capture_output=True, env=environment(clone.seconds))
+    if ran.returncode:
+        raise command.Stop(f"help2man failed: {ran.stderr.decode(errors='replace')}", command.FAILED)
+    return ran.stdout
+
+
+def see_also(name):
+    """The other pages, and where the whole manual is."""
+    of = next(other for other in sorted(COMMANDS, reverse=True) if name == other or name.removeprefix(f"{other}-") in COMMANDS[other])
+    others = sorted({*COMMANDS, *(f"{of}-{word}" for word in COMMANDS[of])} - {name})
+    listed = ",\n".join(f".BR {other} (1)" for other in others).replace(" (1),", " (1),")
+    return f"{listed}\n.PP\nThe manual is in /usr/share/doc/dam/, and begins with README.md."
+
+
+def pages(bin_folder, clone, room):
+    """Each page with its name."""
+    every = [(name, *rest) for name, words in COMMANDS.items() for rest in [(), *((word,) for word in words)]]
+    with concurrent.futures.ThreadPoolExecutor() as pool:
+        made = pool.map(lambda words: page("-".join(words), help_of(bin_folder, words), clone, room), every)
+        return {"-".join(words): data for words, data in zip(every, made)}

@@ -1,0 +1,111 @@
+"""The files of a package, below one folder, as /usr."""
+
+import json
+import os
+import subprocess
+from pathlib import Path
+
+from lib.place import TOOLS
+from lib.sources import sum_of_file
+
+from . import clone as made_of
+from . import pages
+
+LIBRARY = "lib/x86_64-linux-gnu"
+PYTHON = "lib/python3/dist-packages/dam_tools"
+DOC = "share/doc/dam"
+HERE = Path("package")
+PROVENANCE = "share/dam/provenance.json"
+# Files that are taken as they are, by where they go.
+TAKEN = {
+    "bin/dam": made_of.PROGRAM,
+    f"{LIBRARY}/libdam.a": made_of.STATIC,
+    f"{LIBRARY}/libdam.so.1": made_of.SHARED,
+    "include/dam.h": "library/dam.h",
+    "share/bash-completion/completions/dam": "package/completions/dam.bash",
+    "share/zsh/vendor-completions/_dam": "package/completions/_dam",
+    "share/fish/vendor_completions.d/dam.fish": "package/completions/dam.fish",
+    f"{DOC}/copyright": "package/copyright",
+    f"{DOC}/examples/caller.c": "tests/library/caller.c",
+    **{f"{DOC}/{name}": name for name in ("README.md", "CHANGELOG.md", "LICENSE-APACHE", "LICENSE-MIT")},
+}
+LINKS = {f"{LIBRARY}/libdam.so": "libdam.so.1", **{f"bin/dam-{tool}": f"../{PYTHON}/{tool}" for tool in TOOLS}}
+PROGRAMS = ("bin/dam", *(f"{PYTHON}/{tool}" for tool in TOOLS))
+
+
+def taken(clone):
+    """Where each file comes from, by where it goes."""
+    found = dict(TAKEN)
+    for folder, target, *endings in (
+        ("tools/dam_tools", PYTHON, ".py"),
+        ("tools/lib", f"{PYTHON}/lib"),
+        ("docs", f"{DOC}/docs", ".md", ".svg"),
+        ("examples", f"{DOC}/examples", ".csv"),
+    ):
+        found.update({f"{target}/{os.path.relpath(name, folder)}": name for name in clone.below(folder, *endings)})
+    return found
+
+
+def write(path, data, mode=0o644):
+    path.parent.mkdir(parents=True, exist_ok=True)
+    path.write_bytes(data)
+    path.chmod(mode)
+
+
+def script(tool):
+    """A tool as a command of Debian's Python, which has the packages that it needs."""
+    first, rest = (made_of.TOP / "tools" / tool).read_bytes().split(b"\n", 1)
+    assert first == b"#!/usr/bin/env python3", first
+    return b"#!/usr/bin/python3\n" + rest
+
+
+def compressed(data):
+    return subprocess.run(["gzip", "-9n"], input=data, stdout=subprocess.PIPE, env=made_of.environment(), check=True).stdout
+
+
+def make(clone, folder, totals):
+    """Makes the files of the package in a folder. `totals` are those of the check, or None."""
+    for target, name in taken(clone).items():
+        write(folder / target, (made_of.TOP / name).read_bytes(), 0o755 if target in PROGRAMS else 0o644)
+    for tool in TOOLS:
+        write(folder / PYTHON / tool, script(tool), 0o755)
+    with_version = (made_of.TOP / HERE / "dam.pc").read_text(encoding="utf-8").replace("VERSION", clone.version)
+    write(folder / LIBRARY / "pkgconfig" / "dam.pc", with_version.encode())
+    for name, target in LINKS.items():
+        (folder / name).symlink_to(target)
+    room = folder.parent / "pages"
+    room.mkdir()
+    for name, data in pages.pages(folder / "bin", clone, room).items():
+        write(folder / "share/man/man1" / f"{name}.1.gz", compressed(data))
+    told = provenance(clone, folder, totals)
+    write(folder / PROVENANCE, (json.dumps(told, indent=2) + "\n").encode())
+    settle(folder, clone.seconds)
+
+
+def recorded_of(clone, name):
+    """What is recorded of a file that was built, but for the sums of its sources."""
+    return {key: it for key, it in clone.records[name].items() if key != "sources"}
+
+
+def provenance(clone, folder, totals):
+    """Of what a package was made, and the sum of each of its files but this one."""
+    files = sorted(path for path in folder.rglob("*") if path.is_file() and not path.is_symlink())
+    return {
+        "package": "dam",
+        "version": clone.version,
+        "commit": clone.commit,
+        "date": clone.date,
+        "built": {target: recorded_of(clone, name) for target, name in TAKEN.items() if name in clone.records},
+        "sources": {crate: it for told in clone.records.values() for crate, it in sorted(told["sources"].items())},
+        "check": totals,
+        "made_with": made_of.made_with(),
+        "sha256": {os.fspath(path.relative_to(folder)): sum_of_file(path) for path in files},
+    }
+
+
+def settle(folder, seconds):
+    """Gives every file and folder the commit's time, and every folder the usual mode."""
+    for path in [folder, *folder.rglob("*")]:
+        if path.is_dir() and not path.is_symlink():
+            path.chmod(0o755)
+        os.utime(path, (seconds, seconds), follow_symlinks=False)

@@ -1,0 +1,150 @@
+"""The package in a fresh minimal system that has neither kit, compiler nor clone: a day from end to end, a program in C, and that nothing
+is left when the package is removed. Debian's packages come from where this machine has them."""
+
+import json
+import os
+import shutil
+import subprocess
+import tempfile
+from pathlib import Path
+
+TOP = Path(__file__).resolve().parents[2]
+CASE = TOP / "tests/cases/clear-merit-order"
+SUNNY = "/usr/share/doc/dam/examples/sunny-day.csv"
+DAY = "/tmp/day"  # in the system: the files of the day
+# What Debian's own tools keep there isn't the package's.
+KEPT = ("proc", "dev", "sys", "run", "tmp", "var/cache", "var/log", "var/lib/apt", "var/lib/dpkg/status-old", "var/lib/dpkg/triggers")
+OF_THE_REPORT = "python3-jinja2, python3-matplotlib"
+FOREIGN = "rt rattle cc gcc clang git"
+IN_PYTHON = """
+import dam_tools, json, sys
+text = open(sys.argv[1]).read()
+day = dam_tools.clear(text)
+print(json.dumps([*dam_tools.where(), day.said.welfare, day.wrong]))
+"""
+SECONDS = 1_800
+
+
+class System:
+    """A root folder, in which commands are run."""
+
+    def __init__(self, root):
+        self.root = root
+
+    def run(self, *words, data=b""):
+        """The status, the output and the errors of a command. It gets a /proc of its own, and what it starts ends with it."""
+        inside = 'mount -t proc proc "$0/proc" && cd "$0" && exec chroot "$0" "$@"'
+        clean = ["env", "-i", "PATH=/usr/bin:/usr/sbin:/bin:/sbin", f"HOME={DAY}", "LC_ALL=C.UTF-8", "DEBIAN_FRONTEND=noninteractive"]
+        line = ["unshare", "--mount", "--pid", "--fork", "sh", "-c", inside, self.root, *clean, *words]
+        ran = subprocess.run(line, input=data, capture_output=True, timeout=SECONDS)
+        return ran.returncode, ran.stdout, ran.stderr.decode(errors="replace")
+
+    def shell(self, line):
+        return self.run("sh", "-c", f"mkdir -p {DAY} && cd {DAY} && {line}")
+
+    def files(self):
+        """The paths of all files, but for those that Debian's tools keep."""
+        found = set()
+        for at, folders, names in os.walk(self.root):
+            inside = os.path.relpath(at, self.root)
+            folders[:] = [name for name in folders if os.path.normpath(f"{inside}/{name}") not in KEPT]
+            found.update(os.path.normpath(f"{inside}/{name}") for name in [*names, *folders])
+        return found
+
+
+def release():
+    """The name of this machine's release of Debian, and where it has its packages from; None if that isn't known."""
+    with open("/etc/os-release", encoding="utf-8") as text:
+        told = dict(line.rstrip().split("=", 1) for line in text if "=" in line)
+    shown = subprocess.run(["apt-get", "indextargets", "--format", "$(CODENAME) $(COMPONENT) $(REPO_URI)", "Created-By: Packages"],
+                           stdout=subprocess.PIPE, stderr=subprocess.DEVNULL)
+    name = told.get("VERSION_CODENAME", "")
+    for line in shown.stdout.decode().splitlines():
+        codename, component, place = line.split(" ", 2)
+        if (codename, component) == (name, "main"):
+            return name, place
+    return None
+
+
+def begin(root, name, place):
+    """Makes the system, with the sources of packages that this machine has."""
+    ran = subprocess.run(["debootstrap", "--variant=minbase", name, root, place], stdout=subprocess.PIPE, stderr=subprocess.STDOUT)
+    if ran.returncode:
+        return ran.stdout.decode(errors="replace").splitlines()[-1:]
+    # in place of the one source that debootstrap writes
+    os.remove(f"{root}/etc/apt/sources.list")
+    shutil.copytree("/etc/apt", f"{root}/etc/apt", dirs_exist_ok=True)
+    shutil.copytree("/usr/share/keyrings", f"{root}/usr/share/keyrings", dirs_exist_ok=True)
+    shutil.copy("/etc/resolv.conf", f"{root}/etc/resolv.conf")
+    return None
+
+
+def apt(counts, system, *words):
+    """A run of apt-get, which has to succeed."""
+    status, _, error = system.run("apt-get", "-qy", "--no-install-recommends", *words)
+    counts.check(f"apt-get {words[0]}: {error[-500:]}", status == 0)
+
+
+def day(counts, system):
+    """The sunny day by the installed commands."""
+    def check(what, line, wanted):
+        status, out, error = system.shell(line)
+        counts.check(f"installed: {what}: status {status}, {error[-500:]}", status == 0 and wanted(out))
+
+    results = next(CASE.glob("*.stdout")).read_bytes()
+    check("dam clear", f"dam clear < {SUNNY} | tee results.txt", lambda out: out == results)
+    check("dam-audit", f"dam-audit --best {SUNNY} results.txt", lambda out: b"no selection is better" in out)
+    check("dam-table", f"dam-table --rows blocks {SUNNY} results.txt", lambda out: out.count(b"\n") == 13 and b"COAL,UNIT-7" in out)
+    check("dam-report", f"dam-report {SUNNY} results.txt -o day.html && cat day.html", lambda out: b"</html>" in out and b"<svg" in out)
+    check("dam-whatif", f"dam-whatif limit --participant COAL --order UNIT-7 {SUNNY}", lambda out: b"COAL UNIT-7 sells" in out)
+    check("man dam", "man dam", lambda out: b"dam clear [OPTIONS] < JOURNAL" in out)
+    check("man dam-audit", "man dam-audit", lambda out: b"dam-audit --best examples/auction-day.csv" in out)
+    library = "/usr/lib/x86_64-linux-gnu/libdam.so.1"
+    wanted = ["library", "package", library, int(results.split(b"welfare,")[1].split()[0]), []]
+    check("import dam_tools", f"python3 -c '{IN_PYTHON}' {SUNNY}", lambda out: json.loads(out) == wanted)
+    check("dpkg --verify", "dpkg --verify dam", lambda out: not out)
+
+
+def in_c(counts, system, caller):
+    """A program in C, with the flags of pkg-config."""
+    shutil.copy(caller, f"{system.root}{DAY}/caller.c")
+    line = f"gcc -Wall -Werror caller.c $(pkg-config --cflags --libs dam) -o caller && ./caller clear < {SUNNY}"
+    status, out, error = system.shell(line)
+    counts.check(f"installed: a program in C: {error[-500:]}", status == 0 and out == next(CASE.glob("*.stdout")).read_bytes())
+
+
+def tests(counts, package, caller):
+    """Every test of the installed package."""
+    missing = [name for name in ("debootstrap", "unshare", "chroot", "apt-get") if not shutil.which(name)]
+    found = None if missing else release()
+    if missing or os.geteuid() or not found:
+        why = f"{', '.join(missing)} missing" if missing else "not root" if os.geteuid() else "this machine's release of Debian isn't known"
+        counts.leave_out(f"the package in a fresh system: {why}")
+        return
+    with tempfile.TemporaryDirectory(prefix="installed-") as folder:
+        root = f"{folder}/root"
+        wrong = begin(root, *found)
+        if wrong is not None:
+            counts.leave_out(f"the package in a fresh system: debootstrap failed: {' '.join(wrong)}")
+            return
+        in_system(counts, System(root), package, caller)
+
+
+def field(package, name):
+    return subprocess.run(["dpkg-deb", "--field", package, name], stdout=subprocess.PIPE).stdout.decode().strip()
+
+
+def in_system(counts, system, package, caller):
+    status, out, _ = system.shell(f"command -v {FOREIGN}")
+    counts.check(f"a fresh system has none of {FOREIGN}: {out}", status != 0 and not out)
+    shutil.copy(package, f"{system.root}/dam.deb")
+    apt(counts, system, "update")
+    apt(counts, system, "satisfy", f"{field(package, 'Depends')}, {field(package, 'Recommends')}, {OF_THE_REPORT}")
+    before = system.files()
+    apt(counts, system, "install", "/dam.deb")
+    day(counts, system)
+    apt(counts, system, "purge", "dam")
+    left = sorted(system.files() - before)
+    counts.check(f"left after the package was removed: {left[:10]}", not left)
+    apt(counts, system, "install", "/dam.deb", "gcc", "libc6-dev", "pkgconf")
+    in_c(counts, system, caller)

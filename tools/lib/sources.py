@@ -1,0 +1,145 @@
+"""The sources that a program or the library for C is built of, and the record of each build.
+
+The record stands beside the file that was built, as NAME.json. It has the SHA-256 of the file and that of the sources of each crate, and
+names the kit. By it tools/package knows that a file was built of the present sources, whatever the dates say. Whoever builds takes the
+sums before, and the record is written only if they are the same afterwards.
+
+    python3 tools/lib/sources.py CRATE                  prints the sums of a crate's sources
+    python3 tools/lib/sources.py CRATE SUMS FILE..      records these files as built, if the sums are still those in the file SUMS
+
+Python 3.8 is enough, since the launcher needs no newer one."""
+
+import hashlib
+import json
+import os
+import subprocess
+import sys
+
+TOP = os.path.dirname(os.path.dirname(os.path.dirname(os.path.realpath(__file__))))
+PARTS = ("src", "specs", "proofs")
+# What the library for C is made of, besides its crate.
+LIBRARY = "dam_c"
+IN_C = ("build", "dam.h", "exports.map", "heap.c")
+
+
+def lines():
+    """Returns for each crate of crates.txt the words after its colon: the libraries that it uses."""
+    with open(f"{TOP}/crates.txt", encoding="utf-8") as text:
+        split = [line.partition("#")[0].partition(":") for line in text]
+    return {name.split()[0]: below.split() for name, colon, below in split if colon}
+
+
+def listed():
+    """Returns each crate of crates.txt with those of its libraries that belong to this repository."""
+    found = lines()
+    return {name: [it for it in below if it in found] for name, below in found.items()}
+
+
+def all_below(crates, name):
+    """Returns the libraries of the repository that a crate uses, directly or not."""
+    return {it for dep in crates[name] for it in [dep, *all_below(crates, dep)]}
+
+
+def files_of(name):
+    folders = [f"{TOP}/crates/{name}/{part}" for part in PARTS]
+    return [f"{at}/{it}" for folder in folders for at, _, names in os.walk(folder) for it in names]
+
+
+def sum_of_file(path):
+    """Returns the SHA-256 of a file."""
+    with open(path, "rb") as file:
+        return hashlib.sha256(file.read()).hexdigest()
+
+
+def sum_of(folder, files, *words):
+    """Returns the SHA-256 of some words and of files with their names."""
+    rows = [f"{sum_of_file(path)}  {os.path.relpath(path, folder)}" for path in sorted(files)]
+    return hashlib.sha256("\n".join([*words, *rows]).encode("utf-8", "surrogateescape")).hexdigest()
+
+
+def sums(crate):
+    """Returns the sum of the sources of a crate, and of each crate below it."""
+    below, crates = lines(), listed()
+    # a repository without threads has no file HANDLES
+    handles = sum_of_file(f"{TOP}/HANDLES") if os.path.exists(f"{TOP}/HANDLES") else ""
+    found = {}
+    for name in sorted({crate, *all_below(crates, crate)}):
+        found[name] = sum_of(f"{TOP}/crates/{name}", files_of(name), handles, *below[name])
+    if crate == LIBRARY:
+        found["library"] = sum_of(f"{TOP}/library", [f"{TOP}/library/{it}" for it in IN_C])
+    return found
+
+
+def first_line(command):
+    """Returns the first line that a command prints, or 'unknown'."""
+    try:
+        ran = subprocess.run(command, cwd=TOP, stdin=subprocess.DEVNULL, stdout=subprocess.PIPE, stderr=subprocess.DEVNULL,
+                             errors="replace")
+    except OSError:
+        return "unknown"
+    return (ran.stdout.splitlines() or ["unknown"])[0]
+
+
+def kit():
+    """Returns the name and the logic of the kit, as `rt version` prints them."""
+    return first_line(["rt", "version"])
+
+
+def record_of(path):
+    return f"{path}.json"
+
+
+def record(crate, before, *paths):
+    """Records that files were built of a crate, if its sources are still those whose sums were taken before. Otherwise it removes what
+    was recorded of these files."""
+    is_same = sums(crate) == before
+    for path in paths:
+        if not is_same:
+            if os.path.exists(record_of(path)):
+                os.remove(record_of(path))
+            continue
+        told = {"sha256": sum_of_file(path), "kit": kit(), "sources": before}
+        if crate == LIBRARY:
+            told["compiler"] = first_line([*os.environ.get("CC", "cc").split(), "--version"])
+        with open(record_of(path), "w", encoding="utf-8") as file:
+            json.dump(told, file, indent=2, sort_keys=True)
+            file.write("\n")
+    return is_same
+
+
+def recorded(path):
+    """Returns what is recorded of a file that was built, or None."""
+    try:
+        with open(record_of(path), encoding="utf-8") as file:
+            told = json.load(file)
+    except (OSError, ValueError):
+        return None
+    return told if isinstance(told, dict) and {"sha256", "kit", "sources"} <= told.keys() else None
+
+
+def fault(path, crate):
+    """Returns why a file is not what was built of the present sources, or None if it is."""
+    name = os.path.relpath(path, TOP)
+    if not os.path.isfile(path):
+        return f"{name} is missing"
+    told = recorded(path)
+    if not told:
+        return f"{name} has no record of the sources that it was built of"
+    if told["sha256"] != sum_of_file(path):
+        return f"{name} is not the file that was built: another one took its place"
+    present = sums(crate)
+    others = sorted(it for it in {*present, *told["sources"]} if present.get(it) != told["sources"].get(it))
+    return f"{name} was built of other sources: {', '.join(others)} changed since" if others else None
+
+
+def main(words):
+    if len(words) == 1:
+        print(json.dumps(sums(words[0])))
+        return 0
+    crate, before, *paths = words
+    with open(before, encoding="utf-8") as file:
+        return 0 if record(crate, json.load(file), *paths) else 1
+
+
+if __name__ == "__main__":
+    sys.exit(main(sys.argv[1:]))
