@@ -1,6 +1,7 @@
 """A whole day as one page of HTML, with its pictures in it and nothing to fetch. Its form is in templates/, and jinja2 fills it
 in; this module has what it says."""
 
+import functools
 import multiprocessing
 import os
 import re
@@ -260,9 +261,14 @@ def block_words(found):
     return f"{words} An arrow leads from a parent to its child, and a bracket joins the blocks of an exclusive group."
 
 
+@functools.cache
+def sheet(width):
+    return pictures.CurveSheet(width)
+
+
 def curve(day, number, folded):
     """The curves of a period, under a line that opens them if there are many: then one at a time is open."""
-    picture = drawn(lambda width: pictures.period_picture(day, number, width), f"period{number}", curve_words(day, number))
+    picture = drawn(lambda width: sheet(width).drawn(day, number), f"period{number}", curve_words(day, number))
     if not folded:
         return picture
     said, words = day.said, "no trade"

@@ -14,6 +14,7 @@ matplotlib.use("Agg")
 from matplotlib import pyplot
 from matplotlib.collections import PolyCollection
 from matplotlib.patches import Patch, Polygon, Rectangle
+from matplotlib.ticker import AutoLocator
 
 from . import clock, decisions, rules, selection, spans, text, trades
 
@@ -182,12 +183,33 @@ def blocks_picture(day, width=BROAD):
         return figure
 
 
+class CurveSheet:
+    """A figure for the curves of one period after another, since to make new axes and ticks takes as long as half of what is drawn."""
+
+    def __init__(self, width=BROAD):
+        with matplotlib.rc_context(STYLE):
+            self.figure, (self.axes,) = panels([4.6 if width == BROAD else 4], width)
+        set_margins(self.figure, *((0.85, 0.75, 0.5, 0.5) if width == BROAD else (0.7, 0.62, 1.2, 0.5)))
+
+    def clear(self):
+        """Takes away what was drawn, and leaves the axes as they were made."""
+        axes = self.axes
+        for artist in [*axes.lines, *axes.patches, *axes.collections, *axes.texts, *filter(None, [axes.get_legend()])]:
+            artist.remove()
+        for axis in (axes.xaxis, axes.yaxis):
+            axis.set_major_locator(AutoLocator())
+        self.figure.hover = {}
+
+    def drawn(self, day, number):
+        """The figure with a period's curves in place of the last ones."""
+        self.clear()
+        with matplotlib.rc_context(STYLE):
+            draw_curves(self.axes, day, number)
+        return self.figure
+
+
 def period_picture(day, number, width=BROAD):
-    with matplotlib.rc_context(STYLE):
-        figure, axes = panels([4.6 if width == BROAD else 4], width)
-        draw_curves(axes[0], day, number)
-        set_margins(figure, *((0.85, 0.75, 0.5, 0.5) if width == BROAD else (0.7, 0.62, 1.2, 0.5)))
-        return figure
+    return CurveSheet(width).drawn(day, number)
 
 
 def period_axis(axes, day):
