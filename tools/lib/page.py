@@ -1,6 +1,7 @@
 """A whole day as one page of HTML, with its pictures in it and nothing to fetch. Its form is in templates/, and jinja2 fills it
 in; this module has what it says."""
 
+import contextlib
 import functools
 import multiprocessing
 import os
@@ -174,8 +175,8 @@ def periods_of(order):
     return spans.in_words(number for number, _ in order.volumes)
 
 
-def block_table(day, found):
-    rows, limits = [], limit_words.of_rejected(day)
+def block_table(day, found, limits):
+    rows = []
     for place, (block, surplus, decision) in enumerate(zip(day.problem.blocks, day.said.surpluses, found)):
         order = block.order
         why = f"{decision.why}. {limits[place]}" if place in limits else decision.why
@@ -283,31 +284,37 @@ def folded_curve(number):
     return curve(curves_of.day, number, True)
 
 
+@contextlib.contextmanager
 def curves_of(day, numbers):
-    """The curves of some periods; many are drawn by several processes, with a line that says how far they are."""
+    """What gives the curves of some periods, in their order. Many are drawn by several processes, which begin at once, so that the rest of
+    the page can be made in the meantime; a line says how far they are."""
     jobs = min(len(os.sched_getaffinity(0)), len(numbers))
     if len(numbers) <= FEW_CURVES or jobs == 1:
-        return [curve(day, number, len(numbers) > MOST_SHOWN) for number in numbers]
-    curves_of.day, made, bar = day, [], Bar("report", len(numbers), "curves")
+        yield (curve(day, number, len(numbers) > MOST_SHOWN) for number in numbers)
+        return
+    curves_of.day, bar = day, Bar("report", len(numbers), "curves")
     with multiprocessing.get_context("fork").Pool(jobs) as pool:
         try:
-            for one in pool.imap(folded_curve, numbers):
-                made.append(one)
-                bar.step()
+            yield counted(pool.imap(folded_curve, numbers), bar)
         finally:
             bar.end()
-    return made
 
 
-def sections(day, found, curves):
+def counted(made, bar):
+    for one in made:
+        yield one
+        bar.step()
+
+
+def sections(day, found, limits, curves):
     parts = [drawn(lambda width: pictures.prices_picture(day, width), "prices", prices_words(day))]
     yield Section("prices", "Prices and volumes", parts)
     if found:
         picture = drawn(lambda width: pictures.blocks_picture(day, width), "blocks", block_words(found))
-        yield Section("blocks", "Blocks", [picture, block_table(day, found)])
+        yield Section("blocks", "Blocks", [picture, block_table(day, found, limits)])
     yield Section("periods", "Periods", [period_table(day)])
-    if curves:
-        yield Section("curves", "Supply and demand", curves_of(day, curves))
+    if made := list(curves):
+        yield Section("curves", "Supply and demand", made)
     yield Section("participants", "Participants", list(participants(day, found)))
     refused = refusals(day)
     if refused:
@@ -345,8 +352,8 @@ def own_sections(day, who, curves):
     yield Section("statement", f"Orders of {who}", [statement_table(day, who)])
     yield Section("periods", "Periods", [own_periods(day, who)])
     yield Section("prices", "Prices and volumes", [drawn(lambda width: pictures.prices_picture(day, width), "prices", prices_words(day))])
-    if curves:
-        yield Section("curves", "Supply and demand", curves_of(day, curves))
+    if made := list(curves):
+        yield Section("curves", "Supply and demand", made)
 
 
 def own_figures(day, who):
@@ -368,6 +375,9 @@ def own_figures(day, who):
 def page(day, title, curves, date=None, who=None):
     """The page of a day, or of a participant's part of it, with the curves of some periods, and the date of delivery if it is known."""
     found = decisions.decisions(day.problem, day.said.accepted, day.outcome)
+    limits = {} if who else limit_words.of_rejected(day)  # before the curves, which would take the time that it has
+    with curves_of(day, curves) as drawn_curves:
+        parts = list(own_sections(day, who, drawn_curves) if who else sections(day, found, limits, drawn_curves))
     return TEMPLATES.get_template("page.html").render(
         title=title,
         style=style(),
@@ -379,7 +389,7 @@ def page(day, title, curves, date=None, who=None):
         wrong=list(day.wrong),
         odd=list(day.odd),
         figures=list(own_figures(day, who) if who else figures(day, found)),
-        sections=list(own_sections(day, who, curves) if who else sections(day, found, curves)),
+        sections=parts,
     )
 
 
