@@ -28,6 +28,7 @@ class Sampler:
         import numpy
 
         self.held, self.seed, self.numpy = held, seed, numpy
+        self.random = numpy.random.RandomState(0)  # seeded anew for each scenario: to make one takes longer than to draw
         orders = list(held.rows.values())
         changes_it = numpy.array([key[0] != who for key in held.rows])
         self.sds = numpy.where(changes_it, price_sd, 0), numpy.where(changes_it, volume_sd, 0)
@@ -50,8 +51,8 @@ class Sampler:
     def numbers(self, number):
         """The limits and volumes of a scenario."""
         digest = hashlib.sha256(f"{self.seed} {number}".encode()).digest()
-        rng = self.numpy.random.RandomState(self.numpy.frombuffer(digest, dtype="<u4"))
-        added, factors = (rng.standard_normal(len(self.prices)) * sd for sd in self.sds)
+        self.random.seed(self.numpy.frombuffer(digest, dtype="<u4"))
+        added, factors = (self.random.standard_normal(len(self.prices)) * sd for sd in self.sds)
         prices = self.numpy.rint(self.prices + added).clip(rules.LEAST_PRICE, rules.GREATEST_PRICE)
         volumes = self.numpy.rint(self.volumes * (1 + factors)[self.owners]).clip(1, rules.GREATEST_VOLUME)
         return prices.astype(int), volumes.astype(int)
