@@ -122,6 +122,11 @@ def drawn(draw, name, words):
     return Picture(words, broad, narrow)
 
 
+def name_cell(*words):
+    """A participant or an order: a narrow column breaks it between the words alone."""
+    return Markup(" ").join(Markup('<span class="name">{}</span>').format(word) for word in words)
+
+
 def energy(day, tenths):
     return text.shown(Fraction(tenths) * day.problem.hours / 10, 1 if day.problem.hours == 1 else 2)
 
@@ -184,7 +189,7 @@ def block_table(day, found, limits):
         total = energy(day, sum(tenths for _, tenths in order.volumes))
         links = [f"{word} {name}" for word, name in (("parent", order.parent), ("group", order.group)) if name]
         row = [order.side, text.shown_price(order.price), periods_of(order), total, ", ".join(links)]
-        rows.append([f"{block.who} {block.name}", mark, why, euros(day, surplus), *row])
+        rows.append([name_cell(block.who, block.name), mark, why, euros(day, surplus), *row])
     columns = heads("surplus, EUR", "side", "limit, EUR/MWh", "periods", "offered, MWh", "linked by")
     caption = "Each block, the reason, and its surplus at the prices; for a rejected block, with the best family that it belongs to"
     return Table(caption, [Head("block"), Head("decision", "decision"), Head("what decided", "why"), *columns], rows)
@@ -198,7 +203,7 @@ def order_row(day, row, made, found):
     outcome = trades.how_far(order, done) if order.kind == "hour" else found[row.who, row.name].kind
     amount = euros(day, sum(trade.amount() for trade in made))
     energies = energy(day, offered), energy(day, done)
-    return [row.name, order.kind, order.side, text.shown_price(order.price), periods_of(order), *energies, outcome, amount]
+    return [name_cell(row.name), order.kind, order.side, text.shown_price(order.price), periods_of(order), *energies, outcome, amount]
 
 
 def total_row(day, who, count, total):
@@ -329,11 +334,12 @@ def statement_table(day, who):
         if cells["participant"] == who:
             reply = "done" if cells["reply"] == "done" else f"refused: {cells['reason']}"
             amount = text.shown(Fraction(cells["amount_eur"]), 2) if cells["amount_eur"] else ""
-            row = [cells["order"], cells["outcome"] or reply, cells["why"], amount, cells["executed_mwh"], cells["what"], cells["kind"]]
-            rows.append([*row, cells["side"], cells["price_eur_mwh"], cells["periods"], cells["volume_mw"], cells["command"]])
-    columns = heads("is paid, EUR", "executed, MWh", "what", "kind", "side", "limit, EUR/MWh", "periods", "#volume, MW", "#command")
+            row = [name_cell(cells["order"]), cells["outcome"] or reply, cells["why"], amount, cells["executed_mwh"], cells["what"], cells["kind"]]
+            rows.append([*row, cells["side"], cells["price_eur_mwh"], cells["periods"], cells["volume_mw"].replace(";", "; "), cells["command"]])
+    columns = heads("is paid, EUR", "executed, MWh", "what", "kind", "side", "limit, EUR/MWh", "periods")
+    columns += [Head("volume, MW", f"{NUMBER} list"), Head("command", NUMBER)]
     caption = f"Each command of {who}: what became of its order, or the reply, and the reason; an amount below 0 is paid by {who}"
-    return Table(caption, [Head("order"), Head("outcome", "decision"), Head("what decided", "why"), *columns], rows)
+    return Table(caption, [Head("order"), Head("outcome", "outcome"), Head("what decided", "why"), *columns], rows)
 
 
 def own_periods(day, who):
