@@ -10,6 +10,7 @@ import os
 import shutil
 import subprocess
 import sys
+import threading
 from pathlib import Path
 
 TOP = Path(__file__).resolve().parents[2]
@@ -45,6 +46,12 @@ def has_library():
     return all(source.stat().st_mtime <= LIBRARY.stat().st_mtime for source in sources)
 
 
+@functools.cache
+def is_built():
+    """The same, as it was when it was first asked: to look at all sources takes as long as to clear a small day."""
+    return has_library()
+
+
 def library():
     """The path of the library for C, or its name if the system has it; None if there is none, or if a program is to be run instead: that
     of the environment variable DAM, or the one that is built in this tree."""
@@ -52,7 +59,7 @@ def library():
         return os.environ["DAM_LIBRARY"]
     if "DAM" in os.environ:
         return None
-    if has_library():
+    if is_built():
         return os.fspath(LIBRARY)
     return None if os.access(BUILT, os.X_OK) or not is_installed(LIBRARY.name) else LIBRARY.name
 
@@ -78,9 +85,19 @@ def clear_call(path):
     return call
 
 
+class Buffers(threading.local):
+    """The buffer in which each thread gets its answers."""
+
+    def __init__(self):
+        self.own = ctypes.create_string_buffer(MOST_ANSWER)
+
+
+buffers = Buffers()
+
+
 def called(path, text, nodes=MOST_NODES):
     """The status and what the library prints for a text; names are hashed with random bytes. Other threads run in the meantime."""
-    secret, buffer = os.urandom(16), ctypes.create_string_buffer(MOST_ANSWER)
+    secret, buffer = os.urandom(16), buffers.own
     answer = clear_call(path)(secret, len(secret), text, len(text), nodes, buffer, MOST_ANSWER)
     return answer.status, ctypes.string_at(buffer, min(answer.length, MOST_ANSWER))
 
