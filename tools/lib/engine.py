@@ -7,6 +7,7 @@ import contextlib
 import ctypes
 import functools
 import os
+import queue
 import shutil
 import subprocess
 import sys
@@ -176,6 +177,61 @@ def threads_of(jobs):
         threads.shutdown(wait=False, cancel_futures=True)
 
 
+class Promise:
+    """What a thread of a team will answer. It is as a future, which takes longer to make and to wait for than a small day to clear."""
+
+    def __init__(self):
+        self.kept = queue.SimpleQueue()
+
+    def result(self):
+        found, fault = self.kept.get()
+        if fault:
+            raise fault
+        return found
+
+    def cancel(self):
+        """Nothing: the team's end drops what hasn't begun."""
+
+
+class Team:
+    """Threads that do what they are given, in its order. The program doesn't wait for them when it ends."""
+
+    def __init__(self, jobs):
+        self.given, self.jobs, self.is_over = queue.SimpleQueue(), jobs, False
+        for _ in range(jobs):
+            threading.Thread(target=self.work, daemon=True).start()
+
+    def submit(self, call, *words):
+        promise = Promise()
+        self.given.put((promise, call, words))
+        return promise
+
+    def work(self):
+        for promise, call, words in iter(self.given.get, None):
+            if self.is_over:
+                continue
+            try:
+                promise.kept.put((call(*words), None))
+            except BaseException as fault:
+                promise.kept.put((None, fault))
+
+    def end(self):
+        self.is_over = True
+        for _ in range(self.jobs):
+            self.given.put(None)
+
+
+@contextlib.contextmanager
+def team_of(jobs):
+    """A team, and the programs that it runs, which end with the block."""
+    running, team = Running(), Team(jobs)
+    try:
+        yield team, running
+    finally:
+        running.end()
+        team.end()
+
+
 def answer(text, program=None, running=None, nodes=MOST_NODES):
     """What `dam clear` prints for the text of a journal, as a pair of None and these bytes; or else of the status (0 if there is none) and
     the words of the fault. By the library if there is one, unless a program is named. The pair has no type of this package, so that any
@@ -213,8 +269,8 @@ def answers(texts, jobs=None, executor=None, program=None, call=answer):
         yield from ordered(texts, lambda text: executor.submit(call, text, program), jobs or MOST_AHEAD)
         return
     jobs = jobs or processors()
-    with threads_of(jobs) as (threads, running):
-        yield from ordered(texts, lambda text: threads.submit(call, text, program, running), AHEAD * jobs)
+    with team_of(jobs) as (team, running):
+        yield from ordered(texts, lambda text: team.submit(call, text, program, running), AHEAD * jobs)
 
 
 def ordered(texts, submit, most):
