@@ -334,8 +334,9 @@ def statement_table(day, who):
         if cells["participant"] == who:
             reply = "done" if cells["reply"] == "done" else f"refused: {cells['reason']}"
             amount = text.shown(Fraction(cells["amount_eur"]), 2) if cells["amount_eur"] else ""
-            row = [name_cell(cells["order"]), cells["outcome"] or reply, cells["why"], amount, cells["executed_mwh"], cells["what"], cells["kind"]]
-            rows.append([*row, cells["side"], cells["price_eur_mwh"], cells["periods"], cells["volume_mw"].replace(";", "; "), cells["command"]])
+            row = [name_cell(cells["order"]), cells["outcome"] or reply, cells["why"], amount]
+            row += [cells[name] for name in ("executed_mwh", "what", "kind", "side", "price_eur_mwh", "periods")]
+            rows.append([*row, cells["volume_mw"].replace(";", "; "), cells["command"]])
     columns = heads("is paid, EUR", "executed, MWh", "what", "kind", "side", "limit, EUR/MWh", "periods")
     columns += [Head("volume, MW", f"{NUMBER} list"), Head("command", NUMBER)]
     caption = f"Each command of {who}: what became of its order, or the reply, and the reason; an amount below 0 is paid by {who}"
