@@ -1,6 +1,6 @@
 """Where a results text differs from the rules."""
 
-from . import results, selection
+from . import results, selection, sums
 from .faults import Fault, of_line
 
 # If more than this part of the lines is wrong, the results seem to be of another journal. A block that is accepted and should not be
@@ -18,8 +18,8 @@ def better_word(row, price):
 
 def differences(problem, data):
     """The results of a text (None if it has none), and each difference from what follows from their own selection of blocks, as a
-    line with its place: first what is wrong with the selection itself, and then the numbers in the order of their lines. One wrong
-    block changes the prices of many periods, so its own fault is said before these."""
+    line with its place: first what is wrong with the selection itself, then the numbers in the order of their lines, and last the sums
+    that don't add up. One wrong block changes the prices of many periods, so its own fault is said before these."""
     said, wrong = results.read_results(problem, data)
     if said is None:
         return None, wrong
@@ -30,7 +30,7 @@ def differences(problem, data):
     wrong += period_differences(problem, said, follows)
     wrong += hourly_differences(problem, said, follows)
     wrong += surplus_differences(problem, said, follows)
-    return said, foreign(said, wrong, most) + wrong
+    return said, [*foreign(said, wrong, most), *wrong, *sums.differences(problem, said)]
 
 
 def foreign(said, wrong, most):

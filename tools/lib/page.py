@@ -218,7 +218,7 @@ def participants(day, found):
     for row, made in trades.row_trades(day):
         rows.setdefault(row.who, []).append(order_row(day, row, made, by_name))
     totals = trades.totals(day)
-    summed = trades.Total(*map(sum, zip(*totals.values()))) if totals else trades.Total(0, 0, 0, 0)
+    summed = trades.Total(*map(sum, zip(*totals.values()))) if totals else trades.Total()
     columns = heads("participant", "#orders", "bought, MWh", "sold, MWh", "pays, EUR", "is paid, EUR", "net, EUR")
     count = sum(map(len, rows.values()))
     body = [total_row(day, who, len(rows[who]), total) for who, total in totals.items()]
@@ -365,7 +365,7 @@ def own_sections(day, who, curves):
 
 def own_figures(day, who):
     """What a day comes to for a participant."""
-    total = trades.totals(day).get(who, trades.Total(0, 0, 0, 0))
+    total = trades.totals(day).get(who, trades.Total())
     refused = sum(reason is not None for command, reason in zip(day.journal.commands, day.reasons) if getattr(command, "who", None) == who)
     yield "orders in the book", sum(row.who == who for row in day.problem.rows), ""
     yield "commands refused", refused, ""

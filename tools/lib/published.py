@@ -3,7 +3,7 @@
 import math
 from fractions import Fraction
 
-from . import clock, rules, text, trades
+from . import clock, rules, sums, text, trades
 
 # The hours of a day, by the clock, whose mean price is the peak price.
 PEAK = 8 * 60, 20 * 60
@@ -82,6 +82,8 @@ def figures(day):
     yield ["traded_periods", "", len(trades.traded(day))]
     for name, price in mean_prices(day).items():
         yield [f"{name}_price", "EUR/MWh", "" if price is None else text.cents(price)]
+    for name, amount in sums.sums(day.problem, day.said)._asdict().items():
+        yield [name, "EUR", text.euros(amount, day.problem.hours, "")]
 
 
 def long_periods(rows):

@@ -85,12 +85,12 @@ def blocks(day):
 
 
 def participants(day):
-    yield ["participant", "orders", "bought_mwh", "sold_mwh", "paid_eur", "received_eur", "net_eur"]
+    yield ["participant", "orders", "bought_mwh", "sold_mwh", "paid_eur", "received_eur", "net_eur", "gain_eur"]
     for who, total in trades.totals(day).items():
         count = sum(row.who == who for row in day.problem.rows)
         energies = [energy(day, total.bought), energy(day, total.sold)]
-        amounts = [euros(day, amount) for amount in (total.paid, total.received, total.received - total.paid)]
-        yield [who, count, *energies, *amounts]
+        amounts = total.paid, total.received, total.received - total.paid, total.gained
+        yield [who, count, *energies, *(euros(day, amount) for amount in amounts)]
 
 
 def command_cells(command):

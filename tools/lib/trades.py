@@ -20,14 +20,19 @@ class Trade(NamedTuple):
         """Volume times price, in cents per MWh times tenths of a MW."""
         return self.volume * self.price
 
+    def gain(self, limit):
+        """What is gained compared with trading at the limit, in the same unit."""
+        return self.volume * (self.price - limit if self.side == "sell" else limit - self.price)
+
 
 class Total(NamedTuple):
-    """What a participant trades over the day: sums of tenths of a MW, and of volume times price."""
+    """What a participant trades over the day: sums of tenths of a MW, of volume times price, and of surpluses."""
 
-    bought: int
-    sold: int
-    paid: int
-    received: int
+    bought: int = 0
+    sold: int = 0
+    paid: int = 0
+    received: int = 0
+    gained: int = 0
 
 
 def is_traded(day, number):
@@ -57,6 +62,18 @@ def row_trades(day):
         ]
 
 
+def gains(day):
+    """Each row of the book with its surplus as far as it is executed: an hourly order's by its executed volume, and the published one of an
+    accepted block; that of a rejected block is 0."""
+    blocks = iter(enumerate(day.said.surpluses))
+    for row, made in row_trades(day):
+        if row.order.kind == "hour":
+            yield row, sum(trade.gain(row.order.price) for trade in made)
+        else:
+            place, surplus = next(blocks)
+            yield row, surplus if place in day.said.accepted else 0
+
+
 def how_far(order, executed):
     """How far an hourly order is executed, in words."""
     return "in full" if executed == order.volumes[0][1] else "in part" if executed else "not"
@@ -74,10 +91,11 @@ def shares(day):
 def totals(day):
     """The total of each participant of the book, by name."""
     found = {}
-    for row, made in row_trades(day):
-        sums = found.setdefault(row.who, [0, 0, 0, 0])
+    for (row, made), (_, gain) in zip(row_trades(day), gains(day)):
+        sums = found.setdefault(row.who, [0, 0, 0, 0, 0])
         for trade in made:
             buys = trade.side == "buy"
             sums[0 if buys else 1] += trade.volume
             sums[2 if buys else 3] += trade.amount()
+        sums[4] += gain
     return {who: Total(*sums) for who, sums in sorted(found.items())}

@@ -3,7 +3,7 @@
 import hashlib
 import time
 
-from . import better, book, check, command, journal, kinds, lines, results, selection, sent, text
+from . import better, book, check, command, journal, kinds, lines, results, selection, sent, sums, text
 from .faults import Fault
 from .progress import Progress
 from .version import VERSION
@@ -106,7 +106,7 @@ class Audit:
         self.right.append(f"as the rules say: {text.counted(len(reasons), 'reply', 'replies')}{sent.refused(reasons)}")
 
     def check_results(self, closed, reasons, published):
-        self.checked.append("results")
+        self.checked += ["results", "sums"]
         data, odd = results.plain(published)
         self.odd += odd
         if not closed.closed:
@@ -122,6 +122,7 @@ class Audit:
         how = self.look(problem, said) if self.options.best else None
         if self.search is None or self.search["better"] is None:
             self.right.append(right_line(problem, said, reasons) + (f"; no selection is better: {how}" if how else ""))
+            self.right.append(sums.line(problem, sums.sums(problem, said)))
             if self.options.sent is not None:
                 self.right += own_lines(data, self.options.participant)
 
@@ -206,7 +207,9 @@ def figures(problem, said):
     """What a day comes to, for a record; as the rules have it if the results can't be read."""
     made = {"hourly_orders": len(problem.rows) - len(problem.blocks), "blocks": len(problem.blocks)}
     if said is not None:
-        made.update(accepted=len(said.accepted), welfare_eur=text.euros(said.welfare, problem.hours, ""))
+        amounts = {"welfare": said.welfare, **sums.sums(problem, said)._asdict()}
+        made["accepted"] = len(said.accepted)
+        made.update((f"{name}_eur", text.euros(amount, problem.hours, "")) for name, amount in amounts.items())
     return made
 
 

@@ -54,7 +54,7 @@ class Module(unittest.TestCase):
         self.assertEqual(repr(dam_tools.read_journal(FIRST)), "<Journal: 24 periods, 15 commands>")
         day = dam_tools.read_results(AUCTION, AUCTION.with_suffix(".stdout"))
         self.assertEqual(repr(day), "<Day: 24 periods, 80 hourly orders, 9 blocks, welfare 3,021,520.00 EUR>")
-        day = dam_tools.read_results(AUCTION, printed(AUCTION).replace(b"welfare,3", b"welfare,4"))
+        day = dam_tools.read_results(AUCTION, printed(AUCTION).replace(b"UNIT-7,rejected,7", b"UNIT-7,rejected,8"))
         self.assertTrue(repr(day).endswith(", 1 fault>"), day)
         self.assertRegex(dam_tools.__version__, r"^\d+\.\d+\.\d+$")
 

@@ -10,7 +10,7 @@ from pathlib import Path
 import support
 from support import AUCTION, FIRST, QUARTERS, day_of, printed, results_of, tool
 
-from lib import book, command, journal, order_table, sheets, tables
+from lib import book, command, journal, order_table, sheets, tables, text
 
 HEADER = "participant,order,kind,side,price_eur_mwh,periods,volume_mw,parent,group"
 HOUR = "NORD,WIND-8,hour,sell,12.5,8,45,,"
@@ -44,6 +44,21 @@ class Results(unittest.TestCase):
             self.assertEqual([total(orders, "amount_eur"), total(participants, "net_eur")], [0, 0])
             self.assertEqual(total(participants, "orders"), len(orders))
 
+    def test_the_participants_share_out_the_welfare(self):
+        """Their amounts add up to nothing, and their surpluses to the welfare; so do those of the hourly orders and of the accepted blocks."""
+        for day in self.days():
+            participants, orders = read(tables.participants(day)), read(tables.orders(day))
+            welfare = Fraction(text.euros(day.said.welfare, day.problem.hours, ""))
+            self.assertEqual([total(participants, "net_eur"), total(participants, "gain_eur")], [0, welfare])
+            self.assertEqual([row for row in participants if Fraction(row["gain_eur"]) < 0], [])
+            figures = {row["figure"]: Fraction(row["value"] or 0) for row in read(tables.TABLES["figures"](day))}
+            self.assertEqual(figures["paid"], total(participants, "paid_eur"))
+            self.assertEqual(figures["received"], total(participants, "received_eur"))
+            self.assertEqual(figures["paid"], figures["received"])
+            self.assertEqual(figures["hourly_surplus"] + figures["block_surplus"], figures["welfare"])
+            accepted = [row for row in orders if row["outcome"] == "accepted"]
+            self.assertEqual(figures["block_surplus"], total(accepted, "surplus_eur"))
+
     def test_the_auction_day(self):
         day = day_of(AUCTION.read_bytes(), printed(AUCTION))
         periods, orders, participants = (read(of(day)) for of in (tables.periods, tables.orders, tables.participants))
@@ -54,7 +69,8 @@ class Results(unittest.TestCase):
         self.assertEqual(
             (row["outcome"], row["surplus_eur"], row["amount_eur"]), ("paradoxically rejected", "7920.000", "0.000")
         )
-        self.assertEqual(participants[-1]["paid_eur"], "19860.000")
+        # STEEL buys 210 MWh with a limit of 110 EUR.
+        self.assertEqual((participants[-1]["paid_eur"], participants[-1]["gain_eur"]), ("19860.000", "3240.000"))
 
     def test_periods_without_trade_are_marked(self):
         for day in self.days():

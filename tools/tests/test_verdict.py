@@ -17,7 +17,10 @@ PRINTED = {"CR LF": TEXT.replace(b"\n", b"\r\n"), "CR": TEXT.replace(b"\n", b"\r
 class Encoding(unittest.TestCase):
     """What other programs add to a text is no wrong number: it has a status of its own."""
 
-    RIGHT = "as the rules say: 24 periods, 80 hourly orders, 6 of 9 blocks accepted, welfare 3,021,520.00 EUR, 1 of 94 commands refused\n"
+    RIGHT = (
+        "as the rules say: 24 periods, 80 hourly orders, 6 of 9 blocks accepted, welfare 3,021,520.00 EUR, 1 of 94 commands refused\n"
+        "by adding: buyers pay 1,238,670.00 EUR, sellers receive 1,238,670.00 EUR; the surpluses add up to the welfare, and nobody loses\n"
+    )
 
     def others(self):
         yield PRINTED["CR LF"], "the lines end with CR LF instead of LF alone"
@@ -74,7 +77,7 @@ class Record(unittest.TestCase):
     def test_right_results(self):
         made, err = self.record(DATA, TEXT, "--best")
         self.assertEqual((made["verdict"], made["status"], made["message"], made["faults"], err), ("right", 0, None, [], ""))
-        self.assertEqual(made["checked"], ["results", "best selection"])
+        self.assertEqual(made["checked"], ["results", "sums", "best selection"])
         inputs = [(entry["role"], entry["bytes"], entry["sha256"]) for entry in made["inputs"]]
         wanted = [(role, len(data), hashlib.sha256(data).hexdigest()) for role, data in (("journal", DATA), ("results", TEXT))]
         self.assertEqual(inputs, wanted)

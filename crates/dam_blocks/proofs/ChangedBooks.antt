@@ -1,5 +1,5 @@
 -- Two books that differ in a block, or in its limit, have problems that differ in the same.
-use Rattle.std.proofs.Common.{◌≡◌, ℕ, zero, suc, ℤ, Some, List, [], ◌∷◌, ◌++◌, length, ap, ap₂, ◌∙◌, sym, refl}
+use Rattle.std.proofs.Common.{◌≡◌, ℕ, zero, suc, ℤ, Some, List, [], ◌∷◌, ◌++◌, length, slice_set, ap, ap₂, ◌∙◌, sym, refl}
 use Rattle.std.specs.List.{slice_get, remove}
 use Rattle.std.proofs.lemmas.List.Elements.{filter_map-append}
 use Rattle.dam_book.specs.Terms.{BlockTerms}
@@ -10,7 +10,6 @@ use Rattle.dam_blocks.specs.declared.problem.Block.{Block}
 use Rattle.dam_blocks.specs.Problem.{step_in, steps_in, hours_from, blocks_in, problem_of}
 use Rattle.dam_blocks.specs.Changes.{IsWithoutBlock, with_limit, IsWithLimit}
 use Rattle.dam_blocks.proofs.FromBook.{blocks-append, get_seam}
-use Rattle.dam_blocks.proofs.Repricing.{limited}
 
 abbrev pub block_at : Key → BlockTerms → Block
 block_at key order = record { who = key.0; name = key.1; order = order }
@@ -43,9 +42,9 @@ stands book front back key order rows =
     ∙ get_seam (blocks_in front) (blocks_in back) (block_at key order)
 
 -- ---- another limit
-limit_there : (bs cs : List Block) (b : Block) (limit : ℤ) → with_limit (bs ++ b ∷ cs) (length bs) limit ≡ bs ++ limited b limit ∷ cs
-limit_there [] cs b limit = refl
-limit_there (c ∷ bs) cs b limit = ap (λ (ds : List Block). c ∷ ds) (limit_there bs cs b limit)
+set_seam : (bs cs : List Block) (b c : Block) → slice_set (bs ++ b ∷ cs) (length bs) c ≡ bs ++ c ∷ cs
+set_seam [] cs b c = refl
+set_seam (d ∷ bs) cs b c = ap (λ (ds : List Block). d ∷ ds) (set_seam bs cs b c)
 
 pub limit_changed : (book other : BookState) (front back : List Row) (key : Key) (order : BlockTerms) (limit : ℤ)
     → book.rows ≡ front ++ (key, BlockVariant order) ∷ back
@@ -56,8 +55,9 @@ limit_changed book other front back key order limit rows others periods = record
   hours = day_of book other front ((key, BlockVariant order) ∷ back) ((key, BlockVariant (record order { price = limit })) ∷ back) rows others
       periods (λ s. refl);
   blocks = blocks_of other front back key (record order { price = limit }) others
-      ∙ sym (limit_there (blocks_in front) (blocks_in back) (block_at key order) limit)
-      ∙ ap (λ (bs : List Block). with_limit bs (length (blocks_in front)) limit) (sym (blocks_of book front back key order rows));
+      ∙ sym (set_seam (blocks_in front) (blocks_in back) (block_at key order) (with_limit (block_at key order) limit))
+      ∙ ap (λ (bs : List Block). slice_set bs (length (blocks_in front)) (with_limit (block_at key order) limit))
+      (sym (blocks_of book front back key order rows));
 }
 
 -- ---- without the block

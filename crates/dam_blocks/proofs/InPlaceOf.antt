@@ -18,16 +18,17 @@ use Rattle.dam_blocks.specs.declared.problem.Block.{Block}
 use Rattle.dam_blocks.specs.Problem.{ProblemState, IsParent, IsBlock, AreBlocks, IsProblem}
 use Rattle.dam_blocks.specs.Selection.{accepts, volume_in, over_accepted, net_volume_of, value_of, net_volume, block_value, IsAllowed, IsAdmissible}
 use Rattle.dam_blocks.specs.Family.{descends, accepted_descendants, IsChildAt, Descends, Child, OfChild}
-use Rattle.dam_blocks.specs.Eligible.{surplus_of, surplus_at, gain_at, HasNoLoss, added, period_welfare, welfare_from, IsEligible}
+use Rattle.dam_blocks.specs.Eligible.{surplus_of, surplus_at, family_surplus, HasNoLoss, added, period_welfare, welfare_from, IsEligible}
 use Rattle.dam_blocks.specs.Result.{IsResult}
 use Rattle.dam_blocks.specs.Market.{StandsAlone}
+use Rattle.dam_blocks.specs.Changes.{with_limit}
 use Rattle.dam_blocks.proofs.Families.{accepts_descendant}
 use Rattle.dam_blocks.proofs.Descending.{descends_is}
 use Rattle.dam_blocks.proofs.WelfareAtLeastZero.{added_some, raised_some}
 use Rattle.dam_blocks.proofs.Sums.{over_accepted-nil}
 use Rattle.dam_blocks.proofs.Participants.{over_accepted-agree}
 use Rattle.dam_blocks.proofs.Transfer.{prices_transfer}
-use Rattle.dam_blocks.proofs.Repricing.{limited, minus_times, value_raised, surplus_raised}
+use Rattle.dam_blocks.proofs.Repricing.{minus_times, value_raised, surplus_raised}
 
 -- ---- one place decided otherwise
 decided_there : (xs : List Bool) (i : ℕ) (d : Bool) → i < length xs → accepts (set xs i d) i ≡ d
@@ -99,7 +100,7 @@ and_false true = refl
 and_false false = refl
 
 gain_alone : (problem : ProblemState) (xs : List Bool) (prices : List ℤ) (i : ℕ) (b : Block) → IsProblem problem
-    → slice_get problem.blocks i ≡ Some b → StandsAlone problem.blocks b → gain_at problem.blocks xs prices i ≡ surplus_of prices b.order
+    → slice_get problem.blocks i ≡ Some b → StandsAlone problem.blocks b → family_surplus problem.blocks xs prices i ≡ surplus_of prices b.order
 gain_alone problem xs prices i b is at alone =
     let bs = problem.blocks in
     let own : surplus_at bs prices i ≡ surplus_of prices b.order =
@@ -118,7 +119,7 @@ record AreTwo (problem : ProblemState) (i j : ℕ) (b c : Block) : Type 0 where
   second : slice_get problem.blocks j ≡ Some c
   alone : StandsAlone problem.blocks b
   other : StandsAlone problem.blocks c
-  alike : b.order ≡ (limited c b.order.price).order
+  alike : b.order ≡ (with_limit c b.order.price).order
   better : IsBetter c.order.side b.order.price c.order.price
 
 abbrev exchanged : List Bool → ℕ → ℕ → List Bool
@@ -240,7 +241,7 @@ value_above Sell old new x h l = let m = times_above new old x h l in omega (ari
 abbrev difference : Block → Block → ℕ → ℤ
 difference b c t = value_of t b.order -ℤ value_of t c.order
 
-value_alike : (b c : Block) (t : ℕ) → b.order ≡ (limited c b.order.price).order
+value_alike : (b c : Block) (t : ℕ) → b.order ≡ (with_limit c b.order.price).order
     → value_of t b.order ≡ signed c.order.side (b.order.price *ℤ pos (volume_in c.order.volumes t))
 value_alike b c t alike = ap (λ (o : BlockTerms). value_of t o) alike
 
@@ -330,7 +331,7 @@ same_where x y true h = ap (λ (z : Bool). z && true) (h refl)
 same_where x y false h = and_false x ∙ sym (and_false y)
 
 gain_before : (problem : ProblemState) (i j k : ℕ) (b c : Block) (xs : List Bool) (prices : List ℤ) → AreTwo problem i j b c
-    → gain_at problem.blocks (exchanged xs i j) prices k ≡ gain_at problem.blocks xs prices k
+    → family_surplus problem.blocks (exchanged xs i j) prices k ≡ family_surplus problem.blocks xs prices k
 gain_before problem i j k b c xs prices two =
     let bs = problem.blocks in
     let ys = exchanged xs i j in
@@ -353,7 +354,7 @@ no_loss_too problem i j b c xs prices two d none = record {
         let own = gain_alone problem (exchanged xs i j) prices k b two.is at two.alone in
         let was = gain_alone problem xs prices j c two.is two.second two.other in
         let gain = none.gains j d.on in
-        let alike : surplus_of prices b.order ≡ surplus_of prices (limited c b.order.price).order =
+        let alike : surplus_of prices b.order ≡ surplus_of prices (with_limit c b.order.price).order =
         ap (λ (o : BlockTerms). surplus_of prices o) two.alike in
         let more = surplus_raised 1 prices c b.order.price two.better in
         omega (arith, ints, own, was, gain, alike, more))
@@ -392,7 +393,7 @@ pub better_too : (problem : ProblemState) (i j : ℕ) (b c : Block) (xs : List B
     → StandsAlone problem.blocks c → b.order.side ≡ c.order.side → b.order.volumes ≡ c.order.volumes
     → IsBetter c.order.side b.order.price c.order.price → IsResult problem xs v → accepts xs j ≡ true → accepts xs i ≡ true
 better_too problem i j b c xs v is first second alone other side volumes better result on =
-    let alike : b.order ≡ (limited c b.order.price).order =
+    let alike : b.order ≡ (with_limit c b.order.price).order =
     ap₂ (λ (s : Side) (ps : List Pair). record b.order { side = s; volumes = ps }) side volumes
     ∙ ap₂ (λ (p g : Option (List ℕ)). record c.order { price = b.order.price; parent = p; group = g })
     (alone.no_parent ∙ sym other.no_parent) (alone.no_group ∙ sym other.no_group) in

@@ -31,8 +31,8 @@ pub mod WorstLimit
 pub mod Exchanges
 pub mod BlockOrder
 pub mod Orders
+pub mod Roots
 pub mod Shares
-pub mod Heads
 pub mod Outcomes
 pub mod ChangedBooks
 pub mod ReorderedBooks

@@ -20,7 +20,7 @@ use Rattle.dam_blocks.specs.declared.problem.Place.TheVariants.{Hour as AtHour}
 use Rattle.dam_blocks.specs.Problem.{ProblemState, steps_in, blocks_in, rows_after, IsProblem}
 use Rattle.dam_blocks.specs.Selection.{accepts, over_accepted, net_volume, IsAdmissible}
 use Rattle.dam_blocks.specs.Family.{descends, accepted_where, accepted_descendants, Descends, Child, OfChild}
-use Rattle.dam_blocks.specs.Eligible.{ArePrices, surplus_of, surplus_at, gain_at, HasNoLoss, IsEligible}
+use Rattle.dam_blocks.specs.Eligible.{ArePrices, surplus_of, surplus_at, family_surplus, HasNoLoss, IsEligible}
 use Rattle.dam_blocks.specs.Market.{AreBestExecutions, IsOutcome, order_surplus_at, order_surplus_in, gain_of, over_orders_of}
 use Rattle.dam_blocks.proofs.Sums.{over_accepted-nil}
 use Rattle.dam_blocks.proofs.Families.{AreChains, no_loss_in_families, accepts_where, accepts_descendant}
@@ -170,7 +170,7 @@ same_descendant problem sel who i j a b false is at own there e = and_false (acc
 
 same_gain : (problem : ProblemState) (sel : List Bool) (who : List ℕ) (prices : List ℤ) (i : ℕ) (a : Block) → IsProblem problem
     → slice_get problem.blocks i ≡ Some a → a.who ≡ who
-    → gain_at problem.blocks (mine who problem.blocks sel) prices i ≡ gain_at problem.blocks sel prices i
+    → family_surplus problem.blocks (mine who problem.blocks sel) prices i ≡ family_surplus problem.blocks sel prices i
 same_gain problem sel who prices i a is at own =
     let blocks = problem.blocks in
     ap (λ (z : ℤ). surplus_at blocks prices i +ℤ z)
@@ -202,7 +202,7 @@ blocks_gain problem sel who prices is admissible none =
 -- an accepted block and its accepted descendants
 pub descendants_gain : (problem : ProblemState) (sel : List Bool) (w : ℤ) (prices : List ℤ) (executions : List (List ℕ)) (i : ℕ)
     → IsEligible problem sel w → IsOutcome problem sel prices executions → accepts sel i ≡ true
-    → pos 0 ≤ℤ gain_at problem.blocks sel prices i
+    → pos 0 ≤ℤ family_surplus problem.blocks sel prices i
 descendants_gain problem sel w prices executions i eligible outcome acc =
     let one = prices_unique problem.blocks sel 1 problem.hours eligible.prices prices eligible.are_prices outcome.prices_are in
     (subst (λ (ps : List ℤ). HasNoLoss problem.blocks sel ps) one eligible.no_loss).gains i acc

@@ -1,7 +1,7 @@
 -- A block with another limit: no price reads it, and a better one raises what the block and its ancestors gain, and the
 -- welfare of the selections that accept it.
 use Rattle.std.proofs.Common.{◌≡◌, ◌⊎◌, inl, inr, ℕ, zero, suc, ◌+◌, ◌*◌, ◌<◌, ℤ, pos, negsuc, ◌+ℤ◌, ◌-ℤ◌, ◌*ℤ◌, ◌≤ℤ◌, Bool, true, false}
-use Rattle.std.proofs.Common.{◌&&◌, ◌||◌, ◌==◌, cond, not, nat_lt, Option, Some, None, List, [], ◌∷◌, length, ap, ap₂, ◌∙◌, sym, subst, refl, arith}
+use Rattle.std.proofs.Common.{◌&&◌, ◌||◌, ◌==◌, cond, not, nat_lt, Option, Some, None, List, [], ◌∷◌, length, slice_set, ap, ap₂, ◌∙◌, sym, subst, refl, arith}
 use Rattle.std.specs.List.{slice_get, position_or_len}
 use Rattle.std.specs.Option.{option_map, unwrap_or}
 use Rattle.std.proofs.lemmas.Int.{ints}
@@ -18,7 +18,7 @@ use Rattle.dam_blocks.specs.Problem.{ProblemState}
 use Rattle.dam_blocks.specs.Selection.{accepts, volume_in, over_accepted, net_volume_of, value_of, net_volume, block_value, Permits}
 use Rattle.dam_blocks.specs.Selection.{IsAdmissible}
 use Rattle.dam_blocks.specs.Family.{names, parent_among, parent_place, leads_to, descends, accepted_descendants}
-use Rattle.dam_blocks.specs.Eligible.{ArePrices, surplus_from, surplus_of, surplus_at, gain_at, HasNoLoss, added, period_welfare}
+use Rattle.dam_blocks.specs.Eligible.{ArePrices, surplus_from, surplus_of, surplus_at, family_surplus, HasNoLoss, added, period_welfare}
 use Rattle.dam_blocks.specs.Eligible.{welfare_from, IsEligible}
 use Rattle.dam_blocks.specs.Result.{RanksAtOrBelow, IsResult}
 use Rattle.dam_blocks.specs.Market.{IsOutcome, AreBestExecutions}
@@ -30,90 +30,101 @@ use Rattle.dam_blocks.proofs.Ranks.{same_rank}
 use Rattle.dam_blocks.proofs.Transfer.{prices_transfer, executions_transfer, welfare_transfer}
 
 -- ---- the block and its fellows
--- the block with that limit
-abbrev pub limited : Block → ℤ → Block
-limited b limit = record { who = b.who; name = b.name; order = record b.order { price = limit } }
+-- the blocks with that limit for the one at a place
+abbrev repriced : List Block → ℕ → ℤ → List Block
+repriced [] i limit = []
+repriced (b ∷ bs) zero limit = with_limit b limit ∷ bs
+repriced (b ∷ bs) (suc i) limit = b ∷ repriced bs i limit
 
-pub length-with_limit : (bs : List Block) (i : ℕ) (limit : ℤ) → length (with_limit bs i limit) ≡ length bs
-length-with_limit [] i limit = refl
-length-with_limit (b ∷ bs) zero limit = refl
-length-with_limit (b ∷ bs) (suc i) limit = ap suc (length-with_limit bs i limit)
+set_repriced : (bs : List Block) (i : ℕ) (b : Block) (limit : ℤ) → slice_get bs i ≡ Some b
+    → slice_set bs i (with_limit b limit) ≡ repriced bs i limit
+set_repriced [] i b limit at = refl
+set_repriced (c ∷ bs) zero b limit at =
+    let same : c ≡ b = cc in ap (λ (d : Block). with_limit d limit ∷ bs) (sym same)
+set_repriced (c ∷ bs) (suc i) b limit at = ap (λ (cs : List Block). c ∷ cs) (set_repriced bs i b limit at)
 
--- of two limits in turn the second stays
-pub limit_again : (bs : List Block) (i : ℕ) (first second : ℤ)
-    → with_limit (with_limit bs i first) i second ≡ with_limit bs i second
-limit_again [] i first second = refl
-limit_again (b ∷ bs) zero first second = refl
-limit_again (b ∷ bs) (suc i) first second = ap (λ (cs : List Block). b ∷ cs) (limit_again bs i first second)
+length-repriced : (bs : List Block) (i : ℕ) (limit : ℤ) → length (repriced bs i limit) ≡ length bs
+length-repriced [] i limit = refl
+length-repriced (b ∷ bs) zero limit = refl
+length-repriced (b ∷ bs) (suc i) limit = ap suc (length-repriced bs i limit)
 
 limit_back : (bs : List Block) (i : ℕ) (b : Block) (limit : ℤ) → slice_get bs i ≡ Some b
-    → with_limit (with_limit bs i limit) i b.order.price ≡ bs
+    → repriced (repriced bs i limit) i b.order.price ≡ bs
 limit_back [] i b limit at = refl
 limit_back (c ∷ bs) zero b limit at =
-    let same : c ≡ b = cc in ap (λ (d : Block). limited c d.order.price ∷ bs) (sym same)
+    let same : c ≡ b = cc in ap (λ (d : Block). with_limit c d.order.price ∷ bs) (sym same)
 limit_back (c ∷ bs) (suc i) b limit at = ap (λ (cs : List Block). c ∷ cs) (limit_back bs i b limit at)
 
-pub get_limited : (bs : List Block) (i : ℕ) (b : Block) (limit : ℤ) → slice_get bs i ≡ Some b
-    → slice_get (with_limit bs i limit) i ≡ Some (limited b limit)
-get_limited [] i b limit at = absurd (cc)
-get_limited (c ∷ bs) zero b limit at = let same : c ≡ b = cc in ap (λ (d : Block). Some (limited d limit)) same
-get_limited (c ∷ bs) (suc i) b limit at = get_limited bs i b limit at
+get_repriced : (bs : List Block) (i : ℕ) (b : Block) (limit : ℤ) → slice_get bs i ≡ Some b
+    → slice_get (repriced bs i limit) i ≡ Some (with_limit b limit)
+get_repriced [] i b limit at = absurd (cc)
+get_repriced (c ∷ bs) zero b limit at = let same : c ≡ b = cc in ap (λ (d : Block). Some (with_limit d limit)) same
+get_repriced (c ∷ bs) (suc i) b limit at = get_repriced bs i b limit at
 
-get_fellow : (bs : List Block) (i j : ℕ) (limit : ℤ) → (j ≡ i → ⊥) → slice_get (with_limit bs i limit) j ≡ slice_get bs j
+get_fellow : (bs : List Block) (i j : ℕ) (limit : ℤ) → (j ≡ i → ⊥) → slice_get (repriced bs i limit) j ≡ slice_get bs j
 get_fellow [] i j limit apart = refl
 get_fellow (c ∷ bs) zero zero limit apart = absurd (apart refl)
 get_fellow (c ∷ bs) zero (suc j) limit apart = refl
 get_fellow (c ∷ bs) (suc i) zero limit apart = refl
 get_fellow (c ∷ bs) (suc i) (suc j) limit apart = get_fellow bs i j limit (λ e. apart (ap suc e))
 
+now : (problem other : ProblemState) (i : ℕ) (b : Block) (limit : ℤ) → IsWithLimit problem other i b limit
+    → other.blocks ≡ repriced problem.blocks i limit
+now problem other i b limit w = w.blocks ∙ set_repriced problem.blocks i b limit w.stands
+
 pub turned : (problem other : ProblemState) (i : ℕ) (b : Block) (limit : ℤ) → IsWithLimit problem other i b limit
-    → IsWithLimit other problem i (limited b limit) b.order.price
-turned problem other i b limit w = record {
-  stands = ap (λ (bs : List Block). slice_get bs i) w.blocks ∙ get_limited problem.blocks i b limit w.stands;
-  hours = sym w.hours;
-  blocks = sym (limit_back problem.blocks i b limit w.stands) ∙ ap (λ (bs : List Block). with_limit bs i b.order.price) (sym w.blocks);
-}
+    → IsWithLimit other problem i (with_limit b limit) b.order.price
+turned problem other i b limit w =
+    let here : slice_get other.blocks i ≡ Some (with_limit b limit) =
+    ap (λ (bs : List Block). slice_get bs i) (now problem other i b limit w) ∙ get_repriced problem.blocks i b limit w.stands in
+    record {
+      stands = here;
+      hours = sym w.hours;
+      blocks = sym (limit_back problem.blocks i b limit w.stands)
+          ∙ ap (λ (bs : List Block). repriced bs i b.order.price) (sym (now problem other i b limit w))
+          ∙ sym (set_repriced other.blocks i (with_limit b limit) b.order.price here);
+    }
 
 -- ---- families: links are by names
 same_position : (b : Block) (bs : List Block) (i : ℕ) (limit : ℤ)
-    → position_or_len (λ q. names q b) (with_limit bs i limit) ≡ position_or_len (λ q. names q b) bs
+    → position_or_len (λ q. names q b) (repriced bs i limit) ≡ position_or_len (λ q. names q b) bs
 same_position b [] i limit = refl
 same_position b (c ∷ bs) zero limit = refl
 same_position b (c ∷ bs) (suc i) limit = ap (λ (n : ℕ). cond (not (names c b)) (1 + n) 0) (same_position b bs i limit)
 
-parent_of : (bs : List Block) (i : ℕ) (limit : ℤ) (o : Option Block) → parent_among (with_limit bs i limit) o ≡ parent_among bs o
+parent_of : (bs : List Block) (i : ℕ) (limit : ℤ) (o : Option Block) → parent_among (repriced bs i limit) o ≡ parent_among bs o
 parent_of bs i limit None = refl
 parent_of bs i limit (Some b) =
-    ap₂ (λ (m n : ℕ). cond (nat_lt m n) (Some m) None) (same_position b bs i limit) (length-with_limit bs i limit)
+    ap₂ (λ (m n : ℕ). cond (nat_lt m n) (Some m) None) (same_position b bs i limit) (length-repriced bs i limit)
 
 child_of : (cs bs : List Block) (i j : ℕ) (limit : ℤ)
-    → parent_among cs (slice_get (with_limit bs i limit) j) ≡ parent_among cs (slice_get bs j)
+    → parent_among cs (slice_get (repriced bs i limit) j) ≡ parent_among cs (slice_get bs j)
 child_of cs [] i j limit = refl
 child_of cs (b ∷ bs) zero zero limit = refl
 child_of cs (b ∷ bs) zero (suc j) limit = refl
 child_of cs (b ∷ bs) (suc i) zero limit = refl
 child_of cs (b ∷ bs) (suc i) (suc j) limit = child_of cs bs i j limit
 
-same_parent : (bs : List Block) (i j : ℕ) (limit : ℤ) → parent_place (with_limit bs i limit) j ≡ parent_place bs j
+same_parent : (bs : List Block) (i j : ℕ) (limit : ℤ) → parent_place (repriced bs i limit) j ≡ parent_place bs j
 same_parent bs i j limit =
-    child_of (with_limit bs i limit) bs i j limit ∙ parent_of bs i limit (slice_get bs j)
+    child_of (repriced bs i limit) bs i j limit ∙ parent_of bs i limit (slice_get bs j)
 
-same_chain : (bs : List Block) (i : ℕ) (limit : ℤ) (n a : ℕ) (o : Option ℕ) → leads_to n (with_limit bs i limit) a o ≡ leads_to n bs a o
+same_chain : (bs : List Block) (i : ℕ) (limit : ℤ) (n a : ℕ) (o : Option ℕ) → leads_to n (repriced bs i limit) a o ≡ leads_to n bs a o
 same_chain bs i limit n a None = refl
 same_chain bs i limit zero a (Some p) = refl
 same_chain bs i limit (suc n) a (Some p) =
     ap (λ (x : Bool). (p == a) || x)
-    (same_chain bs i limit n a (parent_place (with_limit bs i limit) p) ∙ ap (λ (o : Option ℕ). leads_to n bs a o) (same_parent bs i p limit))
+    (same_chain bs i limit n a (parent_place (repriced bs i limit) p) ∙ ap (λ (o : Option ℕ). leads_to n bs a o) (same_parent bs i p limit))
 
-same_family : (bs : List Block) (i : ℕ) (limit : ℤ) (a b : ℕ) → descends (with_limit bs i limit) a b ≡ descends bs a b
+same_family : (bs : List Block) (i : ℕ) (limit : ℤ) (a b : ℕ) → descends (repriced bs i limit) a b ≡ descends bs a b
 same_family bs i limit a b =
-    same_chain bs i limit (length (with_limit bs i limit)) a (parent_place (with_limit bs i limit) b)
-    ∙ ap₂ (λ (n : ℕ) (o : Option ℕ). leads_to n bs a o) (length-with_limit bs i limit) (same_parent bs i b limit)
+    same_chain bs i limit (length (repriced bs i limit)) a (parent_place (repriced bs i limit) b)
+    ∙ ap₂ (λ (n : ℕ) (o : Option ℕ). leads_to n bs a o) (length-repriced bs i limit) (same_parent bs i b limit)
 
 same_descendants : (bs : List Block) (i : ℕ) (limit : ℤ) (sel : List Bool) (a m : ℕ)
-    → accepts (accepted_descendants (with_limit bs i limit) sel a) m ≡ accepts (accepted_descendants bs sel a) m
+    → accepts (accepted_descendants (repriced bs i limit) sel a) m ≡ accepts (accepted_descendants bs sel a) m
 same_descendants bs i limit sel a m =
-    accepts_descendant (with_limit bs i limit) sel a m
+    accepts_descendant (repriced bs i limit) sel a m
     ∙ ap (λ (x : Bool). accepts sel m && x) (same_family bs i limit a m)
     ∙ sym (accepts_descendant bs sel a m)
 
@@ -125,11 +136,11 @@ record AreAlike (b c : Block) : Type 0 where
   parent : b.order.parent ≡ c.order.parent
   group : b.order.group ≡ c.order.group
 
-alike_at : (bs : List Block) (i j : ℕ) (limit : ℤ) (c : Block) → slice_get (with_limit bs i limit) j ≡ Some c
+alike_at : (bs : List Block) (i j : ℕ) (limit : ℤ) (c : Block) → slice_get (repriced bs i limit) j ≡ Some c
     → (b : Block) × (slice_get bs j ≡ Some b) × AreAlike b c
 alike_at [] i j limit c at = absurd (cc)
 alike_at (b ∷ bs) zero zero limit c at =
-    let same : limited b limit ≡ c = cc in (
+    let same : with_limit b limit ≡ c = cc in (
       b,
       refl,
       record {
@@ -144,11 +155,11 @@ alike_at (b ∷ bs) (suc i) zero limit c at = (c, at, record { who = refl; name 
 alike_at (b ∷ bs) (suc i) (suc j) limit c at = alike_at bs i j limit c at
 
 stands_limited : (bs : List Block) (i j : ℕ) (limit : ℤ) (b : Block) → slice_get bs j ≡ Some b
-    → (c : Block) × (slice_get (with_limit bs i limit) j ≡ Some c) × AreAlike b c
+    → (c : Block) × (slice_get (repriced bs i limit) j ≡ Some c) × AreAlike b c
 stands_limited [] i j limit b at = absurd (cc)
 stands_limited (c ∷ bs) zero zero limit b at =
     let same : c ≡ b = cc in (
-      limited c limit,
+      with_limit c limit,
       refl,
       record {
         who = ap (λ (d : Block). d.who) (sym same);
@@ -175,7 +186,7 @@ permits_alike x y b c acc first second p = record {
   });
 }
 
-limited_admissible : (bs : List Block) (sel : List Bool) (i : ℕ) (limit : ℤ) → IsAdmissible bs sel → IsAdmissible (with_limit bs i limit) sel
+limited_admissible : (bs : List Block) (sel : List Bool) (i : ℕ) (limit : ℤ) → IsAdmissible bs sel → IsAdmissible (repriced bs i limit) sel
 limited_admissible bs sel i limit is = record {
   each = λ j acc.
       (let allowed = is.each j acc in
@@ -196,15 +207,15 @@ where_true false x = pos 0
 
 -- the sum changes by what changes of the block, if it is accepted
 sum_changed : (f : BlockTerms → ℤ) (bs : List Block) (sel : List Bool) (i : ℕ) (b : Block) (limit : ℤ) → slice_get bs i ≡ Some b
-    → over_accepted f (with_limit bs i limit) sel
-    ≡ over_accepted f bs sel +ℤ where_true (accepts sel i) (f (limited b limit).order -ℤ f b.order)
+    → over_accepted f (repriced bs i limit) sel
+    ≡ over_accepted f bs sel +ℤ where_true (accepts sel i) (f (with_limit b limit).order -ℤ f b.order)
 sum_changed f [] sel i b limit at = absurd (cc)
 sum_changed f (c ∷ bs) [] zero b limit at = omega (arith, ints)
 sum_changed f (c ∷ bs) [] (suc i) b limit at = omega (arith, ints)
 sum_changed f (c ∷ bs) (true ∷ sel) zero b limit at =
     let same : c ≡ b = cc in
     let old = ap (λ (d : Block). f d.order) same in
-    let new = ap (λ (d : Block). f (limited d limit).order) same in
+    let new = ap (λ (d : Block). f (with_limit d limit).order) same in
     omega (arith, ints, old, new)
 sum_changed f (c ∷ bs) (false ∷ sel) zero b limit at = omega (arith, ints)
 sum_changed f (c ∷ bs) (true ∷ sel) (suc i) b limit at = let rest = sum_changed f bs sel i b limit at in omega (arith, ints, rest)
@@ -212,7 +223,7 @@ sum_changed f (c ∷ bs) (false ∷ sel) (suc i) b limit at = sum_changed f bs s
 
 -- .. and not at all if the function reads no limit
 same_sum : (f : BlockTerms → ℤ) (bs : List Block) (sel : List Bool) (i : ℕ) (limit : ℤ)
-    → ((b : Block) → f (limited b limit).order ≡ f b.order) → over_accepted f (with_limit bs i limit) sel ≡ over_accepted f bs sel
+    → ((b : Block) → f (with_limit b limit).order ≡ f b.order) → over_accepted f (repriced bs i limit) sel ≡ over_accepted f bs sel
 same_sum f [] sel i limit h = refl
 same_sum f (c ∷ bs) [] zero limit h = refl
 same_sum f (c ∷ bs) [] (suc i) limit h = refl
@@ -222,14 +233,14 @@ same_sum f (c ∷ bs) (true ∷ sel) (suc i) limit h = ap (λ (z : ℤ). f c.ord
 same_sum f (c ∷ bs) (false ∷ sel) (suc i) limit h = same_sum f bs sel i limit h
 
 pub same_net : (bs : List Block) (sel : List Bool) (i : ℕ) (limit : ℤ) (t : ℕ)
-    → net_volume (with_limit bs i limit) sel t ≡ net_volume bs sel t
+    → net_volume (repriced bs i limit) sel t ≡ net_volume bs sel t
 same_net bs sel i limit t = same_sum (net_volume_of t) bs sel i limit (λ b. refl)
 
 same_sum_without : (f : BlockTerms → ℤ) (bs : List Block) (sel : List Bool) (i : ℕ) (b : Block) (limit : ℤ) → slice_get bs i ≡ Some b
-    → accepts sel i ≡ false → over_accepted f (with_limit bs i limit) sel ≡ over_accepted f bs sel
+    → accepts sel i ≡ false → over_accepted f (repriced bs i limit) sel ≡ over_accepted f bs sel
 same_sum_without f bs sel i b limit at off =
     let change = sum_changed f bs sel i b limit at in
-    let none = ap (λ (x : Bool). where_true x (f (limited b limit).order -ℤ f b.order)) off in
+    let none = ap (λ (x : Bool). where_true x (f (with_limit b limit).order -ℤ f b.order)) off in
     omega (arith, ints, change, none)
 
 where_at_least : (x : Bool) (z : ℤ) → pos 0 ≤ℤ z → pos 0 ≤ℤ where_true x z
@@ -237,10 +248,10 @@ where_at_least true z h = h
 where_at_least false z h = omega (arith, ints)
 
 sum_raised : (f : BlockTerms → ℤ) (bs : List Block) (sel : List Bool) (i : ℕ) (b : Block) (limit : ℤ) → slice_get bs i ≡ Some b
-    → f b.order ≤ℤ f (limited b limit).order → over_accepted f bs sel ≤ℤ over_accepted f (with_limit bs i limit) sel
+    → f b.order ≤ℤ f (with_limit b limit).order → over_accepted f bs sel ≤ℤ over_accepted f (repriced bs i limit) sel
 sum_raised f bs sel i b limit at less =
     let change = sum_changed f bs sel i b limit at in
-    let more = where_at_least (accepts sel i) (f (limited b limit).order -ℤ f b.order) (omega (arith, ints, less)) in
+    let more = where_at_least (accepts sel i) (f (with_limit b limit).order -ℤ f b.order) (omega (arith, ints, less)) in
     omega (arith, ints, change, more)
 
 -- ---- what a better limit raises
@@ -271,7 +282,7 @@ gain_raised Buy old new p x h = times_grows (old -ℤ p) (new -ℤ p) x (omega (
 gain_raised Sell old new p x h = let m = times_grows (new -ℤ p) (old -ℤ p) x (omega (arith, ints)) in omega (arith, ints, m)
 
 pub surplus_raised : (t : ℕ) (prices : List ℤ) (b : Block) (limit : ℤ) → IsBetter b.order.side limit b.order.price
-    → surplus_from t prices b.order ≤ℤ surplus_from t prices (limited b limit).order
+    → surplus_from t prices b.order ≤ℤ surplus_from t prices (with_limit b limit).order
 surplus_raised t [] b limit h = omega (arith, ints)
 surplus_raised t (p ∷ prices) b limit h =
     let here = gain_raised b.order.side b.order.price limit p (volume_in b.order.volumes t) h in
@@ -308,20 +319,20 @@ welfare_raised bs cs sel t (ss ∷ hours) v net value e =
 
 -- ---- no loss
 surplus_same : (bs : List Block) (i j : ℕ) (limit : ℤ) (prices : List ℤ) → (j ≡ i → ⊥)
-    → surplus_at (with_limit bs i limit) prices j ≡ surplus_at bs prices j
+    → surplus_at (repriced bs i limit) prices j ≡ surplus_at bs prices j
 surplus_same bs i j limit prices apart =
     ap (λ (o : Option Block). unwrap_or (option_map (λ b. surplus_of prices b.order) o) (pos 0)) (get_fellow bs i j limit apart)
 
 descendants_sum : (bs : List Block) (sel : List Bool) (i j : ℕ) (limit : ℤ) (prices : List ℤ)
-    → over_accepted (surplus_of prices) (with_limit bs i limit) (accepted_descendants (with_limit bs i limit) sel j)
-    ≡ over_accepted (surplus_of prices) (with_limit bs i limit) (accepted_descendants bs sel j)
+    → over_accepted (surplus_of prices) (repriced bs i limit) (accepted_descendants (repriced bs i limit) sel j)
+    ≡ over_accepted (surplus_of prices) (repriced bs i limit) (accepted_descendants bs sel j)
 descendants_sum bs sel i j limit prices =
-    over_accepted-agree (surplus_of prices) (with_limit bs i limit) (accepted_descendants (with_limit bs i limit) sel j)
+    over_accepted-agree (surplus_of prices) (repriced bs i limit) (accepted_descendants (repriced bs i limit) sel j)
     (accepted_descendants bs sel j) (λ m b at. same_descendants bs i limit sel j m)
 
 -- a selection that rejects the block
 gain_without : (bs : List Block) (sel : List Bool) (i j : ℕ) (b : Block) (limit : ℤ) (prices : List ℤ) → slice_get bs i ≡ Some b
-    → accepts sel i ≡ false → accepts sel j ≡ true → gain_at (with_limit bs i limit) sel prices j ≡ gain_at bs sel prices j
+    → accepts sel i ≡ false → accepts sel j ≡ true → family_surplus (repriced bs i limit) sel prices j ≡ family_surplus bs sel prices j
 gain_without bs sel i j b limit prices at off acc =
     let apart : j ≡ i → ⊥ = λ e. absurd (let there = ap (λ (m : ℕ). accepts sel m) e in cc) in
     let none : accepts (accepted_descendants bs sel j) i ≡ false =
@@ -331,7 +342,7 @@ gain_without bs sel i j b limit prices at off acc =
     ∙ same_sum_without (surplus_of prices) bs (accepted_descendants bs sel j) i b limit at none)
 
 no_loss_without : (bs : List Block) (sel : List Bool) (i : ℕ) (b : Block) (limit : ℤ) (prices : List ℤ) → slice_get bs i ≡ Some b
-    → accepts sel i ≡ false → HasNoLoss bs sel prices → HasNoLoss (with_limit bs i limit) sel prices
+    → accepts sel i ≡ false → HasNoLoss bs sel prices → HasNoLoss (repriced bs i limit) sel prices
 no_loss_without bs sel i b limit prices at off none = record {
   gains = λ j acc.
       (let same = gain_without bs sel i j b limit prices at off acc in let gain = none.gains j acc in omega (arith, ints, same, gain));
@@ -339,23 +350,23 @@ no_loss_without bs sel i b limit prices at off none = record {
 
 -- a better limit
 own_raised : (bs : List Block) (i j : ℕ) (b : Block) (limit : ℤ) (prices : List ℤ) → slice_get bs i ≡ Some b
-    → IsBetter b.order.side limit b.order.price → surplus_at bs prices j ≤ℤ surplus_at (with_limit bs i limit) prices j
+    → IsBetter b.order.side limit b.order.price → surplus_at bs prices j ≤ℤ surplus_at (repriced bs i limit) prices j
 own_raised bs i j b limit prices at better =
-    elim (cases_eq j i) as (λ _. surplus_at bs prices j ≤ℤ surplus_at (with_limit bs i limit) prices j) [
+    elim (cases_eq j i) as (λ _. surplus_at bs prices j ≤ℤ surplus_at (repriced bs i limit) prices j) [
       | inl same ↦
           (let old : surplus_at bs prices j ≡ surplus_of prices b.order =
           ap (λ (o : Option Block). unwrap_or (option_map (λ c. surplus_of prices c.order) o) (pos 0))
           (ap (λ (m : ℕ). slice_get bs m) same ∙ at) in
-          let new : surplus_at (with_limit bs i limit) prices j ≡ surplus_of prices (limited b limit).order =
+          let new : surplus_at (repriced bs i limit) prices j ≡ surplus_of prices (with_limit b limit).order =
           ap (λ (o : Option Block). unwrap_or (option_map (λ c. surplus_of prices c.order) o) (pos 0))
-          (ap (λ (m : ℕ). slice_get (with_limit bs i limit) m) same ∙ get_limited bs i b limit at) in
+          (ap (λ (m : ℕ). slice_get (repriced bs i limit) m) same ∙ get_repriced bs i b limit at) in
           let more = surplus_raised 1 prices b limit better in
           omega (arith, ints, old, new, more))
       | inr apart ↦ (let same = surplus_same bs i j limit prices apart in omega (arith, ints, same))
     ]
 
 no_loss_raised : (bs : List Block) (sel : List Bool) (i : ℕ) (b : Block) (limit : ℤ) (prices : List ℤ) → slice_get bs i ≡ Some b
-    → IsBetter b.order.side limit b.order.price → HasNoLoss bs sel prices → HasNoLoss (with_limit bs i limit) sel prices
+    → IsBetter b.order.side limit b.order.price → HasNoLoss bs sel prices → HasNoLoss (repriced bs i limit) sel prices
 no_loss_raised bs sel i b limit prices at better none = record {
   gains = λ j acc.
       (let own = own_raised bs i j b limit prices at better in
@@ -367,15 +378,15 @@ no_loss_raised bs sel i b limit prices at better none = record {
 
 -- ---- eligible
 there : (problem other : ProblemState) (i : ℕ) (b : Block) (limit : ℤ) (P : List Block → Type 0) → IsWithLimit problem other i b limit
-    → P (with_limit problem.blocks i limit) → P other.blocks
-there problem other i b limit P w h = subst P (sym w.blocks) h
+    → P (repriced problem.blocks i limit) → P other.blocks
+there problem other i b limit P w h = subst P (sym (now problem other i b limit w)) h
 
 limited_prices : (problem other : ProblemState) (i : ℕ) (b : Block) (limit : ℤ) (sel : List Bool) (prices : List ℤ)
     → IsWithLimit problem other i b limit → ArePrices problem.blocks sel 1 problem.hours prices → ArePrices other.blocks sel 1 other.hours prices
 limited_prices problem other i b limit sel prices w are =
     there problem other i b limit (λ (bs : List Block). ArePrices bs sel 1 other.hours prices) w
-    (subst (λ (hours : List (List Step)). ArePrices (with_limit problem.blocks i limit) sel 1 hours prices) (sym w.hours)
-    (prices_transfer problem.blocks (with_limit problem.blocks i limit) sel sel 1 problem.hours prices
+    (subst (λ (hours : List (List Step)). ArePrices (repriced problem.blocks i limit) sel 1 hours prices) (sym w.hours)
+    (prices_transfer problem.blocks (repriced problem.blocks i limit) sel sel 1 problem.hours prices
     (λ t. sym (same_net problem.blocks sel i limit t)) are))
 
 pub same_outcome : (problem other : ProblemState) (i : ℕ) (b : Block) (limit : ℤ) (sel : List Bool) (prices : List ℤ)
@@ -384,8 +395,8 @@ pub same_outcome : (problem other : ProblemState) (i : ℕ) (b : Block) (limit :
 same_outcome problem other i b limit sel prices executions w is = record {
   prices_are = limited_prices problem other i b limit sel prices w is.prices_are;
   executions_are = there problem other i b limit (λ (bs : List Block). AreBestExecutions bs sel 1 other.hours executions) w
-      (subst (λ (hours : List (List Step)). AreBestExecutions (with_limit problem.blocks i limit) sel 1 hours executions) (sym w.hours)
-      (executions_transfer problem.blocks (with_limit problem.blocks i limit) sel sel 1 problem.hours executions
+      (subst (λ (hours : List (List Step)). AreBestExecutions (repriced problem.blocks i limit) sel 1 hours executions) (sym w.hours)
+      (executions_transfer problem.blocks (repriced problem.blocks i limit) sel sel 1 problem.hours executions
       (λ t. sym (same_net problem.blocks sel i limit t)) is.executions_are));
 }
 
@@ -401,8 +412,8 @@ eligible_without problem other i b limit sel v w off is = record {
   no_loss = there problem other i b limit (λ (bs : List Block). HasNoLoss bs sel is.prices) w
       (no_loss_without problem.blocks sel i b limit is.prices w.stands off is.no_loss);
   welfare_is = there problem other i b limit (λ (bs : List Block). welfare_from bs sel 1 other.hours ≡ Some v) w
-      (ap (λ (hours : List (List Step)). welfare_from (with_limit problem.blocks i limit) sel 1 hours) w.hours
-      ∙ sym (welfare_transfer problem.blocks (with_limit problem.blocks i limit) sel sel 1 problem.hours
+      (ap (λ (hours : List (List Step)). welfare_from (repriced problem.blocks i limit) sel 1 hours) w.hours
+      ∙ sym (welfare_transfer problem.blocks (repriced problem.blocks i limit) sel sel 1 problem.hours
       (λ t. sym (same_net problem.blocks sel i limit t))
       (λ t. sym (same_sum_without (value_of t) problem.blocks sel i b limit w.stands off)))
       ∙ is.welfare_is);
@@ -413,7 +424,7 @@ eligible_raised : (problem other : ProblemState) (i : ℕ) (b : Block) (limit : 
     → IsWithLimit problem other i b limit → IsBetter b.order.side limit b.order.price → IsEligible problem sel v
     → (u : ℤ) × IsEligible other sel u × (v ≤ℤ u)
 eligible_raised problem other i b limit sel v w better is =
-    let more = welfare_raised problem.blocks (with_limit problem.blocks i limit) sel 1 problem.hours v
+    let more = welfare_raised problem.blocks (repriced problem.blocks i limit) sel 1 problem.hours v
     (λ t. sym (same_net problem.blocks sel i limit t))
     (λ t. sum_raised (value_of t) problem.blocks sel i b limit w.stands
     (value_raised b.order.side b.order.price limit (volume_in b.order.volumes t) better)) is.welfare_is in (
@@ -427,7 +438,7 @@ eligible_raised problem other i b limit sel v w better is =
         no_loss = there problem other i b limit (λ (bs : List Block). HasNoLoss bs sel is.prices) w
             (no_loss_raised problem.blocks sel i b limit is.prices w.stands better is.no_loss);
         welfare_is = there problem other i b limit (λ (bs : List Block). welfare_from bs sel 1 other.hours ≡ Some more.0) w
-            (ap (λ (hours : List (List Step)). welfare_from (with_limit problem.blocks i limit) sel 1 hours) w.hours ∙ more.1);
+            (ap (λ (hours : List (List Step)). welfare_from (repriced problem.blocks i limit) sel 1 hours) w.hours ∙ more.1);
       },
       more.2,
     )
@@ -460,7 +471,7 @@ kept problem other i b limit xs ys v w change better is acc result =
       | inl on ↦ on
       | inr off ↦
           (let more = eligible_raised problem other i b limit xs v change better is.eligible in
-          let was = eligible_without other problem i (limited b limit) b.order.price ys w (turned problem other i b limit change) off
+          let was = eligible_without other problem i (with_limit b limit) b.order.price ys w (turned problem other i b limit change) off
           result.eligible in
           let below = rank_under w v more.0 ys xs more.2 (is.others ys w was) in
           let above = result.others xs more.0 more.1 in
@@ -470,7 +481,7 @@ kept problem other i b limit xs ys v w change better is acc result =
 
 -- a worse limit, turned round
 better_back : (b : Block) (limit : ℤ) → IsWorse b.order.side limit b.order.price
-    → IsBetter (limited b limit).order.side b.order.price (limited b limit).order.price
+    → IsBetter (with_limit b limit).order.side b.order.price (with_limit b limit).order.price
 better_back b limit h = by_side b.order.side limit b.order.price h
   where
     by_side : (side : Side) (limit price : ℤ) → IsWorse side limit price → IsBetter side price limit
@@ -484,6 +495,6 @@ unchanged problem other i b limit xs v change worse is off = record {
   eligible = eligible_without problem other i b limit xs v change off is.eligible;
   others = λ ys u eligible.
       (let back = turned problem other i b limit change in
-      let more = eligible_raised other problem i (limited b limit) b.order.price ys u back (better_back b limit worse) eligible in
+      let more = eligible_raised other problem i (with_limit b limit) b.order.price ys u back (better_back b limit worse) eligible in
       rank_lowered u more.0 v ys xs more.2 (is.others ys more.0 more.1));
 }

@@ -10,7 +10,7 @@ use Rattle.std.proofs.Math.Decide.{map_dec}
 use Rattle.dam_blocks.specs.declared.problem.Block.{Block}
 use Rattle.dam_blocks.specs.Problem.{ProblemState, AreHours, IsProblem}
 use Rattle.dam_blocks.specs.Selection.{accepts, padded, empty_selection, choice, net_volume, IsAdmissible}
-use Rattle.dam_blocks.specs.Eligible.{ArePrices, gain_at, HasNoLoss, IsEligible}
+use Rattle.dam_blocks.specs.Eligible.{ArePrices, family_surplus, HasNoLoss, IsEligible}
 use Rattle.dam_blocks.specs.Result.{RanksAtOrBelow, IsResult}
 use Rattle.dam_blocks.proofs.Deciding.{decided_both, decided_if, decided_true, decided_at_least, decided_each}
 use Rattle.dam_blocks.proofs.AdmissionDecided.{accepted_within, decided_admissible}
@@ -52,12 +52,12 @@ within_from_prices law blocks sel t (ss ∷ hours) (p ∷ prices) are =
 -- ---- no loss
 decided_no_loss : (blocks : List Block) (sel : List Bool) (prices : List ℤ) → Dec (HasNoLoss blocks sel prices)
 decided_no_loss blocks sel prices =
-    map_dec {A = (i : ℕ) → accepts sel i ≡ true → pos 0 ≤ℤ gain_at blocks sel prices i} {B = HasNoLoss blocks sel prices}
+    map_dec {A = (i : ℕ) → accepts sel i ≡ true → pos 0 ≤ℤ family_surplus blocks sel prices i} {B = HasNoLoss blocks sel prices}
     (λ all. record { gains = all })
     (λ h. h.gains)
-    (decided_each (λ (i : ℕ). accepts sel i ≡ true) (λ (i : ℕ). pos 0 ≤ℤ gain_at blocks sel prices i) (length sel) (accepted_within sel)
-    (λ i. decided_if (accepts sel i ≡ true) (pos 0 ≤ℤ gain_at blocks sel prices i) (decided_true (accepts sel i))
-    (decided_at_least (pos 0) (gain_at blocks sel prices i))))
+    (decided_each (λ (i : ℕ). accepts sel i ≡ true) (λ (i : ℕ). pos 0 ≤ℤ family_surplus blocks sel prices i) (length sel) (accepted_within sel)
+    (λ i. decided_if (accepts sel i ≡ true) (pos 0 ≤ℤ family_surplus blocks sel prices i) (decided_true (accepts sel i))
+    (decided_at_least (pos 0) (family_surplus blocks sel prices i))))
 
 -- ---- the selection
 abbrev pub IsAnEligible : ProblemState → List Bool → Type 0

@@ -11,7 +11,7 @@ use Rattle.dam_blocks.specs.declared.scoring.Verdict.{Verdict}
 use Rattle.dam_blocks.specs.declared.scoring.Verdict.TheVariants.{NotAdmissible, Unbalanced, Losing, Eligible}
 use Rattle.dam_blocks.specs.Problem.{ProblemState}
 use Rattle.dam_blocks.specs.Selection.{net_volume, IsAdmissible}
-use Rattle.dam_blocks.specs.Eligible.{IsClearingPrice, ArePrices, gain_at, HasNoLoss, selection_welfare, IsEligible}
+use Rattle.dam_blocks.specs.Eligible.{IsClearingPrice, ArePrices, family_surplus, HasNoLoss, selection_welfare, IsEligible}
 use Rattle.dam_blocks.specs.Score.{IsFirstUnbalanced, IsFirstLosing, IsVerdict}
 use Rattle.dam_blocks.proofs.PricesUnique.{prices_unique}
 
@@ -71,7 +71,7 @@ none_loses : (problem : ProblemState) (sel : List Bool) (i : ℕ) (v : ℤ) (pri
 none_loses problem sel i v prices are l e =
     let same = prices_unique problem.blocks sel 1 problem.hours e.prices prices e.are_prices are in
     let gains = e.no_loss.gains i l.accepted in
-    let gains_here = subst (λ (ps : List ℤ). pos 0 ≤ℤ gain_at problem.blocks sel ps i) same gains in
+    let gains_here = subst (λ (ps : List ℤ). pos 0 ≤ℤ family_surplus problem.blocks sel ps i) same gains in
     let loses = l.loses in
     absurd (let no : 0 < 0 = omega (arith, ints, gains_here, loses) in omega (arith, no))
 

@@ -14,7 +14,7 @@ use Rattle.dam_blocks.specs.declared.problem.Block.{Block}
 use Rattle.dam_blocks.specs.Problem.{ProblemState, IsProblem, IsParent}
 use Rattle.dam_blocks.specs.Selection.{accepts, over_accepted, net_volume_of, value_of, net_volume, Permits, IsAllowed, IsAdmissible}
 use Rattle.dam_blocks.specs.Family.{descends, accepted_descendants, IsChildAt, Descends, Child, OfChild}
-use Rattle.dam_blocks.specs.Eligible.{ArePrices, surplus_of, gain_at, HasNoLoss, welfare_from, selection_welfare, IsEligible}
+use Rattle.dam_blocks.specs.Eligible.{ArePrices, surplus_of, family_surplus, HasNoLoss, welfare_from, selection_welfare, IsEligible}
 use Rattle.dam_blocks.specs.Result.{accepts_first, RanksAtOrBelow, IsResult}
 use Rattle.dam_blocks.specs.Market.{IsOutcome, AreBestExecutions}
 use Rattle.dam_blocks.specs.Changes.{without_place, IsWithoutBlock}
@@ -308,7 +308,7 @@ same_descendants whole rest i gone zs a m both =
     ]
 
 same_gain : (whole rest : ProblemState) (i : ℕ) (gone : Block) (zs : List Bool) (prices : List ℤ) (a : ℕ) → AreBoth whole rest i gone
-    → gain_at whole.blocks (insert zs i false) prices (up i a) ≡ gain_at rest.blocks (zs ++ false ∷ []) prices a
+    → family_surplus whole.blocks (insert zs i false) prices (up i a) ≡ family_surplus rest.blocks (zs ++ false ∷ []) prices a
 same_gain whole rest i gone zs prices a both =
     let all = accepted_descendants rest.blocks (zs ++ false ∷ []) a in
     let f = surplus_of prices in
@@ -337,7 +337,7 @@ whole_no_loss whole rest i gone zs prices both none = record {
       (let found = accepted_of_rest zs i j acc in
       let same = same_gain whole rest i gone zs prices found.0 both in
       let gain = none.gains found.0 (accepts_of_rest zs i j found.0 found.1 acc) in
-      let there = ap (λ (m : ℕ). gain_at whole.blocks (insert zs i false) prices m) found.1 in
+      let there = ap (λ (m : ℕ). family_surplus whole.blocks (insert zs i false) prices m) found.1 in
       omega (arith, ints, same, gain, there));
 }
 

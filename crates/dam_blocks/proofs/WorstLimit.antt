@@ -1,8 +1,9 @@
 -- Of the limits of the range, those at which a block is accepted are all from a worst one on, or there is none.
 use Rattle.std.proofs.Common.{◌≡◌, ◌⊎◌, inl, inr, ℕ, zero, suc, ◌^◌, ◌<◌, ◌≤◌, ℤ, pos, ◌+ℤ◌, ◌-ℤ◌, Bool, true, false, Some, List}
-use Rattle.std.proofs.Common.{length, ap, ◌∙◌, sym, subst, refl, nat_abs, arith}
+use Rattle.std.proofs.Common.{[], ◌∷◌, length, slice_set, set-set, ap, ◌∙◌, sym, subst, refl, nat_abs, arith}
 use Rattle.std.specs.List.{slice_get}
 use Rattle.std.proofs.lemmas.Int.{ints}
+use Rattle.std.proofs.lemmas.List.{length-set}
 use Rattle.std.proofs.lemmas.Bool.{cases_lt}
 use Rattle.dam_book.specs.Limits.{lowest_price, highest_price, most_blocks}
 use Rattle.dam_book.specs.Price.{IsPrice}
@@ -14,12 +15,12 @@ use Rattle.dam_blocks.specs.declared.problem.Block.{Block}
 use Rattle.dam_blocks.specs.Problem.{ProblemState, AreHours, IsProblem}
 use Rattle.dam_blocks.specs.Selection.{accepts, choice, padded}
 use Rattle.dam_blocks.specs.Result.{IsResult}
-use Rattle.dam_blocks.specs.Changes.{with_limit_at, IsWithLimit, IsAcceptedAt, IsNeverAccepted, IsWorstLimit}
+use Rattle.dam_blocks.specs.Changes.{with_limit, with_limit_at, IsWithLimit, IsAcceptedAt, IsNeverAccepted, IsWorstLimit}
 use Rattle.dam_blocks.proofs.EmptySelection.{ExistenceLaws, empty_eligible}
 use Rattle.dam_blocks.proofs.ResultExists.{BalanceLaw, decided_eligible, best_so_far, length-padded}
 use Rattle.dam_blocks.proofs.Choices.{all_tried}
 use Rattle.dam_blocks.proofs.Ranks.{result_unique}
-use Rattle.dam_blocks.proofs.Repricing.{length-with_limit, limit_again, get_limited, limited, kept}
+use Rattle.dam_blocks.proofs.Repricing.{kept}
 
 -- ---- there is a result at each limit
 result_found : ExistenceLaws → BalanceLaw → (problem : ProblemState) → AreHours problem.hours → length problem.blocks ≤ most_blocks
@@ -31,43 +32,50 @@ result_found laws law problem are few =
     (found.0, found.1, all_tried problem count (2 ^ count) found.0 found.1 refl few (omega arith) found.2)
 
 -- accepted or not
-abbrev Decided : ProblemState → ℕ → ℤ → Type 0
-Decided problem place limit = IsAcceptedAt problem place limit ⊎ (IsAcceptedAt problem place limit → ⊥)
+abbrev Decided : ProblemState → ℕ → Block → ℤ → Type 0
+Decided problem place b limit = IsAcceptedAt problem place b limit ⊎ (IsAcceptedAt problem place b limit → ⊥)
 
-by_acceptance : (problem : ProblemState) (place : ℕ) (limit : ℤ) (sel : List Bool) (w : ℤ)
-    → IsResult (with_limit_at problem place limit) sel w → (x : Bool) → accepts sel place ≡ x → Decided problem place limit
-by_acceptance problem place limit sel w result true e = inl (sel, w, result, e)
-by_acceptance problem place limit sel w result false e = inr (λ h.
-    (let same = result_unique (with_limit_at problem place limit) h.0 sel h.1 w h.2 result in
+by_acceptance : (problem : ProblemState) (place : ℕ) (b : Block) (limit : ℤ) (sel : List Bool) (w : ℤ)
+    → IsResult (with_limit_at problem place b limit) sel w → (x : Bool) → accepts sel place ≡ x → Decided problem place b limit
+by_acceptance problem place b limit sel w result true e = inl (sel, w, result, e)
+by_acceptance problem place b limit sel w result false e = inr (λ h.
+    (let same = result_unique (with_limit_at problem place b limit) h.0 sel h.1 w h.2 result in
     let on = ap (λ (xs : List Bool). accepts xs place) (sym same.0) ∙ h.3 in
     absurd (cc)))
 
-decided : ExistenceLaws → BalanceLaw → (problem : ProblemState) (place : ℕ) (limit : ℤ) → IsProblem problem → Decided problem place limit
-decided laws law problem place limit is =
-    let long = length-with_limit problem.blocks place limit in
+decided : ExistenceLaws → BalanceLaw → (problem : ProblemState) (place : ℕ) (b : Block) (limit : ℤ) → IsProblem problem
+    → Decided problem place b limit
+decided laws law problem place b limit is =
+    let long = length-set problem.blocks place (with_limit b limit) in
     let few = is.few_blocks in
-    let found = result_found laws law (with_limit_at problem place limit) is.hours (omega (arith, long, few)) in
-    by_acceptance problem place limit found.0 found.1 found.2 (accepts found.0 place) refl
+    let found = result_found laws law (with_limit_at problem place b limit) is.hours (omega (arith, long, few)) in
+    by_acceptance problem place b limit found.0 found.1 found.2 (accepts found.0 place) refl
 
 -- ---- a better limit is accepted too
+get_set : (bs : List Block) (i : ℕ) (b c : Block) → slice_get bs i ≡ Some b → slice_get (slice_set bs i c) i ≡ Some c
+get_set [] i b c at = absurd (cc)
+get_set (d ∷ bs) zero b c at = refl
+get_set (d ∷ bs) (suc i) b c at = get_set bs i b c at
+
 better_too : ExistenceLaws → BalanceLaw → (problem : ProblemState) (place : ℕ) (b : Block) (worse better : ℤ) → IsProblem problem
-    → slice_get problem.blocks place ≡ Some b → IsBetter b.order.side better worse → IsAcceptedAt problem place worse
-    → IsAcceptedAt problem place better
+    → slice_get problem.blocks place ≡ Some b → IsBetter b.order.side better worse → IsAcceptedAt problem place b worse
+    → IsAcceptedAt problem place b better
 better_too laws law problem place b worse better is at more h =
-    let long = length-with_limit problem.blocks place better in
+    let long = length-set problem.blocks place (with_limit b better) in
     let few = is.few_blocks in
-    let found = result_found laws law (with_limit_at problem place better) is.hours (omega (arith, long, few)) in
-    let change : IsWithLimit (with_limit_at problem place worse) (with_limit_at problem place better) place (limited b worse) better =
+    let before = with_limit_at problem place b worse in
+    let after = with_limit_at problem place b better in
+    let found = result_found laws law after is.hours (omega (arith, long, few)) in
+    let change : IsWithLimit before after place (with_limit b worse) better =
     record {
-      stands = get_limited problem.blocks place b worse at;
+      stands = get_set problem.blocks place b (with_limit b worse) at;
       hours = refl;
-      blocks = sym (limit_again problem.blocks place worse better);
+      blocks = sym (set-set problem.blocks place (with_limit b worse) (with_limit b better));
     } in (
       found.0,
       found.1,
       found.2,
-      kept (with_limit_at problem place worse) (with_limit_at problem place better) place (limited b worse) better h.0 found.0 h.1 found.1
-          change more h.2 h.3 found.2,
+      kept before after place (with_limit b worse) better h.0 found.0 h.1 found.1 change more h.2 h.3 found.2,
     )
 
 -- ---- the limits of the range, from the worst on
@@ -117,26 +125,26 @@ first_below P each (suc n) = elim (first_below P each n) [
 ]
 
 accepted_from : ExistenceLaws → BalanceLaw → (problem : ProblemState) (place : ℕ) (b : Block) (m n : ℕ) → IsProblem problem
-    → slice_get problem.blocks place ≡ Some b → m ≤ n → IsAcceptedAt problem place (limit_of b.order.side m)
-    → IsAcceptedAt problem place (limit_of b.order.side n)
+    → slice_get problem.blocks place ≡ Some b → m ≤ n → IsAcceptedAt problem place b (limit_of b.order.side m)
+    → IsAcceptedAt problem place b (limit_of b.order.side n)
 accepted_from laws law problem place b m n is at l h = elim (cases_lt m n) [
   | inl less ↦ better_too laws law problem place b (limit_of b.order.side m) (limit_of b.order.side n) is at
       (better_later b.order.side m n less) h
   | inr more ↦
-      (let same : m ≡ n = omega (arith, l, more) in subst (λ (k : ℕ). IsAcceptedAt problem place (limit_of b.order.side k)) same h)
+      (let same : m ≡ n = omega (arith, l, more) in subst (λ (k : ℕ). IsAcceptedAt problem place b (limit_of b.order.side k)) same h)
 ]
 
 pub worst_limit : ExistenceLaws → BalanceLaw → (problem : ProblemState) (place : ℕ) (b : Block) → IsProblem problem
     → slice_get problem.blocks place ≡ Some b
-    → IsNeverAccepted problem place ⊎ ((worst : ℤ) × IsWorstLimit problem place b.order.side worst)
+    → IsNeverAccepted problem place b ⊎ ((worst : ℤ) × IsWorstLimit problem place b worst)
 worst_limit laws law problem place b is at =
     let side = b.order.side in
-    elim (first_below (λ (n : ℕ). IsAcceptedAt problem place (limit_of side n))
-    (λ n. decided laws law problem place (limit_of side n) is) (suc price_span)) [
+    elim (first_below (λ (n : ℕ). IsAcceptedAt problem place b (limit_of side n))
+    (λ n. decided laws law problem place b (limit_of side n) is) (suc price_span)) [
       | inl none ↦ inl (λ limit range h.
           (let own = number_of side limit range in
           let l = own.1 in
-          none own.0 (omega (arith, l)) (subst (λ (z : ℤ). IsAcceptedAt problem place z) own.2 h)))
+          none own.0 (omega (arith, l)) (subst (λ (z : ℤ). IsAcceptedAt problem place b z) own.2 h)))
       | inr found ↦
           (let l = found.1 in
           inr (
@@ -145,16 +153,16 @@ worst_limit laws law problem place b is at =
               in_range = in_range side found.0 (omega (arith, l));
               accepted = λ limit range not_worse.
                   (let own = number_of side limit range in
-                  elim (cases_lt own.0 found.0) as (λ _. IsAcceptedAt problem place limit) [
+                  elim (cases_lt own.0 found.0) as (λ _. IsAcceptedAt problem place b limit) [
                     | inl less ↦ absurd (not_worse (subst (λ (z : ℤ). IsWorse side z (limit_of side found.0)) (sym own.2)
                         (before_worse side own.0 found.0 less)))
-                    | inr more ↦ subst (λ (z : ℤ). IsAcceptedAt problem place z) (sym own.2)
+                    | inr more ↦ subst (λ (z : ℤ). IsAcceptedAt problem place b z) (sym own.2)
                         (accepted_from laws law problem place b found.0 own.0 is at more found.2)
                   ]);
               rejected = λ limit range worse h.
                   (let own = number_of side limit range in
                   found.3 own.0 (worse_before side own.0 found.0 (subst (λ (z : ℤ). IsWorse side z (limit_of side found.0)) own.2 worse))
-                  (subst (λ (z : ℤ). IsAcceptedAt problem place z) own.2 h));
+                  (subst (λ (z : ℤ). IsAcceptedAt problem place b z) own.2 h));
             },
           ))
     ]

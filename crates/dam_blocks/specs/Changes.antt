@@ -1,7 +1,6 @@
 -- One problem that becomes another by one change.
-use Rattle.std.specs.Prelude.{◌≡◌, ℕ, zero, suc, ℤ, Bool, false, Some, List, [], ◌∷◌, ◌++◌, slice_get, remove, true, IsPermutation}
+use Rattle.std.specs.Prelude.{◌≡◌, ℕ, ℤ, Bool, false, Some, List, [], ◌∷◌, ◌++◌, slice_get, slice_set, remove, true, IsPermutation}
 use Rattle.dam_book.specs.Price.{IsPrice}
-use Rattle.dam_book.specs.declared.order.Side.{Side}
 use Rattle.dam_hour.specs.Price.{IsWorse}
 use Rattle.dam_hour.specs.declared.step.Step.{Step}
 use Rattle.dam_blocks.specs.declared.problem.Block.{Block}
@@ -19,40 +18,42 @@ pub record IsWithoutBlock (problem other : ProblemState) (place : ℕ) (block : 
   pub hours : other.hours ≡ problem.hours
   pub blocks : other.blocks ≡ remove problem.blocks place
 
--- the blocks with another limit for the one at the place
-abbrev pub with_limit : List Block → ℕ → ℤ → List Block
-with_limit [] place limit = []
-with_limit (b ∷ blocks) zero limit =
-    record { who = b.who; name = b.name; order = record b.order { price = limit } } ∷ blocks
-with_limit (b ∷ blocks) (suc place) limit = b ∷ with_limit blocks place limit
+-- the block with another limit
+abbrev pub with_limit : Block → ℤ → Block
+with_limit block limit = record block { order = record block.order { price = limit } }
 
 -- the other problem has the same hourly orders and, with this limit for the block at the place, the same blocks
 pub record IsWithLimit (problem other : ProblemState) (place : ℕ) (block : Block) (limit : ℤ)
     : Type 0 where
   pub stands : slice_get problem.blocks place ≡ Some block
   pub hours : other.hours ≡ problem.hours
-  pub blocks : other.blocks ≡ with_limit problem.blocks place limit
+  pub blocks : other.blocks ≡ slice_set problem.blocks place (with_limit block limit)
 
 -- the problem with this limit for the block at the place
-abbrev pub with_limit_at : ProblemState → ℕ → ℤ → ProblemState
-with_limit_at problem place limit = record problem { blocks = with_limit problem.blocks place limit }
+abbrev pub with_limit_at : ProblemState → ℕ → Block → ℤ → ProblemState
+with_limit_at problem place block limit =
+    record problem { blocks = slice_set problem.blocks place (with_limit block limit) }
 
 -- with this limit for the block at the place, the result accepts it
-abbrev pub IsAcceptedAt : ProblemState → ℕ → ℤ → Type 0
-IsAcceptedAt problem place limit =
-    (selection : List Bool) × (welfare : ℤ) × IsResult (with_limit_at problem place limit) selection welfare
+abbrev pub IsAcceptedAt : ProblemState → ℕ → Block → ℤ → Type 0
+IsAcceptedAt problem place block limit =
+    (selection : List Bool) × (welfare : ℤ)
+    × IsResult (with_limit_at problem place block limit) selection welfare
     × (accepts selection place ≡ true)
 
 -- no limit of the range makes the result accept the block at the place
-abbrev pub IsNeverAccepted : ProblemState → ℕ → Type 0
-IsNeverAccepted problem place = (limit : ℤ) → IsPrice limit → ¬ (IsAcceptedAt problem place limit)
+abbrev pub IsNeverAccepted : ProblemState → ℕ → Block → Type 0
+IsNeverAccepted problem place block =
+    (limit : ℤ) → IsPrice limit → ¬ (IsAcceptedAt problem place block limit)
 
 -- of the limits of the range, the result accepts the block at the place with this one and each that isn't worse, and
 -- rejects it with each that is
-pub record IsWorstLimit (problem : ProblemState) (place : ℕ) (side : Side) (worst : ℤ) : Type 0 where
+pub record IsWorstLimit (problem : ProblemState) (place : ℕ) (block : Block) (worst : ℤ) : Type 0 where
   pub in_range : IsPrice worst
-  pub accepted : (limit : ℤ) → IsPrice limit → ¬ (IsWorse side limit worst) → IsAcceptedAt problem place limit
-  pub rejected : (limit : ℤ) → IsPrice limit → IsWorse side limit worst → ¬ (IsAcceptedAt problem place limit)
+  pub accepted : (limit : ℤ) → IsPrice limit → ¬ (IsWorse block.order.side limit worst)
+      → IsAcceptedAt problem place block limit
+  pub rejected : (limit : ℤ) → IsPrice limit → IsWorse block.order.side limit worst
+      → ¬ (IsAcceptedAt problem place block limit)
 
 -- each period has the same hourly orders, perhaps in another order
 abbrev pub AreReordered : List (List Step) → List (List Step) → Type 0

@@ -48,14 +48,14 @@ surplus_at blocks prices i =
 
 -- the sum that must be at least 0 for the accepted block at a place: its own surplus and those of
 -- its accepted descendants
-abbrev pub gain_at : List Block → List Bool → List ℤ → ℕ → ℤ
-gain_at blocks selection prices i =
+abbrev pub family_surplus : List Block → List Bool → List ℤ → ℕ → ℤ
+family_surplus blocks selection prices i =
     surplus_at blocks prices i
     +ℤ over_accepted (surplus_of prices) blocks (accepted_descendants blocks selection i)
 
 -- no accepted block loses; a rejected one may have any surplus
 pub record HasNoLoss (blocks : List Block) (selection : List Bool) (prices : List ℤ) : Type 0 where
-  pub gains : (i : ℕ) → accepts selection i ≡ true → pos 0 ≤ℤ gain_at blocks selection prices i
+  pub gains : (i : ℕ) → accepts selection i ≡ true → pos 0 ≤ℤ family_surplus blocks selection prices i
 
 -- the sum, if there are both
 abbrev pub added : Option ℤ → Option ℤ → Option ℤ

@@ -111,7 +111,7 @@ pub record StandsAlone (blocks : List Block) (block : Block) : Type 0 where
   pub no_child : (k : ℕ) (other : Block) → slice_get blocks k ≡ Some other → ¬ (IsParent block other)
 
 -- the block at place i is accepted and has no parent, and the one at place j is that block or descends from it
-pub record IsHead (blocks : List Block) (selection : List Bool) (i j : ℕ) : Type 0 where
+pub record IsRootOf (blocks : List Block) (selection : List Bool) (i j : ℕ) : Type 0 where
   pub accepted : accepts selection i ≡ true
   pub no_parent : parent_place blocks i ≡ None
   pub family : ((j == i) || descends blocks i j) ≡ true

@@ -7,7 +7,7 @@ use Rattle.dam_blocks.specs.declared.scoring.Verdict.{Verdict}
 use Rattle.dam_blocks.specs.declared.scoring.Verdict.TheVariants.{NotAdmissible, Unbalanced, Losing, Eligible}
 use Rattle.dam_blocks.specs.Problem.{ProblemState}
 use Rattle.dam_blocks.specs.Selection.{accepts, net_volume, IsAdmissible}
-use Rattle.dam_blocks.specs.Eligible.{ArePrices, gain_at, IsEligible}
+use Rattle.dam_blocks.specs.Eligible.{ArePrices, family_surplus, IsEligible}
 
 -- no execution of the period balances, and one of each period before it does
 pub record IsFirstUnbalanced (problem : ProblemState) (selection : List Bool) (t : ℕ) : Type 0 where
@@ -22,9 +22,9 @@ pub record IsFirstUnbalanced (problem : ProblemState) (selection : List Bool) (t
 pub record IsFirstLosing (blocks : List Block) (selection : List Bool) (prices : List ℤ) (i : ℕ)
     : Type 0 where
   pub accepted : accepts selection i ≡ true
-  pub loses : gain_at blocks selection prices i <ℤ pos 0
+  pub loses : family_surplus blocks selection prices i <ℤ pos 0
   pub before : (j : ℕ) → j < i → accepts selection j ≡ true
-      → pos 0 ≤ℤ gain_at blocks selection prices j
+      → pos 0 ≤ℤ family_surplus blocks selection prices j
 
 -- the first of the faults, or the welfare
 abbrev pub IsVerdict : ProblemState → List Bool → Verdict → Type 0

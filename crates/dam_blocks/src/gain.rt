@@ -4,7 +4,7 @@ ghost use Rattle.dam_hour.specs.Limits.{price_span};
 ghost use Rattle.dam_hour.specs.Best.{signed};
 ghost use Rattle.dam_blocks.specs.Selection.{over_accepted};
 ghost use Rattle.dam_blocks.specs.Family.{accepted_descendants};
-ghost use Rattle.dam_blocks.specs.Eligible.{surplus_in, surplus_of, surplus_at, gain_at};
+ghost use Rattle.dam_blocks.specs.Eligible.{surplus_in, surplus_of, surplus_at, family_surplus};
 ghost use Rattle.dam_blocks.specs.Magnitude.{IsWithin, greatest_gain, greatest_surplus};
 
 use crate::accepted::{signed, times, volume_in};
@@ -100,10 +100,10 @@ fn surplus_of_descendants(
 /// least 0 for each accepted block (EUPHEMIA Public Description, "Linked Block Orders").
 ///
 /// The prices are those of the day's periods, from the first one on.
-pub fn gain_at(blocks: &[Block], selection: Selection, prices: &[Price], place: usize) -> i64
+pub fn family_surplus(blocks: &[Block], selection: Selection, prices: &[Price], place: usize) -> i64
     requires periods { length prices.now ≤ last_period }
     requires blocks { length blocks.now ≤ most_blocks }
-    ensures { result ≡ gain_at blocks.now selection prices.now place }
+    ensures { result ≡ family_surplus blocks.now selection prices.now place }
 {
     prove!(prices.len() <= usize::from(LAST_PERIOD) && blocks.len() <= MOST_BLOCKS);
     surplus_at(blocks, prices, place) + surplus_of_descendants(blocks, selection, prices, place)

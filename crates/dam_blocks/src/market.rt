@@ -15,9 +15,9 @@ ghost use Rattle.dam_blocks.specs.declared.problem.Place.TheVariants.{Hour as At
 ghost use Rattle.dam_blocks.specs.Problem.{ProblemState, blocks_in, problem_of, IsProblem};
 ghost use Rattle.dam_blocks.specs.Selection.{accepts, over_accepted, net_volume, IsAdmissible};
 ghost use Rattle.dam_blocks.specs.Family.{descends};
-ghost use Rattle.dam_blocks.specs.Eligible.{ArePrices, selection_welfare, gain_at, IsEligible};
+ghost use Rattle.dam_blocks.specs.Eligible.{ArePrices, selection_welfare, family_surplus, IsEligible};
 ghost use Rattle.dam_blocks.specs.Result.{IsResult};
-ghost use Rattle.dam_blocks.specs.Market.{AreBestExecutions, IsOutcome, traded, money_from, hourly_surplus, accepted_surplus, gain_of, over_orders_of, over_participants, AreParticipants, over_orders, StandsAlone, IsHead};
+ghost use Rattle.dam_blocks.specs.Market.{AreBestExecutions, IsOutcome, traded, money_from, hourly_surplus, accepted_surplus, gain_of, over_orders_of, over_participants, AreParticipants, over_orders, StandsAlone, IsRootOf};
 ghost use Rattle.dam_blocks.specs.Changes.{without_place, IsWithoutBlock, IsWithLimit, IsNeverAccepted, IsWorstLimit, IsReordered, HasBlocksReordered, AcceptTheSame};
 
 /// The problem of a closed book keeps what every problem keeps, so that the laws below hold for it.
@@ -29,15 +29,15 @@ pub fn a_closed_book_is_a_problem()
 /// A change of a book's rows is the same change of its problem: another limit of a block at its place, a
 /// block less, or the hourly orders of each period, or the blocks, in another order.
 pub fn a_changed_book_is_a_changed_problem()
-    ensures limit { (book other : BookState) (front back : List Row) (key : Key) (order : BlockTerms)
-        (limit : ℤ) → book.rows ≡ front ++ (key, BlockOrder order) ∷ back
+    ensures limit { (book other : BookState) (front back : List Row) (key : Key)
+        (order : BlockTerms) (limit : ℤ) → book.rows ≡ front ++ (key, BlockOrder order) ∷ back
         → other.rows ≡ front ++ (key, BlockOrder (record order { price = limit })) ∷ back
         → other.periods ≡ book.periods
         → IsWithLimit (problem_of book) (problem_of other) (length (blocks_in front))
         (record { who = key.0; name = key.1; order = order }) limit }
-    ensures block { (book other : BookState) (front back : List Row) (key : Key) (order : BlockTerms)
-        → book.rows ≡ front ++ (key, BlockOrder order) ∷ back → other.rows ≡ front ++ back
-        → other.periods ≡ book.periods
+    ensures block { (book other : BookState) (front back : List Row) (key : Key)
+        (order : BlockTerms) → book.rows ≡ front ++ (key, BlockOrder order) ∷ back
+        → other.rows ≡ front ++ back → other.periods ≡ book.periods
         → IsWithoutBlock (problem_of book) (problem_of other) (length (blocks_in front))
         (record { who = key.0; name = key.1; order = order }) }
     ensures hourly_orders { (book other : BookState) → IsPermutation book.rows other.rows
@@ -50,12 +50,13 @@ pub fn a_changed_book_is_a_changed_problem()
 
 /// An eligible selection, such as the result, has prices and best executions, and only these.
 pub fn an_eligible_selection_has_an_outcome()
-    ensures some { (problem : ProblemState) (selection : List Bool) (welfare : ℤ) → IsProblem problem
-        → IsEligible problem selection welfare
+    ensures some { (problem : ProblemState) (selection : List Bool) (welfare : ℤ)
+        → IsProblem problem → IsEligible problem selection welfare
         → (prices : List ℤ) × (executions : List (List ℕ))
         × IsOutcome problem selection prices executions }
     ensures one { (problem : ProblemState) (selection : List Bool) (prices other_prices : List ℤ)
-        (executions other_executions : List (List ℕ)) → IsOutcome problem selection prices executions
+        (executions other_executions : List (List ℕ))
+        → IsOutcome problem selection prices executions
         → IsOutcome problem selection other_prices other_executions
         → (prices ≡ other_prices) × (executions ≡ other_executions) }
 {
@@ -79,14 +80,16 @@ pub fn welfare_is_shared_out()
         → selection_welfare problem selection ≡ Some (hourly_surplus prices problem.hours executions
         +ℤ accepted_surplus prices problem.blocks selection) }
     ensures orders { (problem : ProblemState) (selection : List Bool) (prices : List ℤ)
-        (executions : List (List ℕ)) → IsProblem problem → IsOutcome problem selection prices executions
+        (executions : List (List ℕ)) → IsProblem problem
+        → IsOutcome problem selection prices executions
         → selection_welfare problem selection
         ≡ Some (over_orders (gain_of problem selection prices executions) problem.rows) }
     ensures participants { (problem : ProblemState) (selection : List Bool) (prices : List ℤ)
         (executions : List (List ℕ)) (participants : List (List ℕ)) → IsProblem problem
         → IsOutcome problem selection prices executions → AreParticipants participants problem.rows
         → selection_welfare problem selection
-        ≡ Some (over_participants participants (gain_of problem selection prices executions) problem.rows) }
+        ≡ Some (over_participants participants (gain_of problem selection prices executions)
+        problem.rows) }
 {
     dam_hour::laws::welfare();
     dam_hour::laws::surplus();
@@ -97,9 +100,11 @@ pub fn welfare_is_shared_out()
 pub fn money_balances()
     ensures volume { (blocks : List Block) (selection : List Bool) (t : ℕ) (steps : List Step)
         (volumes : List ℕ) → IsBest steps (net_volume blocks selection t) volumes
-        → traded Buy blocks selection t steps volumes ≡ traded Sell blocks selection t steps volumes }
-    ensures money_in_period { (blocks : List Block) (selection : List Bool) (t : ℕ) (steps : List Step)
-        (volumes : List ℕ) (price : ℤ) → IsBest steps (net_volume blocks selection t) volumes
+        → traded Buy blocks selection t steps volumes
+        ≡ traded Sell blocks selection t steps volumes }
+    ensures money_in_period { (blocks : List Block) (selection : List Bool) (t : ℕ)
+        (steps : List Step) (volumes : List ℕ) (price : ℤ)
+        → IsBest steps (net_volume blocks selection t) volumes
         → price *ℤ traded Buy blocks selection t steps volumes
         ≡ price *ℤ traded Sell blocks selection t steps volumes }
     ensures money { (problem : ProblemState) (selection : List Bool) (prices : List ℤ)
@@ -113,7 +118,7 @@ pub fn money_balances()
 ///
 /// A single block may lose, but an accepted block and its accepted descendants together gain at least 0
 /// (`descendants`). Each accepted block is, or descends from, just one accepted block without a parent
-/// (`head`), and a block and its descendants are one participant's (`owner`).
+/// (`root`), and a block and its descendants are one participant's (`owner`).
 pub fn nobody_loses()
     ensures order { (problem : ProblemState) (selection : List Bool) (prices : List ℤ)
         (executions : List (List ℕ)) (t i : ℕ) → IsOutcome problem selection prices executions
@@ -123,13 +128,14 @@ pub fn nobody_loses()
         → IsEligible problem selection welfare → IsOutcome problem selection prices executions
         → pos 0 ≤ℤ over_orders_of who (gain_of problem selection prices executions) problem.rows }
     ensures descendants { (problem : ProblemState) (selection : List Bool) (welfare : ℤ)
-        (prices : List ℤ) (executions : List (List ℕ)) (i : ℕ) → IsEligible problem selection welfare
-        → IsOutcome problem selection prices executions → accepts selection i ≡ true
-        → pos 0 ≤ℤ gain_at problem.blocks selection prices i }
-    ensures head { (problem : ProblemState) (selection : List Bool) (j : ℕ) → IsProblem problem
+        (prices : List ℤ) (executions : List (List ℕ)) (i : ℕ)
+        → IsEligible problem selection welfare → IsOutcome problem selection prices executions
+        → accepts selection i ≡ true
+        → pos 0 ≤ℤ family_surplus problem.blocks selection prices i }
+    ensures root { (problem : ProblemState) (selection : List Bool) (j : ℕ) → IsProblem problem
         → IsAdmissible problem.blocks selection → accepts selection j ≡ true
-        → (i : ℕ) × IsHead problem.blocks selection i j
-        × ((k : ℕ) → IsHead problem.blocks selection k j → k ≡ i) }
+        → (i : ℕ) × IsRootOf problem.blocks selection i j
+        × ((k : ℕ) → IsRootOf problem.blocks selection k j → k ≡ i) }
     ensures owner { (problem : ProblemState) (i j : ℕ) (a b : Block) → IsProblem problem
         → slice_get problem.blocks i ≡ Some a → slice_get problem.blocks j ≡ Some b
         → descends problem.blocks i j ≡ true → a.who ≡ b.who }
@@ -188,10 +194,11 @@ pub fn a_better_limit_keeps_a_block()
     ensures outcome { (problem other : ProblemState) (place : ℕ) (block : Block) (limit : ℤ)
         (selection : List Bool) (prices : List ℤ) (executions : List (List ℕ))
         → IsWithLimit problem other place block limit
-        → IsOutcome problem selection prices executions → IsOutcome other selection prices executions }
+        → IsOutcome problem selection prices executions
+        → IsOutcome other selection prices executions }
     ensures worst { (problem : ProblemState) (place : ℕ) (block : Block) → IsProblem problem
-        → slice_get problem.blocks place ≡ Some block → IsNeverAccepted problem place
-        ⊎ ((limit : ℤ) × IsWorstLimit problem place block.order.side limit) }
+        → slice_get problem.blocks place ≡ Some block → IsNeverAccepted problem place block
+        ⊎ ((limit : ℤ) × IsWorstLimit problem place block limit) }
 {
     dam_hour::laws::balance();
     dam_hour::laws::existence();
@@ -201,11 +208,11 @@ pub fn a_better_limit_keeps_a_block()
 /// The better of two blocks goes first: of two blocks with the same side and volumes that have no links and
 /// no groups, the result doesn't accept the one with the worse limit without the other.
 pub fn the_better_of_two_blocks()
-    ensures accepted { (problem : ProblemState) (i j : ℕ) (better worse : Block) (selection : List Bool)
-        (welfare : ℤ) → IsProblem problem → slice_get problem.blocks i ≡ Some better
-        → slice_get problem.blocks j ≡ Some worse → StandsAlone problem.blocks better
-        → StandsAlone problem.blocks worse → better.order.side ≡ worse.order.side
-        → better.order.volumes ≡ worse.order.volumes
+    ensures accepted { (problem : ProblemState) (i j : ℕ) (better worse : Block)
+        (selection : List Bool) (welfare : ℤ) → IsProblem problem
+        → slice_get problem.blocks i ≡ Some better → slice_get problem.blocks j ≡ Some worse
+        → StandsAlone problem.blocks better → StandsAlone problem.blocks worse
+        → better.order.side ≡ worse.order.side → better.order.volumes ≡ worse.order.volumes
         → IsBetter worse.order.side better.order.price worse.order.price
         → IsResult problem selection welfare → accepts selection j ≡ true
         → accepts selection i ≡ true }

@@ -4,7 +4,7 @@ ghost use Rattle.dam_blocks.specs.Eligible.{ArePrices, HasNoLoss, selection_welf
 ghost use Rattle.dam_blocks.specs.Score.{IsFirstUnbalanced, IsFirstLosing, IsVerdict};
 
 use crate::accepted::{block_value, net_volume};
-use crate::gain::gain_at;
+use crate::gain::family_surplus;
 use crate::laws;
 use crate::links::admissible;
 use crate::problem::{MOST_PERIODS, Problem};
@@ -72,7 +72,7 @@ fn first_losing<A: Allocator>(
 {
     let blocks = problem.blocks();
     for place in 0..MOST_BLOCKS {
-        if selection.has(place) && gain_at(blocks, selection, prices, place) < 0 {
+        if selection.has(place) && family_surplus(blocks, selection, prices, place) < 0 {
             return Some(place);
         }
     }

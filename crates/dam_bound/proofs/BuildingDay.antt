@@ -12,8 +12,9 @@ use Rattle.dam_book.specs.Terms.{BlockTerms}
 use Rattle.dam_hour.specs.Best.{greatest_welfare}
 use Rattle.dam_hour.specs.Execution.{IsBalanced, IsWithinOffers}
 use Rattle.dam_hour.specs.declared.step.Step.{Step}
+use Rattle.dam_curve.specs.declared.curves.Lookup.TheVariants.{Hints}
 use Rattle.dam_curve.specs.Curve.{both, joint_welfare, greatest_joint_welfare, Keeps}
-use Rattle.dam_curve.specs.declared.line.Line.{Line}
+use Rattle.dam_curve.specs.Curve.{CurvesState}
 use Rattle.dam_curve.specs.declared.curves.Curve.{Curve}
 use Rattle.dam_blocks.specs.declared.problem.Block.{Block}
 use Rattle.dam_blocks.specs.Problem.{ProblemState}
@@ -32,11 +33,11 @@ use Rattle.dam_bound.proofs.BuildingCurves.{relaxed_long}
 use Rattle.dam_bound.proofs.BuildingTouches.{class_curve_stays}
 
 -- ---- the curves of the periods so far
-pub record AreFirstCurves (problem : ProblemState) (lines : List Line) (count : ℕ) (ends : List Curve) : Type 0 where
+pub record AreFirstCurves (problem : ProblemState) (all : CurvesState) (count : ℕ) (ends : List Curve) : Type 0 where
   pub long : length ends ≡ count
-  pub each : (c : ℕ) (d : Curve) → c < count → first_of problem.blocks c ≡ c → IsClassCurve problem lines 0 c (get_or ends c d)
+  pub each : (c : ℕ) (d : Curve) → c < count → first_of problem.blocks c ≡ c → IsClassCurve problem all 0 c (get_or ends c d)
 
-pub curve_pushed : (problem : ProblemState) (old new : List Line) (count : ℕ) (ends ends' : List Curve) (curve : Curve) → Keeps old new
+pub curve_pushed : (problem : ProblemState) (old new : CurvesState) (count : ℕ) (ends ends' : List Curve) (curve : Curve) → Keeps old new
     → (first_of problem.blocks count ≡ count → IsClassCurve problem new 0 count curve) → ends' ≡ ends ++ curve ∷ []
     → AreFirstCurves problem old count ends → AreFirstCurves problem new (count + 1) ends'
 curve_pushed problem old new count ends ends' curve keeps is same so_far =
@@ -216,7 +217,7 @@ root_ended law problem at day all long so_far = record {
 
 -- the curve of nothing
 abbrev pub no_line : Curve
-no_line = record { first = 0; count = 0; bottom = pos 0; top = pos 0; hints = 0; shift = 0 }
+no_line = record { first = 0; count = 0; bottom = pos 0; top = pos 0; lookup = Hints (record { first = 0; shift = 0 }) }
 
 -- a class more, as the code has it
 pub root_step : Zero → (problem : ProblemState) (at : ℕ) (root root' : Day) (w w' total' : ℤ)

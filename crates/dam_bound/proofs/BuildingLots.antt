@@ -5,7 +5,7 @@ use Rattle.std.specs.List.{slice_get}
 use Rattle.std.specs.Prelude.{IsPermutation}
 use Rattle.std.proofs.lemmas.List.{drop_all, append-nil}
 use Rattle.dam_curve.specs.Curve.{Keeps}
-use Rattle.dam_curve.specs.declared.line.Line.{Line}
+use Rattle.dam_curve.specs.Curve.{CurvesState}
 use Rattle.dam_curve.specs.declared.curves.Curve.{Curve}
 use Rattle.dam_blocks.specs.declared.problem.Block.{Block}
 use Rattle.dam_blocks.specs.Problem.{ProblemState}
@@ -16,38 +16,38 @@ use Rattle.dam_bound.proofs.BuildingSupplies.{some_same}
 use Rattle.dam_bound.proofs.BuildingTouches.{curves_stay, lots_stay, rejected_are, in_any_order}
 
 -- the lots of the blocks so far, and the curves and the slots after them
-pub record IsBuiltSoFar (problem : ProblemState) (lines : List Line) (k : ℕ) (ends : List Curve) (places : List ℕ) (lots : List LotState)
+pub record IsBuiltSoFar (problem : ProblemState) (all : CurvesState) (k : ℕ) (ends : List Curve) (places : List ℕ) (lots : List LotState)
     : Type 0 where
-  pub ends_are : AreCurves problem lines k ends
+  pub ends_are : AreCurves problem all k ends
   pub places_are : ArePlaces problem k places
-  pub lots_are : AreLots problem lines k lots
+  pub lots_are : AreLots problem all k lots
 
-pub none_built : (problem : ProblemState) (lines : List Line) (ends : List Curve) (places : List ℕ) (lots : List LotState) → lots ≡ []
-    → AreCurves problem lines 0 ends → ArePlaces problem 0 places → IsBuiltSoFar problem lines 0 ends places lots
-none_built problem lines ends places lots none curves slots = record {
+pub none_built : (problem : ProblemState) (all : CurvesState) (ends : List Curve) (places : List ℕ) (lots : List LotState) → lots ≡ []
+    → AreCurves problem all 0 ends → ArePlaces problem 0 places → IsBuiltSoFar problem all 0 ends places lots
+none_built problem all ends places lots none curves slots = record {
   ends_are = curves;
   places_are = slots;
-  lots_are = subst (AreLots problem lines 0) (sym none) (record { as_many = refl; each = λ k b lot at there. absurd (cc) });
+  lots_are = subst (AreLots problem all 0) (sym none) (record { as_many = refl; each = λ k b lot at there. absurd (cc) });
 }
 
-lot_more : (problem : ProblemState) (lines : List Line) (k : ℕ) (b : Block) (lots lots' : List LotState) (lot : LotState)
-    → slice_get problem.blocks k ≡ Some b → IsLot problem lines k b lot → lots' ≡ lots ++ lot ∷ []
-    → AreLots problem lines k lots → AreLots problem lines (k + 1) lots'
-lot_more problem lines k b lots lots' lot at is same so_far =
+lot_more : (problem : ProblemState) (all : CurvesState) (k : ℕ) (b : Block) (lots lots' : List LotState) (lot : LotState)
+    → slice_get problem.blocks k ≡ Some b → IsLot problem all k b lot → lots' ≡ lots ++ lot ∷ []
+    → AreLots problem all k lots → AreLots problem all (k + 1) lots'
+lot_more problem all k b lots lots' lot at is same so_far =
     let long = so_far.as_many in
-    subst (AreLots problem lines (k + 1)) (sym same) (record {
+    subst (AreLots problem all (k + 1)) (sym same) (record {
       as_many = omega (arith, length-append lots (lot ∷ []), long);
       each = λ i c other e f. elim (of_pushed lots lot i other f) [
         | inl old_one ↦ so_far.each i c other e old_one
         | inr new_one ↦
             (let here : k ≡ i = omega (arith, new_one.0, long) in
             let block = some_same b c (sym at ∙ subst (λ (n : ℕ). slice_get problem.blocks n ≡ Some c) (sym here) e) in
-            subst (λ (x : LotState). IsLot problem lines i c x) new_one.1
-            (subst (λ (n : ℕ). IsLot problem lines n c lot) here (subst (λ (x : Block). IsLot problem lines k x lot) block is)))
+            subst (λ (x : LotState). IsLot problem all i c x) new_one.1
+            (subst (λ (n : ℕ). IsLot problem all n c lot) here (subst (λ (x : Block). IsLot problem all k x lot) block is)))
       ];
     })
 
-pub built_more : (problem : ProblemState) (old new : List Line) (k : ℕ) (b : Block) (ends ends' : List Curve) (places places' : List ℕ)
+pub built_more : (problem : ProblemState) (old new : CurvesState) (k : ℕ) (b : Block) (ends ends' : List Curve) (places places' : List ℕ)
     (lots lots' : List LotState) (accepted others : List Touch) (lot : LotState)
     → Keeps old new → slice_get problem.blocks k ≡ Some b → AreTouches problem new k b true accepted → others ≡ map rejected accepted
     → IsPermutation accepted lot.accepted → IsPermutation others lot.rejected → lots' ≡ lots ++ lot ∷ []

@@ -16,7 +16,7 @@ use Rattle.dam_book.specs.Volumes.{Pair}
 use Rattle.dam_hour.specs.Best.{signed}
 use Rattle.dam_hour.specs.declared.step.Step.{Step}
 use Rattle.dam_curve.specs.Curve.{bottom_of, end_of, IsCurve, IsCurveAt, Keeps}
-use Rattle.dam_curve.specs.declared.line.Line.{Line}
+use Rattle.dam_curve.specs.Curve.{CurvesState}
 use Rattle.dam_curve.specs.declared.curves.Curve.{Curve}
 use Rattle.dam_blocks.specs.declared.problem.Block.{Block}
 use Rattle.dam_blocks.specs.Problem.{ProblemState}
@@ -32,35 +32,21 @@ use Rattle.dam_bound.proofs.BuildingPairs.{IsNextPair}
 use Rattle.dam_bound.proofs.BuildingSupplies.{some_same}
 
 -- ---- what is there stays
-pub curve_stays : (old new : List Line) (curve : Curve) (periods : List (List Step)) (least most : ℤ) → Keeps old new
-    → IsCurveAt old curve periods least most → IsCurveAt new curve periods least most
-curve_stays old new curve periods least most keeps is =
-    let same = keeps curve is.within in
-    record {
-      within = same.0;
-      is_curve = subst (IsCurve periods least most) (sym same.1) is.is_curve;
-      ends = λ some. (let ends = is.ends some in
-          (ends.0 ∙ ap bottom_of (sym same.1), ends.1 ∙ ap (λ (ls : List Line). end_of ls (pos 0)) (sym same.1)));
-      none = is.none;
-    }
+pub keeps_on : (one two all : CurvesState) → Keeps one two → Keeps two all → Keeps one all
+keeps_on one two all f g curve periods least most is = g curve periods least most (f curve periods least most is)
 
-pub keeps_on : (one two all : List Line) → Keeps one two → Keeps two all → Keeps one all
-keeps_on one two all f g curve l =
-    let a = f curve l in let b = g curve a.0 in
-    (b.0, b.1 ∙ a.1)
-
-pub class_curve_stays : (problem : ProblemState) (old new : List Line) (depth c : ℕ) (curve : Curve) → Keeps old new
+pub class_curve_stays : (problem : ProblemState) (old new : CurvesState) (depth c : ℕ) (curve : Curve) → Keeps old new
     → IsClassCurve problem old depth c curve → IsClassCurve problem new depth c curve
-class_curve_stays problem old new depth c curve keeps is = curve_stays old new curve _ _ _ keeps is
+class_curve_stays problem old new depth c curve keeps is = keeps curve _ _ _ is
 
-pub curves_stay : (problem : ProblemState) (old new : List Line) (depth : ℕ) (curves : List Curve) → Keeps old new
+pub curves_stay : (problem : ProblemState) (old new : CurvesState) (depth : ℕ) (curves : List Curve) → Keeps old new
     → AreCurves problem old depth curves → AreCurves problem new depth curves
 curves_stay problem old new depth curves keeps are = record {
   as_many = are.as_many;
   each = λ c d l first. class_curve_stays problem old new depth c (get_or curves c d) keeps (are.each c d l first);
 }
 
-pub touch_stays : (problem : ProblemState) (old new : List Line) (k : ℕ) (b : Block) (accept : Bool) (touch : Touch) → Keeps old new
+pub touch_stays : (problem : ProblemState) (old new : CurvesState) (k : ℕ) (b : Block) (accept : Bool) (touch : Touch) → Keeps old new
     → IsTouch problem old k b accept touch → IsTouch problem new k b accept touch
 touch_stays problem old new k b accept touch keeps is = record {
   inside = is.inside;
@@ -73,14 +59,14 @@ touch_stays problem old new k b accept touch keeps is = record {
   curve_is = class_curve_stays problem old new (k + 1) touch.at touch.curve keeps is.curve_is;
 }
 
-pub touches_stay : (problem : ProblemState) (old new : List Line) (k : ℕ) (b : Block) (accept : Bool) (touches : List Touch)
+pub touches_stay : (problem : ProblemState) (old new : CurvesState) (k : ℕ) (b : Block) (accept : Bool) (touches : List Touch)
     → Keeps old new → AreTouches problem old k b accept touches → AreTouches problem new k b accept touches
 touches_stay problem old new k b accept touches keeps are = record {
   one_each = are.one_each;
   each = λ j touch at. touch_stays problem old new k b accept touch keeps (are.each j touch at);
 }
 
-pub lots_stay : (problem : ProblemState) (old new : List Line) (count : ℕ) (lots : List LotState) → Keeps old new
+pub lots_stay : (problem : ProblemState) (old new : CurvesState) (count : ℕ) (lots : List LotState) → Keeps old new
     → AreLots problem old count lots → AreLots problem new count lots
 lots_stay problem old new count lots keeps are = record {
   as_many = are.as_many;
@@ -141,20 +127,20 @@ at_last : (c : ℕ) (touches : List Touch) (touch : Touch)
 at_last c touches touch = sum_by_push (λ (t : Touch). cond (t.at == c) 1 0) touches touch
 
 -- ---- the touches so far
-pub record AreTouchesSoFar (problem : ProblemState) (lines : List Line) (k : ℕ) (b : Block) (left : List Pair) (touches : List Touch)
+pub record AreTouchesSoFar (problem : ProblemState) (all : CurvesState) (k : ℕ) (b : Block) (left : List Pair) (touches : List Touch)
     : Type 0 where
   pub one_each : (c : ℕ) → touches_at c touches + cond (touched problem c (volume_in left (c + 1))) 1 0
       ≡ cond (touched problem c (volume_in b.order.volumes (c + 1))) 1 0
-  pub each : (j : ℕ) (touch : Touch) → slice_get touches j ≡ Some touch → IsTouch problem lines k b true touch
+  pub each : (j : ℕ) (touch : Touch) → slice_get touches j ≡ Some touch → IsTouch problem all k b true touch
 
-pub no_touch : (problem : ProblemState) (lines : List Line) (k : ℕ) (b : Block) → AreTouchesSoFar problem lines k b b.order.volumes []
-no_touch problem lines k b = record {
+pub no_touch : (problem : ProblemState) (all : CurvesState) (k : ℕ) (b : Block) → AreTouchesSoFar problem all k b b.order.volumes []
+no_touch problem all k b = record {
   one_each = λ c. (let own : ℕ = cond (touched problem c (volume_in b.order.volumes (c + 1))) 1 0 in
       let none : 0 + own ≡ own = omega arith in none);
   each = λ j touch e. absurd (cc);
 }
 
-pub touch_more : (problem : ProblemState) (old new : List Line) (k j place : ℕ) (b : Block) (p : Pair) (touches touches' : List Touch)
+pub touch_more : (problem : ProblemState) (old new : CurvesState) (k j place : ℕ) (b : Block) (p : Pair) (touches touches' : List Touch)
     (touch : Touch) → Keeps old new → IsNextPair (length problem.hours) b.order.volumes j p → p.0 ≡ place + 1 → touch.at ≡ place
     → IsTouch problem new k b true touch → touches' ≡ touches ++ touch ∷ []
     → AreTouchesSoFar problem old k b (drop j b.order.volumes) touches
@@ -205,11 +191,11 @@ touch_more problem old new k j place b p touches touches' touch keeps next numbe
         let before = so_far.one_each c in
         omega (arith, last, one, was, gone, before)
 
-pub touch_same : (problem : ProblemState) (lines : List Line) (k j place : ℕ) (b : Block) (p : Pair) (touches : List Touch)
+pub touch_same : (problem : ProblemState) (all : CurvesState) (k j place : ℕ) (b : Block) (p : Pair) (touches : List Touch)
     → IsNextPair (length problem.hours) b.order.volumes j p → p.0 ≡ place + 1 → first_of problem.blocks place ≢ place
-    → AreTouchesSoFar problem lines k b (drop j b.order.volumes) touches
-    → AreTouchesSoFar problem lines k b (drop (j + 1) b.order.volumes) touches
-touch_same problem lines k j place b p touches next number later so_far = record {
+    → AreTouchesSoFar problem all k b (drop j b.order.volumes) touches
+    → AreTouchesSoFar problem all k b (drop (j + 1) b.order.volumes) touches
+touch_same problem all k j place b p touches next number later so_far = record {
   one_each = λ c. elim (cases_lt c place) [
     | inl less ↦ other c (omega (arith, less, number))
     | inr more ↦ elim (cases_lt place c) [
@@ -236,11 +222,11 @@ touch_same problem lines k j place b p touches next number later so_far = record
         let before = so_far.one_each c in
         omega (arith, was, gone, before)
 
-pub all_touched : (problem : ProblemState) (lines : List Line) (k j : ℕ) (b : Block) (touches : List Touch) → length b.order.volumes ≤ j
-    → AreTouchesSoFar problem lines k b (drop j b.order.volumes) touches → AreTouches problem lines k b true touches
-all_touched problem lines k j b touches all so_far = record {
+pub all_touched : (problem : ProblemState) (all : CurvesState) (k j : ℕ) (b : Block) (touches : List Touch) → length b.order.volumes ≤ j
+    → AreTouchesSoFar problem all k b (drop j b.order.volumes) touches → AreTouches problem all k b true touches
+all_touched problem all k j b touches past so_far = record {
   one_each = λ c.
-      (let none = ap (λ (v : List Pair). volume_in v (c + 1)) (drop_all j b.order.volumes all) in
+      (let none = ap (λ (v : List Pair). volume_in v (c + 1)) (drop_all j b.order.volumes past) in
       let gone = ap {B = ℕ} (λ (t : Bool). cond t 1 0) (touched_none problem c (volume_in (drop j b.order.volumes) (c + 1)) none) in
       let before = so_far.one_each c in
       omega (arith, gone, before));
@@ -287,9 +273,9 @@ worth_in_all problem k c t b o z x y at same number is worth size =
     ∙ sym (class_worth problem k c b at)
 
 -- ---- the rejected ones, and in any order
-rejected_is : (problem : ProblemState) (lines : List Line) (k : ℕ) (b : Block) (touch : Touch) → IsTouch problem lines k b true touch
-    → IsTouch problem lines k b false (rejected touch)
-rejected_is problem lines k b touch is = record {
+rejected_is : (problem : ProblemState) (all : CurvesState) (k : ℕ) (b : Block) (touch : Touch) → IsTouch problem all k b true touch
+    → IsTouch problem all k b false (rejected touch)
+rejected_is problem all k b touch is = record {
   inside = is.inside;
   first = is.first;
   some = is.some;
@@ -306,31 +292,31 @@ rejected_at c (touch ∷ touches) =
     at_first c (rejected touch) (map rejected touches) ∙ ap {B = ℕ} (λ (n : ℕ). cond (touch.at == c) 1 0 + n) (rejected_at c touches)
     ∙ sym (at_first c touch touches)
 
-rejected_each : (problem : ProblemState) (lines : List Line) (k : ℕ) (b : Block) (touches : List Touch)
-    → ((j : ℕ) (touch : Touch) → slice_get touches j ≡ Some touch → IsTouch problem lines k b true touch)
-    → (j : ℕ) (touch : Touch) → slice_get (map rejected touches) j ≡ Some touch → IsTouch problem lines k b false touch
-rejected_each problem lines k b [] each j touch at = absurd (cc)
-rejected_each problem lines k b (x ∷ touches) each zero touch at =
-    subst (IsTouch problem lines k b false) (some_same (rejected x) touch at) (rejected_is problem lines k b x (each zero x refl))
-rejected_each problem lines k b (x ∷ touches) each (suc j) touch at =
-    rejected_each problem lines k b touches (λ i t e. each (suc i) t e) j touch at
+rejected_each : (problem : ProblemState) (all : CurvesState) (k : ℕ) (b : Block) (touches : List Touch)
+    → ((j : ℕ) (touch : Touch) → slice_get touches j ≡ Some touch → IsTouch problem all k b true touch)
+    → (j : ℕ) (touch : Touch) → slice_get (map rejected touches) j ≡ Some touch → IsTouch problem all k b false touch
+rejected_each problem all k b [] each j touch at = absurd (cc)
+rejected_each problem all k b (x ∷ touches) each zero touch at =
+    subst (IsTouch problem all k b false) (some_same (rejected x) touch at) (rejected_is problem all k b x (each zero x refl))
+rejected_each problem all k b (x ∷ touches) each (suc j) touch at =
+    rejected_each problem all k b touches (λ i t e. each (suc i) t e) j touch at
 
-pub rejected_are : (problem : ProblemState) (lines : List Line) (k : ℕ) (b : Block) (touches others : List Touch)
-    → others ≡ map rejected touches → AreTouches problem lines k b true touches → AreTouches problem lines k b false others
-rejected_are problem lines k b touches others same are =
-    subst (AreTouches problem lines k b false) (sym same) (record {
+pub rejected_are : (problem : ProblemState) (all : CurvesState) (k : ℕ) (b : Block) (touches others : List Touch)
+    → others ≡ map rejected touches → AreTouches problem all k b true touches → AreTouches problem all k b false others
+rejected_are problem all k b touches others same are =
+    subst (AreTouches problem all k b false) (sym same) (record {
       one_each = λ c. rejected_at c touches ∙ are.one_each c;
-      each = rejected_each problem lines k b touches are.each;
+      each = rejected_each problem all k b touches are.each;
     })
 
-pub in_any_order : (problem : ProblemState) (lines : List Line) (k : ℕ) (b : Block) (accept : Bool) (touches others : List Touch)
-    → IsPermutation touches others → AreTouches problem lines k b accept touches → AreTouches problem lines k b accept others
-in_any_order problem lines k b accept touches others same are =
-    let each = All-permutation (λ (x : Touch). IsTouch problem lines k b accept x) touches others same
+pub in_any_order : (problem : ProblemState) (all : CurvesState) (k : ℕ) (b : Block) (accept : Bool) (touches others : List Touch)
+    → IsPermutation touches others → AreTouches problem all k b accept touches → AreTouches problem all k b accept others
+in_any_order problem all k b accept touches others same are =
+    let each = All-permutation (λ (x : Touch). IsTouch problem all k b accept x) touches others same
     (λ j d inside. are.each j (get_or touches j d) (slice_get-get_or touches j d inside)) in
     record {
       one_each = λ c. sum_by-IsPermutation (λ (t : Touch). cond (t.at == c) 1 0) touches others same ∙ are.one_each c;
       each = λ j touch at.
-          subst (λ (x : Touch). IsTouch problem lines k b accept x) (get_or_from_slice_get others j touch touch at)
+          subst (λ (x : Touch). IsTouch problem all k b accept x) (get_or_from_slice_get others j touch touch at)
           (each j touch (slice_get_within others j touch at));
     }

@@ -9,8 +9,9 @@ use Rattle.std.proofs.lemmas.List.{length-set, get_or-set_same, get_or-set_other
 use Rattle.dam_book.specs.Limits.{last_period, most_blocks}
 use Rattle.dam_book.specs.declared.order.Side.TheVariants.{Buy, Sell}
 use Rattle.dam_hour.specs.declared.step.Step.{Step}
+use Rattle.dam_curve.specs.declared.curves.Lookup.TheVariants.{Hints}
 use Rattle.dam_curve.specs.Curve.{IsCurveAt}
-use Rattle.dam_curve.specs.declared.line.Line.{Line}
+use Rattle.dam_curve.specs.Curve.{CurvesState}
 use Rattle.dam_curve.specs.declared.curves.Curve.{Curve}
 use Rattle.dam_blocks.specs.declared.problem.Block.{Block}
 use Rattle.dam_blocks.specs.Problem.{ProblemState}
@@ -35,7 +36,7 @@ blank = record {
   to = 0;
   net = pos 0;
   value = pos 0;
-  curve = record { first = 0; count = 0; bottom = pos 0; top = pos 0; hints = 0; shift = 0 };
+  curve = record { first = 0; count = 0; bottom = pos 0; top = pos 0; lookup = Hints (record { first = 0; shift = 0 }) };
   stake = pos 0;
 }
 
@@ -122,29 +123,29 @@ volume_cases : {X : Type 0} (n : ℕ) → (n ≡ 0 → X) → (0 < n → X) → 
 volume_cases zero f g = f refl
 volume_cases (suc n) f g = g (omega arith)
 
-count_none : (problem : ProblemState) (lines : List Line) (k c : ℕ) (b : Block) (touches : List Touch)
-    → AreTouches problem lines k b true touches → volume_in b.order.volumes (c + 1) ≡ 0 → touches_at c touches ≡ 0
-count_none problem lines k c b touches are none =
+count_none : (problem : ProblemState) (all : CurvesState) (k c : ℕ) (b : Block) (touches : List Touch)
+    → AreTouches problem all k b true touches → volume_in b.order.volumes (c + 1) ≡ 0 → touches_at c touches ≡ 0
+count_none problem all k c b touches are none =
     are.one_each c ∙ ap {B = ℕ} (λ (t : Bool). cond t 1 0) (touched_none problem c (volume_in b.order.volumes (c + 1)) none)
 
-count_one : (problem : ProblemState) (lines : List Line) (k c : ℕ) (b : Block) (touches : List Touch)
-    → AreTouches problem lines k b true touches → c < length problem.hours → first_of problem.blocks c ≡ c
+count_one : (problem : ProblemState) (all : CurvesState) (k c : ℕ) (b : Block) (touches : List Touch)
+    → AreTouches problem all k b true touches → c < length problem.hours → first_of problem.blocks c ≡ c
     → 0 < volume_in b.order.volumes (c + 1) → touches_at c touches ≡ 1
-count_one problem lines k c b touches are l first some =
+count_one problem all k c b touches are l first some =
     are.one_each c ∙ ap {B = ℕ} (λ (t : Bool). cond t 1 0) (touched_some problem c (volume_in b.order.volumes (c + 1)) l first some)
 
-pub places_after : (problem : ProblemState) (lines : List Line) (k : ℕ) (b : Block) (touches : List Touch) (places places' : List ℕ)
+pub places_after : (problem : ProblemState) (all : CurvesState) (k : ℕ) (b : Block) (touches : List Touch) (places places' : List ℕ)
     → slice_get problem.blocks k ≡ Some b → k < most_blocks → length problem.hours ≤ last_period
-    → AreTouches problem lines k b true touches → places' ≡ written (λ t. t.to) places touches
+    → AreTouches problem all k b true touches → places' ≡ written (λ t. t.to) places touches
     → ArePlaces problem k places → ArePlaces problem (k + 1) places'
-places_after problem lines k b touches places places' at few short are same before =
+places_after problem all k b touches places places' at few short are same before =
     let long = before.long in
     subst (ArePlaces problem (k + 1)) (sym same) (record {
       long = written_long (λ (t : Touch). t.to) places touches ∙ before.long;
       each = λ c d l first. volume_cases (volume_in b.order.volumes (c + 1))
-          (λ none. written_other (λ (t : Touch). t.to) places touches c d (count_none problem lines k c b touches are none)
+          (λ none. written_other (λ (t : Touch). t.to) places touches c d (count_none problem all k c b touches are none)
           ∙ before.each c d l first ∙ sym (slot_kept problem.blocks c k b at none))
-          (λ some. (let one = count_one problem lines k c b touches are l first some in
+          (λ some. (let one = count_one problem all k c b touches are l first some in
           written_own (λ (n : ℕ). n ≡ slot_at problem.blocks c (k + 1)) (λ (t : Touch). t.to) places touches c d
           (omega (arith, l, short, long)) (omega (arith, one))
           (λ j touch there here. (are.each j touch there).to_is ∙ ap (λ (n : ℕ). (k + 1) * last_period + n) here
@@ -184,33 +185,33 @@ hours_kept problem k c b at none =
     (λ n first. same_steps problem.blocks (suc n) k b at
     (class_volume problem.blocks n c k b first at ∙ ap (volume_in b.order.volumes) number ∙ none))
 
-pub curve_after : (problem : ProblemState) (lines : List Line) (k c : ℕ) (b : Block) (curve : Curve) → slice_get problem.blocks k ≡ Some b
-    → volume_in b.order.volumes (c + 1) ≡ 0 → IsClassCurve problem lines k c curve → IsClassCurve problem lines (k + 1) c curve
-curve_after problem lines k c b curve at none is =
+pub curve_after : (problem : ProblemState) (all : CurvesState) (k c : ℕ) (b : Block) (curve : Curve) → slice_get problem.blocks k ≡ Some b
+    → volume_in b.order.volumes (c + 1) ≡ 0 → IsClassCurve problem all k c curve → IsClassCurve problem all (k + 1) c curve
+curve_after problem all k c b curve at none is =
     let low = one_of_side Buy (c + 1) problem.blocks k b at in let high = one_of_side Sell (c + 1) problem.blocks k b at in
     let no_low = ap (λ (n : ℕ). side_net Buy b.order.side n) none ∙ side_none Buy b.order.side in
     let no_high = ap (λ (n : ℕ). side_net Sell b.order.side n) none ∙ side_none Sell b.order.side in
     let least : least_net problem.blocks k c ≡ least_net problem.blocks (k + 1) c = omega (arith, ints, low, no_low) in
     let most : most_net problem.blocks k c ≡ most_net problem.blocks (k + 1) c = omega (arith, ints, high, no_high) in
-    subst (λ (z : ℤ). IsCurveAt lines curve (class_hours problem (k + 1) c) (least_net problem.blocks (k + 1) c) z) most
-    (subst (λ (z : ℤ). IsCurveAt lines curve (class_hours problem (k + 1) c) z (most_net problem.blocks k c)) least
-    (subst (λ (hs : List (List Step)). IsCurveAt lines curve hs (least_net problem.blocks k c) (most_net problem.blocks k c))
+    subst (λ (z : ℤ). IsCurveAt all curve (class_hours problem (k + 1) c) (least_net problem.blocks (k + 1) c) z) most
+    (subst (λ (z : ℤ). IsCurveAt all curve (class_hours problem (k + 1) c) z (most_net problem.blocks k c)) least
+    (subst (λ (hs : List (List Step)). IsCurveAt all curve hs (least_net problem.blocks k c) (most_net problem.blocks k c))
     (hours_kept problem k c b at none) is))
 
-pub curves_after : (problem : ProblemState) (lines : List Line) (k : ℕ) (b : Block) (touches : List Touch) (ends ends' : List Curve)
-    → slice_get problem.blocks k ≡ Some b → AreTouches problem lines k b true touches
-    → ends' ≡ written (λ t. t.curve) ends touches → AreCurves problem lines k ends → AreCurves problem lines (k + 1) ends'
-curves_after problem lines k b touches ends ends' at are same before =
+pub curves_after : (problem : ProblemState) (all : CurvesState) (k : ℕ) (b : Block) (touches : List Touch) (ends ends' : List Curve)
+    → slice_get problem.blocks k ≡ Some b → AreTouches problem all k b true touches
+    → ends' ≡ written (λ t. t.curve) ends touches → AreCurves problem all k ends → AreCurves problem all (k + 1) ends'
+curves_after problem all k b touches ends ends' at are same before =
     let long = before.as_many in
-    subst (AreCurves problem lines (k + 1)) (sym same) (record {
+    subst (AreCurves problem all (k + 1)) (sym same) (record {
       as_many = written_long (λ (t : Touch). t.curve) ends touches ∙ before.as_many;
       each = λ c d l first. volume_cases (volume_in b.order.volumes (c + 1))
-          (λ none. subst (IsClassCurve problem lines (k + 1) c)
-          (sym (written_other (λ (t : Touch). t.curve) ends touches c d (count_none problem lines k c b touches are none)))
-          (curve_after problem lines k c b (get_or ends c d) at none (before.each c d l first)))
-          (λ some. (let one = count_one problem lines k c b touches are l first some in
-          written_own (IsClassCurve problem lines (k + 1) c) (λ (t : Touch). t.curve) ends touches c d (omega (arith, l, long))
+          (λ none. subst (IsClassCurve problem all (k + 1) c)
+          (sym (written_other (λ (t : Touch). t.curve) ends touches c d (count_none problem all k c b touches are none)))
+          (curve_after problem all k c b (get_or ends c d) at none (before.each c d l first)))
+          (λ some. (let one = count_one problem all k c b touches are l first some in
+          written_own (IsClassCurve problem all (k + 1) c) (λ (t : Touch). t.curve) ends touches c d (omega (arith, l, long))
           (omega (arith, one))
-          (λ j touch there here. subst (λ (n : ℕ). IsClassCurve problem lines (k + 1) n touch.curve) here
+          (λ j touch there here. subst (λ (n : ℕ). IsClassCurve problem all (k + 1) n touch.curve) here
           (are.each j touch there).curve_is)));
     })

@@ -16,9 +16,10 @@ use Rattle.dam_book.specs.declared.order.Side.TheVariants.{Buy, Sell}
 use Rattle.dam_hour.specs.Best.{signed}
 use Rattle.dam_hour.specs.Limits.{greatest_value}
 use Rattle.dam_hour.specs.declared.step.Step.{Step}
+use Rattle.dam_curve.specs.declared.curves.Lookup.TheVariants.{Hints}
 use Rattle.dam_curve.specs.Curve.{joint_welfare, IsCurveAt}
 use Rattle.dam_curve.specs.declared.curves.Curve.{Curve}
-use Rattle.dam_curve.specs.declared.line.Line.{Line}
+use Rattle.dam_curve.specs.Curve.{CurvesState}
 use Rattle.dam_blocks.specs.declared.problem.Block.{Block}
 use Rattle.dam_blocks.specs.Problem.{ProblemState, AreBlocks, IsBlock}
 use Rattle.dam_blocks.specs.Selection.{volume_in, net_volume_of, value_of, net_volume, block_value}
@@ -175,16 +176,16 @@ at_most_one : (t : Bool) → cond t 1 0 ≤ 1
 at_most_one true = omega arith
 at_most_one false = omega arith
 
-pub record Touched (problem : ProblemState) (lines : List Line) (place : ℕ) (b : Block) (accept : Bool) (touches : List Touch) (j : ℕ)
+pub record Touched (problem : ProblemState) (all : CurvesState) (place : ℕ) (b : Block) (accept : Bool) (touches : List Touch) (j : ℕ)
     (touch : Touch) : Type 0 where
   pub rest_is : drop j touches ≡ touch ∷ drop (j + 1) touches
-  pub is : IsTouch problem lines place b accept touch
+  pub is : IsTouch problem all place b accept touch
   pub past : touches_at touch.at (drop (j + 1) touches) ≡ 0
 
-pub touched : (problem : ProblemState) (lines : List Line) (place : ℕ) (b : Block) (accept : Bool) (touches : List Touch) (j : ℕ)
-    (touch : Touch) → AreTouches problem lines place b accept touches → slice_get touches j ≡ Some touch
-    → Touched problem lines place b accept touches j touch
-touched problem lines place b accept touches j touch are at =
+pub touched : (problem : ProblemState) (all : CurvesState) (place : ℕ) (b : Block) (accept : Bool) (touches : List Touch) (j : ℕ)
+    (touch : Touch) → AreTouches problem all place b accept touches → slice_get touches j ≡ Some touch
+    → Touched problem all place b accept touches j touch
+touched problem all place b accept touches j touch are at =
     let rest = drop_at touches j touch at in
     let here = ap (touches_at touch.at) rest ∙ touches_here touch (drop (j + 1) touches) in
     let all = touches_left touch.at j touches in
@@ -199,10 +200,10 @@ all_of true true false e f g = absurd (omega (arith, e))
 all_of true false z e f g = absurd (cc)
 all_of false y z e f g = absurd (cc)
 
-pub untouched : (problem : ProblemState) (lines : List Line) (place : ℕ) (b : Block) (accept : Bool) (touches : List Touch) (c : ℕ)
-    → AreTouches problem lines place b accept touches → IsClassOf problem c → touches_at c touches ≡ 0
+pub untouched : (problem : ProblemState) (all : CurvesState) (place : ℕ) (b : Block) (accept : Bool) (touches : List Touch) (c : ℕ)
+    → AreTouches problem all place b accept touches → IsClassOf problem c → touches_at c touches ≡ 0
     → volume_in b.order.volumes (suc c) ≡ 0
-untouched problem lines place b accept touches c are of none =
+untouched problem all place b accept touches c are of none =
     let inside = of.inside in let first = of.first in
     let x : nat_lt c (length problem.hours) ≡ true = grind (arith, nat_tests) in
     let y : (first_of problem.blocks c == c) ≡ true = grind (arith, nat_tests) in
@@ -234,11 +235,11 @@ slot_done blocks place slots rest c none =
     ap (λ (t : Bool). get_or slots (cond t (slot_at blocks c (place + 1)) (slot_at blocks c place)) no_position) yes
 
 -- with no touch done all classes stand where the prefix's day has them
-pub first_slots : {problem : ProblemState} {lines : List Line} {place : ℕ} {b : Block} {accept : Bool} {touches : List Touch}
-    {before : List Bool} {trail : Trail} {total : ℤ} → AreTouches problem lines place b accept touches
+pub first_slots : {problem : ProblemState} {all : CurvesState} {place : ℕ} {b : Block} {accept : Bool} {touches : List Touch}
+    {before : List Bool} {trail : Trail} {total : ℤ} → AreTouches problem all place b accept touches
     → slice_get problem.blocks place ≡ Some b → length before ≡ place → (is : IsDayIn problem before trail total)
     → (c : ℕ) → IsClassOf problem c → IsPosition problem before c (in_slots problem.blocks place trail.slots touches c)
-first_slots {problem} {lines} {place} {b} {accept} {touches} {before} {trail} {total} are at depth is c of =
+first_slots {problem} {all} {place} {b} {accept} {touches} {before} {trail} {total} are at depth is c of =
     let own = is.day_is.each c no_position of.inside of.first in
     let stands = is.stands c no_position of.inside of.first
     ∙ ap (λ (n : ℕ). get_or trail.slots (slot_at problem.blocks c n) no_position) depth in
@@ -249,19 +250,19 @@ first_slots {problem} {lines} {place} {b} {accept} {touches} {before} {trail} {t
           (let zero : touches_at c touches ≡ 0 = omega (arith, none) in
           let one : suc c ≡ c + 1 = omega arith in
           let kept = slot_kept problem.blocks c place b at
-          (ap (volume_in b.order.volumes) (sym one) ∙ untouched problem lines place b accept touches c are of zero) in
+          (ap (volume_in b.order.volumes) (sym one) ∙ untouched problem all place b accept touches c are of zero) in
           subst (λ (p : Position). IsPosition problem before c p)
           (stands ∙ ap (λ (n : ℕ). get_or trail.slots n no_position) (sym kept)
           ∙ sym (slot_done problem.blocks place trail.slots touches c zero)) own)
     ]
 
 -- the slot that a touch reads
-pub own_slot : {problem : ProblemState} {lines : List Line} {place j : ℕ} {b : Block} {accept : Bool} {touches : List Touch} {touch : Touch}
-    {before after : List Bool} {total : ℤ} (slots : List Position) (d : Position) → Touched problem lines place b accept touches j touch
+pub own_slot : {problem : ProblemState} {all : CurvesState} {place j : ℕ} {b : Block} {accept : Bool} {touches : List Touch} {touch : Touch}
+    {before after : List Bool} {total : ℤ} (slots : List Position) (d : Position) → Touched problem all place b accept touches j touch
     → touch.from < length slots
     → IsChangedSoFar problem before after (drop j touches) (in_slots problem.blocks place slots (drop j touches)) total
     → IsPosition problem before touch.at (get_or slots touch.from d)
-own_slot {problem} {lines} {place} {j} {b} {accept} {touches} {touch} {before} {after} {total} slots d t inside so_far =
+own_slot {problem} {all} {place} {j} {b} {accept} {touches} {touch} {before} {after} {total} slots d t inside so_far =
     let here = ap (touches_at touch.at) t.rest_is ∙ touches_here touch (drop (j + 1) touches) in
     let some : 0 < touches_at touch.at (drop j touches) = omega (arith, here) in
     subst (λ (p : Position). IsPosition problem before touch.at p)
@@ -272,12 +273,12 @@ own_slot {problem} {lines} {place} {j} {b} {accept} {touches} {touch} {before} {
     (so_far.each touch.at (record { inside = t.is.inside; first = t.is.first })))
 
 -- one touch more leaves the other classes where they stand
-pub other_slot : {problem : ProblemState} {lines : List Line} {place j : ℕ} {b : Block} {accept : Bool} {touches : List Touch} {touch : Touch}
-    (slots : List Position) (next : Position) (c : ℕ) → Touched problem lines place b accept touches j touch → slice_get problem.blocks place ≡ Some b
+pub other_slot : {problem : ProblemState} {all : CurvesState} {place j : ℕ} {b : Block} {accept : Bool} {touches : List Touch} {touch : Touch}
+    (slots : List Position) (next : Position) (c : ℕ) → Touched problem all place b accept touches j touch → slice_get problem.blocks place ≡ Some b
     → length problem.hours ≤ last_period → c ≢ touch.at → c < length problem.hours
     → in_slots problem.blocks place (slice_set slots touch.to next) (drop (j + 1) touches) c
     ≡ in_slots problem.blocks place slots (touch ∷ drop (j + 1) touches) c
-other_slot {problem} {lines} {place} {j} {b} {accept} {touches} {touch} slots next c t at few apart inside =
+other_slot {problem} {all} {place} {j} {b} {accept} {touches} {touch} slots next c t at few apart inside =
     let same = touches_elsewhere touch (drop (j + 1) touches) c apart in
     let to = t.is.to_is in
     let low = slot_below problem.blocks c place (omega (arith, inside, few)) in
@@ -294,27 +295,27 @@ other_slot {problem} {lines} {place} {j} {b} {accept} {touches} {touch} slots ne
     ]
 
 -- and puts its own where it was written
-pub next_slot : {problem : ProblemState} {lines : List Line} {place j : ℕ} {b : Block} {accept : Bool} {touches : List Touch} {touch : Touch}
-    (slots : List Position) (next : Position) → Touched problem lines place b accept touches j touch → slice_get problem.blocks place ≡ Some b
+pub next_slot : {problem : ProblemState} {all : CurvesState} {place j : ℕ} {b : Block} {accept : Bool} {touches : List Touch} {touch : Touch}
+    (slots : List Position) (next : Position) → Touched problem all place b accept touches j touch → slice_get problem.blocks place ≡ Some b
     → touch.to < length slots
     → in_slots problem.blocks place (slice_set slots touch.to next) (drop (j + 1) touches) touch.at ≡ next
-next_slot {problem} {lines} {place} {j} {b} {accept} {touches} {touch} slots next t at inside =
+next_slot {problem} {all} {place} {j} {b} {accept} {touches} {touch} slots next t at inside =
     slot_done problem.blocks place (slice_set slots touch.to next) (drop (j + 1) touches) touch.at t.past
     ∙ ap (λ (n : ℕ). get_or (slice_set slots touch.to next) n no_position)
     (slot_own problem.blocks touch.at place b at t.is.some ∙ sym t.is.to_is)
     ∙ get_or-set_same slots touch.to next no_position inside
 
 -- both slots of a touch are there
-pub from_within : {problem : ProblemState} {lines : List Line} {place : ℕ} {b : Block} {accept : Bool} {touch : Touch}
-    → length problem.hours ≤ last_period → place < most_blocks → IsTouch problem lines place b accept touch → touch.from < slot_count
-from_within {problem} {lines} {place} {b} {accept} {touch} few many t =
+pub from_within : {problem : ProblemState} {all : CurvesState} {place : ℕ} {b : Block} {accept : Bool} {touch : Touch}
+    → length problem.hours ≤ last_period → place < most_blocks → IsTouch problem all place b accept touch → touch.from < slot_count
+from_within {problem} {all} {place} {b} {accept} {touch} few many t =
     let inside = t.inside in let from = t.from_is in
     let low = slot_below problem.blocks touch.at place (omega (arith, inside, few)) in
     omega (arith, low, many, from)
 
-pub to_within : {problem : ProblemState} {lines : List Line} {place : ℕ} {b : Block} {accept : Bool} {touch : Touch}
-    → length problem.hours ≤ last_period → place < most_blocks → IsTouch problem lines place b accept touch → touch.to < slot_count
-to_within {problem} {lines} {place} {b} {accept} {touch} few many t =
+pub to_within : {problem : ProblemState} {all : CurvesState} {place : ℕ} {b : Block} {accept : Bool} {touch : Touch}
+    → length problem.hours ≤ last_period → place < most_blocks → IsTouch problem all place b accept touch → touch.to < slot_count
+to_within {problem} {all} {place} {b} {accept} {touch} few many t =
     let inside = t.inside in let to = t.to_is in omega (arith, inside, few, many, to)
 
 -- one touch more leaves what is below the block's row
@@ -395,24 +396,24 @@ no_touch = record {
   to = 0;
   net = pos 0;
   value = pos 0;
-  curve = record { first = 0; count = 0; bottom = pos 0; top = pos 0; hints = 0; shift = 0 };
+  curve = record { first = 0; count = 0; bottom = pos 0; top = pos 0; lookup = Hints (record { first = 0; shift = 0 }) };
   stake = pos 0;
 }
 
 -- the touch that the loop is at
-pub touch_now : (problem : ProblemState) (lines : List Line) (place : ℕ) (b : Block) (accept : Bool) (touches : List Touch) (j : ℕ)
-    → AreTouches problem lines place b accept touches → j < length touches
-    → Touched problem lines place b accept touches j (get_or touches j no_touch)
-touch_now problem lines place b accept touches j are inside =
-    touched problem lines place b accept touches j (get_or touches j no_touch) are (slice_get-get_or touches j no_touch inside)
+pub touch_now : (problem : ProblemState) (all : CurvesState) (place : ℕ) (b : Block) (accept : Bool) (touches : List Touch) (j : ℕ)
+    → AreTouches problem all place b accept touches → j < length touches
+    → Touched problem all place b accept touches j (get_or touches j no_touch)
+touch_now problem all place b accept touches j are inside =
+    touched problem all place b accept touches j (get_or touches j no_touch) are (slice_get-get_or touches j no_touch inside)
 
 -- where its class stands on a day
-pub own_class : {problem : ProblemState} {lines : List Line} {place j : ℕ} {b : Block} {accept : Bool} {touches : List Touch} {touch : Touch}
-    {before after : List Bool} {total : ℤ} (classes : List Position) (d : Position) → Touched problem lines place b accept touches j touch
+pub own_class : {problem : ProblemState} {all : CurvesState} {place j : ℕ} {b : Block} {accept : Bool} {touches : List Touch} {touch : Touch}
+    {before after : List Bool} {total : ℤ} (classes : List Position) (d : Position) → Touched problem all place b accept touches j touch
     → touch.at < length classes
     → IsChangedSoFar problem before after (drop j touches) (λ c. get_or classes c no_position) total
     → IsPosition problem before touch.at (get_or classes touch.at d)
-own_class {problem} {lines} {place} {j} {b} {accept} {touches} {touch} {before} {after} {total} classes d t inside so_far =
+own_class {problem} {all} {place} {j} {b} {accept} {touches} {touch} {before} {after} {total} classes d t inside so_far =
     let here = ap (touches_at touch.at) t.rest_is ∙ touches_here touch (drop (j + 1) touches) in
     let some : 0 < touches_at touch.at (drop j touches) = omega (arith, here) in
     subst (λ (p : Position). IsPosition problem before touch.at p) (get_or_default classes touch.at no_position d inside)
@@ -421,13 +422,13 @@ own_class {problem} {lines} {place} {j} {b} {accept} {touches} {touch} {before} 
     (so_far.each touch.at (record { inside = t.is.inside; first = t.is.first })))
 
 -- the curve, and the net volume on it
-pub on_curve : (problem : ProblemState) (lines : List Line) (place depth : ℕ) (change : Change) (accept : Bool) (before after : List Bool) (c : ℕ)
+pub on_curve : (problem : ProblemState) (all : CurvesState) (place depth : ℕ) (change : Change) (accept : Bool) (before after : List Bool) (c : ℕ)
     (b : Block) (own : Position) (net : ℤ) (curve : Curve) → IsChange problem.blocks place change accept depth before after
     → slice_get problem.blocks place ≡ Some b → IsPosition problem before c own → net ≡ by change accept (net_volume_of (c + 1) b.order)
-    → IsClassCurve problem lines depth c curve
-    → (periods : List (List Step)) × (least : ℤ) × (most : ℤ) × IsCurveAt lines curve periods least most × (least ≤ℤ (own.net +ℤ net))
+    → IsClassCurve problem all depth c curve
+    → (periods : List (List Step)) × (least : ℤ) × (most : ℤ) × IsCurveAt all curve periods least most × (least ≤ℤ (own.net +ℤ net))
     × ((own.net +ℤ net) ≤ℤ most)
-on_curve problem lines place depth change accept before after c b own net curve is at was e found =
+on_curve problem all place depth change accept before after c b own net curve is at was e found =
     let within = moved_within problem place depth change accept before after c b own net is at was e in
     (class_hours problem depth c, least_net problem.blocks depth c, most_net problem.blocks depth c, found, within.0, within.1)
 
@@ -449,16 +450,16 @@ looked_none problem place depth change accept before after c b own net is at was
     (ap (λ (k : ℕ). class_welfare problem k c (own.net +ℤ net)) is.long ∙ none)
 
 -- a touch more on a day
-pub class_turned : {problem : ProblemState} {lines : List Line} {place j depth : ℕ} {b : Block} {change : Change} {accept listed : Bool}
+pub class_turned : {problem : ProblemState} {all : CurvesState} {place j depth : ℕ} {b : Block} {change : Change} {accept listed : Bool}
     {touches : List Touch} {touch : Touch} {before after : List Bool} {total : ℤ} (classes : List Position) (own next : Position)
     (net value gained : ℤ) → IsChange problem.blocks place change accept depth before after → slice_get problem.blocks place ≡ Some b
-    → Touched problem lines place b listed touches j touch → touch.at < length classes → IsPosition problem before touch.at own
+    → Touched problem all place b listed touches j touch → touch.at < length classes → IsPosition problem before touch.at own
     → net ≡ by change accept (net_volume_of (touch.at + 1) b.order) → value ≡ by change accept (class_value problem b.order touch.at)
     → next.net ≡ own.net +ℤ net → joint_welfare (class_hours problem depth touch.at) (own.net +ℤ net) ≡ Some next.welfare
     → gained ≡ (next.welfare -ℤ own.welfare) +ℤ value
     → IsChangedSoFar problem before after (drop j touches) (λ c. get_or classes c no_position) total
     → IsChangedSoFar problem before after (drop (j + 1) touches) (λ c. get_or (slice_set classes touch.at next) c no_position) (total +ℤ gained)
-class_turned {problem} {lines} {place} {j} {depth} {b} {change} {accept} {listed} {touches} {touch} {before} {after} {total} classes own next net
+class_turned {problem} {all} {place} {j} {depth} {b} {change} {accept} {listed} {touches} {touch} {before} {after} {total} classes own next net
     value gained is at t inside was e f sum found gain so_far =
     let now = now_position problem place depth change accept before after touch.at b own next net is at was e sum found in
     touch_changed problem before after touch (drop (j + 1) touches) (λ c. get_or classes c no_position)
@@ -470,10 +471,10 @@ class_turned {problem} {lines} {place} {j} {depth} {b} {change} {accept} {listed
     (subst (λ (ts : List Touch). IsChangedSoFar problem before after ts (λ c. get_or classes c no_position) total) t.rest_is so_far)
 
 -- a touch more in the slots
-pub class_decided : {problem : ProblemState} {lines : List Line} {place j depth : ℕ} {b : Block} {accept : Bool}
+pub class_decided : {problem : ProblemState} {all : CurvesState} {place j depth : ℕ} {b : Block} {accept : Bool}
     {touches : List Touch} {touch : Touch} {before after : List Bool} {total : ℤ} (slots : List Position) (own next : Position)
     (net value gained : ℤ) → IsChange problem.blocks place Decide accept depth before after → slice_get problem.blocks place ≡ Some b
-    → Touched problem lines place b accept touches j touch → length problem.hours ≤ last_period → touch.to < length slots
+    → Touched problem all place b accept touches j touch → length problem.hours ≤ last_period → touch.to < length slots
     → IsPosition problem before touch.at own
     → net ≡ by Decide accept (net_volume_of (touch.at + 1) b.order) → value ≡ by Decide accept (class_value problem b.order touch.at)
     → next.net ≡ own.net +ℤ net → joint_welfare (class_hours problem depth touch.at) (own.net +ℤ net) ≡ Some next.welfare
@@ -481,7 +482,7 @@ pub class_decided : {problem : ProblemState} {lines : List Line} {place j depth 
     → IsChangedSoFar problem before after (drop j touches) (in_slots problem.blocks place slots (drop j touches)) total
     → IsChangedSoFar problem before after (drop (j + 1) touches)
     (in_slots problem.blocks place (slice_set slots touch.to next) (drop (j + 1) touches)) (total +ℤ gained)
-class_decided {problem} {lines} {place} {j} {depth} {b} {accept} {touches} {touch} {before} {after} {total} slots own next net
+class_decided {problem} {all} {place} {j} {depth} {b} {accept} {touches} {touch} {before} {after} {total} slots own next net
     value gained is at t few inside was e f sum found gain so_far =
     let now = now_position problem place depth Decide accept before after touch.at b own next net is at was e sum found in
     touch_changed problem before after touch (drop (j + 1) touches) (in_slots problem.blocks place slots (touch ∷ drop (j + 1) touches))
@@ -508,30 +509,30 @@ all_turned problem before after rest day long none few so_far =
     }
 
 -- no touch yet, on a day
-pub unturned : (problem : ProblemState) (lines : List Line) (place depth : ℕ) (change : Change) (accept listed : Bool) (before after : List Bool)
+pub unturned : (problem : ProblemState) (all : CurvesState) (place depth : ℕ) (change : Change) (accept listed : Bool) (before after : List Bool)
     (b : Block) (touches : List Touch) (day : Day) → IsChange problem.blocks place change accept depth before after
-    → slice_get problem.blocks place ≡ Some b → AreTouches problem lines place b listed touches → IsDay problem before day
+    → slice_get problem.blocks place ≡ Some b → AreTouches problem all place b listed touches → IsDay problem before day
     → IsChangedSoFar problem before after touches (λ c. get_or day.classes c no_position) day.total
-unturned problem lines place depth change accept listed before after b touches day is at are of =
+unturned problem all place depth change accept listed before after b touches day is at are of =
     nothing_changed problem place depth change accept before after b touches (λ c. get_or day.classes c no_position) day.total is at
-    (λ c inside none. untouched problem lines place b listed touches c are inside none)
+    (λ c inside none. untouched problem all place b listed touches c are inside none)
     (λ c inside. of.each c no_position inside.inside inside.first) of.total_is
 
 -- no touch yet, in the slots
-pub undecided : (problem : ProblemState) (lines : List Line) (place depth : ℕ) (accept : Bool) (before after : List Bool)
+pub undecided : (problem : ProblemState) (all : CurvesState) (place depth : ℕ) (accept : Bool) (before after : List Bool)
     (b : Block) (touches : List Touch) (trail : Trail) (total : ℤ) → IsChange problem.blocks place Decide accept depth before after
-    → slice_get problem.blocks place ≡ Some b → AreTouches problem lines place b accept touches → IsDayIn problem before trail total
+    → slice_get problem.blocks place ≡ Some b → AreTouches problem all place b accept touches → IsDayIn problem before trail total
     → IsChangedSoFar problem before after touches (in_slots problem.blocks place trail.slots touches) total
-undecided problem lines place depth accept before after b touches trail total is at are of =
+undecided problem all place depth accept before after b touches trail total is at are of =
     nothing_changed problem place depth Decide accept before after b touches (in_slots problem.blocks place trail.slots touches) total is at
-    (λ c inside none. untouched problem lines place b accept touches c are inside none)
+    (λ c inside none. untouched problem all place b accept touches c are inside none)
     (first_slots are at is.kind.0 of) (ap (λ (z : ℤ). Some z) (sym of.total_is) ∙ of.day_is.total_is)
 
 -- ---- a block has a touch, since it has a volume
-pub some_touch : (problem : ProblemState) (lines : List Line) (place : ℕ) (b : Block) (accept : Bool) (touches : List Touch) (t : ℕ)
-    → AreTouches problem lines place b accept touches → slice_get problem.blocks place ≡ Some b → t < length problem.hours
+pub some_touch : (problem : ProblemState) (all : CurvesState) (place : ℕ) (b : Block) (accept : Bool) (touches : List Touch) (t : ℕ)
+    → AreTouches problem all place b accept touches → slice_get problem.blocks place ≡ Some b → t < length problem.hours
     → 0 < volume_in b.order.volumes (suc t) → 0 < length touches
-some_touch problem lines place b accept touches t are at inside some =
+some_touch problem all place b accept touches t are at inside some =
     let c = first_of problem.blocks t in
     let first = first_first problem.blocks t in
     let most = first_most problem.blocks t in

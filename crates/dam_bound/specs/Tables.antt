@@ -5,9 +5,8 @@ use Rattle.dam_book.specs.Limits.{last_period, most_hourly, most_blocks}
 use Rattle.dam_book.specs.Terms.{BlockTerms}
 use Rattle.dam_book.specs.declared.order.Side.{Side}
 use Rattle.dam_book.specs.declared.order.Side.TheVariants.{Buy, Sell}
-use Rattle.dam_curve.specs.declared.line.Line.{Line}
 use Rattle.dam_curve.specs.declared.curves.Curve.{Curve}
-use Rattle.dam_curve.specs.Curve.{IsCurveAt}
+use Rattle.dam_curve.specs.Curve.{CurvesState, IsCurveAt}
 use Rattle.dam_blocks.specs.declared.problem.Block.{Block}
 use Rattle.dam_blocks.specs.Problem.{ProblemState, AreBlocks, AreHours, hourly_orders}
 use Rattle.dam_blocks.specs.Selection.{volume_in, net_volume_of, value_of}
@@ -42,15 +41,15 @@ most_net blocks depth c = net_of_side Sell (c + 1) (take depth blocks)
 
 -- ---- the curves
 -- the curve of the class that begins at the place, with as many blocks decided
-abbrev pub IsClassCurve : ProblemState → List Line → ℕ → ℕ → Curve → Type 0
-IsClassCurve problem lines depth c curve =
-    IsCurveAt lines curve (class_hours problem depth c) (least_net problem.blocks depth c) (most_net problem.blocks depth c)
+abbrev pub IsClassCurve : ProblemState → CurvesState → ℕ → ℕ → Curve → Type 0
+IsClassCurve problem all depth c curve =
+    IsCurveAt all curve (class_hours problem depth c) (least_net problem.blocks depth c) (most_net problem.blocks depth c)
 
 -- the curve of each class with as many blocks decided, at the place of its first period
-pub record AreCurves (problem : ProblemState) (lines : List Line) (depth : ℕ) (curves : List Curve) : Type 0 where
+pub record AreCurves (problem : ProblemState) (all : CurvesState) (depth : ℕ) (curves : List Curve) : Type 0 where
   pub as_many : length curves ≡ length problem.hours
   pub each : (c : ℕ) (d : Curve) → c < length problem.hours → first_of problem.blocks c ≡ c
-      → IsClassCurve problem lines depth c (slice_index_or curves c d)
+      → IsClassCurve problem all depth c (slice_index_or curves c d)
 
 -- ---- a block
 -- what the block is worth in all periods of a class
@@ -58,7 +57,7 @@ abbrev pub class_value : ProblemState → BlockTerms → ℕ → ℤ
 class_value problem o c = over_class (λ t. value_of t o) problem.blocks c 0 (length problem.hours)
 
 -- what a decision on the block at the place makes of one of its classes
-pub record IsTouch (problem : ProblemState) (lines : List Line) (place : ℕ) (b : Block) (accept : Bool) (touch : Touch) : Type 0 where
+pub record IsTouch (problem : ProblemState) (all : CurvesState) (place : ℕ) (b : Block) (accept : Bool) (touch : Touch) : Type 0 where
   pub inside : touch.at < length problem.hours
   pub first : first_of problem.blocks touch.at ≡ touch.at
   pub some : 0 < volume_in b.order.volumes (touch.at + 1)
@@ -66,7 +65,7 @@ pub record IsTouch (problem : ProblemState) (lines : List Line) (place : ℕ) (b
   pub to_is : touch.to ≡ (place + 1) * last_period + touch.at
   pub net_is : touch.net ≡ by Decide accept (net_volume_of (touch.at + 1) b.order)
   pub value_is : touch.value ≡ by Decide accept (class_value problem b.order touch.at)
-  pub curve_is : IsClassCurve problem lines (place + 1) touch.at touch.curve
+  pub curve_is : IsClassCurve problem all (place + 1) touch.at touch.curve
 
 -- whether the block has a volume in the class that begins at the place
 abbrev pub is_touched : ProblemState → Block → ℕ → Bool
@@ -78,10 +77,10 @@ abbrev pub touches_at : ℕ → List Touch → ℕ
 touches_at c touches = count_by (λ (touch : Touch). touch.at == c) touches
 
 -- one touch for each class in which the block has a volume, in any order
-pub record AreTouches (problem : ProblemState) (lines : List Line) (place : ℕ) (b : Block) (accept : Bool) (touches : List Touch)
+pub record AreTouches (problem : ProblemState) (all : CurvesState) (place : ℕ) (b : Block) (accept : Bool) (touches : List Touch)
     : Type 0 where
   pub one_each : (c : ℕ) → touches_at c touches ≡ (if is_touched problem b c then 1 else 0)
-  pub each : (j : ℕ) (touch : Touch) → slice_get touches j ≡ Some touch → IsTouch problem lines place b accept touch
+  pub each : (j : ℕ) (touch : Touch) → slice_get touches j ≡ Some touch → IsTouch problem all place b accept touch
 
 -- the touch, if the block is rejected
 abbrev pub rejected : Touch → Touch
@@ -92,15 +91,15 @@ pub record LotState : Type 0 where
   pub accepted : List Touch
   pub rejected : List Touch
 
-pub record IsLot (problem : ProblemState) (lines : List Line) (place : ℕ) (b : Block) (lot : LotState) : Type 0 where
-  pub accepted : AreTouches problem lines place b true lot.accepted
-  pub rejected : AreTouches problem lines place b false lot.rejected
+pub record IsLot (problem : ProblemState) (all : CurvesState) (place : ℕ) (b : Block) (lot : LotState) : Type 0 where
+  pub accepted : AreTouches problem all place b true lot.accepted
+  pub rejected : AreTouches problem all place b false lot.rejected
 
 -- the lots of the first blocks
-pub record AreLots (problem : ProblemState) (lines : List Line) (count : ℕ) (lots : List LotState) : Type 0 where
+pub record AreLots (problem : ProblemState) (all : CurvesState) (count : ℕ) (lots : List LotState) : Type 0 where
   pub as_many : length lots ≡ count
   pub each : (k : ℕ) (b : Block) (lot : LotState) → slice_get problem.blocks k ≡ Some b → slice_get lots k ≡ Some lot
-      → IsLot problem lines k b lot
+      → IsLot problem all k b lot
 
 -- the slot in which each class stands once that many blocks are decided
 pub record ArePlaces (problem : ProblemState) (depth : ℕ) (places : List ℕ) : Type 0 where
@@ -117,7 +116,7 @@ pub record AreFirsts (problem : ProblemState) (firsts : List ℕ) : Type 0 where
 -- all that a walk reads
 pub record TablesState : Type 0 where
   pub count : ℕ
-  pub lines : List Line
+  pub curves : CurvesState
   pub firsts : List ℕ
   pub ends : List Curve
   pub lots : List LotState
@@ -133,8 +132,8 @@ pub record AreTablesOf (problem : ProblemState) (tables : TablesState) : Type 0 
   pub hours_are : AreHours problem.hours
   pub few_hourly : hourly_orders problem.hours ≤ most_hourly
   pub firsts_are : AreFirsts problem tables.firsts
-  pub ends_are : AreCurves problem tables.lines (length problem.blocks) tables.ends
-  pub lots_are : AreLots problem tables.lines (length problem.blocks) tables.lots
+  pub ends_are : AreCurves problem tables.curves (length problem.blocks) tables.ends
+  pub lots_are : AreLots problem tables.curves (length problem.blocks) tables.lots
   pub places_are : ArePlaces problem (length problem.blocks) tables.places
   pub root_is : IsDay problem [] tables.root
   pub families_are : AreFamilies problem.blocks tables.families

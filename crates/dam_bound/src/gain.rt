@@ -4,7 +4,7 @@ ghost use Rattle.std.specs.Prelude.{◌≡◌, ◌*◌, ◌<◌, ◌+◌, ◌-�
 ghost use Rattle.dam_book.specs.Limits.{most_blocks};
 ghost use Rattle.dam_blocks.specs.declared.problem.Block.{Block};
 ghost use Rattle.dam_blocks.specs.Selection.{accepts, padded, over_accepted};
-ghost use Rattle.dam_blocks.specs.Eligible.{ArePrices, surplus_of, surplus_at, gain_at};
+ghost use Rattle.dam_blocks.specs.Eligible.{ArePrices, surplus_of, surplus_at, family_surplus};
 ghost use Rattle.dam_blocks.specs.Magnitude.{IsWithin, greatest_surplus};
 ghost use Rattle.dam_bound.specs.Day.{IsDay};
 ghost use Rattle.dam_bound.specs.Relaxed.{without_rows};
@@ -117,7 +117,7 @@ pub(crate) fn gain_of<A: Allocator, B: Allocator>(
         → length prefix ≡ length problem.now.blocks
         → IsDay (without_rows problem.now) prefix day.now
         → ArePrices problem.now.blocks (padded prefix) 1 problem.now.hours prices
-        → result ≡ gain_at problem.now.blocks selection prices place }
+        → result ≡ family_surplus problem.now.blocks selection prices place }
 {
     laws::descendants();
     let own = surplus_of(problem, tables, day, place);

@@ -43,6 +43,7 @@ mod levels;
 mod lookup;
 mod periods;
 mod relaxed;
+mod room;
 mod tables;
 mod touch;
 mod trail;

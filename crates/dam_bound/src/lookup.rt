@@ -23,7 +23,7 @@ pub(crate) fn touches_of<A: Allocator>(tables: &Tables<A>, place: usize, accept:
         × (place < length problem.blocks) }
     ensures { (problem : ProblemState) (b : Block) → AreTablesOf problem tables.now
         → slice_get problem.blocks place ≡ Some b
-        → AreTouches problem tables.now.lines place b accept result.now }
+        → AreTouches problem tables.now.curves place b accept result.now }
 {
     tables.lots[place].touches(accept)
 }
@@ -35,7 +35,7 @@ pub(crate) fn end_of<A: Allocator>(tables: &Tables<A>, at: usize) -> Curve
         × (at < length problem.hours) }
     ensures { (problem : ProblemState) → AreTablesOf problem tables.now
         → at < length problem.hours → first_of problem.blocks at ≡ at
-        → IsClassCurve problem tables.now.lines (length problem.blocks) at result }
+        → IsClassCurve problem tables.now.curves (length problem.blocks) at result }
 {
     tables.ends[at]
 }
@@ -51,12 +51,12 @@ pub(crate) fn moved<A: Allocator>(
     value: i64,
 ) -> Option<(Position, i64)>
     requires curve { (periods : List (List Step)) × (least : ℤ) × (most : ℤ)
-        × IsCurveAt tables.now.lines curve periods least most
+        × IsCurveAt tables.now.curves curve periods least most
         × (least ≤ℤ (own.net +ℤ net)) × ((own.net +ℤ net) ≤ℤ most) }
     requires welfare { IsWithin greatest_position own.welfare }
     requires value { IsWithin greatest_class_value value }
     ensures moved { (periods : List (List Step)) (least most : ℤ)
-        → IsCurveAt tables.now.lines curve periods least most
+        → IsCurveAt tables.now.curves curve periods least most
         → least ≤ℤ (own.net +ℤ net) → (own.net +ℤ net) ≤ℤ most
         → MatchOption result (joint_welfare periods (own.net +ℤ net) ≡ None)
         (λ d. (d.0.net ≡ own.net +ℤ net)

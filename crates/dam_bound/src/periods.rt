@@ -189,6 +189,7 @@ impl<A: Allocator> Periods<A> {
         curves: &mut Curves<B>,
         sum: &mut Sum<C>,
         class: usize,
+        with_values: bool,
     ) -> Result<Curve, AllocError>
         requires { (problem : ProblemState) × (depth : ℕ) × AreDecided problem depth self.now
             × IsClass problem class }
@@ -205,7 +206,11 @@ impl<A: Allocator> Periods<A> {
                 sum.add(&self.supplies[at])?;
             }
         }
-        curves.add(sum)
+        if with_values {
+            curves.add_values(sum)
+        } else {
+            curves.add(sum)
+        }
     }
 
     /// How many periods the class has that begins at the place.

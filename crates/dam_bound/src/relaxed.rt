@@ -2,7 +2,7 @@ ghost use Rattle.std.specs.Prelude.{ℤ, pos, ◌≡◌, not, ◌<◌, ◌≤◌
 ghost use Rattle.dam_book.specs.Limits.{most_blocks};
 ghost use Rattle.dam_blocks.specs.Problem.{AreBlocks};
 ghost use Rattle.dam_blocks.specs.Selection.{padded};
-ghost use Rattle.dam_blocks.specs.Eligible.{period_welfare, ArePrices, gain_at};
+ghost use Rattle.dam_blocks.specs.Eligible.{period_welfare, ArePrices, family_surplus};
 ghost use Rattle.dam_blocks.specs.Magnitude.{IsWithin};
 ghost use Rattle.dam_bound.specs.Relaxed.{as_steps, relaxed_welfare, without_rows};
 ghost use Rattle.dam_bound.specs.Day.{IsDay, IsUnder};

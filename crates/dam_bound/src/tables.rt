@@ -11,7 +11,7 @@ ghost use Rattle.dam_bound.specs.Relaxed.{without_rows};
 ghost use Rattle.dam_bound.specs.Tables.{AreCurves, class_value, IsTouch, AreTouches, AreLots, AreFirsts, ArePlaces, AreTablesOf, rejected};
 ghost use Rattle.dam_bound.specs.inside.Change.{greatest_class_value};
 ghost use Rattle.dam_bound.specs.inside.Building.{IsClass, AreDecided, IsDeciding};
-ghost use Rattle.dam_curve.specs.declared.line.Line.{Line};
+ghost use Rattle.dam_curve.specs.Curve.{CurvesState};
 ghost use Rattle.dam_blocks.specs.Selection.{volume_in};
 ghost use Rattle.dam_hour.specs.Best.{signed};
 ghost use Rattle.dam_hour.specs.Limits.{greatest_value};
@@ -21,6 +21,7 @@ use crate::classes::firsts_of;
 use crate::day::{Day, Position};
 use crate::families::families_of;
 use crate::periods::Periods;
+use crate::room::first_with_values;
 use crate::touch::{Lot, Touch};
 use dam_blocks::{Block, MOST_PERIODS, Problem, Selection, value_of};
 use dam_book::{BlockOrder, Period, Qty, Side};
@@ -57,7 +58,7 @@ impl<A: Allocator> Model for Tables<A> {
 
     ghost view = { λ t. record {
       count = t.count;
-      lines = t.curves;
+      curves = t.curves;
       firsts = t.firsts;
       ends = t.ends.items;
       lots = t.lots.items;
@@ -108,6 +109,8 @@ struct Deciding<'a, A: Allocator> {
     places: &'a [u32; MOST_PERIODS],
     /// The first slot of the block's row.
     row: u32,
+    /// Whether its tables keep a welfare for each net volume.
+    with_values: bool,
 }
 
 impl<'a, A: Allocator> Model for Deciding<'a, A> {
@@ -153,7 +156,7 @@ impl<A: Allocator> Deciding<'_, A> {
         ensures at { IfOk result (λ touch. touch.at ≡ at) }
         ensures kept { Keeps curves.old curves.new }
     {
-        let curve = self.periods.curve(curves, sum, at)?;
+        let curve = self.periods.curve(curves, sum, at, self.with_values)?;
         let value = self.value(at);
         Ok(Touch {
             at: at as u32,
@@ -218,20 +221,20 @@ fn by_stake<A: Allocator>(accepted: Vec<Touch, A>, rejected: Vec<Touch, A>) -> L
 
 /// Puts the block's own slots and curves in the place of those that its classes have before it.
 fn take_over(places: &mut [u32; MOST_PERIODS], ends: &mut [Curve], touches: &[Touch])
-    requires { (problem : ProblemState) × (lines : List Line) × (k : ℕ) × (b : Block)
+    requires { (problem : ProblemState) × (all : CurvesState) × (k : ℕ) × (b : Block)
         × (slice_get problem.blocks k ≡ Some b) × (k < most_blocks)
         × (length problem.hours ≤ last_period)
-        × AreTouches problem lines k b true touches.now
+        × AreTouches problem all k b true touches.now
         × (length ends.old ≡ length problem.hours) × (length places.old ≡ last_period) }
-    ensures places { (problem : ProblemState) (lines : List Line) (k : ℕ) (b : Block)
+    ensures places { (problem : ProblemState) (all : CurvesState) (k : ℕ) (b : Block)
         → slice_get problem.blocks k ≡ Some b → k < most_blocks
         → length problem.hours ≤ last_period
-        → AreTouches problem lines k b true touches.now
+        → AreTouches problem all k b true touches.now
         → ArePlaces problem k places.old → ArePlaces problem (k + 1) places.new }
-    ensures ends { (problem : ProblemState) (lines : List Line) (k : ℕ) (b : Block)
+    ensures ends { (problem : ProblemState) (all : CurvesState) (k : ℕ) (b : Block)
         → slice_get problem.blocks k ≡ Some b
-        → AreTouches problem lines k b true touches.now
-        → AreCurves problem lines k ends.old → AreCurves problem lines (k + 1) ends.new }
+        → AreTouches problem all k b true touches.now
+        → AreCurves problem all k ends.old → AreCurves problem all (k + 1) ends.new }
     ensures many { length ends.new ≡ length ends.old }
 {
     for touch in touches {
@@ -257,7 +260,7 @@ fn first_curves<A: Allocator, B: Allocator, C: Allocator, D: Allocator>(
     for at in 0..periods.count() {
         let first = periods.firsts[at] as usize;
         let curve = if first == at {
-            periods.curve(curves, sum, at)?
+            periods.curve(curves, sum, at, false)?
         } else {
             ends[first]
         };
@@ -330,6 +333,7 @@ fn lots_of<A: Allocator, B: Allocator, C: Allocator + Copy>(
     let mut sum = Sum::new(alloc);
     let mut lots = Vec::with_capacity(alloc, blocks.len())?;
     let mut row = MOST_PERIODS as u32;
+    let valued = first_with_values(blocks, &periods.firsts, periods.count());
     for block in blocks {
         periods.decide(&block.order);
         let accepted = Deciding {
@@ -337,6 +341,7 @@ fn lots_of<A: Allocator, B: Allocator, C: Allocator + Copy>(
             order: &block.order,
             places,
             row,
+            with_values: lots.len() >= valued,
         }
         .touches(alloc, curves, &mut sum)?;
         take_over(places, ends, &accepted);

@@ -3,7 +3,7 @@
 ghost use Rattle.std.specs.Prelude.{ℕ, ℤ, pos, ◌≡◌, not, ◌<◌, ◌≤ℤ◌, [], ◌∷◌, ◌++◌, List, Bool, Some, None, length, slice_get, slice_set, IfSome, MatchBool, MatchOption};
 ghost use Rattle.dam_blocks.specs.Problem.{ProblemState};
 ghost use Rattle.dam_blocks.specs.Selection.{padded};
-ghost use Rattle.dam_blocks.specs.Eligible.{ArePrices, gain_at};
+ghost use Rattle.dam_blocks.specs.Eligible.{ArePrices, family_surplus};
 ghost use Rattle.dam_bound.specs.Relaxed.{relaxed_welfare, without_rows};
 ghost use Rattle.dam_bound.specs.Day.{IsDay, IsUnder};
 ghost use Rattle.dam_bound.specs.Trail.{IsDayIn, KeepsDays};
@@ -152,7 +152,7 @@ impl<'a, A: Allocator, B: Allocator> Walk<'a, A, B> {
             → length prefix ≡ length self.now.blocks → selection ≡ padded prefix
             → IsDay self.now prefix day.now
             → ArePrices self.now.blocks (padded prefix) 1 self.now.hours prices
-            → result ≡ gain_at self.now.blocks (padded prefix) prices place }
+            → result ≡ family_surplus self.now.blocks (padded prefix) prices place }
     {
         gain_of(self.problem, self.tables, day, selection, place)
     }

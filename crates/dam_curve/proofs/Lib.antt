@@ -1,6 +1,7 @@
 -- The lemmas that several functions need.
 pub mod Parts
 pub mod Supplying
+pub mod Valuing
 pub mod Clearing
 pub mod Removing
 pub mod PeriodLines

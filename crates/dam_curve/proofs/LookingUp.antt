@@ -4,27 +4,31 @@ use Rattle.std.proofs.Common.{FitsSigned, to_z, of_z, w32, w64, List, [], ◌∷
 use Rattle.std.specs.List.{slice_range}
 use Rattle.std.proofs.lemmas.Int.{ints}
 use Rattle.std.proofs.lemmas.Bool.{cases_lt}
-use Rattle.std.proofs.lemmas.List.{take_all, drop_at, length-take-le}
+use Rattle.std.proofs.lemmas.List.{take_all, drop_at, length-take-le, take-append-drop, take-append-le, drop-append-le, get_or_append_left}
 use Rattle.dam_book.specs.Limits.{last_period}
 use Rattle.dam_hour.specs.declared.step.Step.{Step}
-use Rattle.dam_hour.specs.Limits.{greatest_net, greatest_price}
+use Rattle.dam_hour.specs.Limits.{greatest_price}
 use Rattle.dam_curve.specs.declared.line.Line.{Line}
 use Rattle.dam_curve.specs.declared.curves.Curve.{Curve}
 use Rattle.dam_curve.specs.Curve.{joint_welfare, line_at, end_of, AreLines, bottom_of, IsOutside, greatest_line_surplus, IsCurve, lines_at}
-use Rattle.dam_curve.specs.Curve.{IsCurveAt}
+use Rattle.dam_curve.specs.Curve.{IsSmallLine, CurvesState, IsValueAt, AreValuesAt, IsCurveAt, Keeps}
+use Rattle.dam_curve.specs.declared.curves.Lookup.{Lookup}
+use Rattle.dam_curve.specs.declared.curves.Lookup.TheVariants.{Hints, Values}
 use Rattle.dam_curve.proofs.ListsOfLines.{bottom_at, small_at}
 use Rattle.dam_curve.proofs.PeriodLines.{times_small}
+use Rattle.dam_curve.proofs.Valuing.{value_stays}
 use Rattle.dam_curve.proofs.Adding.{line_here, place_from, stands_from, end_at, outside_from}
 
 -- ---- the lines of one curve
 part_behind : (xs ys : List Line) (n m : ℕ) → n ≡ length xs → m ≡ n + length ys → slice_range (xs ++ ys) n m ≡ ys
 part_behind xs ys n m e f = ap (take (m - n)) (drop_at xs ys n (sym e)) ∙ take_all (m - n) ys (omega (arith, f))
 
-pub curve_added : (old ls all : List Line) (curve : Curve) (ps : List (List Step)) (least most : ℤ) (d : Line) → all ≡ old ++ ls
-    → curve.first ≡ length old → curve.count ≡ length ls → 0 < length ls → curve.bottom ≡ (get_or ls (length ls - 1) d).most
-    → curve.top ≡ (get_or ls 0 d).most → IsCurve ps least most ls → IsCurveAt all curve ps least most
-curve_added old ls all curve ps least most d e first count some bottom top is =
-    let at : lines_at all curve ≡ ls = ap (λ ws. lines_at ws curve) e
+pub curve_added : (old ls : List Line) (all : CurvesState) (curve : Curve) (ps : List (List Step)) (least most : ℤ) (d : Line)
+    → all.lines ≡ old ++ ls → curve.first ≡ length old → curve.count ≡ length ls → 0 < length ls
+    → curve.bottom ≡ (get_or ls (length ls - 1) d).most → curve.top ≡ (get_or ls 0 d).most
+    → AreValuesAt ps ls all.values curve.lookup → IsCurve ps least most ls → IsCurveAt all curve ps least most
+curve_added old ls all curve ps least most d e first count some bottom top values is =
+    let at : lines_at all.lines curve ≡ ls = ap (λ ws. lines_at ws curve) e
     ∙ part_behind old ls curve.first (curve.first + curve.count) first (omega (arith, count)) in
     let long = ap length e ∙ length-append old ls in
     record {
@@ -35,7 +39,47 @@ curve_added old ls all curve ps least most d e first count some bottom top is =
         top ∙ sym (end_at ls d some) ∙ ap (λ ws. end_of ws (pos 0)) (sym at),
       );
       none = λ l. absurd (omega (arith, l, count, some));
+      values_are = subst (λ (ws : List Line). AreValuesAt ps ws all.values curve.lookup) (sym at) values;
     }
+
+-- ---- a curve among more of them
+range_kept : (xs ys : List Line) (n m : ℕ) → n ≤ m → m ≤ length xs → slice_range (xs ++ ys) n m ≡ slice_range xs n m
+range_kept xs ys n m o l =
+    ap (take (m - n)) (drop-append-le n xs ys (omega (arith, o, l)))
+    ∙ take-append-le (m - n) (drop n xs) ys (let long = length-drop n xs in omega (arith, long, o, l))
+
+values_kept : (ps : List (List Step)) (ls : List Line) (xs ys : List ℤ) (lookup : Lookup) → AreValuesAt ps ls xs lookup
+    → AreValuesAt ps ls (xs ++ ys) lookup
+values_kept ps ls xs ys (Hints hints) are = tt
+values_kept ps ls xs ys (Values first) are =
+    λ i net e low. value_stays xs ys (first + i) (joint_welfare ps net) (are i net e low)
+
+curve_kept : (old : CurvesState) (ls : List Line) (vs : List ℤ) → Keeps old (record { lines = old.lines ++ ls; values = old.values ++ vs })
+curve_kept old ls vs curve ps least most is =
+    let same : lines_at (old.lines ++ ls) curve ≡ lines_at old.lines curve =
+    range_kept old.lines ls curve.first (curve.first + curve.count) (omega arith) is.within in
+    let long = length-append old.lines ls in
+    let within = is.within in
+    record {
+      within = omega (arith, long, within);
+      is_curve = subst (IsCurve ps least most) (sym same) is.is_curve;
+      ends = λ some. (let ends = is.ends some in
+          (ends.0 ∙ ap bottom_of (sym same), ends.1 ∙ ap (λ (ws : List Line). end_of ws (pos 0)) (sym same)));
+      none = is.none;
+      values_are = subst (λ (ws : List Line). AreValuesAt ps ws (old.values ++ vs) curve.lookup) (sym same)
+          (values_kept ps (lines_at old.lines curve) old.values vs curve.lookup is.values_are);
+    }
+
+pub keeps_more : (old new : CurvesState) (ls : List Line) → new.lines ≡ old.lines ++ ls
+    → take (length old.values) new.values ≡ old.values → Keeps old new
+keeps_more old new ls lines values =
+    let all : new.values ≡ old.values ++ drop (length old.values) new.values =
+    sym (take-append-drop (length old.values) new.values) ∙ ap (λ (xs : List ℤ). xs ++ drop (length old.values) new.values) values in
+    λ curve ps least most is.
+    subst (λ (vs : List ℤ). IsCurveAt (record { lines = new.lines; values = vs }) curve ps least most) (sym all)
+    (subst (λ (ws : List Line). IsCurveAt (record { lines = ws; values = old.values ++ drop (length old.values) new.values }) curve ps
+    least most) (sym lines)
+    (curve_kept old ls (drop (length old.values) new.values) curve ps least most is))
 
 count_is : (lines : List Line) (curve : Curve) → curve.first + curve.count ≤ length lines → length (lines_at lines curve) ≡ curve.count
 count_is lines curve l =
@@ -48,14 +92,14 @@ no_line [] net e = tt
 no_line (line ∷ ls) net e = absurd (omega (arith, e))
 
 -- ---- outside of the curve
-pub none_there : (lines : List Line) (curve : Curve) (ps : List (List Step)) (least most net : ℤ) → IsCurveAt lines curve ps least most
+pub none_there : (curves : CurvesState) (curve : Curve) (ps : List (List Step)) (least most net : ℤ) → IsCurveAt curves curve ps least most
     → least ≤ℤ net → net ≤ℤ most → (net <ℤ curve.bottom) ⊎ (curve.top <ℤ net) → None ≡ joint_welfare ps net
-none_there lines curve ps least most net is low high o =
+none_there curves curve ps least most net is low high o =
     sym (is.is_curve.outside net low high (elim (cases_lt 0 curve.count) [
       | inl some ↦
-          (let ends = is.ends some in let long = count_is lines curve is.within in
-          outside_from (lines_at lines curve) net (omega (arith, some, long)) (moved curve.bottom curve.top _ _ o ends.0 ends.1))
-      | inr none ↦ (let long = count_is lines curve is.within in no_line (lines_at lines curve) net (omega (arith, none, long)))
+          (let ends = is.ends some in let long = count_is curves.lines curve is.within in
+          outside_from (lines_at curves.lines curve) net (omega (arith, some, long)) (moved curve.bottom curve.top _ _ o ends.0 ends.1))
+      | inr none ↦ (let long = count_is curves.lines curve is.within in no_line (lines_at curves.lines curve) net (omega (arith, none, long)))
     ]))
   where
     moved : (b t x y : ℤ) → (net <ℤ b) ⊎ (t <ℤ net) → b ≡ x → t ≡ y → (net <ℤ x) ⊎ (y <ℤ net)
@@ -68,11 +112,11 @@ pub record IsWithin (ls : List Line) (net : ℤ) : Type 0 where
   pub first : (d : Line) → net ≤ℤ (get_or ls 0 d).most
   pub last : (d : Line) → (get_or ls (length ls - 1) d).most ≤ℤ net
 
-pub within_curve : (lines : List Line) (curve : Curve) (ps : List (List Step)) (least most net : ℤ) → IsCurveAt lines curve ps least most
-    → curve.bottom ≤ℤ net → net ≤ℤ curve.top → IsWithin (lines_at lines curve) net
-within_curve lines curve ps least most net is low high = elim (cases_lt 0 curve.count) [
+pub within_curve : (curves : CurvesState) (curve : Curve) (ps : List (List Step)) (least most net : ℤ) → IsCurveAt curves curve ps least most
+    → curve.bottom ≤ℤ net → net ≤ℤ curve.top → IsWithin (lines_at curves.lines curve) net
+within_curve curves curve ps least most net is low high = elim (cases_lt 0 curve.count) [
   | inl some ↦
-      (let ends = is.ends some in let long = count_is lines curve is.within in let ls = lines_at lines curve in
+      (let ends = is.ends some in let long = count_is curves.lines curve is.within in let ls = lines_at curves.lines curve in
       let any : 0 < length ls = omega (arith, some, long) in
       record {
         some = any;
@@ -82,6 +126,13 @@ within_curve lines curve ps least most net is low high = elim (cases_lt 0 curve.
       })
   | inr none ↦ (let apart = is.none (omega (arith, none)) in absurd (omega (arith, ints, apart, low, high)))
 ]
+
+pub within_lines : (ls : List Line) (net at : ℤ) → at ≡ net → 0 < length ls → bottom_of ls ≤ℤ net → net ≤ℤ end_of ls (pos 0) → IsWithin ls at
+within_lines ls net at same some low high = record {
+  some = some;
+  first = λ d. (let top = end_at ls d some in omega (arith, ints, top, high, same));
+  last = λ d. (let bottom = bottom_at ls (length ls - 1) d (omega (arith, some)) in omega (arith, ints, bottom, low, same));
+}
 
 pub value_at : (f : ℤ → Option ℤ) (ls : List Line) (net : ℤ) (place : ℕ) (d : Line) → AreLines f ls (bottom_of ls) → IsWithin ls net
     → place < length ls → ((e : Line) → net ≤ℤ (get_or ls place e).most)
@@ -101,29 +152,37 @@ product_small (negsuc h) y n m a b c e =
     let turned : negsuc h *ℤ y ≡ neg_ℤ (pos (suc h) *ℤ y) = omega (arith, ints) in
     (omega (arith, ints, t.0, t.1, turned), omega (arith, ints, t.0, t.1, turned))
 
--- a line of a curve at a net volume
+-- a line at a net volume of 32 bits
 record AreSmallAt (line : Line) (net : ℤ) : Type 0 where
   price_at_least : neg_ℤ (pos (last_period * greatest_price)) ≤ℤ line.price
   price_at_most : line.price ≤ℤ pos (last_period * greatest_price)
-  product_at_least : neg_ℤ (pos ((last_period * greatest_price) * greatest_net)) ≤ℤ (line.price *ℤ net)
-  product_at_most : (line.price *ℤ net) ≤ℤ pos ((last_period * greatest_price) * greatest_net)
+  product_at_least : neg_ℤ (pos ((last_period * greatest_price) * 2147483648)) ≤ℤ (line.price *ℤ net)
+  product_at_most : (line.price *ℤ net) ≤ℤ pos ((last_period * greatest_price) * 2147483648)
   surplus_at_least : neg_ℤ (pos (last_period * greatest_line_surplus)) ≤ℤ line.surplus
   surplus_at_most : line.surplus ≤ℤ pos (last_period * greatest_line_surplus)
 
-line_small_at : (ps : List (List Step)) (least most net : ℤ) (ls : List Line) (place : ℕ) (d : Line) → IsCurve ps least most ls
-    → least ≤ℤ net → net ≤ℤ most → place < length ls → AreSmallAt (get_or ls place d) net
-line_small_at ps least most net ls place d is low high l =
+small_at_net : (line : Line) (net : ℤ) → IsSmallLine last_period line → neg_ℤ (pos 2147483648) ≤ℤ net → net ≤ℤ pos 2147483648
+    → AreSmallAt line net
+small_at_net line net small low high =
+    let product = product_small line.price net (last_period * greatest_price) 2147483648 small.price_at_least small.price_at_most low high in
+    record {
+      price_at_least = small.price_at_least;
+      price_at_most = small.price_at_most;
+      product_at_least = product.0;
+      product_at_most = product.1;
+      surplus_at_least = small.surplus_at_least;
+      surplus_at_most = small.surplus_at_most;
+    }
+
+pub small_wide : (ps : List (List Step)) (least most : ℤ) (ls : List Line) (place : ℕ) (d : Line) → IsCurve ps least most ls
+    → place < length ls → IsSmallLine last_period (get_or ls place d)
+small_wide ps least most ls place d is l =
     let small = small_at (length ps) ls place d is.small l in
     let few = is.few in
     let p = small.price_at_least in let q = small.price_at_most in let s = small.surplus_at_least in let t = small.surplus_at_most in
-    let least_is = is.least_is.at_least in let most_is = is.most_is.at_most in
-    let product = product_small (get_or ls place d).price net (last_period * greatest_price) greatest_net (omega (arith, ints, few, p))
-    (omega (arith, ints, few, q)) (omega (arith, ints, low, least_is)) (omega (arith, ints, high, most_is)) in
     record {
       price_at_least = omega (arith, ints, few, p);
       price_at_most = omega (arith, ints, few, q);
-      product_at_least = product.0;
-      product_at_most = product.1;
       surplus_at_least = omega (arith, ints, few, s);
       surplus_at_most = omega (arith, ints, few, t);
     }
@@ -150,11 +209,19 @@ fits_at line price net wide small e k =
       value = omega (arith, ints, a, b, s, t, surplus, product);
     }
 
-pub looked_up : (lines : List Line) (curve : Curve) (ps : List (List Step)) (least most net at : ℤ) (place : ℕ) (price wide : ℤ) (d : Line)
-    → IsCurveAt lines curve ps least most → least ≤ℤ net → net ≤ℤ most → at ≡ net → place < length (lines_at lines curve)
-    → wide ≡ to_z w32 (of_z w32 (get_or (lines_at lines curve) place d).price) → price ≡ to_z w64 (of_z w64 wide)
-    → FitsAt (get_or (lines_at lines curve) place d) price at
-looked_up lines curve ps least most net at place price wide d is low high same l e k =
-    fits_at (get_or (lines_at lines curve) place d) price at wide
-    (line_small_at ps least most at (lines_at lines curve) place d is.is_curve (omega (arith, ints, low, same)) (omega (arith, ints, high, same)) l)
-    e k
+pub valued : (line : Line) (price wide net at : ℤ) → IsSmallLine last_period line → neg_ℤ (pos 2147483648) ≤ℤ net
+    → net ≤ℤ pos 2147483648 → at ≡ net → wide ≡ to_z w32 (of_z w32 line.price) → price ≡ to_z w64 (of_z w64 wide) → FitsAt line price at
+valued line price wide net at small low high same e k =
+    fits_at line price at wide (small_at_net line at small (omega (arith, ints, low, same)) (omega (arith, ints, high, same))) e k
+
+-- ---- the value that stands there
+pub value_there : (curves : CurvesState) (curve : Curve) (ps : List (List Step)) (least most net : ℤ) (first i : ℕ)
+    → IsCurveAt curves curve ps least most → curve.lookup ≡ Values first → curve.bottom ≤ℤ net → net ≤ℤ curve.top
+    → net +ℤ pos i ≡ curve.top → IsValueAt curves.values (first + i) (joint_welfare ps net)
+value_there curves curve ps least most net first i is kind low high e = elim (cases_lt 0 curve.count) [
+  | inl some ↦
+      (let ends = is.ends some in let bottom = ends.0 in let top = ends.1 in
+      let values = subst (AreValuesAt ps (lines_at curves.lines curve) curves.values) kind is.values_are in
+      values i net (e ∙ top) (omega (arith, ints, bottom, low)))
+  | inr none ↦ (let apart = is.none (omega (arith, none)) in absurd (omega (arith, ints, apart, low, high)))
+]

@@ -1,7 +1,9 @@
-ghost use Rattle.std.specs.Prelude.{◌≡◌, ◌+◌, ◌-◌, ◌≤◌, ◌<◌, ℤ, pos, neg_ℤ, ◌≤ℤ◌, ◌<ℤ◌, List, [], length, IfOk, OnErr, IfSome, slice_index_or};
+ghost use Rattle.std.specs.Prelude.{◌≡◌, ◌+◌, ◌-◌, ◌^◌, ◌≤◌, ◌<◌, ℕ, ℤ, pos, neg_ℤ, ◌+ℤ◌, ◌-ℤ◌, ◌≤ℤ◌, ◌<ℤ◌, Some, List, [], length, take, IfOk, OnOk, OnErr, IfSome, slice_index_or};
+ghost use Rattle.dam_book.specs.Limits.{last_period};
 ghost use Rattle.dam_hour.specs.declared.step.Step.{Step};
 ghost use Rattle.dam_curve.specs.declared.line.Line.{Line};
-ghost use Rattle.dam_curve.specs.Curve.{joint_welfare, line_at, lines_at, IsCurve, IsCurveAt, Keeps, greatest_joint_welfare};
+ghost use Rattle.dam_curve.specs.declared.curves.Lookup.TheVariants.{Values};
+ghost use Rattle.dam_curve.specs.Curve.{joint_welfare, line_at, end_of, bottom_of, IsSmallLine, IsCurve, CurvesState, AreValuesOf, IsCurveAt, Keeps, greatest_joint_welfare};
 
 use crate::line::Line;
 use crate::sum::Sum;
@@ -12,6 +14,24 @@ use std::marker::Model;
 /// How many hints a curve has for each of its lines, at most, besides one for the whole curve.
 const HINTS: usize = 8;
 
+/// How a net volume is looked up in a curve.
+#[derive(Clone, Copy)]
+pub(crate) enum Lookup {
+    /// Its line is looked for from a hint.
+    Hints(Hints),
+    /// The welfare stands there for each net volume, from the greatest down to the least; this is the place of the first.
+    Values(u32),
+}
+
+/// The hints of a curve.
+#[derive(Clone, Copy)]
+pub(crate) struct Hints {
+    /// Where they begin.
+    pub(crate) first: u32,
+    /// By how many bits a net volume under the greatest is shifted to find one.
+    pub(crate) shift: u32,
+}
+
 /// A curve among those of many: where its lines stand, and between which net volumes it has a welfare.
 #[derive(Clone, Copy)]
 pub struct Curve {
@@ -20,28 +40,27 @@ pub struct Curve {
     /// The least net volume and the greatest, in tenths of a MW.
     pub(crate) bottom: i32,
     pub(crate) top: i32,
-    /// Where its hints begin, and by how many bits a net volume under the greatest is shifted to find one.
-    pub(crate) hints: u32,
-    pub(crate) shift: u32,
+    pub(crate) lookup: Lookup,
 }
 
 /// The lines of many curves, one curve after another.
 ///
-/// A contract sees the list of the lines, and asks of a curve which periods it is of.
+/// A contract sees the list of the lines and that of the values, and asks of a curve which periods it is of.
 #[derive(Drop)]
 pub struct Curves<A: Allocator = Global> {
     lines: Vec<Line, A>,
+    /// The welfares of the curves that have one at each net volume.
+    values: Vec<i64, A>,
     /// Places of lines near which a net volume is. They need not be right: a look-up goes on from there.
     hints: Vec<u16, A>,
 }
 
 impl<A: Allocator> Model for Curves<A> {
-    ghost use Rattle.std.specs.Prelude.{List};
-    ghost use Rattle.dam_curve.specs.declared.line.Line.{Line};
+    ghost use Rattle.dam_curve.specs.Curve.{CurvesState};
 
-    ghost Value = { List Line };
+    ghost Value = { CurvesState };
 
-    ghost view = { λ c. c.lines.items };
+    ghost view = { λ c. record { lines = c.lines.items; values = c.values.items } };
 }
 
 /// The number in 32 bits. If it doesn't fit, there is no memory for that number of lines.
@@ -66,38 +85,118 @@ fn shift_of(range: u32, lines: usize) -> u32
     shift
 }
 
+/// Writes the hints of a curve with these lines. The error is out of memory.
+fn write_hints<A: Allocator>(hints: &mut Vec<u16, A>, lines: &[Line]) -> Result<Hints, AllocError>
+    requires some { 0 < length lines.now }
+{
+    let first = narrow(hints.len())?;
+    let top = lines[0].most;
+    let range = top.abs_diff(lines[lines.len() - 1].most);
+    let shift = shift_of(range, lines.len());
+    let mut place = 0usize;
+    for hint in 0..=(range >> shift) {
+        let under = i64::from(hint) << shift;
+        while place + 1 < lines.len()
+            && i64::from(top) - i64::from(lines[place + 1].most) <= under
+        {
+            place += 1;
+        }
+        hints.push(u16::try_from(place).unwrap_or(0))?;
+    }
+    Ok(Hints { first, shift })
+}
+
+/// What a line says of a net volume.
+#[inline(always)]
+fn value_of(line: Line, net: i64) -> i64
+    requires line { IsSmallLine last_period line }
+    requires least { neg_ℤ (pos (2 ^ 31)) ≤ℤ net }
+    requires most { net ≤ℤ pos (2 ^ 31) }
+    ensures { result ≡ line_at line net }
+{
+    line.surplus + i64::from(line.price) * net
+}
+
+/// The joint welfare at the net volume, by the line that holds there, which is looked for from a place near by, and its
+/// place.
+#[inline(always)]
+fn value_in(lines: &[Line], net: i64, near: usize) -> (usize, i64)
+    requires curve { (periods : List (List Step)) × (least : ℤ) × (most : ℤ)
+        × IsCurve periods least most lines.now }
+    requires some { 0 < length lines.now }
+    requires bottom { bottom_of lines.now ≤ℤ net }
+    requires top { net ≤ℤ end_of lines.now (pos 0) }
+    requires least { neg_ℤ (pos (2 ^ 31)) ≤ℤ net }
+    requires most { net ≤ℤ pos (2 ^ 31) }
+    ensures value { (periods : List (List Step)) (least most : ℤ)
+        → IsCurve periods least most lines.now → Some result.1 ≡ joint_welfare periods net }
+{
+    let place = place_of(lines, net, near);
+    (place, value_of(lines[place], net))
+}
+
+/// The greatest net volume of these lines, and how many there are from the least to it.
+fn span_of(lines: &[Line]) -> (i64, u64)
+    requires some { 0 < length lines.now }
+    ensures top { result.0 ≡ end_of lines.now (pos 0) }
+    ensures within { (i : ℕ) → i < result.1 → bottom_of lines.now ≤ℤ (result.0 -ℤ pos i) }
+    ensures all { (i : ℕ) (net : ℤ) → net +ℤ pos i ≡ result.0 → bottom_of lines.now ≤ℤ net
+        → i < result.1 }
+    ensures few { result.1 ≤ 2 ^ 32 }
+    ensures least { neg_ℤ (pos (2 ^ 31)) ≤ℤ bottom_of lines.now }
+    ensures most { result.0 ≤ℤ pos (2 ^ 31) }
+{
+    let top = i64::from(lines[0].most);
+    let bottom = i64::from(lines[lines.len() - 1].most);
+    let count = if bottom <= top {
+        (top - bottom) as u64 + 1
+    } else {
+        0
+    };
+    (top, count)
+}
+
+/// Writes the joint welfare at each net volume of these lines, from the greatest down. The error is out of memory, and
+/// nothing is then written.
+fn write_values<A: Allocator>(values: &mut Vec<i64, A>, lines: &[Line]) -> Result<(), AllocError>
+    requires curve { (periods : List (List Step)) × (least : ℤ) × (most : ℤ)
+        × IsCurve periods least most lines.now }
+    requires some { 0 < length lines.now }
+    ensures values { (periods : List (List Step)) (least most : ℤ)
+        → IsCurve periods least most lines.now → OnOk result
+        (AreValuesOf periods lines.now (length values.old.items) values.new.items) }
+    ensures kept { OnOk result (take (length values.old.items) values.new.items ≡ values.old.items) }
+    ensures err { OnErr result (values.new.items ≡ values.old.items) }
+{
+    let (top, count) = span_of(lines);
+    let before = values.len();
+    let mut near = 0;
+    for under in 0..count {
+        let (place, value) = value_in(lines, top - under as i64, near);
+        if values.push(value).is_err() {
+            values.truncate(before);
+            return Err(AllocError);
+        }
+        near = place;
+    }
+    Ok(())
+}
+
 impl<A: Allocator + Copy> Curves<A> {
     /// No curve yet.
     pub fn new(alloc: A) -> Curves<A>
-        ensures { result ≡ [] }
+        ensures { result ≡ record { lines = []; values = [] } }
     {
         Curves {
             lines: Vec::new(alloc),
+            values: Vec::new(alloc),
             hints: Vec::new(alloc),
         }
     }
 }
 
 impl<A: Allocator> Curves<A> {
-    /// Writes the hints of a curve with these lines.
-    fn add_hints(&mut self, lines: &[Line], shift: u32, range: u32) -> Result<(), AllocError>
-        requires some { 0 < length lines.now }
-        requires shift { shift ≤ 31 }
-        ensures { self.new ≡ self.old }
-    {
-        let top = i64::from(lines[0].most);
-        let mut place = 0usize;
-        for hint in 0..=(range >> shift) {
-            let under = i64::from(hint) << shift;
-            while place + 1 < lines.len() && top - i64::from(lines[place + 1].most) <= under {
-                place += 1;
-            }
-            self.hints.push(u16::try_from(place).unwrap_or(0))?;
-        }
-        Ok(())
-    }
-
-    /// Adds a curve. The error is out of memory, and nothing is then added.
+    /// Adds a curve whose lines are looked for. The error is out of memory, and nothing is then added.
     pub fn add<B: Allocator>(&mut self, sum: &Sum<B>) -> Result<Curve, AllocError>
         ensures added { (periods : List (List Step)) (least most : ℤ) → IsCurve periods least most sum.now
             → IfOk result (λ curve. IsCurveAt self.new curve periods least most) }
@@ -105,65 +204,89 @@ impl<A: Allocator> Curves<A> {
         ensures err { OnErr result (self.new ≡ self.old) }
     {
         let lines = sum.lines();
+        if lines.is_empty() {
+            return Ok(Curve::none());
+        }
         let first = narrow(self.lines.len())?;
         let count = narrow(lines.len())?;
-        let hints = narrow(self.hints.len())?;
-        if lines.is_empty() {
-            return Ok(Curve {
-                first,
-                count,
-                bottom: 0,
-                top: -1,
-                hints,
-                shift: 0,
-            });
-        }
-        let top = lines[0].most;
-        let bottom = lines[lines.len() - 1].most;
-        let range = top.abs_diff(bottom);
-        let shift = shift_of(range, lines.len());
-        self.add_hints(lines, shift, range)?;
+        let hints = write_hints(&mut self.hints, lines)?;
         self.lines.extend_from_slice(lines)?;
         Ok(Curve {
             first,
             count,
-            bottom,
-            top,
-            hints,
-            shift,
+            bottom: lines[lines.len() - 1].most,
+            top: lines[0].most,
+            lookup: Lookup::Hints(hints),
         })
     }
 
-    /// The place of a line near the net volume.
-    fn near(&self, curve: Curve, net: i64) -> usize
+    /// Adds a curve with its welfare at each net volume, which is the faster to look up, and takes 8 bytes for each.
+    /// The error is out of memory, and nothing is then added.
+    pub fn add_values<B: Allocator>(&mut self, sum: &Sum<B>) -> Result<Curve, AllocError>
+        requires { (periods : List (List Step)) × (least : ℤ) × (most : ℤ)
+            × IsCurve periods least most sum.now }
+        ensures added { (periods : List (List Step)) (least most : ℤ) → IsCurve periods least most sum.now
+            → IfOk result (λ curve. IsCurveAt self.new curve periods least most) }
+        ensures kept { Keeps self.old self.new }
+        ensures err { OnErr result (self.new ≡ self.old) }
+    {
+        let lines = sum.lines();
+        if lines.is_empty() {
+            return Ok(Curve::none());
+        }
+        let first = narrow(self.lines.len())?;
+        let count = narrow(lines.len())?;
+        let value = narrow(self.values.len())?;
+        write_values(&mut self.values, lines)?;
+        if self.lines.extend_from_slice(lines).is_err() {
+            self.values.truncate(value as usize);
+            return Err(AllocError);
+        }
+        Ok(Curve {
+            first,
+            count,
+            bottom: lines[lines.len() - 1].most,
+            top: lines[0].most,
+            lookup: Lookup::Values(value),
+        })
+    }
+
+    /// The price of a line near the net volume, in cents per MWh summed over the curve's periods: a hint, of which
+    /// nothing is promised. It is 0 if there is none.
+    pub fn price_near(&self, curve: Curve, net: i64) -> i64 {
+        let first = curve.first as usize;
+        let Some(lines) = self
+            .lines
+            .get(first..first.saturating_add(curve.count as usize))
+        else {
+            return 0;
+        };
+        let mut price = 0;
+        for line in lines {
+            if i64::from(line.most) < net {
+                return price;
+            }
+            price = i64::from(line.price);
+        }
+        price
+    }
+
+    /// A place near that of the line for the net volume.
+    fn near(&self, curve: Curve, hints: Hints, net: i64) -> usize
         requires least { curve.bottom ≤ℤ net }
         requires most { net ≤ℤ curve.top }
     {
         let under = (i64::from(curve.top) - net) as u64;
-        let hint = (curve.hints as usize).saturating_add((under >> (curve.shift % 64)) as usize);
+        let hint = (hints.first as usize).saturating_add((under >> (hints.shift % 64)) as usize);
         match self.hints.get(hint) {
             Some(place) => usize::from(*place),
             None => 0,
         }
     }
 
-    /// The price of a line near the net volume, in cents per MWh summed over the curve's periods: a hint, of which
-    /// nothing is promised. It is 0 if there is none.
-    pub fn price_near(&self, curve: Curve, net: i64) -> i64 {
-        let under = i64::from(curve.top).saturating_sub(net).max(0) as u64;
-        let hint = (curve.hints as usize).saturating_add((under >> (curve.shift % 64)) as usize);
-        let place = match self.hints.get(hint) {
-            Some(place) => usize::from(*place),
-            None => 0,
-        };
-        match self.lines.get((curve.first as usize).saturating_add(place)) {
-            Some(line) => i64::from(line.price),
-            None => 0,
-        }
-    }
-
     /// The joint welfare of the curve's periods at the net volume, in cents per MWh times tenths of a MW; `None`
     /// exactly if some of them doesn't balance. Takes no memory.
+    #[inline(always)]
     pub fn welfare(&self, curve: Curve, net: i64) -> Option<i64>
         requires { (periods : List (List Step)) × (least : ℤ) × (most : ℤ)
             × IsCurveAt self.now curve periods least most × (least ≤ℤ net) × (net ≤ℤ most) }
@@ -178,11 +301,55 @@ impl<A: Allocator> Curves<A> {
         if net < i64::from(curve.bottom) || net > i64::from(curve.top) {
             return None;
         }
+        match curve.lookup {
+            Lookup::Values(first) => Some(self.value(curve, first, net)),
+            Lookup::Hints(hints) => Some(self.searched(curve, hints, net)),
+        }
+    }
+
+    /// The value that stands there for the net volume.
+    #[inline(always)]
+    fn value(&self, curve: Curve, first: u32, net: i64) -> i64
+        requires curve { (periods : List (List Step)) × (least : ℤ) × (most : ℤ)
+            × IsCurveAt self.now curve periods least most × (least ≤ℤ net) × (net ≤ℤ most) }
+        requires lookup { curve.lookup ≡ Values first }
+        requires bottom { curve.bottom ≤ℤ net }
+        requires top { net ≤ℤ curve.top }
+        ensures { (periods : List (List Step)) (least most : ℤ)
+            → IsCurveAt self.now curve periods least most → Some result ≡ joint_welfare periods net }
+    {
+        self.values[first as usize + (i64::from(curve.top) - net) as usize]
+    }
+
+    /// The value of the line for the net volume.
+    #[inline(always)]
+    fn searched(&self, curve: Curve, hints: Hints, net: i64) -> i64
+        requires curve { (periods : List (List Step)) × (least : ℤ) × (most : ℤ)
+            × IsCurveAt self.now curve periods least most × (least ≤ℤ net) × (net ≤ℤ most) }
+        requires bottom { curve.bottom ≤ℤ net }
+        requires top { net ≤ℤ curve.top }
+        ensures { (periods : List (List Step)) (least most : ℤ)
+            → IsCurveAt self.now curve periods least most → Some result ≡ joint_welfare periods net }
+    {
         let first = curve.first as usize;
         let lines = &self.lines[first..first + curve.count as usize];
-        let place = place_of(lines, net, self.near(curve, net));
-        let line = lines[place];
-        Some(line.surplus + i64::from(line.price) * net)
+        value_in(lines, net, self.near(curve, hints, net)).1
+    }
+}
+
+impl Curve {
+    /// A curve without lines.
+    fn none() -> Curve
+        ensures { (curves : CurvesState) (periods : List (List Step)) (least most : ℤ)
+            → IsCurve periods least most [] → IsCurveAt curves result periods least most }
+    {
+        Curve {
+            first: 0,
+            count: 0,
+            bottom: 0,
+            top: -1,
+            lookup: Lookup::Hints(Hints { first: 0, shift: 0 }),
+        }
     }
 }
 

@@ -10,12 +10,13 @@
 //! sum.clear(-500, 500)?; // from 50 MW bought to 50 MW sold, so far over no period
 //! sum.add(&supply)?;
 //! let mut curves = Curves::new(alloc);
-//! let curve = curves.add(&sum)?;
+//! let curve = curves.add(&sum)?; // or `add_values`, which takes more memory and is the faster to look up
 //! let welfare = curves.welfare(curve, 120); // that of `Hour::clear` at this net volume
 //! supply.remove(steps[0]); // the period without one of its steps
 //! ```
 //!
-//! A contract sees the lines of all curves, and asks of a curve which periods it is of, and between which net volumes.
+//! A contract sees the lines and the values of all curves, and asks of a curve which periods it is of, and between
+//! which net volumes.
 //! Tests alone show that a call reports out of memory only if memory was refused.
 //!
 //! The crate knows nothing of blocks and books.

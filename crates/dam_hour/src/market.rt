@@ -27,9 +27,9 @@ pub fn fair_in_a_period()
         (volume other : ℕ) → IsExecutedAt steps net price place step volume → other ≤ step.qty
         → order_surplus price step other ≤ℤ order_surplus price step volume }
     ensures in_book_order { (steps : List Step) (net price : ℤ) (i j : ℕ) (earlier later : Step)
-        (x y : ℕ) → IsExecutedAt steps net price i earlier x → IsExecutedAt steps net price j later y
-        → i < j → earlier.side ≡ later.side → earlier.price ≡ later.price → 0 < y
-        → x ≡ earlier.qty }
+        (x y : ℕ) → IsExecutedAt steps net price i earlier x
+        → IsExecutedAt steps net price j later y → i < j → earlier.side ≡ later.side
+        → earlier.price ≡ later.price → 0 < y → x ≡ earlier.qty }
 {}
 
 /// Book order decides only ties: in whatever order the hourly orders of a period stand, its greatest

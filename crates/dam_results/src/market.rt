@@ -50,9 +50,10 @@ pub fn published_results_add_up()
 /// A book that keeps `IsBook` has no block whose parent is missing, so this is of a block without children:
 /// without it, the book keeps `IsBook` (`dam_book::laws::an_order_less`).
 pub fn a_rejected_block_withdrawn()
-    ensures published { (book other : BookState) (place : ℕ) (welfare : ℕ) (periods : List PeriodResult)
-        (rows : List RowResult) (who name : List ℕ) (surplus : ℤ) → IsBook book → IsBook other
-        → IsWithoutRow book other place → IsClearing book welfare periods rows
+    ensures published { (book other : BookState) (place : ℕ) (welfare : ℕ)
+        (periods : List PeriodResult) (rows : List RowResult) (who name : List ℕ) (surplus : ℤ)
+        → IsBook book → IsBook other → IsWithoutRow book other place
+        → IsClearing book welfare periods rows
         → slice_get rows place ≡ Some (BlockResult who name false surplus)
         → IsClearing other welfare periods (remove rows place) }
 {
@@ -66,9 +67,10 @@ pub fn a_rejected_block_withdrawn()
 pub fn a_block_more()
     ensures welfare { (book other : BookState) (place : ℕ) (key : Key) (order : BlockTerms)
         (welfare other_welfare : ℕ) (periods other_periods : List PeriodResult)
-        (rows other_rows : List RowResult) → IsBook book → IsBook other → IsWithoutRow book other place
-        → slice_get book.rows place ≡ Some (key, BlockOrder order)
-        → IsClearing book welfare periods rows → IsClearing other other_welfare other_periods other_rows
+        (rows other_rows : List RowResult) → IsBook book → IsBook other
+        → IsWithoutRow book other place → slice_get book.rows place ≡ Some (key, BlockOrder order)
+        → IsClearing book welfare periods rows
+        → IsClearing other other_welfare other_periods other_rows
         → other_welfare ≤ welfare }
 {
     crate::publishing_laws::best_selection_is_result();
@@ -82,7 +84,8 @@ pub fn a_block_more()
 pub fn a_better_limit_keeps_a_block()
     ensures accepted { (book other : BookState) (place : ℕ) (order : BlockTerms) (limit : ℤ)
         (welfare other_welfare : ℕ) (periods other_periods : List PeriodResult)
-        (rows other_rows : List RowResult) (who name : List ℕ) (surplus : ℤ) → IsWithOtherLimit book other place order limit
+        (rows other_rows : List RowResult) (who name : List ℕ) (surplus : ℤ)
+        → IsWithOtherLimit book other place order limit
         → IsBetter order.side limit order.price → IsClearing book welfare periods rows
         → slice_get rows place ≡ Some (BlockResult who name true surplus)
         → IsClearing other other_welfare other_periods other_rows
@@ -96,13 +99,13 @@ pub fn a_better_limit_keeps_a_block()
 /// A rejected block that asks for worse changes nothing: what is published is the same, but for the block's
 /// own surplus.
 pub fn a_rejected_block_that_asks_for_worse()
-    ensures published { (book other : BookState) (place : ℕ) (order : BlockTerms) (limit : ℤ) (welfare : ℕ)
-        (periods : List PeriodResult) (rows : List RowResult) (who name : List ℕ) (surplus : ℤ)
-        → IsWithOtherLimit book other place order limit → IsWorse order.side limit order.price
-        → IsClearing book welfare periods rows
+    ensures published { (book other : BookState) (place : ℕ) (order : BlockTerms) (limit : ℤ)
+        (welfare : ℕ) (periods : List PeriodResult) (rows : List RowResult) (who name : List ℕ)
+        (surplus : ℤ) → IsWithOtherLimit book other place order limit
+        → IsWorse order.side limit order.price → IsClearing book welfare periods rows
         → slice_get rows place ≡ Some (BlockResult who name false surplus)
-        → (gain : ℤ)
-        × IsClearing other welfare periods (slice_set rows place (BlockResult who name false gain)) }
+        → (gain : ℤ) × IsClearing other welfare periods
+        (slice_set rows place (BlockResult who name false gain)) }
 {
     crate::publishing_laws::best_selection_is_result();
     dam_blocks::market::a_changed_book_is_a_changed_problem();

@@ -1,6 +1,6 @@
 -- No hourly order loses at the price, and a participant's accepted blocks make up whole families.
 use Rattle.dam_blocks.proofs.Participants.{GainLaws, order_at_least_zero, participant_gains, descendants_gain}
-use Rattle.dam_blocks.proofs.Heads.{one_head, family_owner}
+use Rattle.dam_blocks.proofs.Roots.{one_root, family_owner}
 use Rattle.dam_blocks.proofs.market.nobody_loses.Goals as goal
 
 pub returns : goal.returns
@@ -10,6 +10,6 @@ returns c =
       order = order_at_least_zero laws;
       participant = participant_gains laws;
       descendants = descendants_gain;
-      head = one_head;
+      root = one_root;
       owner = family_owner;
     }

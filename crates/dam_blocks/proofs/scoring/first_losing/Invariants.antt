@@ -1,8 +1,8 @@
 -- No accepted block so far loses.
 use Rattle.std.proofs.Common.{◌≡◌, ℕ, ◌<◌, pos, ◌≤ℤ◌, true}
 use Rattle.dam_blocks.specs.Selection.{accepts}
-use Rattle.dam_blocks.specs.Eligible.{gain_at}
+use Rattle.dam_blocks.specs.Eligible.{family_surplus}
 use Rattle.dam_blocks.proofs.scoring.first_losing.Given as goal
 
 abbrev pub invariant-loop-place : goal.invariant-loop-place
-invariant-loop-place g l = (j : ℕ) → j < l.place → accepts l.selection j ≡ true → pos 0 ≤ℤ gain_at l.blocks l.selection l.prices j
+invariant-loop-place g l = (j : ℕ) → j < l.place → accepts l.selection j ≡ true → pos 0 ≤ℤ family_surplus l.blocks l.selection l.prices j

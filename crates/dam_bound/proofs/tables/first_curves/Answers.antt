@@ -2,7 +2,7 @@
 use Rattle.std.proofs.Common.{◌≢◌, ◌<◌, List, length, length-append, slice_index_or, [], ◌∷◌, ap, ◌∙◌, sym, subst, refl, rules, arith}
 use Rattle.dam_curve.specs.Curve.{Keeps}
 use Rattle.dam_curve.specs.declared.curves.Curve.{Curve}
-use Rattle.dam_curve.specs.declared.line.Line.{Line}
+use Rattle.dam_curve.specs.Curve.{CurvesState}
 use Rattle.dam_bound.specs.Tables.{IsClassCurve}
 use Rattle.dam_bound.proofs.Classing.{first_most}
 use Rattle.dam_bound.proofs.BuildingCurves.{first_read}
@@ -50,7 +50,7 @@ loop-at-preserved g c =
                 (omega (arith, c.loop-at-test.true, c.count-at-end.ensures, ap (λ p. length p.supplies) c.periods.view_is)) in
                 curve_pushed problem c.loop-at.curves c.if-first-at.curves c.loop-at.at c.loop-at.ends.items _ c.if-first-at.curve keeps
                 (λ first. subst (λ (x : Curve). IsClassCurve problem c.if-first-at.curves 0 c.loop-at.at x) (sym w.curve-is)
-                (subst (λ (ls : List Line). IsClassCurve problem ls 0 c.loop-at.at w.in_ok-curve.curve) (sym w.curves-is)
+                (subst (λ (ls : CurvesState). IsClassCurve problem ls 0 c.loop-at.at w.in_ok-curve.curve) (sym w.curves-is)
                 (w.in_ok-curve.ensures.curve problem 0 are (record { inside = read.0; first = first }))))
                 c.in_ok-push.ensures.items (c.loop-at.invariant.so_far problem are));
           })
@@ -64,7 +64,7 @@ loop-at-preserved g c =
                 (omega (arith, c.loop-at-test.true, c.count-at-end.ensures, ap (λ p. length p.supplies) c.periods.view_is)) in
                 let apart : slice_index_or c.periods.inside.firsts c.loop-at.at 0 ≢ c.loop-at.at = search (rules, w.if-first-at) in
                 curve_pushed problem c.loop-at.curves c.if-first-at.curves c.loop-at.at c.loop-at.ends.items _ c.if-first-at.curve
-                (subst (Keeps c.loop-at.curves) (sym w.curves-is) (λ curve l. (l, refl)))
+                (subst (Keeps c.loop-at.curves) (sym w.curves-is) (λ curve periods least most is. is))
                 (λ first. absurd (apart (read.1 ∙ first)))
                 c.in_ok-push.ensures.items (c.loop-at.invariant.so_far problem are));
           })

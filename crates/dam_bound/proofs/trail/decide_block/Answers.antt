@@ -38,7 +38,7 @@ loop-touch-init g c = record {
   so_far = λ problem before after b are at is total e of.
       subst (λ (z : ℤ). IsChangedSoFar problem before after c.touches_of-touch-items.result.now
       (in_slots problem.blocks c.args.place c.args.trail.now.slots c.touches_of-touch-items.result.now) z) e
-      (undecided problem c.args.tables.now.lines c.args.place (c.args.place + 1) c.args.accept before after b
+      (undecided problem c.args.tables.now.curves c.args.place (c.args.place + 1) c.args.accept before after b
       c.touches_of-touch-items.result.now c.args.trail.now total is at (c.touches_of-touch-items.ensures problem b are at) of);
   reached = λ some. absurd (omega (arith, some));
 }
@@ -49,7 +49,7 @@ bounds-trail-touch g c =
     let block = one_at r.0.blocks c.args.place r.4 in
     let touches = c.touches_of-touch-items.result.now in let touch = get_or touches j no_touch in
     let are = c.touches_of-touch-items.ensures r.0 block.0 r.3 block.1 in
-    let t = touch_now r.0 c.args.tables.now.lines c.args.place block.0 c.args.accept touches j are c.loop-touch-test.true in
+    let t = touch_now r.0 c.args.tables.now.curves c.args.place block.0 c.args.accept touches j are c.loop-touch-test.true in
     let few = r.3.few_periods in let blocks = r.3.few_blocks in let many = r.4 in let room = c.loop-touch.invariant.room in
     let h = from_within few (omega (arith, blocks, many)) t.is in omega (arith, h)
 
@@ -59,7 +59,7 @@ bounds-trail-touch-in-loop-touch g c =
     let block = one_at r.0.blocks c.args.place r.4 in
     let touches = c.touches_of-touch-items.result.now in let touch = get_or touches j no_touch in
     let are = c.touches_of-touch-items.ensures r.0 block.0 r.3 block.1 in
-    let t = touch_now r.0 c.args.tables.now.lines c.args.place block.0 c.args.accept touches j are c.loop-touch-test.true in
+    let t = touch_now r.0 c.args.tables.now.curves c.args.place block.0 c.args.accept touches j are c.loop-touch-test.true in
     let few = r.3.few_periods in let blocks = r.3.few_blocks in let many = r.4 in
     let h = to_within few (omega (arith, blocks, many)) t.is in omega (arith, h)
 
@@ -69,12 +69,12 @@ moved-next-requires-clause-curve g c =
     let block = one_at r.0.blocks c.args.place r.4 in
     let touches = c.touches_of-touch-items.result.now in let touch = get_or touches j no_touch in
     let are = c.touches_of-touch-items.ensures r.0 block.0 r.3 block.1 in
-    let t = touch_now r.0 c.args.tables.now.lines c.args.place block.0 c.args.accept touches j are c.loop-touch-test.true in
+    let t = touch_now r.0 c.args.tables.now.curves c.args.place block.0 c.args.accept touches j are c.loop-touch-test.true in
     let so_far = c.loop-touch.invariant.so_far r.0 r.1 r.2 block.0 r.3 block.1 r.5 c.args.total (same c.args.total (search rules)) r.6 in
     let few = r.3.few_periods in let blocks = r.3.few_blocks in let many = r.4 in let room = c.loop-touch.invariant.room in
     let from = from_within few (omega (arith, blocks, many)) t.is in
     let own = own_slot c.loop-touch.trail.slots no_position t (omega (arith, from, room)) so_far in
-    on_curve r.0 c.args.tables.now.lines c.args.place (c.args.place + 1) Decide c.args.accept r.1 r.2 touch.at block.0
+    on_curve r.0 c.args.tables.now.curves c.args.place (c.args.place + 1) Decide c.args.accept r.1 r.2 touch.at block.0
     (get_or c.loop-touch.trail.slots touch.from no_position) (to_z w64 (of_z w64 c.from.result)) touch.curve r.5 block.1 own
     (passed c.from.result (search rules) ∙ c.from.ensures ∙ narrow touch.net (search rules) ∙ t.is.net_is) t.is.curve_is
 
@@ -84,7 +84,7 @@ moved-next-requires-clause-welfare g c =
     let block = one_at r.0.blocks c.args.place r.4 in
     let touches = c.touches_of-touch-items.result.now in let touch = get_or touches j no_touch in
     let are = c.touches_of-touch-items.ensures r.0 block.0 r.3 block.1 in
-    let t = touch_now r.0 c.args.tables.now.lines c.args.place block.0 c.args.accept touches j are c.loop-touch-test.true in
+    let t = touch_now r.0 c.args.tables.now.curves c.args.place block.0 c.args.accept touches j are c.loop-touch-test.true in
     let so_far = c.loop-touch.invariant.so_far r.0 r.1 r.2 block.0 r.3 block.1 r.5 c.args.total (same c.args.total (search rules)) r.6 in
     let few = r.3.few_periods in let blocks = r.3.few_blocks in let many = r.4 in let room = c.loop-touch.invariant.room in
     let from = from_within few (omega (arith, blocks, many)) t.is in
@@ -108,7 +108,7 @@ moved-next-requires-clause-value g c =
     let block = one_at r.0.blocks c.args.place r.4 in
     let touches = c.touches_of-touch-items.result.now in let touch = get_or touches j no_touch in
     let are = c.touches_of-touch-items.ensures r.0 block.0 r.3 block.1 in
-    let t = touch_now r.0 c.args.tables.now.lines c.args.place block.0 c.args.accept touches j are c.loop-touch-test.true in
+    let t = touch_now r.0 c.args.tables.now.curves c.args.place block.0 c.args.accept touches j are c.loop-touch-test.true in
     let value = class_value_within r.0 block.0.order touch.at (sized r.3)
     (block_order (length r.0.hours) r.0.blocks c.args.place block.0 r.3.blocks_are block.1) in
     subst (IsWithin greatest_class_value) (sym (passed touch.value (search rules) ∙ t.is.value_is))
@@ -120,7 +120,7 @@ returns-in_default-clause-day g c problem before after are_tables inside_blocks 
     let block = one_at problem.blocks c.args.place inside_blocks in
     let touches = c.touches_of-touch-items.result.now in let touch = get_or touches j no_touch in
     let are = c.touches_of-touch-items.ensures problem block.0 are_tables block.1 in
-    let t = touch_now problem c.args.tables.now.lines c.args.place block.0 c.args.accept touches j are c.loop-touch-test.true in
+    let t = touch_now problem c.args.tables.now.curves c.args.place block.0 c.args.accept touches j are c.loop-touch-test.true in
     let so_far = c.loop-touch.invariant.so_far problem before after block.0 are_tables block.1 is c.args.total (same c.args.total (search rules)) of in
     let few = are_tables.few_periods in let blocks = are_tables.few_blocks in let room = c.loop-touch.invariant.room in
     let from = from_within few (omega (arith, blocks, inside_blocks)) t.is in
@@ -163,7 +163,7 @@ returns-then-is_under-clause-day g c problem before after are_tables inside_bloc
     let j = c.loop-touch.touch-index in
     let touches = c.touches_of-touch-items.result.now in let touch = get_or touches j no_touch in
     let are = c.touches_of-touch-items.ensures problem block.0 are_tables block.1 in
-    let t = touch_now problem c.args.tables.now.lines c.args.place block.0 c.args.accept touches j are c.loop-touch-test.true in
+    let t = touch_now problem c.args.tables.now.curves c.args.place block.0 c.args.accept touches j are c.loop-touch-test.true in
     let so_far = c.loop-touch.invariant.so_far problem before after block.0 are_tables block.1 is c.args.total (same c.args.total (search rules)) of in
     let few = are_tables.few_periods in let blocks = are_tables.few_blocks in let room = c.loop-touch.invariant.room in
     let here = slice_get_within problem.blocks c.args.place block.0 block.1 in
@@ -213,7 +213,7 @@ returns-then-is_under-clause-below g c i d l =
     let block = one_at r.0.blocks c.args.place r.4 in
     let touches = c.touches_of-touch-items.result.now in let touch = get_or touches j no_touch in
     let are = c.touches_of-touch-items.ensures r.0 block.0 r.3 block.1 in
-    let t = touch_now r.0 c.args.tables.now.lines c.args.place block.0 c.args.accept touches j are c.loop-touch-test.true in
+    let t = touch_now r.0 c.args.tables.now.curves c.args.place block.0 c.args.accept touches j are c.loop-touch-test.true in
     let high : (c.args.place + 1) * last_period ≤ touch.to = (let to = t.is.to_is in omega (arith, to)) in
     below_more c.args.place touch.to i c.loop-touch.trail.slots c.in-Some.next d high l ∙ c.loop-touch.invariant.below i d l
 
@@ -223,7 +223,7 @@ loop-touch-preserved g c =
     let block = one_at r.0.blocks c.args.place r.4 in
     let touches = c.touches_of-touch-items.result.now in let touch = get_or touches j no_touch in
     let are = c.touches_of-touch-items.ensures r.0 block.0 r.3 block.1 in
-    let t = touch_now r.0 c.args.tables.now.lines c.args.place block.0 c.args.accept touches j are c.loop-touch-test.true in
+    let t = touch_now r.0 c.args.tables.now.curves c.args.place block.0 c.args.accept touches j are c.loop-touch-test.true in
     let high : (c.args.place + 1) * last_period ≤ touch.to = (let to = t.is.to_is in omega (arith, to)) in
     record {
       room = length-set c.loop-touch.trail.slots touch.to c.in-Some.next ∙ c.loop-touch.invariant.room;
@@ -233,7 +233,7 @@ loop-touch-preserved g c =
           (let j = c.loop-touch.touch-index in
           let touches = c.touches_of-touch-items.result.now in let touch = get_or touches j no_touch in
           let are = c.touches_of-touch-items.ensures problem b are_tables at in
-          let t = touch_now problem c.args.tables.now.lines c.args.place b c.args.accept touches j are c.loop-touch-test.true in
+          let t = touch_now problem c.args.tables.now.curves c.args.place b c.args.accept touches j are c.loop-touch-test.true in
           let so_far = c.loop-touch.invariant.so_far problem before after b are_tables at is total e of in
           let few = are_tables.few_periods in let blocks = are_tables.few_blocks in let room = c.loop-touch.invariant.room in
           let here = slice_get_within problem.blocks c.args.place b at in
@@ -298,7 +298,7 @@ returns-clause-reached g c =
       sums = record { parted = c.sums.ensures.parted; padded = c.sums.ensures.padded };
     } in
     let first = some_volume (length r.0.hours) r.0.blocks c.args.place block.0 r.3.blocks_are block.1 in
-    let some = some_touch r.0 c.args.tables.now.lines c.args.place block.0 c.args.accept c.touches_of-touch-items.result.now first.0 are block.1
+    let some = some_touch r.0 c.args.tables.now.curves c.args.place block.0 c.args.accept c.touches_of-touch-items.result.now first.0 are block.1
     first.1 first.2 in
     let past = c.loop-touch-test.false in
     asked c.args.least (to_z w64 c.loop-touch.left-bits) c.floor_of-floor.result _

@@ -6,7 +6,7 @@ use Rattle.dam_book.specs.Terms.{BlockTerms}
 use Rattle.dam_book.specs.Volumes.{Pair}
 use Rattle.dam_blocks.specs.Selection.{volume_in}
 use Rattle.dam_curve.specs.Curve.{Keeps}
-use Rattle.dam_curve.specs.declared.line.Line.{Line}
+use Rattle.dam_curve.specs.Curve.{CurvesState}
 use Rattle.dam_bound.specs.declared.touch.Touch.{Touch}
 use Rattle.dam_bound.specs.inside.Building.{PeriodsState, IsDeciding}
 use Rattle.dam_bound.proofs.BuildingPairs.{next_pair}
@@ -30,6 +30,10 @@ touch-requires g c =
     let view = ap (λ (p : PeriodsState). slice_index_or p.firsts (c.from-at.result - 1) 0) c.periods.view_is in
     let first = sym (deciding.periods_are.firsts_are.each (c.from-at.result - 1) 0 inside) ∙ sym view ∙ c.if-periods-at.true in
     (problem, k, b, c.requires.3, record { inside = inside; first = first }, ap (volume_in b.order.volumes) (sym number) ∙ next.volume)
+
+pub returns-in_err-touch-clause-kept : goal.returns-in_err-touch-clause-kept
+returns-in_err-touch-clause-kept g c =
+    keeps_on c.args.curves.now c.loop-period.curves c.touch.new.curves c.loop-period.invariant.keeps c.touch.ensures.kept
 
 pub returns-in_err-push-clause-kept : goal.returns-in_err-push-clause-kept
 returns-in_err-push-clause-kept g c =
@@ -55,7 +59,7 @@ loop-period-preserved g c = elim c.if-periods-at.branch [
             let inside : c.from-at.result - 1 < length problem.hours = omega (arith, number, most) in
             let view = ap (λ (p : PeriodsState). slice_index_or p.firsts (c.from-at.result - 1) 0) c.periods.view_is in
             let first = sym (deciding.periods_are.firsts_are.each (c.from-at.result - 1) 0 inside) ∙ sym view ∙ w.if-periods-at.true in
-            subst (λ (ls : List Line). AreTouchesSoFar problem ls k b (drop (c.loop-period.period-index + 1) b.order.volumes)
+            subst (λ (ls : CurvesState). AreTouchesSoFar problem ls k b (drop (c.loop-period.period-index + 1) b.order.volumes)
             c.if-periods-at.touches.items) (sym w.curves-is)
             (touch_more problem c.loop-period.curves w.touch.new.curves k c.loop-period.period-index (c.from-at.result - 1) b
             c.loop-period-item.result c.loop-period.touches.items c.if-periods-at.touches.items w.in_ok-touch.field-0 w.touch.ensures.kept
@@ -82,7 +86,7 @@ loop-period-preserved g c = elim c.if-periods-at.branch [
             let inside : c.from-at.result - 1 < length problem.hours = omega (arith, number, most) in
             let view = ap (λ (p : PeriodsState). slice_index_or p.firsts (c.from-at.result - 1) 0) c.periods.view_is in
             let read_first = view ∙ deciding.periods_are.firsts_are.each (c.from-at.result - 1) 0 inside in
-            subst (λ (ls : List Line). AreTouchesSoFar problem ls k b (drop (c.loop-period.period-index + 1) b.order.volumes)
+            subst (λ (ls : CurvesState). AreTouchesSoFar problem ls k b (drop (c.loop-period.period-index + 1) b.order.volumes)
             c.if-periods-at.touches.items) (sym w.curves-is)
             (subst (λ (ts : List Touch). AreTouchesSoFar problem c.loop-period.curves k b
             (drop (c.loop-period.period-index + 1) b.order.volumes) ts) (sym (ap (λ v. v.items) w.touches-is))

@@ -1,6 +1,6 @@
 -- The tables, made block by block.
 use Rattle.std.proofs.Common.{List, length, ◌∙◌, sym, subst, arith}
-use Rattle.dam_curve.specs.declared.line.Line.{Line}
+use Rattle.dam_curve.specs.Curve.{CurvesState}
 use Rattle.dam_blocks.specs.declared.problem.Block.{Block}
 use Rattle.dam_blocks.specs.Problem.{ProblemState}
 use Rattle.dam_bound.specs.Relaxed.{without_rows}
@@ -52,8 +52,8 @@ returns g c =
       few_hourly = c.blocks-blocks.ensures.valid.few_hourly;
       firsts_are = after.firsts_are;
       ends_are = subst (AreCurves problem _ (length problem.blocks)) (sym all)
-          (subst (λ (ls : List Line). AreCurves problem ls (length problem.blocks) c.lots_of.new.ends) (sym c.curves-2.view_is) ends);
-      lots_are = subst (λ (ls : List Line). AreLots problem ls (length problem.blocks) c.in_ok-lots.lots.items) (sym c.curves-2.view_is)
+          (subst (λ (ls : CurvesState). AreCurves problem ls (length problem.blocks) c.lots_of.new.ends) (sym c.curves-2.view_is) ends);
+      lots_are = subst (λ (ls : CurvesState). AreLots problem ls (length problem.blocks) c.in_ok-lots.lots.items) (sym c.curves-2.view_is)
           (c.in_ok-lots.ensures.lots problem blocks are curves places);
       places_are = c.in_ok-lots.ensures.places problem blocks are curves places;
       root_is = c.root_of-root.ensures problem seen.firsts_are

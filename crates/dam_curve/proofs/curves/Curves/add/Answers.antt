@@ -1,11 +1,16 @@
 -- The lines stand after those of the other curves.
-use Rattle.std.proofs.Common.{pos, sym, subst, rules}
+use Rattle.std.proofs.Common.{◌≡◌, pos, [], sym, subst, rules}
 use Rattle.dam_curve.specs.Curve.{IsCurve}
 use Rattle.dam_curve.proofs.LookingUp.{curve_added}
 use Rattle.dam_curve.proofs.curves.Curves.add.Goals as goal
 
+pub returns-then-is_empty-clause-added : goal.returns-then-is_empty-clause-added
+returns-then-is_empty-clause-added g c ps least most is =
+    let none : c.args.sum.now ≡ [] = search rules in
+    c.none.ensures c.args.self.now ps least most (subst (IsCurve ps least most) none is)
+
 pub returns-clause-added : goal.returns-clause-added
 returns-clause-added g c ps least most is =
-    curve_added c.args.self.now c.lines-lines.result.now _ _ ps least most (record { most = pos 0; price = pos 0; surplus = pos 0 })
-    (search rules) (search rules) (search rules) (search rules) (search rules) (search rules)
+    curve_added c.args.self.now.lines c.lines-lines.result.now _ _ ps least most (record { most = pos 0; price = pos 0; surplus = pos 0 })
+    (search rules) (search rules) (search rules) (search rules) (search rules) (search rules) tt
     (subst (IsCurve ps least most) (sym c.lines-lines.ensures) is)

@@ -1,4 +1,4 @@
--- An accepted block stands in the family of just one accepted block without a parent, and a family has one owner.
+-- An accepted block has just one root, an accepted block without a parent, and a family has one owner.
 use Rattle.std.proofs.Common.{◌≡◌, ℕ, Bool, true, Some, List, length, ◌∙◌, sym, refl, arith}
 use Rattle.std.specs.List.{slice_get}
 use Rattle.std.proofs.lemmas.Bool.{eq-eqb, eqb-true}
@@ -7,16 +7,16 @@ use Rattle.dam_blocks.specs.declared.problem.Block.{Block}
 use Rattle.dam_blocks.specs.Problem.{ProblemState, IsProblem}
 use Rattle.dam_blocks.specs.Selection.{accepts, IsAdmissible}
 use Rattle.dam_blocks.specs.Family.{parent_place, descends}
-use Rattle.dam_blocks.specs.Market.{IsHead}
+use Rattle.dam_blocks.specs.Market.{IsRootOf}
 use Rattle.dam_blocks.proofs.Families.{root, root_is_top, in_family}
 use Rattle.dam_blocks.proofs.WelfareAtLeastZero.{are_chains}
 use Rattle.dam_blocks.proofs.Descending.{descends_is}
 use Rattle.dam_blocks.proofs.Participants.{one_owner}
 
-pub one_head : (problem : ProblemState) (sel : List Bool) (j : ℕ) → IsProblem problem → IsAdmissible problem.blocks sel
+pub one_root : (problem : ProblemState) (sel : List Bool) (j : ℕ) → IsProblem problem → IsAdmissible problem.blocks sel
     → accepts sel j ≡ true
-    → (i : ℕ) × IsHead problem.blocks sel i j × ((k : ℕ) → IsHead problem.blocks sel k j → k ≡ i)
-one_head problem sel j is admissible acc =
+    → (i : ℕ) × IsRootOf problem.blocks sel i j × ((k : ℕ) → IsRootOf problem.blocks sel k j → k ≡ i)
+one_root problem sel j is admissible acc =
     let blocks = problem.blocks in
     let chains = are_chains problem sel is admissible in
     let stands = chains.within j acc in
@@ -30,8 +30,8 @@ one_head problem sel j is admissible acc =
         family = sym (in_family blocks sel (root blocks j) j (parent_place blocks j) chains top.0.top refl inside)
             ∙ eq-eqb (root blocks j) (root blocks j) refl;
       },
-      λ k head. sym (eqb-true (root blocks j) k
-          (in_family blocks sel k j (parent_place blocks j) chains head.no_parent refl inside ∙ head.family)),
+      λ k other. sym (eqb-true (root blocks j) k
+          (in_family blocks sel k j (parent_place blocks j) chains other.no_parent refl inside ∙ other.family)),
     )
 
 pub family_owner : (problem : ProblemState) (i j : ℕ) (a b : Block) → IsProblem problem → slice_get problem.blocks i ≡ Some a

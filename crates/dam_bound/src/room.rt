@@ -1,0 +1,82 @@
+//! Which tables keep a welfare for each net volume. They are the faster to look up and take the more memory, so they are
+//! those of the last blocks, which a search decides most often.
+
+ghost use Rattle.std.specs.Prelude.{◌≤◌, length};
+ghost use Rattle.dam_book.specs.Limits.{last_period};
+
+use dam_blocks::{Block, MOST_PERIODS};
+use dam_book::BlockOrder;
+
+/// How many welfares are kept for each period of the day, at most, of 8 bytes each.
+const VALUES_EACH: u64 = 5_000;
+
+/// How many net volumes the blocks can make of each class, at the place of its first period; 0 at other places.
+#[derive(Drop)]
+struct Reach {
+    counts: [u64; MOST_PERIODS],
+}
+
+impl Reach {
+    /// With no block decided.
+    fn of(firsts: &[u32; MOST_PERIODS]) -> Reach {
+        let mut counts = [0; MOST_PERIODS];
+        for at in 0..MOST_PERIODS {
+            if firsts[at] as usize == at {
+                counts[at] = 1;
+            }
+        }
+        Reach { counts }
+    }
+
+    /// With a block more decided.
+    fn widen(&mut self, order: &BlockOrder) {
+        for (period, qty) in order.volumes().pairs() {
+            let at = usize::from(period.get()) - 1;
+            if self.counts[at] > 0 {
+                self.counts[at] = self.counts[at].saturating_add(u64::from(qty.get()));
+            }
+        }
+    }
+
+    /// With a block less.
+    fn narrow(&mut self, order: &BlockOrder) {
+        for (period, qty) in order.volumes().pairs() {
+            let at = usize::from(period.get()) - 1;
+            self.counts[at] = self.counts[at].saturating_sub(u64::from(qty.get()));
+        }
+    }
+
+    /// How many welfares the tables of a block have.
+    fn over(&self, order: &BlockOrder) -> u64 {
+        let mut count = 0u64;
+        for (period, _) in order.volumes().pairs() {
+            count = count.saturating_add(self.counts[usize::from(period.get()) - 1]);
+        }
+        count
+    }
+}
+
+/// From which block on the tables keep a welfare for each net volume: as many of the last blocks as there is room for.
+pub(crate) fn first_with_values(
+    blocks: &[Block],
+    firsts: &[u32; MOST_PERIODS],
+    periods: usize,
+) -> usize {
+    let mut reach = Reach::of(firsts);
+    for block in blocks {
+        reach.widen(&block.order);
+    }
+    let mut room = VALUES_EACH.saturating_mul(periods as u64);
+    let mut place = blocks.len();
+    while place > 0 {
+        let order = &blocks[place - 1].order;
+        let count = reach.over(order);
+        if count > room {
+            break;
+        }
+        room -= count;
+        reach.narrow(order);
+        place -= 1;
+    }
+    place
+}

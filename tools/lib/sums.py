@@ -1,0 +1,89 @@
+"""The first three laws of docs/MARKET.md, checked on published results by adding: welfare is shared out, money balances, nobody loses.
+
+Nothing is cleared: prices, executed volumes, acceptances, surpluses and the welfare are the published ones, limits and the volumes of blocks
+those of the book."""
+
+from typing import NamedTuple
+
+from . import trades
+from .faults import of_line
+
+
+class Published(NamedTuple):
+    """Results as `trades` takes them."""
+
+    problem: object
+    said: object
+
+
+def differences(problem, said):
+    """Each sum that isn't as the laws say, as a line with its place."""
+    day = Published(problem, said)
+    yield from volume_differences(day)
+    yield from losing_hourly_orders(day)
+    yield from losing_participants(day)
+    yield from welfare_difference(day)
+
+
+def fault(day, kind, about, words):
+    return of_line(kind, day.said.lines[about], about, words)
+
+
+def volume_differences(day):
+    """In each period, what is bought is what is sold, and is the volume; so at its one price buyers pay what sellers receive."""
+    for number, parts in trades.shares(day).items():
+        bought, sold = (sum(parts[kind, side] for kind in ("hour", "block")) for side in ("buy", "sell"))
+        volume = day.said.volumes[number - 1]
+        if not bought == sold == volume:
+            words = f"period {number}: the orders buy {bought} and sell {sold}, and the volume is {volume}"
+            yield fault(day, "money", f"period {number}", words)
+
+
+def losing_hourly_orders(day):
+    for row, gain in trades.gains(day):
+        if row.order.kind == "hour" and gain < 0:
+            about = f"hour {row}"
+            yield fault(day, "loss", about, f"{about}: at the price it loses {-gain} with its executed volume")
+
+
+def losing_participants(day):
+    """The participants whose surpluses add up to less than 0, each at the line of the order that loses most."""
+    own = {}
+    for row, gain in trades.gains(day):
+        own.setdefault(row.who, []).append((gain, row))
+    for who, gains in own.items():
+        total = sum(gain for gain, _ in gains)
+        if total < 0:
+            _, row = min(gains, key=lambda pair: pair[0])
+            about = f"{row.order.kind} {row}"
+            yield fault(day, "loss", about, f"{about}: {who} loses {-total} with all its orders, and most with this one")
+
+
+def welfare_difference(day):
+    total = sum(gain for _, gain in trades.gains(day))
+    if day.said.welfare != total:
+        yield fault(day, "sum", "the welfare", f"the welfare is {day.said.welfare}, and the surpluses add up to {total}")
+
+
+class Sums(NamedTuple):
+    """Sums over the orders of a day, in cents per MWh times tenths of a MW."""
+
+    paid: int
+    received: int
+    hourly_surplus: int
+    block_surplus: int  # of the accepted blocks
+
+
+def sums(problem, said):
+    day = Published(problem, said)
+    totals = trades.totals(day).values()
+    surpluses = {"hour": 0, "block": 0}
+    for row, gain in trades.gains(day):
+        surpluses[row.order.kind] += gain
+    return Sums(sum(total.paid for total in totals), sum(total.received for total in totals), surpluses["hour"], surpluses["block"])
+
+
+def line(problem, found):
+    """What buyers pay and sellers receive, in words, of right results."""
+    paid, received = problem.euros(found.paid), problem.euros(found.received)
+    return f"by adding: buyers pay {paid} EUR, sellers receive {received} EUR; the surpluses add up to the welfare, and nobody loses"
