@@ -37,7 +37,7 @@ def table(before, after, who=None):
     if before.welfare != after.welfare:
         yield written.row("welfare", "EUR", before.welfare, after.welfare)
     for what, unit, numbers in (
-        ("price", "EUR/MWh", zip(before.prices, after.prices)),
+        ("price", "EUR/MWh", zip(traded_prices(before), traded_prices(after))),
         ("volume", "MW", zip(before.volumes, after.volumes)),
     ):
         for period, (one, other) in enumerate(numbers, 1):
@@ -46,6 +46,11 @@ def table(before, after, who=None):
     for key in {**before.rows, **after.rows}:
         if not who or key[0] == who:
             yield from order_rows(written, before, after, key)
+
+
+def traded_prices(day):
+    """The price of each period; None of one in which nothing is traded, whose price says nothing."""
+    return [price if volume else None for price, volume in zip(day.prices, day.volumes)]
 
 
 def order_rows(written, before, after, key):

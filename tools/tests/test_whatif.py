@@ -212,6 +212,9 @@ class Tools(unittest.TestCase):
         status, again, _ = tool("compare", *days)
         self.assertIn(b"executed,MWh,WIND,MILL,,,2.0,,,in full\n", again)
         self.assertEqual(tool("compare", *days[:2], *days[:2])[2], "compare: nothing differs\n")
+        # without MILL and UNIT nothing is traded, and the price says nothing
+        none = self.whatif("change", self.journal, "-", data=b"cancel,GEN,UNIT,,,,,,\n")[1]
+        self.assertIn(b"price,EUR/MWh,,,1,50.00,,,,\nvolume,MW,,,1,2.0,0.0,-2.0,,\n", none)
         # a table of orders is such a change too, and so is standard input
         table = b"participant,order,kind,side,price_eur_mwh,periods,volume_mw\nWIND,MILL,hour,sell,10,1,2\n"
         self.assertEqual(self.whatif("change", self.journal, "-", "--participant", "GEN", data=table)[:2], (0, out))
