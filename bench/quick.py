@@ -1,14 +1,13 @@
 #!/usr/bin/env python3
 """`dam replay`, `dam clear` and `dam day` compared with a baseline and with one another, a settlement, clears of one period, and the
-bounds of a search: the levels that `Relaxed::bound` asks, and the tables that a walk reads.
+tables that give a search its bounds.
 
 The baseline is a plain Rust program with std only: a hash map, and a list of orders with gaps. For a day it has a thread for each
 participant and one `Mutex`; it settles and prints the day, and clears nothing. A day of `dam` holds each command as it was read and as a
 receipt, both packed, and whole in the journal. The input is freed before the commands are entered, and the room for journal and receipts is
 made once. A settlement is compared with a plain pass that compares each receipt with its entry. An hour finds the end of the best execution
 by one bisection over the buys' own limits, with one over the sells inside, and then both ends of the price by two look-ups among the sells.
-The levels keep an hour for each depth and period, and `dam` builds none; in memory that is fresh, its pages cost more than the
-work.
+The tables of the last blocks keep a welfare for each net volume, at most 5,000 of them for each period of the day.
 
 A day of `dam` takes as many instructions as one of the baseline (116 and 118 million), but writes 2.5 MiB more: the whole entries of the
 journal, and the orders of two books. That is 690 more page faults, 3 of the 7 ms between the two, and a third more misses of the last
@@ -65,21 +64,21 @@ def clears():
         at_most(f"Hour::clear, {steps:,} steps, net volumes that balance", each, target)
 
 
-def levels():
+def tables():
     """In a process of their own each time, so that their memory is fresh."""
     for name, length, hours, periods in SPREADS:
-        book = f"out/levels-{length}-{hours}.csv"
+        book = f"out/tables-{length}-{hours}.csv"
         with open(book, "wb") as made:
             made.write(run(["./make_clearing.py", "4000", "24", str(length), str(hours), str(periods)]).text)
-        what = f"levels and a first selection, 4,000 hourly orders, {name}"
+        what = f"tables and a first selection, 4,000 hourly orders, {name}"
         runs = by_turns({"": [MEASURES, "nodes", "0", "0"]}, book, most=15)[""]
-        levels, first = (statistics.median(one.lap(part) for one in runs) for part in ("levels", "first"))
-        at_most(what, levels + first, 0.004, detail=f"{seconds(levels)} and {seconds(first)}")
-        more = peak([MEASURES, "levels", "1"], book) - peak([MEASURES, "levels", "0"], book)
+        made, first = (statistics.median(one.lap(part) for one in runs) for part in ("tables", "first"))
+        at_most(what, made + first, 0.004, detail=f"{seconds(made)} and {seconds(first)}")
+        more = peak([MEASURES, "tables", "1"], book) - peak([MEASURES, "tables", "0"], book)
         at_most(f"{what}, memory", more, 20, shown=MIB)
 
 
 journals()
 settlement()
 clears()
-levels()
+tables()

@@ -65,7 +65,7 @@ def private(name, book):
     programs = {"shared": [MEASURES, "search", "1", CUT], "private": [MEASURES, "nodes", CUT, "1"]}
     runs = by_turns(programs, book, most=32, seconds=20)
     shared = [each.lap("search") for each in runs["shared"]]
-    own = [sum(each.lap(name) for name in ("levels", "first", "walk")) for each in runs["private"]]
+    own = [sum(each.lap(name) for name in ("tables", "first", "walk")) for each in runs["private"]]
     ratio(f"{name}, cut {CUT}: 1 worker on shared words compared with its own", shared, own, 1.05)
 
 

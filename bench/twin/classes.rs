@@ -2,8 +2,8 @@
 //!
 //! Two periods are in one class if every block has the same volume in both, or none in either. Then their net volumes are equal under
 //! every prefix, so one look-up by that number gives what all periods of the class add. There is a table for each class before any
-//! decision, and one for each block that has a volume there, since its decision changes the stacks. A decision that goes by the prices of
-//! all these periods is free, and needs no look-up.
+//! decision, and one for each block that has a volume there, since its decision changes the stacks. Those of the last blocks keep a value
+//! for each net volume. A decision that goes by the prices of all these periods is free, and needs no look-up.
 //!
 //! The states of the classes are in slots, one for each table. A decision writes the slots of its own block and reads those of earlier
 //! ones, so nothing is copied and nothing undone.
@@ -11,6 +11,7 @@
 use std::collections::HashMap;
 
 use crate::problem::{Block, Problem, Side, Step, among};
+use crate::room::first_with_values;
 use crate::supply::{Nets, Supply, height};
 use crate::table::Table;
 
@@ -43,7 +44,7 @@ impl Touch {
 }
 
 /// Periods in each of which every block has the same volume.
-struct Class {
+pub struct Class {
     periods: Vec<usize>,
     /// Their stacks, without the blocks that are decided.
     supplies: Vec<Supply>,
@@ -62,7 +63,7 @@ impl Class {
         Class { periods, supplies, heights, reached: Nets { least: 0, greatest: 0 }, slot }
     }
 
-    fn volume(&self, block: &Block) -> i64 {
+    pub fn volume(&self, block: &Block) -> i64 {
         block.volume(self.periods[0])
     }
 
@@ -91,8 +92,8 @@ impl Class {
         }
     }
 
-    fn table(&self) -> Table {
-        Table::of(&self.supplies, self.reached)
+    fn table(&self, with_values: bool) -> Table {
+        Table::of(&self.supplies, self.reached, with_values)
     }
 }
 
@@ -132,16 +133,17 @@ impl Bounds<'_> {
     pub fn of(problem: &Problem) -> Bounds<'_> {
         let periods = periods_by_class(problem);
         let mut classes: Vec<Class> = periods.into_iter().enumerate().map(|(at, own)| Class::of(problem, own, at as u32)).collect();
-        let mut tables: Vec<Table> = classes.iter().map(Class::table).collect();
+        let mut tables: Vec<Table> = classes.iter().map(|class| class.table(false)).collect();
         let total = tables.iter().map(|table| table.welfare(0).expect("nothing accepted balances")).sum();
+        let valued = first_with_values(problem, &classes);
         let mut touches = Vec::new();
-        for block in &problem.blocks {
+        for (place, block) in problem.blocks.iter().enumerate() {
             let mut order: Vec<usize> = (0..classes.len()).filter(|at| classes[*at].volume(block) > 0).collect();
             order.sort_by_key(|at| -classes[*at].stake(block));
             let mut own = Vec::new();
             for at in order {
                 own.push(classes[at].decide(at as u32, block, tables.len() as u32));
-                tables.push(classes[at].table());
+                tables.push(classes[at].table(place >= valued));
             }
             touches.push(own);
         }

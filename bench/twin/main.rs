@@ -8,6 +8,7 @@
 
 mod classes;
 mod problem;
+mod room;
 mod supply;
 mod table;
 mod walk;

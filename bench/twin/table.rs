@@ -1,4 +1,4 @@
-//! The relaxed welfare of the periods of a class, as a function of their net volume: rows between which it is linear.
+//! The relaxed welfare of the periods of a class, as a function of their net volume: rows between which it is linear, or a value for each.
 
 use crate::supply::{Nets, Supply};
 
@@ -13,31 +13,43 @@ struct Row {
     value: i64,
 }
 
+impl Row {
+    #[inline(always)]
+    fn welfare(&self, net: i32) -> i64 {
+        self.value + i64::from(self.slope) * i64::from(net - self.net)
+    }
+}
+
+/// How the welfare at a net volume is found.
+enum Lookup {
+    /// By one load: the welfare at each net volume, from the least one on.
+    Values(Vec<i64>),
+    /// Among rows by rising net volume, and a last one that is above all.
+    Rows {
+        rows: Vec<Row>,
+        /// A row at or below each net volume: the first for as many as 2 to the power of `shift`, and so on.
+        hints: Vec<u16>,
+        shift: u32,
+    },
+}
+
 pub struct Table {
     /// The net volumes of the table; outside of them no execution balances, or no selection leads there.
     least: i32,
     greatest: i32,
-    /// By rising net volume, and a last one that is above all.
-    rows: Vec<Row>,
-    /// A row at or below each net volume: the first for as many as 2 to the power of `shift`, and so on.
-    hints: Vec<u16>,
-    shift: u32,
+    lookup: Lookup,
 }
 
 impl Table {
     /// The sum of the welfare in these periods, by those of the net volumes at which each of them balances.
-    pub fn of(supplies: &[Supply], reached: Nets) -> Table {
+    pub fn of(supplies: &[Supply], reached: Nets, with_values: bool) -> Table {
         let nets = supplies.iter().fold(reached, |nets, supply| nets.both(supply.nets()));
         if nets.least > nets.greatest {
-            return Table { least: 0, greatest: -1, rows: Vec::new(), hints: Vec::new(), shift: 0 };
+            return Table { least: 0, greatest: -1, lookup: Lookup::Values(Vec::new()) };
         }
         let rows = rows(supplies, nets);
-        let (mut shift, count) = (0, rows.len() as i64 - 1);
-        while (nets.greatest - nets.least) >> shift > HINTS * count {
-            shift += 1;
-        }
-        let hints = hints(&rows, nets, shift);
-        Table { least: nets.least as i32, greatest: nets.greatest as i32, rows, hints, shift }
+        let lookup = if with_values { Lookup::Values(values(&rows, nets)) } else { hinted(rows, nets) };
+        Table { least: nets.least as i32, greatest: nets.greatest as i32, lookup }
     }
 
     /// The welfare at a net volume; None if it isn't one of the table.
@@ -46,12 +58,17 @@ impl Table {
         if net < self.least || net > self.greatest {
             return None;
         }
-        let mut at = usize::from(self.hints[((net - self.least) >> self.shift) as usize]);
-        while self.rows[at + 1].net <= net {
-            at += 1;
+        let above = (net - self.least) as usize;
+        match &self.lookup {
+            Lookup::Values(values) => Some(values[above]),
+            Lookup::Rows { rows, hints, shift } => {
+                let mut at = usize::from(hints[above >> shift]);
+                while rows[at + 1].net <= net {
+                    at += 1;
+                }
+                Some(rows[at].welfare(net))
+            }
         }
-        let row = self.rows[at];
-        Some(row.value + i64::from(row.slope) * i64::from(net - row.net))
     }
 }
 
@@ -71,6 +88,23 @@ fn rows(supplies: &[Supply], nets: Nets) -> Vec<Row> {
     rows.push(Row { net: net as i32, slope: slope as i32, value });
     rows.push(Row { net: i32::MAX, slope: 0, value: 0 });
     rows
+}
+
+/// The welfare at each net volume.
+fn values(rows: &[Row], nets: Nets) -> Vec<i64> {
+    let end = nets.greatest as i32 + 1;
+    let between = |pair: &[Row]| (pair[0].net..pair[1].net.min(end)).map(|net| pair[0].welfare(net)).collect::<Vec<_>>();
+    rows.windows(2).flat_map(between).collect()
+}
+
+/// The rows with their hints.
+fn hinted(rows: Vec<Row>, nets: Nets) -> Lookup {
+    let (mut shift, count) = (0, rows.len() as i64 - 1);
+    while (nets.greatest - nets.least) >> shift > HINTS * count {
+        shift += 1;
+    }
+    let hints = hints(&rows, nets, shift);
+    Lookup::Rows { rows, hints, shift }
 }
 
 fn hints(rows: &[Row], nets: Nets, shift: u32) -> Vec<u16> {

@@ -42,7 +42,7 @@ def run(runs):
     """Counts each journal's instructions, and those of the one that it is compared with."""
     tried = {name: tuple(map(journal, records)) for name, records in journals().items()}
     needed = {journal([])}.union(*tried.values())
-    counts = dict(zip(needed, runs.pool.map(lambda data: instructions(runs.program, "replay", data, DRAWN), needed)))
+    counts = dict(zip(needed, runs.pool.map(lambda data: instructions(runs.program, ["replay"], data, DRAWN), needed)))
     alone = counts[journal([])]
     for name, (one, other) in tried.items():
         times = (counts[one] - alone) / (counts[other] - alone)

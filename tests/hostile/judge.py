@@ -46,15 +46,8 @@ class Answer:
 
 
 def memory(answer, refusal, got, calls):
-    """Memory is refused: the usual answer, or the line for memory; or no line, if nothing is granted any more or the fault's line
-    itself was refused."""
-    if answer.is_given(got):
-        return True
-    if calls < refusal.first:
-        return False
-    if refusal.last > refusal.first and got == MEMORY._replace(stderr=b""):
-        return True
-    return got == MEMORY or answer.usual.status != 0 and got == answer.usual._replace(stderr=b"")
+    """Memory is refused: the usual answer, or the line for memory, which needs no memory itself."""
+    return answer.is_given(got) or calls >= refusal.first and got == MEMORY
 
 
 def unchanged(answer, _refusal, got, _calls):

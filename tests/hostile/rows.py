@@ -12,9 +12,9 @@ from typing import NamedTuple
 
 sys.dont_write_bytecode = True
 
+import again
 import cancels
 import colliding
-import gates
 import judge
 from preload import EVERY, SECONDS, Program, Refusal
 from shared.counts import Counts
@@ -122,13 +122,17 @@ def memory_rows():
         yield Row(f"{about}, all growths from one on", words, data, "memory", judge.memory, last=EVERY, each=each, some=some // 2)
 
 
-def gate_days():
-    """Journals that `dam_refusals` enters at a gate."""
-    worked = {name: data for name, _, data in worked_cases()}
-    yield "two orders", TWO_ORDERS
-    for name in ["stored-run", "closed", "links"]:
-        yield f"the commands of {name}", worked[f"replay/{name}"]
-    yield "the auction day", OPEN_AUCTION
+def rows_of_calls(program):
+    """Rows whose calls `dam_refusals` makes, each again if it was refused memory."""
+    worked = {name: (words, data) for name, words, data in worked_cases()}
+    days = [("two orders", TWO_ORDERS)]
+    days += [(f"the commands of {name}", worked[f"replay/{name}"][1]) for name in ["stored-run", "closed", "links"]]
+    yield from again.days([*days, ("the auction day", OPEN_AUCTION)])
+    yield from again.gates()
+    texts = [(name, data) for name, (words, data) in worked.items() if words == ["replay"]]
+    yield from again.texts(program, texts, [("two orders", TWO_ORDERS + CLOSE), ("the auction day", AUCTION)])
+    yield from again.searches(worked["clear/two-equal-blocks"][1], worked["clear/group"][1])
+    yield from again.lines()
 
 
 def thread_rows():
@@ -298,8 +302,7 @@ def main():
     runs.run_rows("random bytes refused", random_rows())
     runs.run_rows("reads and writes that fail", device_rows())
     devices(runs)
-    for about, data in gate_days():
-        gates.run(runs, room, about, data)
+    again.run(runs, room, rows_of_calls(runs.program))
     seeds(runs)
     if shutil.which("valgrind"):
         colliding.run(runs)

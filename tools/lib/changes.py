@@ -1,6 +1,6 @@
 """What differs between two cleared days, as a table; and further commands of a day, which are put before its close."""
 
-from . import book, journal, order_table, sent, text
+from . import book, command_table, journal, order_table, sent, text
 from .engine import Fault
 
 HEADS = ["what", "unit", "participant", "order", "period", "before", "after", "change", "outcome_before", "outcome_after"]
@@ -37,7 +37,7 @@ def table(before, after, who=None):
     if before.welfare != after.welfare:
         yield written.row("welfare", "EUR", before.welfare, after.welfare)
     for what, unit, numbers in (
-        ("price", "EUR/MWh", zip(before.prices, after.prices)),
+        ("price", "EUR/MWh", zip(traded_prices(before), traded_prices(after))),
         ("volume", "MW", zip(before.volumes, after.volumes)),
     ):
         for period, (one, other) in enumerate(numbers, 1):
@@ -46,6 +46,11 @@ def table(before, after, who=None):
     for key in {**before.rows, **after.rows}:
         if not who or key[0] == who:
             yield from order_rows(written, before, after, key)
+
+
+def traded_prices(day):
+    """The price of each period; None of one in which nothing is traded, whose price says nothing."""
+    return [price if volume else None for price, volume in zip(day.prices, day.volumes)]
 
 
 def order_rows(written, before, after, key):
@@ -70,16 +75,15 @@ def in_one_line(fault):
 
 
 def read_changes(data, periods):
-    """Further commands for a day: records of a journal, with the records `day` and `close` or without them, or a table of orders, each a
-    submit; pairs of the number of a record or of an order, from 1, and a command."""
-    if sent.WORDS.match(data.removeprefix(text.MARK)):
-        try:
-            return [(entry.record, entry.command) for entry in sent.read_records(data, periods)]
-        except sent.Wrong as fault:
-            raise Fault(in_one_line(fault)) from None
+    """Further commands for a day: records of a journal, with the records `day` and `close` or without them; a table of commands; or one of
+    orders, each a submit. They are pairs of where each stands and a command."""
     try:
-        return order_table.read_tables([("", data)], periods).submits
-    except order_table.Wrong as fault:
+        if sent.WORDS.match(data.removeprefix(text.MARK)):
+            return [(f"record {entry.record}", entry.command) for entry in sent.read_records(data, periods)]
+        if command_table.is_command_table(data):
+            return [(f"line {line}", command) for line, command in command_table.read_commands(data, periods)]
+        return [(f"order {number}", submit) for number, submit in order_table.read_tables([("", data)], periods).submits]
+    except (sent.Wrong, order_table.Wrong) as fault:
         raise Fault(in_one_line(fault)) from None
 
 
@@ -94,11 +98,11 @@ def before_close(read):
 
 
 def entered(held, commands):
-    """A book with further commands; the book itself stays as it is. A command that it refuses is a fault."""
+    """A book with further commands, each with where it stands; the book itself stays as it is. A command that it refuses is a fault."""
     after = book.Book(held.periods)
     after.rows, after.held = dict(held.rows), dict(held.held)
-    for number, command in commands:
+    for place, command in commands:
         reason = after.apply(command)
         if reason:
-            raise Fault(f"record {number}: the book refuses {journal.command_line(command)}: {book.REASONS[reason]} ({reason})")
+            raise Fault(f"{place}: the book refuses {journal.command_line(command)}: {book.REASONS[reason]} ({reason})")
     return after

@@ -7,9 +7,11 @@ import contextlib
 import ctypes
 import functools
 import os
+import queue
 import shutil
 import subprocess
 import sys
+import threading
 from pathlib import Path
 from typing import NamedTuple
 
@@ -53,6 +55,12 @@ def has_library():
     return all(source.stat().st_mtime <= LIBRARY.stat().st_mtime for source in sources)
 
 
+@functools.cache
+def is_built():
+    """The same, as it was when it was first asked: to look at all sources takes as long as to clear a small day."""
+    return has_library()
+
+
 class Where(NamedTuple):
     """What clears a journal: the library or the program; of the package, the wheel or the clone that this module is part of, of the
     system, or named by the environment; and its path, or a name that the system finds."""
@@ -78,7 +86,7 @@ def where():
     for of, path in (
         ("package", packaged("lib", "x86_64-linux-gnu", LIBRARY.name)),
         ("wheel", WHEELS if WHEELS.exists() else None),
-        ("clone", LIBRARY if has_library() else None),
+        ("clone", LIBRARY if is_built() else None),
     ):
         if path:
             return Where("library", of, os.fspath(path))
@@ -123,9 +131,19 @@ def clear_call(path):
     return call
 
 
+class Buffers(threading.local):
+    """The buffer in which each thread gets its answers."""
+
+    def __init__(self):
+        self.own = ctypes.create_string_buffer(MOST_ANSWER)
+
+
+buffers = Buffers()
+
+
 def called(path, text, nodes=MOST_NODES):
     """The status and what the library prints for a text; names are hashed with random bytes. Other threads run in the meantime."""
-    secret, buffer = os.urandom(16), ctypes.create_string_buffer(MOST_ANSWER)
+    secret, buffer = os.urandom(16), buffers.own
     answer = clear_call(path)(secret, len(secret), text, len(text), nodes, buffer, MOST_ANSWER)
     return answer.status, ctypes.string_at(buffer, min(answer.length, MOST_ANSWER))
 
@@ -205,6 +223,61 @@ def threads_of(jobs):
         threads.shutdown(wait=False, cancel_futures=True)
 
 
+class Promise:
+    """What a thread of a team will answer. It is as a future, which takes longer to make and to wait for than a small day to clear."""
+
+    def __init__(self):
+        self.kept = queue.SimpleQueue()
+
+    def result(self):
+        found, fault = self.kept.get()
+        if fault:
+            raise fault
+        return found
+
+    def cancel(self):
+        """Nothing: the team's end drops what hasn't begun."""
+
+
+class Team:
+    """Threads that do what they are given, in its order. The program doesn't wait for them when it ends."""
+
+    def __init__(self, jobs):
+        self.given, self.jobs, self.is_over = queue.SimpleQueue(), jobs, False
+        for _ in range(jobs):
+            threading.Thread(target=self.work, daemon=True).start()
+
+    def submit(self, call, *words):
+        promise = Promise()
+        self.given.put((promise, call, words))
+        return promise
+
+    def work(self):
+        for promise, call, words in iter(self.given.get, None):
+            if self.is_over:
+                continue
+            try:
+                promise.kept.put((call(*words), None))
+            except BaseException as fault:
+                promise.kept.put((None, fault))
+
+    def end(self):
+        self.is_over = True
+        for _ in range(self.jobs):
+            self.given.put(None)
+
+
+@contextlib.contextmanager
+def team_of(jobs):
+    """A team, and the programs that it runs, which end with the block."""
+    running, team = Running(), Team(jobs)
+    try:
+        yield team, running
+    finally:
+        running.end()
+        team.end()
+
+
 def answer(text, program=None, running=None, nodes=MOST_NODES):
     """What `dam clear` prints for the text of a journal, as a pair of None and these bytes; or else of the status (0 if there is none) and
     the words of the fault. By the library if there is one, unless a program is named. The pair has no type of this package, so that any
@@ -242,8 +315,8 @@ def answers(texts, jobs=None, executor=None, program=None, call=answer):
         yield from ordered(texts, lambda text: executor.submit(call, text, program), jobs or MOST_AHEAD)
         return
     jobs = jobs or processors()
-    with threads_of(jobs) as (threads, running):
-        yield from ordered(texts, lambda text: threads.submit(call, text, program, running), AHEAD * jobs)
+    with team_of(jobs) as (team, running):
+        yield from ordered(texts, lambda text: team.submit(call, text, program, running), AHEAD * jobs)
 
 
 def ordered(texts, submit, most):

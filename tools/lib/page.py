@@ -1,6 +1,8 @@
 """A whole day as one page of HTML, with its pictures in it and nothing to fetch. Its form is in templates/, and jinja2 fills it
 in; this module has what it says."""
 
+import contextlib
+import functools
 import multiprocessing
 import os
 import re
@@ -120,6 +122,11 @@ def drawn(draw, name, words):
     return Picture(words, broad, narrow)
 
 
+def name_cell(*words):
+    """A participant or an order: a narrow column breaks it between the words alone."""
+    return Markup(" ").join(Markup('<span class="name">{}</span>').format(word) for word in words)
+
+
 def energy(day, tenths):
     return text.shown(Fraction(tenths) * day.problem.hours / 10, 1 if day.problem.hours == 1 else 2)
 
@@ -173,8 +180,8 @@ def periods_of(order):
     return spans.in_words(number for number, _ in order.volumes)
 
 
-def block_table(day, found):
-    rows, limits = [], limit_words.of_rejected(day)
+def block_table(day, found, limits):
+    rows = []
     for place, (block, surplus, decision) in enumerate(zip(day.problem.blocks, day.said.surpluses, found)):
         order = block.order
         why = f"{decision.why}. {limits[place]}" if place in limits else decision.why
@@ -182,7 +189,7 @@ def block_table(day, found):
         total = energy(day, sum(tenths for _, tenths in order.volumes))
         links = [f"{word} {name}" for word, name in (("parent", order.parent), ("group", order.group)) if name]
         row = [order.side, text.shown_price(order.price), periods_of(order), total, ", ".join(links)]
-        rows.append([f"{block.who} {block.name}", mark, why, euros(day, surplus), *row])
+        rows.append([name_cell(block.who, block.name), mark, why, euros(day, surplus), *row])
     columns = heads("surplus, EUR", "side", "limit, EUR/MWh", "periods", "offered, MWh", "linked by")
     caption = "Each block, the reason, and its surplus at the prices; for a rejected block, with the best family that it belongs to"
     return Table(caption, [Head("block"), Head("decision", "decision"), Head("what decided", "why"), *columns], rows)
@@ -196,7 +203,7 @@ def order_row(day, row, made, found):
     outcome = trades.how_far(order, done) if order.kind == "hour" else found[row.who, row.name].kind
     amount = euros(day, sum(trade.amount() for trade in made))
     energies = energy(day, offered), energy(day, done)
-    return [row.name, order.kind, order.side, text.shown_price(order.price), periods_of(order), *energies, outcome, amount]
+    return [name_cell(row.name), order.kind, order.side, text.shown_price(order.price), periods_of(order), *energies, outcome, amount]
 
 
 def total_row(day, who, count, total):
@@ -260,9 +267,14 @@ def block_words(found):
     return f"{words} An arrow leads from a parent to its child, and a bracket joins the blocks of an exclusive group."
 
 
+@functools.cache
+def sheet(width):
+    return pictures.CurveSheet(width)
+
+
 def curve(day, number, folded):
     """The curves of a period, under a line that opens them if there are many: then one at a time is open."""
-    picture = drawn(lambda width: pictures.period_picture(day, number, width), f"period{number}", curve_words(day, number))
+    picture = drawn(lambda width: sheet(width).drawn(day, number), f"period{number}", curve_words(day, number))
     if not folded:
         return picture
     said, words = day.said, "no trade"
@@ -277,31 +289,37 @@ def folded_curve(number):
     return curve(curves_of.day, number, True)
 
 
+@contextlib.contextmanager
 def curves_of(day, numbers):
-    """The curves of some periods; many are drawn by several processes, with a line that says how far they are."""
+    """What gives the curves of some periods, in their order. Many are drawn by several processes, which begin at once, so that the rest of
+    the page can be made in the meantime; a line says how far they are."""
     jobs = min(len(os.sched_getaffinity(0)), len(numbers))
     if len(numbers) <= FEW_CURVES or jobs == 1:
-        return [curve(day, number, len(numbers) > MOST_SHOWN) for number in numbers]
-    curves_of.day, made, bar = day, [], Bar("report", len(numbers), "curves")
+        yield (curve(day, number, len(numbers) > MOST_SHOWN) for number in numbers)
+        return
+    curves_of.day, bar = day, Bar("report", len(numbers), "curves")
     with multiprocessing.get_context("fork").Pool(jobs) as pool:
         try:
-            for one in pool.imap(folded_curve, numbers):
-                made.append(one)
-                bar.step()
+            yield counted(pool.imap(folded_curve, numbers), bar)
         finally:
             bar.end()
-    return made
 
 
-def sections(day, found, curves):
+def counted(made, bar):
+    for one in made:
+        yield one
+        bar.step()
+
+
+def sections(day, found, limits, curves):
     parts = [drawn(lambda width: pictures.prices_picture(day, width), "prices", prices_words(day))]
     yield Section("prices", "Prices and volumes", parts)
     if found:
         picture = drawn(lambda width: pictures.blocks_picture(day, width), "blocks", block_words(found))
-        yield Section("blocks", "Blocks", [picture, block_table(day, found)])
+        yield Section("blocks", "Blocks", [picture, block_table(day, found, limits)])
     yield Section("periods", "Periods", [period_table(day)])
-    if curves:
-        yield Section("curves", "Supply and demand", curves_of(day, curves))
+    if made := list(curves):
+        yield Section("curves", "Supply and demand", made)
     yield Section("participants", "Participants", list(participants(day, found)))
     refused = refusals(day)
     if refused:
@@ -316,11 +334,13 @@ def statement_table(day, who):
         if cells["participant"] == who:
             reply = "done" if cells["reply"] == "done" else f"refused: {cells['reason']}"
             amount = text.shown(Fraction(cells["amount_eur"]), 2) if cells["amount_eur"] else ""
-            row = [cells["order"], cells["outcome"] or reply, cells["why"], amount, cells["executed_mwh"], cells["what"], cells["kind"]]
-            rows.append([*row, cells["side"], cells["price_eur_mwh"], cells["periods"], cells["volume_mw"], cells["command"]])
-    columns = heads("is paid, EUR", "executed, MWh", "what", "kind", "side", "limit, EUR/MWh", "periods", "#volume, MW", "#command")
+            row = [name_cell(cells["order"]), cells["outcome"] or reply, cells["why"], amount]
+            row += [cells[name] for name in ("executed_mwh", "what", "kind", "side", "price_eur_mwh", "periods")]
+            rows.append([*row, cells["volume_mw"].replace(";", "; "), cells["command"]])
+    columns = heads("is paid, EUR", "executed, MWh", "what", "kind", "side", "limit, EUR/MWh", "periods")
+    columns += [Head("volume, MW", f"{NUMBER} list"), Head("command", NUMBER)]
     caption = f"Each command of {who}: what became of its order, or the reply, and the reason; an amount below 0 is paid by {who}"
-    return Table(caption, [Head("order"), Head("outcome", "decision"), Head("what decided", "why"), *columns], rows)
+    return Table(caption, [Head("order"), Head("outcome", "outcome"), Head("what decided", "why"), *columns], rows)
 
 
 def own_periods(day, who):
@@ -339,8 +359,8 @@ def own_sections(day, who, curves):
     yield Section("statement", f"Orders of {who}", [statement_table(day, who)])
     yield Section("periods", "Periods", [own_periods(day, who)])
     yield Section("prices", "Prices and volumes", [drawn(lambda width: pictures.prices_picture(day, width), "prices", prices_words(day))])
-    if curves:
-        yield Section("curves", "Supply and demand", curves_of(day, curves))
+    if made := list(curves):
+        yield Section("curves", "Supply and demand", made)
 
 
 def own_figures(day, who):
@@ -362,6 +382,9 @@ def own_figures(day, who):
 def page(day, title, curves, date=None, who=None):
     """The page of a day, or of a participant's part of it, with the curves of some periods, and the date of delivery if it is known."""
     found = decisions.decisions(day.problem, day.said.accepted, day.outcome)
+    limits = {} if who else limit_words.of_rejected(day)  # before the curves, which would take the time that it has
+    with curves_of(day, curves) as drawn_curves:
+        parts = list(own_sections(day, who, drawn_curves) if who else sections(day, found, limits, drawn_curves))
     return TEMPLATES.get_template("page.html").render(
         title=title,
         style=style(),
@@ -373,7 +396,7 @@ def page(day, title, curves, date=None, who=None):
         wrong=list(day.wrong),
         odd=list(day.odd),
         figures=list(own_figures(day, who) if who else figures(day, found)),
-        sections=list(own_sections(day, who, curves) if who else sections(day, found, curves)),
+        sections=parts,
     )
 
 

@@ -14,6 +14,7 @@ matplotlib.use("Agg")
 from matplotlib import pyplot
 from matplotlib.collections import PolyCollection
 from matplotlib.patches import Patch, Polygon, Rectangle
+from matplotlib.ticker import AutoLocator
 
 from . import clock, decisions, rules, selection, spans, text, trades
 
@@ -76,14 +77,15 @@ def is_narrow(axes):
     return axes.figure.get_figwidth() < BROAD
 
 
-def legend(axes, *entries, columns, below=False):
-    """A legend above the panel: right of its heading, or under it if the figure is narrow; or then below the panel."""
+def legend(axes, *entries, columns, below=False, right=1):
+    """A legend above the panel: right of its heading, up to this share of its width, or under it if the figure is narrow; or then below the
+    panel."""
     if is_narrow(axes) and below:
         look = {"loc": "upper left", "bbox_to_anchor": (0, -0.2), "fontsize": 7}
     elif is_narrow(axes):
         look = {"loc": "lower left", "bbox_to_anchor": (0, 1), "fontsize": 7, "columnspacing": 1, "handlelength": 1.4}
     else:
-        look = {"loc": "lower right", "bbox_to_anchor": (1, 1)}
+        look = {"loc": "lower right", "bbox_to_anchor": (right, 1)}
     axes.legend(*entries, ncols=columns, borderaxespad=0, **look)
 
 
@@ -106,6 +108,13 @@ def set_margins(figure, left, right, bottom, top):
     width, height = figure.get_size_inches()
     figure.subplots_adjust(left / width, bottom / height, 1 - right / width, 1 - top / height)
     figure.has_margins = True
+
+
+def set_label_places(axes, under, left):
+    """Puts what the axes mean so many inches under and left of them, so that no place has to be found for it by drawing the ticks."""
+    width, height = axes.get_position().size * axes.figure.get_size_inches()
+    axes.xaxis.set_label_coords(0.5, -under / height)
+    axes.yaxis.set_label_coords(-left / width, 0.5)
 
 
 def has_margins(figure):
@@ -182,12 +191,38 @@ def blocks_picture(day, width=BROAD):
         return figure
 
 
+# The margins of a period's curves, in inches: left, right, bottom and top.
+CURVE_MARGINS = {"broad": (0.85, 0.75, 0.5, 0.5), "narrow": (0.7, 0.62, 1.2, 0.5)}
+
+
+class CurveSheet:
+    """A figure for the curves of one period after another, since to make new axes and ticks takes as long as half of what is drawn."""
+
+    def __init__(self, width=BROAD):
+        with matplotlib.rc_context(STYLE):
+            self.figure, (self.axes,) = panels([4.6 if width == BROAD else 4], width)
+        set_margins(self.figure, *CURVE_MARGINS["broad" if width == BROAD else "narrow"])
+        set_label_places(self.axes, 0.234, 0.47)
+
+    def clear(self):
+        """Takes away what was drawn, and leaves the axes as they were made."""
+        axes = self.axes
+        for artist in [*axes.lines, *axes.patches, *axes.collections, *axes.texts, *filter(None, [axes.get_legend()])]:
+            artist.remove()
+        for axis in (axes.xaxis, axes.yaxis):
+            axis.set_major_locator(AutoLocator())
+        self.figure.hover = {}
+
+    def drawn(self, day, number):
+        """The figure with a period's curves in place of the last ones."""
+        self.clear()
+        with matplotlib.rc_context(STYLE):
+            draw_curves(self.axes, day, number)
+        return self.figure
+
+
 def period_picture(day, number, width=BROAD):
-    with matplotlib.rc_context(STYLE):
-        figure, axes = panels([4.6 if width == BROAD else 4], width)
-        draw_curves(axes[0], day, number)
-        set_margins(figure, *((0.85, 0.75, 0.5, 0.5) if width == BROAD else (0.7, 0.62, 1.2, 0.5)))
-        return figure
+    return CurveSheet(width).drawn(day, number)
 
 
 def period_axis(axes, day):
@@ -350,7 +385,7 @@ def draw_blocks(axes, day):
     axes.grid(visible=False)
     present = [kind for kind in LOOKS if any(decision.kind == kind for decision in found)]
     key = [Patch(edgecolor=COLOURS["ink"], linewidth=0.7, **LOOKS[kind]) for kind in present]
-    legend(axes, key, present, columns=3)
+    legend(axes, key, present, columns=3, right=0.97)
     heading(axes, "Blocks")
 
 
@@ -427,7 +462,8 @@ def label_block(axes, row, block, surplus):
     words, name = f"{block.order.side} {most} MW at {text.shown_price(block.order.price)} EUR/MWh", f"{block.who} {block.name}"
     place = {"transform": axes.get_yaxis_transform(), "fontsize": 7}
     if is_narrow(axes):
-        place["fontsize"] = 6.5
+        # Over the links, which would strike the words through.
+        place |= {"fontsize": 6.5, "zorder": 4, "bbox": {"facecolor": COLOURS["paper"], "edgecolor": "none", "pad": 0.6}}
         axes.text(0.004, row - 0.12, f"{name}: {words}", va="bottom", **place)
         axes.text(0.996, row - 0.12, f"{surplus} EUR", va="bottom", ha="right", color=COLOURS["soft"], **place)
         return

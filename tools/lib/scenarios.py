@@ -6,11 +6,12 @@ import hashlib
 import itertools
 from typing import NamedTuple
 
-from . import changes, journal, order_table, rules, sheets, text
+from . import changes, order_table, rules, text
 from .cleared import book_text
+from .command_table import WHAT, Columns, read_command
 from .engine import Fault
 
-SCENARIO, WHAT = "scenario", "what"
+SCENARIO = "scenario"
 
 
 class Scenario(NamedTuple):
@@ -28,6 +29,7 @@ class Sampler:
         import numpy
 
         self.held, self.seed, self.numpy = held, seed, numpy
+        self.random = numpy.random.RandomState(0)  # seeded anew for each scenario: to make one takes longer than to draw
         orders = list(held.rows.values())
         changes_it = numpy.array([key[0] != who for key in held.rows])
         self.sds = numpy.where(changes_it, price_sd, 0), numpy.where(changes_it, volume_sd, 0)
@@ -50,8 +52,8 @@ class Sampler:
     def numbers(self, number):
         """The limits and volumes of a scenario."""
         digest = hashlib.sha256(f"{self.seed} {number}".encode()).digest()
-        rng = self.numpy.random.RandomState(self.numpy.frombuffer(digest, dtype="<u4"))
-        added, factors = (rng.standard_normal(len(self.prices)) * sd for sd in self.sds)
+        self.random.seed(self.numpy.frombuffer(digest, dtype="<u4"))
+        added, factors = (self.random.standard_normal(len(self.prices)) * sd for sd in self.sds)
         prices = self.numpy.rint(self.prices + added).clip(rules.LEAST_PRICE, rules.GREATEST_PRICE)
         volumes = self.numpy.rint(self.volumes * (1 + factors)[self.owners]).clip(1, rules.GREATEST_VOLUME)
         return prices.astype(int), volumes.astype(int)
@@ -75,49 +77,10 @@ class Sampler:
             yield Scenario(str(number), self.text(number), functools.partial(self.rows, number))
 
 
-class Columns:
-    """A table of scenarios: where the columns of its scenarios and kinds of commands stand, and the table of orders that it also is."""
-
-    def __init__(self, name, data):
-        self.table = order_table.table_of(name, data)
-        self.header = [cell.strip().lower() for cell in next(cells for _, cells in sheets.rows_of(data)[0] if any(map(str.strip, cells)))]
-        if SCENARIO not in self.header:
-            raise order_table.Wrong(f"line 1: there is no column {SCENARIO}")
-
-    def cell(self, cells, name):
-        at = self.header.index(name) if name in self.header else len(cells)
-        return sheets.unescaped(cells[at].strip()) if at < len(cells) else ""
-
-    def notes(self):
-        """Notes on columns that aren't used."""
-        return [note for note in self.table.notes if not any(text.quoted(name) in note.lower() for name in (SCENARIO, WHAT))]
-
-    def is_empty(self, cells):
-        """Whether a row names a scenario and no command."""
-        return not any(self.cell(cells, name) for name in (WHAT, *self.table.places))
-
-
-def read_command(row, what):
-    """The command of a row: an order to submit, or what amends or cancels one."""
-    if what == "cancel":
-        return journal.Cancel(row.read("participant", order_table.read_participant), row.read("order", order_table.read_name))
-    if what == "amend":
-        who, name = row.read("participant", order_table.read_participant), row.read("order", order_table.read_name)
-        price = row.read("price_eur_mwh", lambda cell: order_table.read_price(cell, row.decimal_comma))
-        numbers = row.read("periods", lambda cell: order_table.read_periods(cell, row.periods))
-        volumes = row.read(
-            "volume_mw", lambda cell: order_table.read_volumes(cell, numbers or row.many(cell), row.decimal_comma)
-        )
-        return journal.Amend(who, name, price, volumes)
-    if what not in ("", "submit"):
-        row.wrong.append(f"column {WHAT}: {text.quoted(what)} should be submit, amend or cancel")
-    return row.command()
-
-
 def read_table(name, data, held):
     """The scenarios of a table: each is the book with the commands of its lines, which stand together. What is wrong is a fault."""
     try:
-        columns = Columns("", data)
+        columns = Columns(data, (SCENARIO,))
     except order_table.Wrong as fault:
         raise Fault(f"{name}: {changes.in_one_line(fault)}") from None
     lines = [(line, columns.cell(cells, SCENARIO), cells) for line, cells in columns.table.rows]
@@ -148,7 +111,7 @@ def entered(name, columns, rows, held):
         if row.wrong:
             raise Fault(f"{name}: line {line}, {row.wrong[0]}{f' (and {len(row.wrong) - 1} more)' if row.wrong[1:] else ''}")
         try:
-            held = changes.entered(held, [(line, command)])
+            held = changes.entered(held, [(f"line {line}", command)])
         except Fault as fault:
-            raise Fault(f"{name}: {str(fault).replace('record', 'line', 1)}") from None
+            raise Fault(f"{name}: {fault}") from None
     return held

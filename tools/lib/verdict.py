@@ -39,6 +39,7 @@ class Audit:
         self.checked = []
         self.day = None  # figures of the day, if its journal could be read
         self.wrong, self.odd = [], []  # faults, and differences of encoding alone
+        self.unlike = 0  # how many of the faults, the first ones, are of the commands that were sent
         self.search = None  # a record of the search for a better selection
         self.right, self.last = [], None  # lines about what is right, and one after what is wrong
         self.progress = None
@@ -156,8 +157,17 @@ class Audit:
             raise command.Stop(f"{command.shown(options.sent)} isn't what {options.participant} sent: {fault}") from None
         published = sent.published_of(read, reasons, options.participant)
         wrong, right = sent.compared(own, published, closed, options.participant)
-        self.wrong += wrong
+        self.wrong, self.unlike = wrong, len(wrong)
         self.right += right if not wrong else []
+
+    def parts(self):
+        """What is wrong by part, each a headline and its faults; without --sent there is one part, which has no headline."""
+        if self.options.sent is None:
+            return [(None, self.wrong)]
+        own, rest = self.wrong[: self.unlike], self.wrong[self.unlike :]
+        heads = [f"not as sent: {text.counted(len(own), 'difference')} in the commands of {self.options.participant}"]
+        heads.append(f"not as the rules say: {text.counted(len(rest), 'fault')} in the results")
+        return [(head, faults) for head, faults in zip(heads, (own, rest)) if faults]
 
     def record(self, status, message=None):
         """The verdict for programs."""

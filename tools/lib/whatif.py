@@ -64,7 +64,8 @@ def add_limit(commands, epilog):
 
 def add_change(commands, epilog):
     parser = add_command(commands, change, "change", epilog, "what further commands would have changed")
-    words = "further commands: records as in a journal, or a table of orders (CSV or Excel); - for standard input"
+    words = "further commands: records as in a journal, or a table of orders, or of commands with the column what (CSV or Excel); - for"
+    words += " standard input"
     parser.add_argument("changes", metavar="CHANGES", help=words)
     words = "of the orders only this participant's, and its gain and net amount"
     parser.add_argument("--participant", metavar="NAME", type=command.participant, help=words)
@@ -282,6 +283,8 @@ def keys_asked(args, held):
     """The blocks whose distribution is asked for."""
     if args.order and (args.participant, args.order) not in held.rows:
         raise command.Stop(unknown(held, args.participant, args.order))
+    if not any(who == args.participant for who, _ in held.rows):
+        raise command.Stop(unknown(held, args.participant, None))
     blocks = [key for key, order in held.rows.items() if key[0] == args.participant and order.kind == "block"]
     own = [key for key in blocks if args.order in (None, key[1])]
     if not own:

@@ -15,6 +15,8 @@ from lib import best, book, command, journal, period, rules, selection
 from lib.progress import Progress
 from small_days import ranked, small_problems
 
+# Of so many days each kind that a test asks for comes up 15 times or more: with all of 20 seeds, so another draw in `days` does no harm.
+SMALL_DAYS = 400
 MAKE_FAMILY, MAKE_BLOCKS = TOP / "bench" / "make_family.py", TOP / "bench" / "make_blocks.py"
 
 
@@ -90,7 +92,7 @@ class Enumeration(unittest.TestCase):
     def test_the_best_of_small_days_and_none_above_it(self):
         """However the bits of a selection's number are parted, and however many threads there are."""
         tried = 0
-        for day, selections in small_problems(120):
+        for day, selections in small_problems(SMALL_DAYS):
             for rank, (welfare, accepted) in enumerate([*selections[:3], selections[-1]]):
                 low_bits, jobs, few = (1 + tried) % 7, 1 + tried % 3, 1 + tried % 2 * 1_023
                 found, _ = self.better(day, accepted, welfare, few, low_bits=low_bits, jobs=jobs)
@@ -103,7 +105,7 @@ class Enumeration(unittest.TestCase):
     def test_small_days_have_links_groups_and_losses(self):
         """That the test above would see a defect in each."""
         found = {"links": 0, "groups": 0, "losses": 0, "ties": 0, "unbalanced": 0}
-        for day, selections in small_problems(120):
+        for day, selections in small_problems(SMALL_DAYS):
             found["links"] += any(parent is not None for parent in day.parents)
             found["groups"] += any(len(members) > 1 for members in day.groups().values())
             welfares = [welfare for welfare, _ in selections]

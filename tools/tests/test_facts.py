@@ -92,7 +92,7 @@ class Facts(unittest.TestCase):
     def test_the_number_of_wrong_bodies(self):
         count = len(list((TOP / "crates").glob("*/must-fail/*.edit")))
         said = re.findall(r"(\d+) (?:wrong bodies of\s+`must-fail/`|in each\s+check|of `must-fail/`)", "".join(map(plain, PAGES)))
-        self.assertGreater(len(said), 3)
+        self.assertGreater(len(said), 2)
         self.assertEqual(set(said), {str(count)})
 
     def test_the_numbers_of_definitions(self):

@@ -105,23 +105,44 @@ class Many(unittest.TestCase):
         days.close()
         self.assertTrue(all(map(ends, Path(self.folder, "pids").read_text().split())))
 
-    def test_an_interrupt_ends_what_runs(self):
+    def interrupted(self, code, environment, begun):
+        """What a program says that is interrupted once something has begun."""
         support.heed_interrupts(self)
-        hang = self.script("hang", f"echo $$ >> {self.folder}/pids; exec sleep 600")
-        code = f"import dam_tools\nlist(dam_tools.clear_many([b'x'] * 9, 2, program={str(hang)!r}))"
-        environment = {**os.environ, "PYTHONPATH": str(support.TOOLS)}
+        environment = {**os.environ, "PYTHONPATH": str(support.TOOLS), **environment}
         running = subprocess.Popen([sys.executable, "-B", "-c", code], env=environment, stderr=subprocess.PIPE, start_new_session=True)
         try:
-            pids = Path(self.folder, "pids")
-            while not pids.exists() or len(pids.read_text().split()) < 2:
+            while not begun():
                 time.sleep(0.02)
             running.send_signal(signal.SIGINT)
             _, said = running.communicate(timeout=SECONDS)
         finally:
             running.kill()
             running.communicate()
+        return said
+
+    def test_an_interrupt_ends_what_runs(self):
+        hang = self.script("hang", f"echo $$ >> {self.folder}/pids; exec sleep 600")
+        code = f"import dam_tools\nlist(dam_tools.clear_many([b'x'] * 9, 2, program={str(hang)!r}))"
+        pids = Path(self.folder, "pids")
+        said = self.interrupted(code, {}, lambda: pids.exists() and len(pids.read_text().split()) >= 2)
         self.assertIn(b"KeyboardInterrupt", said)
         self.assertTrue(all(map(ends, pids.read_text().split())))
+
+    def test_an_interrupt_does_not_wait_for_the_library(self):
+        begun = Path(self.folder, "begun")
+        slow = ECHO.replace("    struct answer found", f'    fclose(fopen("{begun}", "w"));\n    sleep(600);\n    struct answer found')
+        path = self.library(f"#include <stdio.h>\n#include <unistd.h>\n{slow}")
+        code = "import dam_tools\nlist(dam_tools.clear_many([b'x'] * 9, 2))"
+        said = self.interrupted(code, {"DAM_LIBRARY": path}, begun.exists)
+        self.assertIn(b"KeyboardInterrupt", said)
+
+    def library(self, source):
+        """A stand-in for the library."""
+        if not shutil.which("gcc"):
+            self.skipTest("gcc is missing")
+        path = os.fspath(Path(self.folder, "libdam.so"))
+        subprocess.run(["gcc", "-shared", "-fPIC", "-x", "c", "-", "-o", path], input=source, text=True, check=True)
+        return path
 
     def test_bad_calls(self):
         with self.assertRaisesRegex(ValueError, "jobs should be 1 or more"):
@@ -146,12 +167,9 @@ class Many(unittest.TestCase):
         self.assertEqual([str(fault)[:40] for fault in found], ["the executor failed: BrokenProcessPool: "] * 2)
 
     def test_the_calls_of_a_library(self):
-        if not shutil.which("gcc"):
-            self.skipTest("gcc is missing")
-        path = Path(self.folder, "libecho.so")
-        subprocess.run(["gcc", "-shared", "-fPIC", "-x", "c", "-", "-o", path], input=ECHO, text=True, check=True)
+        path = self.library(ECHO)
         texts = [b"%d" % number * 70_000 for number in range(10)]
-        with unittest.mock.patch.dict(os.environ, {"DAM_LIBRARY": str(path), "DAM": "/nowhere/dam"}):
+        with unittest.mock.patch.dict(os.environ, {"DAM_LIBRARY": path, "DAM": "/nowhere/dam"}):
             found = list(dam_tools.clear_many([*texts, b""]))
         self.assertEqual([day.text for day in found[:-1]], [text[:300_000] for text in texts])
         self.assertEqual((str(found[-1]), found[-1].status), ("input: NotDay", 1))

@@ -86,6 +86,20 @@ class Pictures(unittest.TestCase):
         drawn = pictures.picture(figure, "svg", words_as_text=True).decode()
         self.assertEqual(drawn.count(">no trade<"), 2)
 
+    def test_a_used_sheet_draws_what_a_new_one_does(self):
+        from lib import pictures
+
+        data = journal_of("submit,A,B1,hour,buy,9000,8:8,,", "submit,B,S1,hour,sell,8000,8:8,,")
+        auction = day_of(AUCTION.read_bytes(), support.printed(AUCTION))
+        few = day_of(data, results_of(data, frozenset()))
+        for width in pictures.WIDTHS.values():
+            sheet = pictures.CurveSheet(width)
+            # With many orders and few, none, and then many again; with accepted blocks that sell, and without.
+            for day, number in ((auction, 19), (few, 8), (few, 19), (auction, 19), (auction, 3), (few, 19)):
+                for words_as_text in (True, False):
+                    fresh = pictures.picture(pictures.period_picture(day, number, width), "svg", words_as_text)
+                    self.assertEqual(pictures.picture(sheet.drawn(day, number), "svg", words_as_text), fresh, (number, width))
+
     def test_the_axes_of_small_volumes_and_of_no_orders(self):
         from lib import pictures
 

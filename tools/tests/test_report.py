@@ -206,8 +206,8 @@ class Page(unittest.TestCase):
 
         day = day_of(QUARTERS.read_bytes(), printed(QUARTERS))
         numbers = list(range(60, 60 + page.FEW_CURVES + 2))
-        many = page.curves_of(day, numbers)
-        self.assertEqual(many, [page.curve(day, number, True) for number in numbers])
+        with page.curves_of(day, numbers) as many:
+            self.assertEqual(list(many), [page.curve(day, number, True) for number in numbers])
 
     def test_the_axis_is_cut_about_the_price(self):
         """The limits go from -40 to 3,000 EUR/MWh; those far from the price are said in words."""

@@ -178,6 +178,7 @@ class Tool(unittest.TestCase):
             (table[:3], 2, "give a table of scenarios, or --sample with how many random ones"),
             ([*table, "--seed", "2"], 2, "--seed can't be used without --sample"),
             (sample, 2, "--sample needs --participant, whose orders stay as they are"),
+            ([*sample, "--participant", "NOBODY"], 3, "NOBODY has no order in the book"),
             ([*sample, "--participant", "CITY"], 3, "CITY has no block in the book: give --rows orders or --rows participants"),
             ([*sample, "--participant", "CITY", "--order", "TOWN"], 3,
              "TOWN of CITY isn't a block: give --rows orders or --rows participants"),

@@ -47,7 +47,10 @@ class Worked(unittest.TestCase):
     def differences(self, lines):
         status, out, err = audit(PUBLISHED, text_of(lines))
         self.assertEqual((status, err), (command.DIFFERS, ""))
-        return out.splitlines()
+        head, *wrong = out.splitlines()
+        count = "1 difference" if len(wrong) == 1 else f"{len(wrong)} differences"
+        self.assertEqual(head, f"not as sent: {count} in the commands of A")
+        return wrong
 
     def test_as_sent(self):
         status, out, _ = audit(PUBLISHED, text_of(OWN))
@@ -71,7 +74,8 @@ class Worked(unittest.TestCase):
     def test_twice(self):
         data = PUBLISHED.replace(b"cancel,B", f"{OWN[0]}\ncancel,B".encode())
         status, out, _ = audit(data, text_of(OWN))
-        self.assertEqual((status, out), (command.DIFFERS, f"record 6 of the journal repeats what was sent once: {OWN[0]}\n"))
+        said = ["not as sent: 1 difference in the commands of A", f"record 6 of the journal repeats what was sent once: {OWN[0]}"]
+        self.assertEqual((status, out.splitlines()), (command.DIFFERS, said))
         self.assertEqual(audit(data, text_of([*OWN[:3], OWN[0], OWN[3]]))[0], command.DONE)
 
     def test_changed(self):
@@ -97,7 +101,8 @@ class Worked(unittest.TestCase):
         self.assertEqual(audit(day, text_of(own_lines(AUCTION.read_bytes(), "GAS")), "GAS")[0], command.DONE)
         table = b"participant,order,kind,side,price_eur_mwh,periods,volume_mw\nB,H1,hour,sell,0.50,1,1\n"
         self.assertEqual(audit(PUBLISHED.replace(b"cancel,B,H1,,,,,,\n", b""), table, "B")[0], command.DONE)
-        self.assertEqual(audit(PUBLISHED, table, "B")[1], "record 6 of the journal was not sent: cancel,B,H1,,,,,,\n")
+        said = ["not as sent: 1 difference in the commands of B", "record 6 of the journal was not sent: cancel,B,H1,,,,,,"]
+        self.assertEqual(audit(PUBLISHED, table, "B")[1].splitlines(), said)
         # A whole market's file: of it, the participant's alone count.
         status, out, _ = audit(PUBLISHED, PUBLISHED)
         self.assertEqual((status, out.splitlines()[0]), (command.DONE, f"{AS_SENT}, 1 of 4 commands refused (2 of others left out)"))
@@ -143,10 +148,16 @@ class Worked(unittest.TestCase):
             self.assertEqual([line.split(": ", 1)[1] for line in out.splitlines() if line.startswith("results line ")], lines)
             self.assertIn("no selection is better", out)
             status, out = run(right.replace(b"STAY,accepted", b"STAY,rejected"), own)
-            self.assertEqual((status, "\nas sent: " in out, "as the rules say: " in out), (command.DIFFERS, True, False))
+            self.assertEqual((status, "\nas sent: " in out, "\nas the rules say: " in out), (command.DIFFERS, True, False))
+            self.assertRegex(out, r"\Anot as the rules say: \d+ faults in the results\nresults line \d+: ")
             status, out = run(right, own.replace(b"STAY", b"STAI"))
             self.assertEqual((status, "is missing in the journal" in out), (command.DIFFERS, True))
-            self.assertEqual(("as sent: " in out, "\nas the rules say: " in out), (False, True))
+            self.assertEqual(("\nas sent: " in out, "\nas the rules say: " in out), (False, True))
+            self.assertRegex(out, r"\Anot as sent: \d+ differences in the commands of GAS\nsent record \d+ is ")
+            # Both wrong: each part has its headline, and is cut by itself.
+            status, out = run(right.replace(b",500\n", b",501\n"), text_of(["cancel,GAS,X,,,,,,"] * 30))
+            heads = [line for line in out.splitlines() if line.startswith("not as ")]
+            self.assertEqual((status, len(heads), out.count("more: --all")), (command.DIFFERS, 2, 1))
 
     def test_what_no_participant_sends(self):
         for own, said in (

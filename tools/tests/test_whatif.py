@@ -41,6 +41,10 @@ def best(text):
     return {place for place, word in enumerate(words) if word == "accepted"}
 
 
+# The head of a table of commands.
+TABLE = b"what,participant,order,kind,side,price_eur_mwh,periods,volume_mw\n"
+
+
 class Limits(unittest.TestCase):
     def test_a_block_that_sells(self):
         one = search(*SMALL, key=("GEN", "UNIT"))
@@ -208,6 +212,9 @@ class Tools(unittest.TestCase):
         status, again, _ = tool("compare", *days)
         self.assertIn(b"executed,MWh,WIND,MILL,,,2.0,,,in full\n", again)
         self.assertEqual(tool("compare", *days[:2], *days[:2])[2], "compare: nothing differs\n")
+        # without MILL and UNIT nothing is traded, and the price says nothing
+        none = self.whatif("change", self.journal, "-", data=b"cancel,GEN,UNIT,,,,,,\n")[1]
+        self.assertIn(b"price,EUR/MWh,,,1,50.00,,,,\nvolume,MW,,,1,2.0,0.0,-2.0,,\n", none)
         # a table of orders is such a change too, and so is standard input
         table = b"participant,order,kind,side,price_eur_mwh,periods,volume_mw\nWIND,MILL,hour,sell,10,1,2\n"
         self.assertEqual(self.whatif("change", self.journal, "-", "--participant", "GEN", data=table)[:2], (0, out))
@@ -219,6 +226,9 @@ class Tools(unittest.TestCase):
         self.assertIn("executed,MWh,GEN,UNIT,,2.0,,,accepted,", out.decode())
         status, out, _ = self.whatif("change", self.journal, "-", data=b"day,24,,,,,,,\namend,GEN,UNIT,,,6000,1:20,,\nclose,,,,,,,,\n")
         self.assertIn("executed,MWh,GEN,UNIT,,2.0,0.0,-2.0,accepted,rejected", out.decode())
+        # the same as a table of commands, as tools/table --rows commands prints it
+        table = b"command,what,participant,order,kind,side,price_eur_mwh,periods,volume_mw,reply\n1,amend,GEN,UNIT,,,60,1,2,done\n"
+        self.assertEqual(self.whatif("change", self.journal, "-", data=table), (0, out, ""))
 
     def test_bad_input_is_one_line(self):
         out = Path(self.folder, "out.csv")
@@ -241,6 +251,14 @@ class Tools(unittest.TestCase):
             (["change", self.journal, "-"], b"cancel,GEN,OTHER,,,,,,\n", 3,
              "standard input: record 1: the book refuses cancel,GEN,OTHER,,,,,,: the participant has no such order: it was cancelled,"
              " refused, or never entered (UnknownOrder)"),
+            (["change", self.journal, "-"], TABLE + b"submit,GEN,UNIT,hour,sell,10,1,2\n", 3,
+             "standard input: line 2: the book refuses submit,GEN,UNIT,hour,sell,1000,1:20,,: the participant has an order of that name"
+             " (NameTaken)"),
+            (["change", self.journal, "-"], TABLE.removeprefix(b"what,") + b"GEN,UNIT,hour,sell,10,1,2\n", 3,
+             "standard input: order 1: the book refuses submit,GEN,UNIT,hour,sell,1000,1:20,,: the participant has an order of that name"
+             " (NameTaken)"),
+            (["change", self.journal, "-"], TABLE + b"amend,GEN,UNIT,,,60,25,2\nclose,,,,,,,\nmove,A,X,hour,buy,1,1,1\n", 3,
+             "standard input: line 2, column periods: the day has periods 1 to 24, so there is no period 25 (PeriodOutOfDay) (and 2 more)"),
             (["change", self.journal, self.journal, "--participant", "NONE"], b"", 3, None),
         ):
             with self.subTest(said):

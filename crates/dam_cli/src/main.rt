@@ -15,7 +15,7 @@ ghost use Rattle.dam_cli.specs.Status.{IsLineStatus, run_status};
 
 use advice::{asks_version, file_in, rule_of};
 use dam_book::Seed;
-use dam_engines::{RunFault, Sink, Source, fault_line, status, write_text};
+use dam_engines::{RunFault, Sink, Source, short_line, status, write_text};
 use dam_line::{Job, LineFault, read_line};
 use progress::Progress;
 use run::run_job;
@@ -111,14 +111,12 @@ fn hint(rt: &HostRuntime) {
     }
 }
 
-/// Prints the fault's line, if there is memory for it, and gives its status. At a terminal a second line says which
-/// rule the input breaks.
+/// Prints the fault's line, which needs no memory, and gives its status. At a terminal a second line says which rule the
+/// input breaks.
 fn report(rt: &HostRuntime, fault: &RunFault) -> ExitCode
     ensures { exit_status result ≡ fault_status fault.now }
 {
-    if let Ok(line) = fault_line(rt.alloc(), fault) {
-        let _ = rt.stderr().write_all(&line);
-    }
+    let _ = rt.stderr().write_all(short_line(fault).as_str().as_bytes());
     if let Some(rule) = rule_of(fault) {
         if rt.stderr().is_terminal() {
             let _ = eprintln!(rt; "dam: {rule}");

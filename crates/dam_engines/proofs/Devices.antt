@@ -1,10 +1,10 @@
 -- The devices of a run that ends with a fault which isn't of a device, and of one whose writer failed.
-use Rattle.std.proofs.Common.{◌≡◌, ℕ, true, false, List, [], take, Option, Some, None, Result, Ok, Err, OnOk, IfErr, MatchResult, refl, arith}
+use Rattle.std.proofs.Common.{◌≡◌, ℕ, true, false, List, [], ◌≤◌, ◌+◌, take, Option, Some, None, Result, Ok, Err, OnOk, IfErr, MatchResult, refl, arith}
 use Rattle.std.proofs.lemmas.List.{length-take}
 use Rattle.dam_engines.specs.declared.fault.RunFault.{RunFault}
 use Rattle.dam_engines.specs.declared.fault.RunFault.TheVariants.{Read, Input, TooManyCommands, CloseGiven, TooManyParticipants, StillOpen}
 use Rattle.dam_engines.specs.declared.fault.RunFault.TheVariants.{Mismatch, Unfinished, Collected, Memory, Write}
-use Rattle.dam_engines.specs.Device.{SourceState, SinkState, GivesAll, GivesFront, HasServed, AreDevicesAfter}
+use Rattle.dam_engines.specs.Device.{SourceState, SinkState, GivesAll, GivesFront, HasServed, IsFlushedOnce, AreDevicesAfter}
 use Rattle.dam_engines.specs.Engine.{most_read, IsWritingFault}
 use Rattle.dam_engines.proofs.Cuts.{cut-told}
 
@@ -33,9 +33,10 @@ neither-failed Fails ro rn w no_read no_write read unfailed (Write count) is = a
 -- a run of which the reader gave all, and whose text was then written
 pub written-devices : {R W : Type 0} (reader_old reader_new : SourceState R) (writer_old writer_new : SinkState W)
     (old new : Option (List ℕ)) (sent : List ℕ) (result : Result (Unit {0}) RunFault)
-    → HasServed reader_old reader_new → IfErr result (IsWritingFault old new sent) → OnOk result (writer_new.flushed ≡ true)
+    → HasServed reader_old reader_new → IfErr result (IsWritingFault old new sent)
+    → OnOk result (IsFlushedOnce writer_old writer_new) → writer_new.flushes ≤ writer_old.flushes + 1
     → MatchResult result (λ _. writer_new.failed ≡ false) (λ _. writer_new.failed ≡ true)
     → AreDevicesAfter reader_old reader_new writer_old writer_new result
-written-devices ro rn wo wn old new sent (Ok done) read cut flushed cause = (read, cause, flushed)
-written-devices ro rn wo wn old new sent (Err fault) read cut flushed cause =
-    cut-told (λ why. AreDevicesAfter ro rn wo wn (Err why)) old new sent (λ written. (read, cause)) fault cut
+written-devices ro rn wo wn old new sent (Ok done) read cut flushed few cause = (read, cause, flushed)
+written-devices ro rn wo wn old new sent (Err fault) read cut flushed few cause =
+    cut-told (λ why. AreDevicesAfter ro rn wo wn (Err why)) old new sent (λ written. (read, (cause, few))) fault cut

@@ -1,5 +1,5 @@
 -- The reader and the writer of a run, before and after it.
-use Rattle.std.specs.Prelude.{◌≡◌, ◌≤◌, ◌+◌, ℕ, min, Bool, true, false, List, length, take, Option, Some, None, IfSome, Result, Ok, Err}
+use Rattle.std.specs.Prelude.{◌≡◌, ◌≤◌, ◌+◌, ◌-◌, ◌^◌, ℕ, min, Bool, true, false, List, length, take, Option, Some, None, IfSome, Result, Ok, Err}
 use Rattle.std.specs.Io.KnownBytes.{Consumes}
 use Rattle.dam_engines.specs.declared.fault.RunFault.{RunFault}
 use Rattle.dam_engines.specs.declared.fault.RunFault.TheVariants.{Read, Memory, Write}
@@ -13,14 +13,23 @@ pub record SourceState (R : Type 0) : Type 0 where
   pub asked : ℕ
   pub failed : Bool
 
--- a writer: the bytes that it took, if it shows them; how often it was asked to take some; whether it failed, after which it
--- isn't asked again; and whether it was flushed after all that it took
+-- a writer: the bytes that it took, if it shows them; how often it was asked to take some, and how often it was flushed; whether it
+-- failed, after which it isn't asked again; and whether it was flushed after all that it took
 pub record SinkState (W : Type 0) : Type 0 where
   pub inner : W
   pub taken : Option (List ℕ)
   pub asked : ℕ
+  pub flushes : ℕ
   pub failed : Bool
   pub flushed : Bool
+
+-- a count of calls after one call more; it stays at the greatest number that it can show
+abbrev pub one_more : ℕ → ℕ
+one_more count = min (count + 1) (2 ^ 64 - 1)
+
+-- a writer that was flushed once, after all that it took
+abbrev pub IsFlushedOnce : {W : Type 0} → SinkState W → SinkState W → Type 0
+IsFlushedOnce old new = (new.flushes ≡ one_more old.flushes) × (new.flushed ≡ true)
 
 -- how often a run asks a reader at most: if it shows its bytes, once for each, and once more, which shows that there is no other; and
 -- never more often than bytes are read at most
@@ -49,17 +58,17 @@ IsReaderAfter old new Read = (new.failed ≡ true) × GivesFront old.unread new.
 IsReaderAfter old new Memory = (new.failed ≡ false) × GivesFront old.unread new.unread
 IsReaderAfter old new fault = HasServed old new
 
--- a writer after a run with this fault, before which it hadn't failed: it failed if that is the fault; with any other fault it is
--- as it was
+-- a writer after a run with this fault, before which it hadn't failed: if that is the fault, it failed, and was flushed once at most;
+-- with any other fault it is as it was
 abbrev pub IsWriterAfter : {W : Type 0} → SinkState W → SinkState W → RunFault → Type 0
-IsWriterAfter old new (Write written) = new.failed ≡ true
+IsWriterAfter old new (Write written) = (new.failed ≡ true) × (new.flushes ≤ old.flushes + 1)
 IsWriterAfter old new fault = (new.failed ≡ false) × (new ≡ old)
 
--- the devices after a run: without a fault, neither failed, the reader gave all, and the writer was flushed after all that it
--- took; with one, each failed if the fault is its own, and only then, and a writer that didn't fail is as it was
+-- the devices after a run: without a fault, neither failed, the reader gave all, and the writer was flushed once, after all that
+-- it took; with one, each failed if the fault is its own, and only then, and a writer that didn't fail is as it was
 abbrev pub AreDevicesAfter : {R W : Type 0} → SourceState R → SourceState R → SinkState W → SinkState W
     → Result (Unit {0}) RunFault → Type 0
 AreDevicesAfter reader_old reader_new writer_old writer_new (Ok done) =
-    HasServed reader_old reader_new × (writer_new.failed ≡ false) × (writer_new.flushed ≡ true)
+    HasServed reader_old reader_new × (writer_new.failed ≡ false) × IsFlushedOnce writer_old writer_new
 AreDevicesAfter reader_old reader_new writer_old writer_new (Err fault) =
     IsReaderAfter reader_old reader_new fault × IsWriterAfter writer_old writer_new fault

@@ -1,2 +1,3 @@
 -- What only contracts inside this crate cite.
 pub mod Reading
+pub mod Counted

@@ -1,9 +1,11 @@
-//! A reader and a writer that keep how often they were asked and whether they failed, so that contracts can say it.
-//! What is wrapped is reached through the three calls below and by nothing else, and none of them may come after a
-//! failure.
-ghost use Rattle.std.specs.Prelude.{◌≡◌, ◌<◌, ◌≤◌, ◌+◌, ◌-◌, ◌^◌, true, false, min, length, MatchResult, IfOk, OnOk};
+//! A reader and a writer that keep whether they failed, over ones that count their calls, so that contracts can say
+//! both. What is wrapped is reached through the three calls below and by nothing else, and none of them may come after
+//! a failure.
+ghost use Rattle.std.specs.Prelude.{◌≡◌, ◌<◌, ◌≤◌, true, false, length, MatchResult, IfOk, OnOk};
 ghost use Rattle.std.specs.Io.KnownBytes.{ReadConsumes, WriteAppends, Keeps};
+ghost use Rattle.dam_engines.specs.Device.{one_more};
 
+use crate::counted::{CountedReader, CountedWriter};
 use std::io::{Read, Write};
 use std::marker::Model;
 
@@ -16,8 +18,7 @@ pub(crate) struct DeviceFailed;
 /// It serves any number of runs until it fails. After that it isn't asked again: a further run needs a new `Source`.
 #[derive(Drop)]
 pub struct Source<R: Read> {
-    inner: R,
-    asked: u64,
+    reader: CountedReader<R>,
     failed: bool,
 }
 
@@ -27,9 +28,9 @@ impl<R: Read> Model for Source<R> {
     ghost Value = { SourceState R };
 
     ghost view = { λ s. record {
-      inner = s.inner;
-      unread = R.remaining s.inner;
-      asked = s.asked;
+      inner = s.reader.inner;
+      unread = s.reader.unread;
+      asked = s.reader.asked;
       failed = s.failed;
     } };
 }
@@ -45,8 +46,7 @@ impl<R: Read> Source<R> {
         } }
     {
         Source {
-            inner,
-            asked: 0,
+            reader: CountedReader::new(inner),
             failed: false,
         }
     }
@@ -57,13 +57,12 @@ impl<R: Read> Source<R> {
         ensures bound { IfOk result (λ count. count ≤ length buf.new) }
         ensures room { length buf.new ≡ length buf.old }
         ensures bytes { ReadConsumes self.old.unread self.new.unread result buf.new }
-        ensures asked { self.new.asked ≡ min (self.old.asked + 1) (2 ^ 64 - 1) }
+        ensures asked { self.new.asked ≡ one_more self.old.asked }
         ensures cause { MatchResult result
             (λ _. self.new.failed ≡ false)
             (λ _. self.new.failed ≡ true) }
     {
-        self.asked = self.asked.saturating_add(1);
-        match self.inner.read(buf) {
+        match self.reader.read(buf) {
             Ok(count) => Ok(count),
             Err(_) => {
                 self.failed = true;
@@ -73,14 +72,13 @@ impl<R: Read> Source<R> {
     }
 }
 
-/// A writer, of which an engine's contract also says how often it was asked, whether it failed, and whether it was
-/// flushed after all that it took.
+/// A writer, of which an engine's contract also says how often it was asked and flushed, whether it failed, and whether
+/// it was flushed after all that it took.
 ///
 /// It serves any number of runs until it fails. After that it isn't asked again: a further run needs a new `Sink`.
 #[derive(Drop)]
 pub struct Sink<W: Write> {
-    inner: W,
-    asked: u64,
+    writer: CountedWriter<W>,
     failed: bool,
     flushed: bool,
 }
@@ -91,9 +89,10 @@ impl<W: Write> Model for Sink<W> {
     ghost Value = { SinkState W };
 
     ghost view = { λ s. record {
-      inner = s.inner;
-      taken = W.contents s.inner;
-      asked = s.asked;
+      inner = s.writer.inner;
+      taken = s.writer.taken;
+      asked = s.writer.asked;
+      flushes = s.writer.flushes;
       failed = s.failed;
       flushed = s.flushed;
     } };
@@ -106,13 +105,13 @@ impl<W: Write> Sink<W> {
           inner = inner;
           taken = W.contents inner;
           asked = 0;
+          flushes = 0;
           failed = false;
           flushed = false;
         } }
     {
         Sink {
-            inner,
-            asked: 0,
+            writer: CountedWriter::new(inner),
             failed: false,
             flushed: false,
         }
@@ -124,14 +123,14 @@ impl<W: Write> Sink<W> {
         requires some { 0 < length buf.now }
         ensures bound { IfOk result (λ count. (0 < count) × (count ≤ length buf.now)) }
         ensures bytes { WriteAppends self.old.taken self.new.taken result buf.now }
-        ensures asked { self.new.asked ≡ min (self.old.asked + 1) (2 ^ 64 - 1) }
+        ensures asked { self.new.asked ≡ one_more self.old.asked }
+        ensures flushes { self.new.flushes ≡ self.old.flushes }
         ensures cause { MatchResult result
             (λ _. self.new.failed ≡ false)
             (λ _. self.new.failed ≡ true) }
     {
-        self.asked = self.asked.saturating_add(1);
         self.flushed = false;
-        match self.inner.write(buf) {
+        match self.writer.write(buf) {
             Ok(0) | Err(_) => {
                 self.failed = true;
                 Err(DeviceFailed)
@@ -145,13 +144,14 @@ impl<W: Write> Sink<W> {
         requires { self.old.failed ≡ false }
         ensures bytes { Keeps self.old.taken self.new.taken }
         ensures asked { self.new.asked ≡ self.old.asked }
+        ensures flushes { self.new.flushes ≡ one_more self.old.flushes }
         ensures cause { MatchResult result
             (λ _. self.new.failed ≡ false)
             (λ _. self.new.failed ≡ true) }
         ensures flushed { OnOk result (self.new.flushed ≡ true) }
     {
         self.flushed = false;
-        if self.inner.flush().is_err() {
+        if self.writer.flush().is_err() {
             self.failed = true;
             return Err(DeviceFailed);
         }

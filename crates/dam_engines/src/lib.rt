@@ -22,18 +22,19 @@
 //! ([`laws::cleared_text_is_one`]).
 //!
 //! A reader comes as a [`Source`] and a writer as a [`Sink`], which keep whether they failed, how often they were
-//! asked, and whether the writer was flushed after all that it took. So the contracts say, of any reader and writer,
-//! that an engine reports each failure of a device and no other, asks no device again that failed, flushes its text,
-//! asks the reader at most as often as bytes are read at most (if it shows its bytes, at most once more often than it
-//! has bytes), and the writer at most once for each byte of its text.
-//! Only tested is that the few lines of the two types keep this rightly, that a [`Watch`] is called, and that memory
-//! isn't said to have run out if it hasn't.
+//! asked, and how often the writer was flushed, the last time after all that it took. So the contracts say, of any
+//! reader and writer, that an engine reports each failure of a device and no other, asks no device again that failed,
+//! flushes its text once, asks the reader at most as often as bytes are read at most (if it shows its bytes, at most
+//! once more often than it has bytes), and the writer at most once for each byte of its text.
+//! Only tested is that the counts are of calls that are made (three calls of three lines), that a [`Watch`] is called,
+//! and that memory isn't said to have run out if it hasn't.
 //!
 //! The crate knows nothing of the command line, nor of terminals.
 #![tactic(auto)]
 
 mod alone;
 mod clear;
+mod counted;
 mod day;
 mod device;
 mod fault;

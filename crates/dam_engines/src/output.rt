@@ -1,5 +1,6 @@
 ghost use Rattle.std.specs.Prelude.{◌≡◌, ◌≤◌, ◌+◌, true, false, length, IfErr, OnOk, MatchResult};
 ghost use Rattle.std.specs.Io.KnownBytes.{Appends};
+ghost use Rattle.dam_engines.specs.Device.{IsFlushedOnce};
 ghost use Rattle.dam_engines.specs.Engine.{IsWritingFault};
 
 use crate::device::Sink;
@@ -17,7 +18,8 @@ pub fn write_text<W: Write>(writer: &mut Sink<W>, text: &[u8]) -> Result<(), Run
     ensures cause { MatchResult result
         (λ _. writer.new.failed ≡ false)
         (λ _. writer.new.failed ≡ true) }
-    ensures flushed { OnOk result (writer.new.flushed ≡ true) }
+    ensures flushed { OnOk result (IsFlushedOnce writer.old writer.new) }
+    ensures flushes { writer.new.flushes ≤ writer.old.flushes + 1 }
     ensures asked { writer.new.asked ≤ writer.old.asked + length text.now }
 {
     let mut written = 0;

@@ -1,14 +1,33 @@
--- What is printed of a day.
-use Rattle.std.specs.Prelude.{ℕ, List, ◌++◌, codes, decimal}
-use Rattle.dam_refusals.specs.declared.day.Day.{Day}
-use Rattle.dam_refusals.specs.declared.day.Stop.{Stop}
-use Rattle.dam_refusals.specs.declared.day.Stop.TheVariants.{Memory, Wrong}
+-- What is printed of a row.
+use Rattle.std.specs.Prelude.{◌≡◌, ℕ, List, ◌++◌, true, false, codes, decimal}
+use Rattle.dam_engines.specs.Fault.{fault_text}
+use Rattle.dam_refusals.specs.declared.answer.Answer.{Answer}
+use Rattle.dam_refusals.specs.declared.answer.Answer.TheVariants.{Entries, Commands, Welfare, Fault, Replay, Planned, Text}
+use Rattle.dam_refusals.specs.declared.answer.Told.{Told}
+use Rattle.dam_refusals.specs.declared.answer.Stop.{Stop}
+use Rattle.dam_refusals.specs.declared.answer.Stop.TheVariants.{Memory, Wrong}
 
--- how many entries the day has, and how many calls were refused memory
-abbrev pub day_text : Day → List ℕ
-day_text day = decimal day.entries ++ (codes " entries, " ++ (decimal day.refused ++ codes " calls refused"))
+-- what the last call answered
+abbrev pub answer_text : Answer → List ℕ
+answer_text (Entries count) = decimal count ++ codes " entries"
+answer_text (Commands count) = decimal count ++ codes " commands"
+answer_text (Welfare welfare) = codes "welfare " ++ decimal welfare
+answer_text (Fault fault) = fault_text fault
+answer_text Replay = codes "replay"
+answer_text (Planned plan) = codes "workers " ++
+    (decimal plan.workers ++ (codes " cut " ++ (decimal plan.cut ++ (codes " nodes " ++ decimal plan.nodes))))
+answer_text (Text true) = codes "help"
+answer_text (Text false) = codes "refused"
 
--- why a day came to no end
+-- that, and how many calls were refused memory
+abbrev pub told_text : Told → List ℕ
+told_text told = answer_text told.answer ++ (codes ", " ++ (decimal told.refused ++ codes " calls refused"))
+
+-- why a row came to no end
 abbrev pub stop_text : Stop → List ℕ
 stop_text Memory = codes "memory"
 stop_text Wrong = codes "wrong"
+
+-- the row was a day of this number of entries
+abbrev pub IsDay : ℕ → Told → Type 0
+IsDay entries told = told.answer ≡ Entries entries

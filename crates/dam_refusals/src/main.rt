@@ -1,33 +1,90 @@
-//! A day at a gate, each of whose calls is made again if memory was refused to it: `tests/hostile` refuses each of them
-//! in turn.
+//! Calls that are made again if memory was refused to them: `tests/hostile` refuses each of their calls for memory in
+//! turn.
 //!
-//! It reads a journal without a close from standard input, enters its commands, closes, and settles. It prints how many
-//! entries the day has and how many calls were refused; or `memory` if memory was refused to what comes before the gate;
-//! or `wrong` if a call was answered what it shouldn't be, one that was refused changed something, or a look after a
-//! call shows another number of entries.
+//! The first word names a row of calls, as `Row` has them; without a word it is a day at a gate. Standard input is its
+//! journal, if it needs one. What is printed says what the last call answered, and how many calls were refused; or
+//! `memory` if memory was refused to what comes before the row's calls; or `wrong` if a call was answered what it
+//! shouldn't be, or one that was refused changed something.
+//!
+//! The books of gates hash names with a seed of the system's random bytes.
 #![tactic(auto)]
 
+mod answer;
+mod clearing;
 mod day;
+mod line;
+mod round;
+mod rows;
+mod texts;
 
+use answer::{Stop, Told};
+use clearing::search_by_line;
+use dam_book::Seed;
 use dam_results::read_journal;
-use day::{Stop, hold_day};
+use day::{hold_day, run_again};
+use line::read_words_again;
+use rows::{fill_journal, refuse_commands, settle_others};
 use std::alloc::Global;
-use std::io;
 use std::io::Read;
 use std::sync::Wait;
+use std::thread::Threads;
+use std::{env, io};
+use texts::{read_again, write_journal};
 
 fn main(rt: HostRuntime) -> io::Result<()> {
-    let mut text = Vec::new(rt.alloc());
+    let alloc = rt.alloc();
+    let mut words = env::args(&rt)?;
+    // the first word is the program's name
+    let _program = words.next();
+    let words = words.collect::<Vec<String>>(alloc)?;
+    let mut text = Vec::new(alloc);
     rt.stdin().read_to_end(&mut text)?;
-    print_day(&rt, rt.alloc(), &text)
+    let told = match words.as_slice() {
+        [] => told(&rt, alloc, Seed::drawn(&rt), "day", &[], &text),
+        [row, rest @ ..] => told(&rt, alloc, Seed::drawn(&rt), row.as_str(), rest, &text),
+    };
+    match told {
+        Ok(told) => println!(rt; "{told}"),
+        Err(stop) => println!(rt; "{stop}"),
+    }
 }
 
-fn print_day<R: Print + Wait>(rt: &R, alloc: Global, text: &[u8]) -> io::Result<()> {
-    let Ok(read) = read_journal(alloc, text) else {
-        return println!(rt; "{}", Stop::Memory);
-    };
-    match hold_day(rt, alloc, read.periods, &read.commands) {
-        Ok(day) => println!(rt; "{day}"),
-        Err(stop) => println!(rt; "{stop}"),
+/// What comes of the row of this name, of the further words and of the text.
+fn told<R: Threads + Wait + Sync>(
+    rt: &R,
+    alloc: Global,
+    seed: Seed,
+    row: &str,
+    words: &[String],
+    text: &[u8],
+) -> Result<Told, Stop> {
+    match row {
+        "day" => of_commands(rt, alloc, seed, text, false),
+        "threads" => of_commands(rt, alloc, seed, text, true),
+        "filled" => fill_journal(rt, alloc, seed, false),
+        "full" => fill_journal(rt, alloc, seed, true),
+        "others" => refuse_commands(rt, alloc, seed),
+        "settle" => settle_others(rt, alloc, seed),
+        "read" => read_again(alloc, text),
+        "write" => write_journal(alloc, text),
+        "search" => search_by_line(rt, alloc, text, words),
+        "line" => read_words_again(alloc, words),
+        _ => Err(Stop::Wrong),
+    }
+}
+
+/// A day of the text's commands, by one thread or by one for each participant.
+fn of_commands<R: Threads + Wait + Sync>(
+    rt: &R,
+    alloc: Global,
+    seed: Seed,
+    text: &[u8],
+    on_threads: bool,
+) -> Result<Told, Stop> {
+    let read = read_journal(alloc, text)?;
+    if on_threads {
+        run_again(rt, alloc, seed, read.periods, &read.commands)
+    } else {
+        hold_day(rt, alloc, seed, read.periods, &read.commands)
     }
 }

@@ -48,4 +48,5 @@ returns-in_err-results-clause-devices g c =
 pub returns-clause-devices : goal.returns-clause-devices
 returns-clause-devices g c =
     written-devices c.args.reader.now c.read_input.new.reader c.args.writer.now c.write_text.new.writer _ _ _ _
-    c.in_ok-text.ensures.cause c.write_text.ensures.fault c.write_text.ensures.flushed c.write_text.ensures.cause
+    c.in_ok-text.ensures.cause c.write_text.ensures.fault c.write_text.ensures.flushed c.write_text.ensures.flushes
+    c.write_text.ensures.cause

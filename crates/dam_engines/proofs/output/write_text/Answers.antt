@@ -18,4 +18,5 @@ loop-written-preserved g c =
       taken = (omega (arith, fits), subst (Appends _ _) joined (Appends-trans _ _ _ _ _ before.taken.1 c.in-Ok.ensures.bytes));
       asked = omega (arith, before.asked, c.write.ensures.asked, fits);
       failed = c.in-Ok.ensures.cause;
+      flushes = c.write.ensures.flushes ∙ before.flushes;
     }

@@ -8,6 +8,7 @@ invariant-loop-written g l = record {
   taken : TakesFront l.initial.writer.taken l.writer.taken l.written l.text;
   asked : l.writer.asked ≤ l.initial.writer.asked + l.written;
   failed : l.writer.failed ≡ false;
+  flushes : l.writer.flushes ≡ l.initial.writer.flushes;
 }
 
 abbrev pub decreases-loop-written : goal.decreases-loop-written

@@ -1,0 +1,149 @@
+"""Memory is refused to one call after another of `dam_refusals`, which makes each call again that was refused memory, and checks that the
+refused call changed nothing and that the same call then gives its row's answer."""
+
+from pathlib import Path
+from typing import NamedTuple
+
+import judge
+from preload import EVERY, Program, Refusal
+from shared.printed import Printed
+
+REFUSALS = Path(__file__).resolve().parents[2] / "crates/dam_refusals/out/dam_refusals"
+# What is printed if memory is refused before the first call of the row: to its words or its input, or to what it stands on.
+BEFORE = {Printed(1, b"", b"Error: Kind(OutOfMemory)\n"), Printed(0, b"memory\n", b"")}
+SPREAD = 40  # of the calls for memory of a long beginning, as many as this are refused
+
+
+class Again(NamedTuple):
+    """A row of calls, each of which is refused memory once and then answered."""
+
+    about: str
+    words: list
+    data: bytes
+    answer: str
+    least: int = 1  # how many refusals come to the calls of the row, at least
+    is_split: bool = False  # whether what the row stands on is made between its calls too
+    goes_on: bool = False  # whether a refused call for memory may change nothing: for a thread, whose work the caller does, or in `clap`
+    beginning: list = ()  # the words of a row that is this one's long beginning
+
+    def told(self, refused):
+        return Printed(0, f"{self.answer}, {refused} calls refused\n".encode(), b"")
+
+    def is_right(self, printed):
+        """Whether a run may print this, in which a call of the row itself was refused."""
+        return printed == self.told(1) or self.goes_on and printed == self.told(0)
+
+
+class Refusals:
+    """Runs of `dam_refusals`."""
+
+    def __init__(self, runs, room):
+        self.runs = runs
+        self.program = Program(REFUSALS, room)
+
+    def printed(self, row, refusal):
+        return self.program.run(row.words, row.data, refusal)[0]
+
+    def calls(self, words, data):
+        """How many calls for memory it makes."""
+        return self.program.run(words, data, Refusal("memory", EVERY, EVERY))[1]
+
+    def numbers(self, row, total):
+        """The calls for memory that are refused: each, but of a long beginning only some; and one that no run comes to."""
+        first = self.calls(row.beginning, row.data) if row.beginning else 0
+        begun = {1 + at * first // SPREAD for at in range(SPREAD)} if first else set()
+        return sorted(begun | set(range(first + 1, total + 2)))
+
+    def run(self, row):
+        """Refuses one call for memory after another. The first ones come before the row's calls; the others come from these, each of
+        which is refused once and then answered."""
+        check = self.runs.check
+        check(f"{row.about}, nothing refused", self.printed(row, judge.NOTHING_REFUSED) == row.told(0))
+        total = self.calls(row.words, row.data)
+        numbers = self.numbers(row, total)
+        *printed, last = self.runs.pool.map(lambda number: self.printed(row, Refusal("memory", number, number)), numbers)
+        # one call for memory, for the words, is made anew by the kit if it is refused
+        before = next((at for at, got in enumerate(printed) if got not in BEFORE | {row.told(0)}), len(printed))
+        check(f"{row.about}: refused calls change nothing", row.goes_on or printed[:before].count(row.told(0)) <= 1)
+        again = 0
+        for number, got in list(zip(numbers, printed))[before:]:
+            again += got == row.told(1)
+            is_right = row.is_right(got) or row.is_split and got in BEFORE
+            check(f"{row.about}: call {number}: {got.stdout!r}, {got.stderr[:80]!r}", is_right)
+        check(f"{row.about}, no such call", row.is_right(last) if row.goes_on else last == row.told(0))
+        check(f"{row.about}: {again} calls are made again, and not {row.least}", again >= row.least)
+        return again
+
+
+def days(given):
+    """Journals that are entered at a gate."""
+    for about, data in given:
+        entries = data.count(b"\n")
+        yield Again(f"{about} at a gate", [], data, f"{entries} entries", least=entries)
+
+
+def gates():
+    """Gates that refuse a call for another reason than memory: a full journal, and passes and receipts of others."""
+    yield Again("a journal that is filled", ["full"], b"", "10000 entries", least=2, beginning=["filled"])
+    yield Again("a gate that gives nine passes", ["others"], b"", "0 entries", least=9)
+    yield Again("receipts of other gates", ["settle"], b"", "2 entries", least=12, is_split=True)
+
+
+def texts(program, given, written):
+    """Texts that are read, and journals that are written."""
+    for about, data in given:
+        replies, _ = program.run(["replay"], data, judge.NOTHING_REFUSED)
+        commands = replies.stdout.count(b"\n") - 1
+        answer = replies.stderr.decode().rstrip("\n") if replies.status else f"{commands} commands"
+        yield Again(f"{about}, read", ["read"], data, answer, least=commands >= 0)
+    for about, data in written:
+        yield Again(f"{about}, written", ["write"], data, f"{data.count(LINE) - 1} entries")
+
+
+def searches(two_equal, group):
+    """Searches of the books of two equal blocks and of a group: by one worker and by several, and one that ends unfinished."""
+    for plan in ["--workers 2 --cut 1", "--workers 4 --cut 2", "--workers 8 --cut 0", "--workers 8 --cut 8"]:
+        words = ["search", "clear", *plan.split()]
+        yield Again(f"search of two equal blocks by {plan}", words, two_equal, "welfare 20000", least=20, goes_on=True)
+    words = ["search", "clear", "--workers", "1", "--cut", "0"]
+    yield Again("search of a group", words, group, "welfare 30000", least=20, goes_on=True)
+    unfinished = [*words, "--nodes", "1"]
+    answer = "unfinished: piece 0 after 1 nodes"
+    yield Again("search of a group within one node", unfinished, group, answer, least=20, goes_on=True)
+
+
+LINE = b"\n"
+LINES = [
+    ("day --cut 0 --workers 8", "workers 8 cut 0 nodes 67108864"),
+    ("clear", "workers 2 cut 3 nodes 67108864"),
+    ("replay", "replay"),
+    ("clear --workers 9", "refused"),
+    ("clear --nodes 0", "refused"),
+    ("clear --nodes 67108865", "refused"),
+    ("clear --cut 9", "refused"),
+    ("clear --workers", "refused"),
+    ("replay --cut 1", "refused"),
+    ("replay x", "refused"),
+    ("sell", "refused"),
+    ("", "refused"),
+    ("--help", "help"),
+    ("clear --help", "help"),
+]
+
+
+def lines():
+    """Command lines that are read."""
+    for line, answer in LINES:
+        yield Again(f"the line {line!r}", ["line", *line.split()], b"", answer, least=5, goes_on=True)
+
+
+def run(runs, room, rows):
+    runs.check("dam_refusals is built", REFUSALS.exists())
+    if not REFUSALS.exists():
+        return
+    refusals = Refusals(runs, room)
+    again, count = 0, 0
+    for row in rows:
+        again += refusals.run(row)
+        count += 1
+    print(f"memory refused to the calls of {count} rows: {again} calls made again", flush=True)
