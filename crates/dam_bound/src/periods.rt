@@ -183,7 +183,8 @@ impl<A: Allocator> Periods<A> {
         widen(&mut self.ranges, order);
     }
 
-    /// Adds the curve of the class that begins at the place.
+    /// Adds the curve of the class that begins at the place, with a welfare for each net volume if that is asked for.
+    /// The error is out of memory.
     pub(crate) fn curve<B: Allocator, C: Allocator>(
         &self,
         curves: &mut Curves<B>,

@@ -1,5 +1,5 @@
-//! Which tables keep a welfare for each net volume. They are the faster to look up and take the more memory, so they are
-//! those of the last blocks, which a search decides most often.
+//! Which tables keep a welfare for each net volume. These are the faster to look up and take the more memory, so they
+//! are those of the last blocks, which a search decides most often.
 
 ghost use Rattle.std.specs.Prelude.{◌≤◌, length};
 ghost use Rattle.dam_book.specs.Limits.{last_period};
@@ -7,10 +7,12 @@ ghost use Rattle.dam_book.specs.Limits.{last_period};
 use dam_blocks::{Block, MOST_PERIODS};
 use dam_book::BlockOrder;
 
-/// How many welfares are kept for each period of the day, at most, of 8 bytes each.
+/// How many welfares of 8 bytes the tables of a day keep at most, for each of its periods. A class may take more than
+/// its periods' part.
 const VALUES_EACH: u64 = 5_000;
 
-/// How many net volumes the blocks can make of each class, at the place of its first period; 0 at other places.
+/// How many net volumes the decided blocks can make of each class at most, at the place of its first period; 0 at
+/// other places.
 #[derive(Drop)]
 struct Reach {
     counts: [u64; MOST_PERIODS],
@@ -46,7 +48,7 @@ impl Reach {
         }
     }
 
-    /// How many welfares the tables of a block have.
+    /// How many welfares the tables of a block have at most.
     fn over(&self, order: &BlockOrder) -> u64 {
         let mut count = 0u64;
         for (period, _) in order.volumes().pairs() {

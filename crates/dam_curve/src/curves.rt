@@ -14,12 +14,13 @@ use std::marker::Model;
 /// How many hints a curve has for each of its lines, at most, besides one for the whole curve.
 const HINTS: usize = 8;
 
-/// How a net volume is looked up in a curve.
+/// How a net volume is looked up in a curve. A wrong hint only costs time; that values are right is promised
+/// (`IsCurveAt`).
 #[derive(Clone, Copy)]
 pub(crate) enum Lookup {
     /// Its line is looked for from a hint.
     Hints(Hints),
-    /// The welfare stands there for each net volume, from the greatest down to the least; this is the place of the first.
+    /// The welfare stands there for each net volume, from the greatest down; this is the place of the first.
     Values(u32),
 }
 
@@ -63,7 +64,7 @@ impl<A: Allocator> Model for Curves<A> {
     ghost view = { λ c. record { lines = c.lines.items; values = c.values.items } };
 }
 
-/// The number in 32 bits. If it doesn't fit, there is no memory for that number of lines.
+/// The number in 32 bits. If it doesn't fit, there is no memory for that many lines, hints or values.
 fn narrow(number: usize) -> Result<u32, AllocError>
     ensures { IfOk result (λ narrow. narrow ≡ number) }
 {
@@ -73,7 +74,8 @@ fn narrow(number: usize) -> Result<u32, AllocError>
     Ok(narrow)
 }
 
-/// By how many bits net volumes are shifted, so that this number of them has at most `HINTS` hints for each line.
+/// By how many bits net volumes are shifted to find a hint, so that a curve over this range of them has at most
+/// `HINTS` hints for each of its lines, and one more.
 fn shift_of(range: u32, lines: usize) -> u32
     ensures { result ≤ 31 }
 {
@@ -117,8 +119,7 @@ fn value_of(line: Line, net: i64) -> i64
     line.surplus + i64::from(line.price) * net
 }
 
-/// The joint welfare at the net volume, by the line that holds there, which is looked for from a place near by, and its
-/// place.
+/// The place of the line that holds at the net volume, looked for from a place near by, and the joint welfare there.
 #[inline(always)]
 fn value_in(lines: &[Line], net: i64, near: usize) -> (usize, i64)
     requires curve { (periods : List (List Step)) × (least : ℤ) × (most : ℤ)
@@ -196,7 +197,7 @@ impl<A: Allocator + Copy> Curves<A> {
 }
 
 impl<A: Allocator> Curves<A> {
-    /// Adds a curve whose lines are looked for. The error is out of memory, and nothing is then added.
+    /// Adds a curve whose lines are looked for. The error is out of memory, and no curve is then added.
     pub fn add<B: Allocator>(&mut self, sum: &Sum<B>) -> Result<Curve, AllocError>
         ensures added { (periods : List (List Step)) (least most : ℤ) → IsCurve periods least most sum.now
             → IfOk result (λ curve. IsCurveAt self.new curve periods least most) }
@@ -221,7 +222,7 @@ impl<A: Allocator> Curves<A> {
     }
 
     /// Adds a curve with its welfare at each net volume, which is the faster to look up, and takes 8 bytes for each.
-    /// The error is out of memory, and nothing is then added.
+    /// The error is out of memory, and no curve is then added.
     pub fn add_values<B: Allocator>(&mut self, sum: &Sum<B>) -> Result<Curve, AllocError>
         requires { (periods : List (List Step)) × (least : ℤ) × (most : ℤ)
             × IsCurve periods least most sum.now }
@@ -271,7 +272,7 @@ impl<A: Allocator> Curves<A> {
         price
     }
 
-    /// A place near that of the line for the net volume.
+    /// A place near the line for the net volume; it may be any.
     fn near(&self, curve: Curve, hints: Hints, net: i64) -> usize
         requires least { curve.bottom ≤ℤ net }
         requires most { net ≤ℤ curve.top }

@@ -1,4 +1,5 @@
-//! The greatest welfare of periods as a function of the net volume, as straight lines.
+//! The greatest welfare of periods as a function of the net volume: as straight lines and, if that is asked for, at each
+//! net volume.
 //!
 //! The price of a period changes only where the volume of an order ends. Between two such net volumes the greatest
 //! welfare is a straight line: the price times the net volume, and what all orders gain at that price. Several
