@@ -50,7 +50,7 @@ pub(crate) fn times(cents: i32, volume: u32) -> i64
     i64::from(cents) * i64::from(volume)
 }
 
-/// What a block adds to the net volume of a period if it is accepted, in tenths of a MW: its volume there
+/// The change of the net volume of a period by an accepted block, in tenths of a MW: its volume there
 /// if it sells, and minus its volume if it buys.
 pub fn net_volume_of(order: &BlockOrder, period: Period) -> i64
     ensures value { result ≡ net_volume_of period order.now }

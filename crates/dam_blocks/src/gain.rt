@@ -22,7 +22,7 @@ fn difference(limit: Price, price: Price) -> i32
     limit.get() - price.get()
 }
 
-/// What a block gains at a price in a period in which it has this volume, in tenths of a MW; in cents
+/// The surplus of a block at a price in a period in which it has this volume, in tenths of a MW; in cents
 /// per MWh times tenths of a MW, and below 0 if it pays more or gets less than its limit.
 pub fn surplus_at_price(order: &BlockOrder, price: Price, volume: u32) -> i64
     requires { volume ≤ greatest_volume }
@@ -44,7 +44,7 @@ fn surplus_in(order: &BlockOrder, period: Period, price: Price) -> i64
     surplus_at_price(order, price, volume_in(order.volumes(), period))
 }
 
-/// What a block gains at the prices, in cents per MWh times tenths of a MW; below 0 if it loses.
+/// The surplus of a block at the prices, in cents per MWh times tenths of a MW; below 0 if it loses.
 ///
 /// There is one price for each period of the day, in order; a block's periods past the list count
 /// nothing. In each period it is the volume times (price less limit) for a sell, and the volume
@@ -95,7 +95,7 @@ fn surplus_of_descendants(
     total
 }
 
-/// What the accepted block at a place gains together with its accepted descendants, in cents per MWh
+/// The gain of the accepted block at a place with its accepted descendants, in cents per MWh
 /// times tenths of a MW: the surplus of each at the prices, summed. In an eligible selection it is at
 /// least 0 for each accepted block (EUPHEMIA Public Description, "Linked Block Orders").
 ///

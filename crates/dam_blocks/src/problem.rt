@@ -90,7 +90,7 @@ impl From<AllocError> for ProblemFault {
     }
 }
 
-/// What a closed book asks to be cleared: the hourly orders of each period, and the blocks.
+/// The problem of clearing a closed book: the hourly orders of each period, and the blocks.
 ///
 /// A contract sees the steps of each period, the blocks and the rows.
 #[derive(Drop)]

@@ -12,7 +12,7 @@ use crate::selection::Selection;
 use dam_book::{MOST_BLOCKS, Period, Price};
 use std::alloc::Allocator;
 
-/// What a selection is worth, or the first thing that speaks against it.
+/// The welfare of a selection, or the first reason why it isn't eligible.
 #[derive(Clone, Copy, PartialEq, Eq, Debug)]
 pub enum Verdict {
     /// A child without its parent, two blocks of one group, or a place that is no block of the problem.

@@ -134,7 +134,7 @@ fn row_label(who: &Participant, name: &Name) -> Label
     }
 }
 
-// Takes the label of a row from the gap at this place, which gets a filler's: the last place in the map takes the place
+// Replaces the removed row's label, in the gap at this place, by a filler: the last place in the map takes the place
 // of the one that is removed, and so no other moves. An `Err` leaves the places.
 fn fill_gap<A: Allocator>(
     places: &mut Places<A>,

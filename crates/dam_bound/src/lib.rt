@@ -21,9 +21,9 @@
 //! A walk down the tree of prefixes keeps the days of those on its way in the slots of a [`Trail`]. It begins
 //! with the day of the prefix that decides nothing (`begin`), and makes that of a prefix with one more
 //! decision (`extend`): the same welfare, with only the classes of the last block looked up, and only
-//! until it is seen to be less than what is asked for. Of a prefix that decides every block the day is
-//! read out (`day_at`) as a [`Day`]: `turn` makes that with one decision reversed, and `gain` says
-//! what an accepted block gains with its accepted descendants. It clears the hours of the problem at the net
+//! until it is seen to be less than what is asked for. If a prefix decides every block, `day_at`
+//! returns the finished day as a [`Day`]: `turn` makes the day with one decision reversed, and `gain` returns the
+//! gain of an accepted block with its accepted descendants. It clears the hours of the problem at the net
 //! volumes of the day, since no table has the price of a period.
 //!
 //! What these words mean stands in `specs/`: prefixes and their completions, the relaxed welfare, the live count, the

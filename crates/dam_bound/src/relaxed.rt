@@ -18,7 +18,7 @@ use dam_book::Period;
 use std::alloc::{AllocError, Allocator, Global};
 use std::marker::Model;
 
-/// What the bounds of a problem's prefixes are computed from: at each depth each period's hourly orders,
+/// The source of the bounds of a problem's prefixes: at each depth each period's hourly orders,
 /// and with them every undecided block as an order of its own in each of its periods. `bound` clears them
 /// as hours, and a walk reads tables of them, which are made once.
 ///

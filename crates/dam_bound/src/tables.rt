@@ -30,7 +30,7 @@ use dam_hour::laws;
 use std::alloc::{AllocError, Allocator, Global};
 use std::marker::Model;
 
-/// The curves of all classes, and what each block is in them.
+/// The curves of all classes, and each block's part in them.
 ///
 /// A contract sees their parts, and asks of which problem they are the tables.
 #[derive(Drop)]

@@ -39,7 +39,7 @@ impl<'a, A: Allocator, B: Allocator> Model for Walk<'a, A, B> {
     ghost invariant = { λ w. AreTablesOf (without_rows w.problem.now) w.tables.now };
 }
 
-/// What a walk can be made of: the bounds of a problem's prefixes.
+/// The bounds of a problem's prefixes, of which a walk can be made.
 pub trait Bounds<A: Allocator> {
     /// The problem, without its rows.
     ghost bounded: { Self → ProblemState };
@@ -138,7 +138,7 @@ impl<'a, A: Allocator, B: Allocator> Walk<'a, A, B> {
         turn_block(self.tables, day, place, accept)
     }
 
-    /// What the block at a place gains at the prices of a day on which every block is decided, with
+    /// The gain of the block at a place at the prices of a day on which every block is decided, with
     /// those blocks of the selection that descend from it; in cents per MWh times tenths of a MW, and
     /// below 0 if they lose together. The selection is the day's.
     ///

@@ -4,7 +4,7 @@ ghost use Rattle.dam_c.specs.Answer.{HoldsText};
 
 use dam_engines::{RunFault, short_line, status};
 
-/// What an export answers.
+/// The answer of an export.
 #[repr(C)]
 #[derive(Clone, Copy)]
 pub struct DamAnswer {

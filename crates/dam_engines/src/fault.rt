@@ -15,7 +15,7 @@ use std::fmt;
 pub enum RunFault {
     /// The reader failed.
     Read,
-    /// What was read is no journal. If memory ran out, the fault is `Memory` of this type.
+    /// The text isn't a journal. If memory ran out, the fault is `Memory` of this type.
     Input(JournalFault),
     /// The journal has more commands than a day's participants may give.
     TooManyCommands,

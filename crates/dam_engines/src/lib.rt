@@ -23,9 +23,9 @@
 //!
 //! A reader comes as a [`Source`] and a writer as a [`Sink`], which keep whether they failed, how often they were
 //! asked, and how often the writer was flushed, the last time after all that it took. So the contracts say, of any
-//! reader and writer, that an engine reports each failure of a device and no other, asks no device again that failed,
-//! flushes its text once, asks the reader at most as often as bytes are read at most (if it shows its bytes, at most
-//! once more often than it has bytes), and the writer at most once for each byte of its text.
+//! reader and writer, that an engine reports each failure of a device and no other, never asks a failed device again,
+//! flushes its text once, makes at most one read per byte that it may read (if the reader shows its bytes, at most one
+//! more than it has), and at most one write per byte of its text.
 //! Only tested is that the counts are of calls that are made (three calls of three lines), that a [`Watch`] is called,
 //! and that memory isn't said to have run out if it hasn't.
 //!

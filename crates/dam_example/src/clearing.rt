@@ -20,7 +20,7 @@ pub fn clear_text<R: Threads + Sync>(rt: &R, alloc: Global, text: &[u8]) -> Resu
     clear(rt, alloc, &book)
 }
 
-/// Finds the best selection of the blocks of a closed book, and what is published of it.
+/// Finds the best selection of the blocks of a closed book, and its published results.
 pub fn clear<R: Threads + Sync>(rt: &R, alloc: Global, book: &Book) -> Result<Results>
     ensures { IfOk result (λ r. IsClearing book.now r.welfare r.periods.items r.rows.items) }
 {

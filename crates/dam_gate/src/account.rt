@@ -6,7 +6,7 @@ use crate::packed::Receipt;
 use dam_book::Participant;
 use std::marker::Model;
 
-/// What is left of a pass after its day: its holder, how many entries of the journal it had seen, and a receipt of each
+/// The record of a pass after its day: its holder, how many entries of the journal it had seen, and a receipt of each
 /// of its own commands that reached the book, in the order of its calls.
 ///
 /// A contract sees the holder, the number seen and the receipts. The receipts are of the holder's own commands; their

@@ -67,7 +67,7 @@ impl GateName for Brand {
     } };
 }
 
-/// What a gate begins with: the length of its day, and its history, which is empty and has no name yet.
+/// The start of a gate: the length of its day, and its history, which is empty and has no name yet.
 #[derive(Drop)]
 pub struct Opening {
     periods: u8,

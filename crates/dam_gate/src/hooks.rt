@@ -1,4 +1,4 @@
-/// What is called before and after the commands of each participant of a day, on the thread that enters them.
+/// Callbacks before and after the commands of each participant of a day, on the thread that enters them.
 ///
 /// Participants are numbered from 0 by first occurrence among the day's commands. So a caller can see which of them are
 /// at the gate at the same time, or have one wait for another: a call may take any time.

@@ -309,7 +309,7 @@ pub(crate) fn is_full(held: u32, command: &Command) -> bool
     }
 }
 
-/// What a gate leaves: its entries, and the book that they made.
+/// The journal that a gate leaves: its entries, and the book that they made.
 ///
 /// A contract sees the entries and the book, as those of a `Keeper`.
 #[derive(Debug, Drop)]

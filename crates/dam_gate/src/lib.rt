@@ -18,18 +18,25 @@
 //! }
 //! ```
 //!
-//! A contract sees a journal and a [`Settled`] as their entries with the book that these make, a [`Keeper`] as its
-//! journal and the room in it, and a [`Pass`] as what it knows: its account, that is its holder, the number of entries
-//! that it has seen, and its receipts; the history that it has seen, the longest that it has learnt of, and the one
-//! that its last call made. It sees a [`PackedCommand`] as the command and a [`Receipt`] as the entry. `specs/` says
-//! what these words mean. What two passes have seen is one history ([`laws::one_history`]).
+//! Contracts see these types as plain data, whose words `specs/` defines:
 //!
-//! Of what lies under the lock, a contract sees only what is true of any gate whenever the lock is free: the journal is
-//! a legal one of the day of the gate's name, and as many entries are shown as it has. So only tests show that a gate
-//! begins with no entry, that a call journals at this gate and just once, or, if it is refused, not at all, that the
-//! slot that is shown isn't empty, that calls are refused and looks are `None` only if they should be, that `finish`
-//! returns the journal of these calls, and that a gate gives nine passes; and that `Memory` is answered only if memory
-//! ran out.
+//! - a journal and a [`Settled`]: their entries with the book that these make
+//! - a [`Keeper`]: its journal and the room in it
+//! - a [`Pass`]: its account (its holder, the number of entries that it has seen, and its receipts), the history that
+//!   it has seen, the longest that it has learnt of, and the one that its last call made
+//! - a [`PackedCommand`]: the command; a [`Receipt`]: the entry
+//!
+//! Two passes have seen one history ([`laws::one_history`]).
+//!
+//! About the state under the lock, contracts state only facts of any gate that hold whenever the lock is free: the
+//! journal is a legal one of the day of the gate's name, and as many entries are shown as it has. So only tests show
+//! that
+//!
+//! - a gate begins without an entry, and gives nine passes
+//! - a call journals at this gate and just once, or, if it is refused, not at all
+//! - the slot that is shown isn't empty
+//! - calls are refused and looks are `None` only if they should be, and `Memory` comes only if memory ran out
+//! - `finish` returns the journal of these calls
 //!
 //! The crate knows nothing of texts, of prices that clear, and of how the best selection is found.
 #![tactic(auto)]

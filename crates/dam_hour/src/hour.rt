@@ -83,7 +83,7 @@ struct Matched {
 }
 
 impl Matched {
-    /// At the least supporting price the side that is short executes all that is not worse than it.
+    /// At the least supporting price the side that is short executes every order at least as good as it.
     fn of<A: Allocator>(hour: &Hour<A>, net: i64, edge: &Edge) -> Matched
         requires steps { IsHour hour.now }
         requires net { IsNetVolume net }

@@ -69,8 +69,8 @@ impl<A: Allocator, B: Allocator> SearchSpace<'_, A, B> {
     /// and offers its welfare, if it is eligible and the best so far.
     ///
     /// The welfare is the bound, and that is looked at first; prices are asked for only if it may be the
-    /// best, and only in the periods of accepted blocks. If there is no total, the welfare is known to be
-    /// under what was read.
+    /// best, and only in the periods of accepted blocks. If there is no total, the welfare is below the
+    /// incumbent that was read.
     fn try_selection<I: Incumbent>(
         &self,
         prefix: &Prefix,

@@ -212,8 +212,8 @@ impl Prefix {
     }
 
     /// The prefix's bound, if it is at least the value; `None` if it has no bound or a lesser one, and so
-    /// each of its completions has less welfare than the value. If there is no total, the bound is known
-    /// to be under what was read before.
+    /// each of its completions has less welfare than the value. If there is no total, the bound is
+    /// below the incumbent that was read.
     pub(crate) fn open_bound(&self, total: Option<i64>, least: u64) -> Option<i64>
         ensures { (relaxed : ProblemState) (trail : Trail) (low : ℕ) → low ≤ least
             → IsBoundIn relaxed self.now low trail total

@@ -194,8 +194,8 @@ pub(crate) fn explore_all<R: Threads + Sync, T: Turnstile + Sync>(
     Ok(Explored { answers, totals })
 }
 
-/// The result of a problem: the eligible selection of greatest welfare, and of several such the one
-/// that accepts at the first place where two differ. No plan and no order in which the workers
+/// The result of a problem: the eligible selection of greatest welfare. Ties go to the one that
+/// accepts the block at the first place where two differ. No plan and no order in which the workers
 /// happen to run changes it.
 ///
 /// The search first finds a good selection, and offers its welfare before any worker starts. The cutting
