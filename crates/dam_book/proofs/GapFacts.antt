@@ -27,7 +27,7 @@ same_key_equiv = record {
       ap₂ (λ (a b : Bool). a && b) (nat_list_eq_equiv.congr k.0 l.0 m.0 both.0) (nat_list_eq_equiv.congr k.1 l.1 m.1 both.1);
 }
 
-same_label_equiv : IsEquivalence same_label
+pub same_label_equiv : IsEquivalence same_label
 same_label_equiv = record {
   refl = λ l. ap₂ (λ (a b : Bool). a && b) (same_key_equiv.refl l.0) (nat_eq_equiv.refl l.1);
   symm = λ l m. ap₂ (λ (a b : Bool). a && b) (same_key_equiv.symm l.0 m.0) (nat_eq_equiv.symm l.1 m.1);
@@ -42,7 +42,7 @@ same_label-equal l m e =
     let number : l.1 ≡ m.1 = grind (arith, nat_tests, both.1) in
     ap₂ (λ (k : Key) (n : ℕ). let q : Label = (k, n) in q) (same_key-equal l.0 m.0 both.0) number
 
-distinct_tail : (p : Place) (ps : List Place) → IsDistinct same_label (keys_of (p ∷ ps)) → IsDistinct same_label (keys_of ps)
+pub distinct_tail : (p : Place) (ps : List Place) → IsDistinct same_label (keys_of (p ∷ ps)) → IsDistinct same_label (keys_of ps)
 unfolding IsDistinct
 distinct_tail p ps d = d.1
 

@@ -6,6 +6,7 @@ pub mod RowFacts
 pub mod ChangeFacts
 pub mod GapFacts
 pub mod FillFacts
+pub mod PlaceFacts
 pub mod LinkFacts
 pub mod StepFacts
 pub mod RowLess

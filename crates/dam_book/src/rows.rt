@@ -1,4 +1,4 @@
-ghost use Rattle.std.specs.Prelude.{◌≡◌, ◌+◌, ◌==◌, if◌then◌else◌, ◌∷◌, ◌++◌, [], None, Some, length, is_some, option_map, slice_get, IfOk, OnOk, OnErr};
+ghost use Rattle.std.specs.Prelude.{◌≡◌, ◌+◌, ◌==◌, if◌then◌else◌, ◌∷◌, ◌++◌, [], None, Some, length, is_some, option_map, slice_get, IfOk, IfSome, IfNone, OnOk, OnErr};
 ghost use Rattle.std.specs.List.{list_any, IsDistinct};
 ghost use Rattle.std.specs.Option.{option_copied};
 ghost use Rattle.std.specs.Map.{lookup, remove_entry, keys_of};
@@ -7,7 +7,7 @@ ghost use Rattle.std.specs.Hash as fed;
 ghost use Rattle.std.proofs.Common.{rules};
 ghost use Rattle.dam_book.specs.Book.{same_key, changed, names_parent};
 ghost use Rattle.dam_book.specs.Order.{amended};
-ghost use Rattle.dam_book.specs.inside.Gaps.{held, gap_count, key_bytes, same_label, AreNumbered, child_at, is_child_place};
+ghost use Rattle.dam_book.specs.inside.Gaps.{held, gap_count, key_bytes, same_label, AreNumbered, IsLabelledAt, child_at, is_child_place};
 
 use crate::boxed::BoxedOrder;
 use crate::name::{LONGEST_NAME, LONGEST_PARTICIPANT, Name, Participant};
@@ -187,10 +187,31 @@ fn free_label<A: Allocator>(
     fill_gap(places, place, row)
 }
 
+// Where the label stands: near this place, or else where it is looked up.
+fn place_of<A: Allocator>(places: &Places<A>, near: usize, row: &Label) -> Option<usize>
+    ensures found { IfSome result (λ place. IsLabelledAt row.now places.now.entries place) }
+    ensures absent { IfNone result (lookup (same_label row.now) places.now.entries ≡ None) }
+{
+    if let Some((label, _)) = places.get_index(near) {
+        if *label == *row {
+            return Some(near);
+        }
+    }
+    let Some((place, _, _)) = places.get_full(row) else {
+        return None;
+    };
+    Some(place)
+}
+
 // Takes the order under the key out, which leaves a gap.
-fn take_order<A: Allocator>(places: &mut Places<A>, row: &Label) -> Option<BoxedOrder<A>>
+fn take_order<A: Allocator>(
+    places: &mut Places<A>,
+    near: usize,
+    row: &Label,
+) -> Option<BoxedOrder<A>>
     requires unfilled { row.now.1 ≡ 0 }
     requires numbered { AreNumbered 1 places.old.entries }
+    requires apart { IsDistinct same_label (keys_of places.old.entries) }
     ensures value { result ≡ lookup (same_key row.now.0) (held places.old.entries) }
     ensures rows { held places.new.entries
         ≡ remove_entry (same_key row.now.0) (held places.old.entries) }
@@ -199,23 +220,36 @@ fn take_order<A: Allocator>(places: &mut Places<A>, row: &Label) -> Option<Boxed
     ensures numbered { AreNumbered 1 places.new.entries }
     ensures apart { IsDistinct same_label (keys_of places.new.entries) }
 {
-    let Some(place) = places.get_mut(row) else {
+    let Some(place) = place_of(places, near, row) else {
+        return None;
+    };
+    let Some(place) = places.get_index_mut(place) else {
         return None;
     };
     place.take()
 }
 
 // Changes the order under the key at its place.
-fn amend_order<A: Allocator>(places: &mut Places<A>, row: &Label, price: Price, volumes: &Volumes)
+fn amend_order<A: Allocator>(
+    places: &mut Places<A>,
+    near: usize,
+    row: &Label,
+    price: Price,
+    volumes: &Volumes,
+)
     requires unfilled { row.now.1 ≡ 0 }
     requires numbered { AreNumbered 1 places.old.entries }
+    requires apart { IsDistinct same_label (keys_of places.old.entries) }
     ensures rows { held places.new.entries
         ≡ changed row.now.0 (amended price volumes.now) (held places.old.entries) }
     ensures count { gap_count places.new.entries ≡ gap_count places.old.entries }
     ensures numbered { AreNumbered 1 places.new.entries }
     ensures apart { IsDistinct same_label (keys_of places.new.entries) }
 {
-    let Some(place) = places.get_mut(row) else {
+    let Some(place) = place_of(places, near, row) else {
+        return;
+    };
+    let Some(place) = places.get_index_mut(place) else {
         return;
     };
     let Some(boxed) = place else {
@@ -286,13 +320,24 @@ impl<A: Allocator + Copy> Rows<A> {
     pub(crate) fn find(&self, who: &Participant, name: &Name) -> Option<&Order>
         ensures { option_copied result ≡ lookup (same_key (who.now, name.now)) self.now }
     {
-        let Some(place) = self.places.get(&row_label(who, name)) else {
+        let Some((_, order)) = self.find_at(who, name) else {
             return None;
         };
-        let Some(order) = place else {
+        Some(order)
+    }
+
+    // The order under the key, with its place among the rows and the gaps.
+    pub(crate) fn find_at(&self, who: &Participant, name: &Name) -> Option<(usize, &Order)>
+        ensures { option_map (λ r. r.1.now) result
+            ≡ lookup (same_key (who.now, name.now)) self.now }
+    {
+        let Some((place, _, found)) = self.places.get_full(&row_label(who, name)) else {
             return None;
         };
-        Some(order.get())
+        let Some(order) = found else {
+            return None;
+        };
+        Some((place, order.get()))
     }
 
     // Whether a row names this order as its parent.
@@ -337,20 +382,33 @@ impl<A: Allocator + Copy> Rows<A> {
         Ok(())
     }
 
-    // Changes the order under the key at its place.
-    pub(crate) fn amend(&mut self, who: &Participant, name: &Name, price: Price, volumes: &Volumes)
+    // Changes the order under the key at its place, which is quicker if it stands near this one.
+    pub(crate) fn amend(
+        &mut self,
+        near: usize,
+        who: &Participant,
+        name: &Name,
+        price: Price,
+        volumes: &Volumes,
+    )
         ensures { self.new
             ≡ changed (who.now, name.now) (amended price volumes.now) self.old }
     {
-        amend_order(&mut self.places, &row_label(who, name), price, volumes);
+        let row = row_label(who, name);
+        amend_order(&mut self.places, near, &row, price, volumes);
     }
 
-    // Takes the order under the key out. The rest keep their order.
-    pub(crate) fn remove(&mut self, who: &Participant, name: &Name) -> Option<BoxedOrder<A>>
+    // Takes the order under the key out. The rest keep their order. It is quicker if the order stands at this place.
+    pub(crate) fn remove(
+        &mut self,
+        near: usize,
+        who: &Participant,
+        name: &Name,
+    ) -> Option<BoxedOrder<A>>
         ensures value { result ≡ lookup (same_key (who.now, name.now)) self.old }
         ensures entries { self.new ≡ remove_entry (same_key (who.now, name.now)) self.old }
     {
-        let Some(order) = take_order(&mut self.places, &row_label(who, name)) else {
+        let Some(order) = take_order(&mut self.places, near, &row_label(who, name)) else {
             return None;
         };
         let places = self.places.len();

@@ -1,12 +1,11 @@
 -- One entry more keeps a history legal, and its book the run of its commands.
 use Rattle.std.proofs.Common.{◌≡◌, ℕ, suc, ◌+◌, ◌-◌, ◌<◌, Bool, true, false, List, [], ◌∷◌, ◌++◌, length, refl, sym, ap, ◌∙◌, subst, arith}
-use Rattle.std.proofs.Common.{length-append, is_some, if◌then◌else◌, Option, None, Some}
+use Rattle.std.proofs.Common.{length-append, is_some, if◌then◌else◌, Option, Some}
 use Rattle.dam_book.specs.declared.command.Command.{Command}
 use Rattle.dam_book.specs.declared.command.Command.TheVariants.{Submit, Amend, Cancel, Close}
 use Rattle.dam_book.specs.declared.command.Entry.{Entry}
 use Rattle.dam_book.specs.declared.command.Reason.{Reason}
-use Rattle.dam_book.specs.declared.command.Reply.TheVariants.{Refused}
-use Rattle.dam_book.specs.Book.{BookState, empty_book, carried_out, reply_of, refusal, book_after, reply_to, run, run_from, commands_of}
+use Rattle.dam_book.specs.Book.{BookState, empty_book, carried_out, refusal, book_after, reply_to, run, run_from, commands_of}
 use Rattle.dam_book.specs.Book.{IsLegalFrom}
 use Rattle.dam_book.specs.Limits.{most_entries}
 use Rattle.dam_gate.specs.Journal.{JournalState, IsHistory, IsJournal, FoundRoom, next_entry, journal_after, is_full}
@@ -79,9 +78,5 @@ journal_after_is j c is room =
     }
 
 -- a command that is refused leaves the book
-stays : (o : Option Reason) (b d : BookState) (r : Reason) → reply_of o ≡ Refused r → (if is_some o then b else d) ≡ b
-stays None b d r is = absurd (cc is)
-stays (Some x) b d r is = refl
-
-pub refused_stays : (b : BookState) (c : Command) (r : Reason) → reply_to b c ≡ Refused r → book_after b c ≡ b
-refused_stays b c r is = stays (refusal b c) b (carried_out b c) r is
+pub refused_stays : (b : BookState) (c : Command) (r : Reason) → refusal b c ≡ Some r → book_after b c ≡ b
+refused_stays b c r is = ap (λ (o : Option Reason). if is_some o then b else carried_out b c) is

@@ -1,20 +1,20 @@
-ghost use Rattle.std.specs.Prelude.{◌≡◌, ◌++◌, ◌∷◌, [], length, Some, IfOk};
+ghost use Rattle.std.specs.Prelude.{◌≡◌, ◌++◌, ◌∷◌, [], length, None, Some, IfOk};
 ghost use Rattle.std.specs.Arc.{arc_value};
-ghost use Rattle.dam_book.specs.Book.{book_after, reply_to};
-ghost use Rattle.dam_book.specs.declared.command.Reply.TheVariants.{Done};
+ghost use Rattle.dam_book.specs.Book.{book_after, refusal};
 ghost use Rattle.dam_gate.specs.inside.Books.{AreSteps};
 
-use dam_book::{Book, Entry, Reply};
+use dam_book::{Book, Entry, Outcome};
 use std::alloc::{AllocError, Allocator, Global};
 use std::marker::Model;
 use std::mem::replace;
 use std::sync::Arc;
 
-/// An earlier book, and the place in the journal of the entry whose command changed it.
+/// An earlier book, and the place in the journal of the entry whose command changed it, with what was decided on it.
 #[derive(Debug, Drop)]
 struct Earlier<A: Allocator> {
     book: Arc<Book<A>, A>,
     place: usize,
+    outcome: Outcome,
 }
 
 impl<A: Allocator> Model for Earlier<A> {
@@ -23,11 +23,12 @@ impl<A: Allocator> Model for Earlier<A> {
 
     ghost Value = { EarlierState };
 
-    ghost view = { λ s. record { book = arc_value s.book; place = s.place } };
+    ghost view = { λ s. record { book = arc_value s.book; place = s.place; outcome = s.outcome } };
 }
 
 /// A book that others may share, and the one before it with the place of the command that changed it. If nobody shares
-/// that one any more, the command that it lacks makes it equal to the other, which is far quicker than a copy.
+/// that one any more, the command that it lacks is carried out in it as it was in the other, and makes the two equal.
+/// That is far quicker than a copy, and decides nothing again.
 ///
 /// A contract sees the two.
 #[derive(Debug, Drop)]
@@ -73,10 +74,15 @@ impl<A: Allocator + Copy> Books<A> {
         ensures same { self.new.book ≡ self.old.book }
         ensures steps { AreSteps entries.now self.new }
     {
-        if let Some(Earlier { book, place }) = self.before.take() {
+        if let Some(earlier) = self.before.take() {
+            let Earlier {
+                book,
+                place,
+                outcome,
+            } = earlier;
             if let Some(entry) = entries.get(place) {
                 if let Ok(mut book) = Arc::try_unwrap(book) {
-                    let _done = book.apply(&entry.command)?;
+                    let _done = book.carry_out(&entry.command, &outcome)?;
                     return Ok(book);
                 }
             }
@@ -86,21 +92,28 @@ impl<A: Allocator + Copy> Books<A> {
 
     /// Goes on to the book after the entry's command, if the command changed it. The entry is the next of the journal,
     /// at this place.
-    pub(crate) fn follow(&mut self, book: Arc<Book<A>, A>, entry: &Entry, place: usize)
-        requires reply { entry.now.reply ≡ reply_to self.old.book entry.now.command }
+    pub(crate) fn follow(
+        &mut self,
+        book: Arc<Book<A>, A>,
+        entry: &Entry,
+        place: usize,
+        outcome: Outcome,
+    )
+        requires outcome { outcome ≡ refusal self.old.book entry.now.command }
         requires book { arc_value book ≡ book_after self.old.book entry.now.command }
         ensures book { self.new.book ≡ book_after self.old.book entry.now.command }
         ensures steps { (entries : _) → length entries ≡ place → AreSteps entries self.old
             → AreSteps (entries ++ entry.now ∷ []) self.new }
-        ensures before { entry.now.reply ≡ Done
-            → self.new.before ≡ Some (record { book = self.old.book; place = place }) }
+        ensures before { outcome ≡ None → self.new.before
+            ≡ Some (record { book = self.old.book; place = place; outcome = None }) }
     {
-        if let Reply::Refused(_) = entry.reply {
+        if let Some(_) = outcome.refusal() {
             return;
         }
         let before = Earlier {
             book: replace(&mut self.book, book),
             place,
+            outcome,
         };
         let _oldest = replace(&mut self.before, Some(before));
     }

@@ -1,12 +1,12 @@
 ghost use Rattle.std.specs.Prelude.{◌≡◌, ◌<◌, ◌+◌, true, false, length, IfOk, IfErr, OnOk, OnErr};
 ghost use Rattle.std.specs.Arc.{arc_value};
-ghost use Rattle.dam_book.specs.Book.{book_after, is_day, reply_to};
+ghost use Rattle.dam_book.specs.Book.{book_after, is_day, refusal};
 ghost use Rattle.dam_gate.specs.Journal.{IsJournal, empty_journal, is_full, journal_after, next_entry};
 ghost use Rattle.dam_gate.specs.Keeper.{IsReadyFor};
 ghost use Rattle.dam_gate.specs.Gate.{IsBeginFault, IsKeeperFault};
 
 use crate::books::Books;
-use dam_book::{Book, Command, DayLength, Entry, MOST_ENTRIES, Reply, Seed};
+use dam_book::{Book, Command, DayLength, Entry, MOST_ENTRIES, Outcome, Seed};
 use std::alloc::{AllocError, AllocFailed, Allocator, Global};
 use std::marker::Model;
 use std::sync::Arc;
@@ -82,15 +82,21 @@ impl<A: Allocator> Model for Keeper<A> {
 pub struct Ready<A: Allocator = Global> {
     entry: Entry,
     book: Arc<Book<A>, A>,
+    // what the entry's reply says, for the book before
+    outcome: Outcome,
 }
 
 impl<A: Allocator> Model for Ready<A> {
+    ghost use Rattle.std.specs.Prelude.{◌≡◌};
     ghost use Rattle.std.specs.Arc.{arc_value};
+    ghost use Rattle.dam_book.specs.Book.{reply_of};
     ghost use Rattle.dam_gate.specs.Keeper.{ReadyState};
 
     ghost Value = { ReadyState };
 
     ghost view = { λ r. record { entry = r.entry; book = arc_value r.book } };
+
+    ghost invariant = { λ r. r.entry.reply ≡ reply_of r.outcome };
 }
 
 impl<A: Allocator> Ready<A> {
@@ -151,36 +157,51 @@ impl<A: Allocator + Copy> Keeper<A> {
         if is_full(held, command) {
             return Err(KeeperFault::JournalFull { held });
         }
+        Ok(self.ready_in_room(command)?)
+    }
+
+    /// Takes all memory of a command's step, as `ready` does, for which the journal isn't full.
+    ///
+    /// The command is decided once, for the reply, for the book after it and for the book before.
+    pub(crate) fn ready_in_room(&mut self, command: &Command) -> Result<Ready<A>, AllocError>
+        requires { is_full (length self.old.journal.entries) command.now ≡ false }
+        ensures ready { IfOk result (IsReadyFor self.new command.now) }
+        ensures journal { self.new.journal ≡ self.old.journal }
+    {
+        let number = self.len() + 1;
         self.entries.reserve(1)?;
-        let reply = self.books.book().reply(command);
-        let book = self.book_after(command, reply)?;
+        let outcome = self.books.book().outcome(command);
+        let book = self.book_after(command, &outcome)?;
         Ok(Ready {
             entry: Entry {
-                number: held + 1,
+                number,
                 command: command.copy(),
-                reply,
+                reply: outcome.reply(),
             },
             book,
+            outcome,
         })
     }
 
     /// The book after the command: another one, or, if the command is refused, the present one.
-    fn book_after(&mut self, command: &Command, reply: Reply) -> Result<Arc<Book<A>, A>, AllocError>
-        requires { reply ≡ reply_to self.old.journal.book command.now }
+    fn book_after(
+        &mut self,
+        command: &Command,
+        outcome: &Outcome,
+    ) -> Result<Arc<Book<A>, A>, AllocError>
+        requires { outcome.now ≡ refusal self.old.journal.book command.now }
         ensures book { IfOk result
             (λ book. arc_value book ≡ book_after self.old.journal.book command.now) }
         ensures same { self.new ≡ self.old }
     {
-        match reply {
-            Reply::Refused(_) => self.books.share(),
-            Reply::Done => {
-                let mut book = self.books.another(&self.entries)?;
-                let _done = book.apply(command)?;
-                match Arc::new(*self.entries.allocator(), book) {
-                    Ok(book) => Ok(book),
-                    Err(_) => Err(AllocError),
-                }
-            }
+        if let Some(_) = outcome.refusal() {
+            return self.books.share();
+        }
+        let mut book = self.books.another(&self.entries)?;
+        let _done = book.carry_out(command, outcome)?;
+        match Arc::new(*self.entries.allocator(), book) {
+            Ok(book) => Ok(book),
+            Err(_) => Err(AllocError),
         }
     }
 
@@ -202,9 +223,13 @@ impl<A: Allocator + Copy> Keeper<A> {
         ensures step { self.new.journal ≡ journal_after self.old.journal ready.entry.command }
         ensures day { self.new.journal.book.periods ≡ self.old.journal.book.periods }
     {
-        let Ready { entry, book } = ready;
+        let Ready {
+            entry,
+            book,
+            outcome,
+        } = ready;
         let held = self.len();
-        self.books.follow(book, &entry, held as usize);
+        self.books.follow(book, &entry, held as usize, outcome);
         self.entries.push_reserved(entry);
     }
 

@@ -262,7 +262,7 @@ impl<J: GateName, R: Wait + Drop> Locked<J, R> {
             (fault ≡ GateFault.Memory) ⊎ (fault ≡ GateFault.NoVersion)) }
     {
         let held = self.keeper.len(); // for the proof too: what a journal is
-        let ready = self.keeper.ready(command)?;
+        let ready = self.keeper.ready_in_room(command)?;
         let slot = next_slot(self.alloc, &mut self.writer, &mut self.next, held)?;
         let after = go_on(&self.count, &self.history, seen, learnt, &ready, &slot)?;
         if self.writer.publish().is_err() {

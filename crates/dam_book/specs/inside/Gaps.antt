@@ -1,5 +1,5 @@
 -- A list of places, each with an order or with none: a gap, from which an order was taken out.
-use Rattle.std.specs.Prelude.{◌≡◌, ◌<◌, ℕ, suc, ◌+◌, ◌-◌, Bool, false, ◌&&◌, nat_eq, List, [], ◌∷◌, ◌++◌, length, replicate, Option, Some}
+use Rattle.std.specs.Prelude.{◌≡◌, ◌<◌, ℕ, suc, ◌+◌, ◌-◌, Bool, false, ◌&&◌, nat_eq, List, [], ◌∷◌, ◌++◌, length, replicate, Option, Some, slice_get}
 use Rattle.std.specs.Prelude.{None, ⊤}
 use Rattle.dam_book.specs.Limits.{longest_name, longest_participant}
 use Rattle.dam_book.specs.Name.{same_text}
@@ -60,3 +60,7 @@ child_at k owner (Some o) = is_parent k.1 (parent_of o) && same_text k.0 owner
 
 abbrev pub is_child_place : Key → Place → Bool
 is_child_place k p = child_at k p.0.0.0 p.1
+
+-- the place is the label's
+abbrev pub IsLabelledAt : Label → List Place → ℕ → Type 0
+IsLabelledAt l ps at = (o : Option Order) × (slice_get ps at ≡ Some (l, o))

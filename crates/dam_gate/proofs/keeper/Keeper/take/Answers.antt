@@ -1,8 +1,11 @@
 -- The journal after a step that was ready is one, of the same day.
 use Rattle.std.proofs.Common.{◌≡◌, false, length, sym, ap, ◌∙◌}
+use Rattle.dam_book.specs.Book.{refusal, reply_to}
+use Rattle.dam_book.specs.declared.command.Entry.{Entry}
 use Rattle.dam_gate.specs.Journal.{JournalState, is_full, next_entry}
 use Rattle.dam_gate.specs.Keeper.{KeeperState, ReadyState}
 use Rattle.dam_gate.proofs.Histories.{book_after-periods, journal_after_is}
+use Rattle.dam_gate.proofs.Steps.{same_reason}
 use Rattle.dam_gate.proofs.keeper.Keeper.take.Goals as goal
 
 pub invariant_of-self : goal.invariant_of-self
@@ -28,3 +31,15 @@ returns-clause-day g c =
     ap (λ (r : ReadyState). r.entry) c.ready.view_is ∙ (c.requires.entry
     ∙ ap (λ (k : KeeperState). next_entry k.journal command) (sym c.self.view_is)) in
     rw (c.follow.ensures.book, entry) (book_after-periods j.book command ∙ ap (λ (k : KeeperState). k.journal.book.periods) c.self.view_is)
+
+-- the entry's reply is of what was decided
+pub follow-requires-clause-outcome : goal.follow-requires-clause-outcome
+follow-requires-clause-outcome g c =
+    let b = c.self.inside.books.book in
+    let command = c.args.ready.entry.command in
+    let entry = ap (λ (r : ReadyState). r.entry) c.ready.view_is in
+    let reply : c.ready.inside.entry.reply ≡ reply_to b c.ready.inside.entry.command =
+    ap (λ (e : Entry). e.reply) (entry ∙ c.requires.entry)
+    ∙ ap (λ (k : KeeperState). reply_to k.journal.book command) (sym c.self.view_is)
+    ∙ ap (λ (e : Entry). reply_to b e.command) (sym entry) in
+    same_reason c.ready.inside.outcome (refusal b c.ready.inside.entry.command) (sym c.ready.invariant ∙ reply)
