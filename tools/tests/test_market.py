@@ -14,6 +14,11 @@ CITED = re.compile(r"`((?:\w+::)*)(\w+)`(?: \(([^)]*)\))?")
 CASES = [  # what is printed before and after each change
     ("another-buyer", ["welfare,20000"], ["welfare,0", "hour,MILL,SAW,0", "block,GEN,UNIT,rejected,20000"]),
     ("better-hourly-limit", ["period,1,8000,30", "hour,CITY,TOWN,10"], ["period,1,10000,0", "hour,CITY,TOWN,0", "block,STEEL,OVEN,rejected,-20000"]),
+    (
+        "better-parent-limit",
+        ["welfare,68000", "block,GEN,UNIT,accepted,-2000", "block,GEN,NEXT,accepted,20000", "block,GAS,START,rejected,30000"],
+        ["welfare,80000", "block,GEN,UNIT,accepted,0", "block,GEN,NEXT,rejected,20000", "block,GAS,START,accepted,30000"],
+    ),
     ("cancelled-unexecuted", ["period,1,5000,10", "hour,WIND,PARK,0"], ["period,1,175000,0", "block,STEEL,OVEN,rejected,-1670000"]),
     ("better-block-limit", ["block,GEN,UNIT,accepted,30000"], ["block,GEN,UNIT,rejected,30000", "block,GAS,START,accepted,35000"]),
     (
@@ -76,7 +81,7 @@ class Market(unittest.TestCase):
                 self.assertEqual(on_page[law], {clause for clause in clauses if clause})
 
     def test_each_case_runs(self):
-        table = PAGE.read_text().split("## What one might expect")[1]
+        table = PAGE.read_text().split("## What you might expect")[1]
         named = re.findall(r"\| `([\w/-]+)` \|", table)
         pairs = {path.stem.rpartition("-")[0] for path in (TOP / "tests/cases/market").glob("*.csv")}
         self.assertEqual(pairs, {name for name in named if "/" not in name})
@@ -104,7 +109,7 @@ class Market(unittest.TestCase):
             self.assertLessEqual({"welfare,240000", "period,1,4000,120"}, set(lines))
             self.assertLessEqual({f"hour,GEN,ONE,{executed[0]}", f"hour,COAL,TWO,{executed[1]}"}, set(lines))
         unit, city = "GEN,UNIT,block,sell,1000,1:10,,", "CITY,TOWN,hour,buy,4000,1:10,,"
-        for limit, welfare, word in (3000, 30_000, "rejected"), (3500, 30_000, "rejected"), (500, 35_000, "accepted"):
+        for limit, welfare, word in (3000, 30_000, "rejected"), (400_000, 30_000, "rejected"), (500, 35_000, "accepted"):
             lines = cleared(unit, f"GAS,START,block,sell,{limit},1:10,,", city)
             self.assertIn(f"welfare,{welfare}", lines)
             self.assertTrue(any(line.startswith(f"block,GAS,START,{word},") for line in lines))

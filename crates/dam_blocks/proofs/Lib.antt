@@ -34,5 +34,6 @@ pub mod Orders
 pub mod Roots
 pub mod Shares
 pub mod Outcomes
+pub mod Executed
 pub mod ChangedBooks
 pub mod ReorderedBooks

@@ -1,6 +1,6 @@
 -- Of the limits of the range, those at which a block is accepted are all from a worst one on, or there is none.
 use Rattle.std.proofs.Common.{◌≡◌, ◌⊎◌, inl, inr, ℕ, zero, suc, ◌^◌, ◌<◌, ◌≤◌, ℤ, pos, ◌+ℤ◌, ◌-ℤ◌, Bool, true, false, Some, List}
-use Rattle.std.proofs.Common.{[], ◌∷◌, length, slice_set, set-set, ap, ◌∙◌, sym, subst, refl, nat_abs, arith}
+use Rattle.std.proofs.Common.{[], ◌∷◌, length, slice_set, set-set, sym, subst, refl, nat_abs, arith}
 use Rattle.std.specs.List.{slice_get}
 use Rattle.std.proofs.lemmas.Int.{ints}
 use Rattle.std.proofs.lemmas.List.{length-set}
@@ -15,11 +15,10 @@ use Rattle.dam_blocks.specs.declared.problem.Block.{Block}
 use Rattle.dam_blocks.specs.Problem.{ProblemState, AreHours, IsProblem}
 use Rattle.dam_blocks.specs.Selection.{accepts, choice, padded}
 use Rattle.dam_blocks.specs.Result.{IsResult}
-use Rattle.dam_blocks.specs.Changes.{with_limit, with_limit_at, IsWithLimit, IsAcceptedAt, IsNeverAccepted, IsWorstLimit}
+use Rattle.dam_blocks.specs.Changes.{with_limit, with_limit_at, IsWithLimit, IsAcceptedAt, IsRejectedAt, IsNeverAccepted, IsWorstLimit}
 use Rattle.dam_blocks.proofs.EmptySelection.{ExistenceLaws, empty_eligible}
 use Rattle.dam_blocks.proofs.ResultExists.{BalanceLaw, decided_eligible, best_so_far, length-padded}
 use Rattle.dam_blocks.proofs.Choices.{all_tried}
-use Rattle.dam_blocks.proofs.Ranks.{result_unique}
 use Rattle.dam_blocks.proofs.Repricing.{kept}
 
 -- ---- there is a result at each limit
@@ -33,15 +32,12 @@ result_found laws law problem are few =
 
 -- accepted or not
 abbrev Decided : ProblemState → ℕ → Block → ℤ → Type 0
-Decided problem place b limit = IsAcceptedAt problem place b limit ⊎ (IsAcceptedAt problem place b limit → ⊥)
+Decided problem place b limit = IsAcceptedAt problem place b limit ⊎ IsRejectedAt problem place b limit
 
 by_acceptance : (problem : ProblemState) (place : ℕ) (b : Block) (limit : ℤ) (sel : List Bool) (w : ℤ)
     → IsResult (with_limit_at problem place b limit) sel w → (x : Bool) → accepts sel place ≡ x → Decided problem place b limit
 by_acceptance problem place b limit sel w result true e = inl (sel, w, result, e)
-by_acceptance problem place b limit sel w result false e = inr (λ h.
-    (let same = result_unique (with_limit_at problem place b limit) h.0 sel h.1 w h.2 result in
-    let on = ap (λ (xs : List Bool). accepts xs place) (sym same.0) ∙ h.3 in
-    absurd (cc)))
+by_acceptance problem place b limit sel w result false e = inr (sel, w, result, e)
 
 decided : ExistenceLaws → BalanceLaw → (problem : ProblemState) (place : ℕ) (b : Block) (limit : ℤ) → IsProblem problem
     → Decided problem place b limit
@@ -108,18 +104,18 @@ before_worse : (side : Side) (m n : ℕ) → m < n → IsWorse side (limit_of si
 before_worse Buy m n l = omega (arith, ints, l)
 before_worse Sell m n l = omega (arith, ints, l)
 
--- the first number, below n, of which something decided holds
-first_below : (P : ℕ → Type 0) → ((k : ℕ) → P k ⊎ (P k → ⊥)) → (n : ℕ)
-    → ((k : ℕ) → k < n → P k → ⊥) ⊎ ((m : ℕ) × (m < n) × P m × ((k : ℕ) → k < m → P k → ⊥))
-first_below P each zero = inl (λ k l p. absurd (omega (arith, l)))
-first_below P each (suc n) = elim (first_below P each n) [
+-- the first number, below n, of which the first of two things holds, if it is one or the other of each number
+first_below : (P Q : ℕ → Type 0) → ((k : ℕ) → P k ⊎ Q k) → (n : ℕ)
+    → ((k : ℕ) → k < n → Q k) ⊎ ((m : ℕ) × (m < n) × P m × ((k : ℕ) → k < m → Q k))
+first_below P Q each zero = inl (λ k l. absurd (omega (arith, l)))
+first_below P Q each (suc n) = elim (first_below P Q each n) [
   | inr found ↦ (let l = found.1 in inr (found.0, omega (arith, l), found.2, found.3))
   | inl none ↦ elim (each n) [
     | inl here ↦ inr (n, omega arith, here, none)
-    | inr fails ↦ inl (λ k l p.
-        elim (cases_lt k n) [
-          | inl less ↦ none k less p
-          | inr more ↦ (let same : k ≡ n = omega (arith, l, more) in fails (subst P same p))
+    | inr fails ↦ inl (λ k l.
+        elim (cases_lt k n) as (λ _. Q k) [
+          | inl less ↦ none k less
+          | inr more ↦ (let same : n ≡ k = omega (arith, l, more) in subst Q same fails)
         ])
   ]
 ]
@@ -140,11 +136,12 @@ pub worst_limit : ExistenceLaws → BalanceLaw → (problem : ProblemState) (pla
 worst_limit laws law problem place b is at =
     let side = b.order.side in
     elim (first_below (λ (n : ℕ). IsAcceptedAt problem place b (limit_of side n))
+    (λ (n : ℕ). IsRejectedAt problem place b (limit_of side n))
     (λ n. decided laws law problem place b (limit_of side n) is) (suc price_span)) [
-      | inl none ↦ inl (λ limit range h.
+      | inl none ↦ inl (λ limit range.
           (let own = number_of side limit range in
           let l = own.1 in
-          none own.0 (omega (arith, l)) (subst (λ (z : ℤ). IsAcceptedAt problem place b z) own.2 h)))
+          subst (λ (z : ℤ). IsRejectedAt problem place b z) (sym own.2) (none own.0 (omega (arith, l)))))
       | inr found ↦
           (let l = found.1 in
           inr (
@@ -159,10 +156,10 @@ worst_limit laws law problem place b is at =
                     | inr more ↦ subst (λ (z : ℤ). IsAcceptedAt problem place b z) (sym own.2)
                         (accepted_from laws law problem place b found.0 own.0 is at more found.2)
                   ]);
-              rejected = λ limit range worse h.
+              rejected = λ limit range worse.
                   (let own = number_of side limit range in
-                  found.3 own.0 (worse_before side own.0 found.0 (subst (λ (z : ℤ). IsWorse side z (limit_of side found.0)) own.2 worse))
-                  (subst (λ (z : ℤ). IsAcceptedAt problem place b z) own.2 h));
+                  subst (λ (z : ℤ). IsRejectedAt problem place b z) (sym own.2)
+                  (found.3 own.0 (worse_before side own.0 found.0 (subst (λ (z : ℤ). IsWorse side z (limit_of side found.0)) own.2 worse))));
             },
           ))
     ]

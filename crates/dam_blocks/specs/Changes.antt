@@ -34,17 +34,24 @@ abbrev pub with_limit_at : ProblemState → ℕ → Block → ℤ → ProblemSta
 with_limit_at problem place block limit =
     record problem { blocks = slice_set problem.blocks place (with_limit block limit) }
 
--- with this limit for the block at the place, the result accepts it
+-- with this limit for the block at the place, there is a result, which accepts it
 abbrev pub IsAcceptedAt : ProblemState → ℕ → Block → ℤ → Type 0
 IsAcceptedAt problem place block limit =
     (selection : List Bool) × (welfare : ℤ)
     × IsResult (with_limit_at problem place block limit) selection welfare
     × (accepts selection place ≡ true)
 
--- no limit of the range makes the result accept the block at the place
+-- with this limit for the block at the place, there is a result, which rejects it
+abbrev pub IsRejectedAt : ProblemState → ℕ → Block → ℤ → Type 0
+IsRejectedAt problem place block limit =
+    (selection : List Bool) × (welfare : ℤ)
+    × IsResult (with_limit_at problem place block limit) selection welfare
+    × (accepts selection place ≡ false)
+
+-- with each limit of the range, the result rejects the block at the place
 abbrev pub IsNeverAccepted : ProblemState → ℕ → Block → Type 0
 IsNeverAccepted problem place block =
-    (limit : ℤ) → IsPrice limit → ¬ (IsAcceptedAt problem place block limit)
+    (limit : ℤ) → IsPrice limit → IsRejectedAt problem place block limit
 
 -- of the limits of the range, the result accepts the block at the place with this one and each that isn't worse, and
 -- rejects it with each that is
@@ -53,7 +60,7 @@ pub record IsWorstLimit (problem : ProblemState) (place : ℕ) (block : Block) (
   pub accepted : (limit : ℤ) → IsPrice limit → ¬ (IsWorse block.order.side limit worst)
       → IsAcceptedAt problem place block limit
   pub rejected : (limit : ℤ) → IsPrice limit → IsWorse block.order.side limit worst
-      → ¬ (IsAcceptedAt problem place block limit)
+      → IsRejectedAt problem place block limit
 
 -- each period has the same hourly orders, perhaps in another order
 abbrev pub AreReordered : List (List Step) → List (List Step) → Type 0

@@ -1,7 +1,7 @@
 //! What the auction promises to those who trade in it, each promise the contract of a function that does
 //! nothing but cite the laws that it rests on.
 
-ghost use Rattle.std.specs.Prelude.{◌≡◌, ℕ, ℤ, pos, ◌+ℤ◌, ◌*ℤ◌, ◌≤ℤ◌, ◌⊎◌, Bool, true, false, Some, List, ◌∷◌, ◌++◌, length, slice_get, IsPermutation};
+ghost use Rattle.std.specs.Prelude.{◌≡◌, ℕ, ◌+◌, ℤ, pos, ◌+ℤ◌, ◌*ℤ◌, ◌≤ℤ◌, ◌⊎◌, Bool, true, false, Some, List, ◌∷◌, ◌++◌, length, slice_get, IsPermutation};
 ghost use Rattle.dam_book.specs.Limits.{most_blocks};
 ghost use Rattle.dam_book.specs.Terms.{BlockTerms};
 ghost use Rattle.dam_book.specs.Book.{Key, Row, BookState, IsBook};
@@ -10,6 +10,7 @@ ghost use Rattle.dam_book.specs.declared.order.Side.TheVariants.{Buy, Sell};
 ghost use Rattle.dam_hour.specs.declared.step.Step.{Step};
 ghost use Rattle.dam_hour.specs.Price.{IsBetter, IsWorse};
 ghost use Rattle.dam_hour.specs.Best.{IsBest};
+ghost use Rattle.dam_hour.specs.Market.{IsExecutedAt};
 ghost use Rattle.dam_blocks.specs.declared.problem.Block.{Block};
 ghost use Rattle.dam_blocks.specs.declared.problem.Place.TheVariants.{Hour as AtHour};
 ghost use Rattle.dam_blocks.specs.Problem.{ProblemState, blocks_in, problem_of, IsProblem};
@@ -65,6 +66,19 @@ pub fn an_eligible_selection_has_an_outcome()
     dam_hour::laws::welfare();
     dam_hour::laws::uniqueness();
 }
+
+/// An outcome executes each hourly order, at place `i` of the period that `k` others precede, at the period's
+/// price. So `dam_hour::market::fair_in_a_period` is of each.
+pub fn hourly_orders_are_executed()
+    ensures executed { (problem : ProblemState) (selection : List Bool) (prices : List ℤ)
+        (executions : List (List ℕ)) (k i : ℕ) (steps : List Step) (step : Step)
+        → IsOutcome problem selection prices executions
+        → slice_get problem.hours k ≡ Some steps → slice_get steps i ≡ Some step
+        → (price : ℤ) × (volumes : List ℕ) × (volume : ℕ)
+        × (slice_get prices k ≡ Some price) × (slice_get executions k ≡ Some volumes)
+        × (slice_get volumes i ≡ Some volume)
+        × IsExecutedAt steps (net_volume problem.blocks selection (k + 1)) price i step volume }
+{}
 
 /// Welfare is shared out: the welfare of a selection is what all hourly orders and the accepted blocks
 /// gain at its prices, also summed order by order over the book (`orders`), and participant by participant

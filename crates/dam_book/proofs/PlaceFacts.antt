@@ -1,6 +1,6 @@
 -- What stands at the place of a label.
-use Rattle.std.proofs.Common.{◌≡◌, ℕ, ◌+◌, zero, suc, Bool, true, false, if◌then◌else◌, List, [], ◌∷◌, Option, Some, None, is_some, slice_get}
-use Rattle.std.proofs.Common.{refl, sym, ap, ◌∙◌, subst}
+use Rattle.std.proofs.Common.{◌≡◌, ℕ, ◌+◌, zero, suc, Bool, true, false, if◌then◌else◌, List, [], ◌∷◌, Option, Some, None, is_some}
+use Rattle.std.proofs.Common.{slice_get, refl, sym, ap, ◌∙◌, subst}
 use Rattle.std.specs.List.{IsDistinct}
 use Rattle.std.specs.Map.{lookup, lookup_key, set_value, remove_entry, keys_of, values_of}
 use Rattle.std.proofs.lemmas.Map.{lookup-none}
@@ -10,7 +10,7 @@ use Rattle.indexmap.specs.IndexMap.{set_value_at}
 use Rattle.dam_book.specs.declared.order.Order.{Order}
 use Rattle.dam_book.specs.Book.{same_key}
 use Rattle.dam_book.specs.inside.Gaps.{Label, same_label, Place, held, gap_count, AreNumbered, IsLabelledAt}
-use Rattle.dam_book.proofs.GapFacts.{same_label_equiv, same_label-equal, distinct_tail, some_is, Took, took, Changed, gap_kept, held-changed}
+use Rattle.dam_book.proofs.GapFacts.{same_label_equiv, same_label-equal, distinct_tail, some_is, took, Changed, gap_kept, held-changed}
 
 -- a place whose label is found to be this one
 pub labelled : (k l : Label) (ps : List Place) (i : ℕ) (o : Option Order) → Some (l, o) ≡ slice_get ps i → same_label l k ≡ true

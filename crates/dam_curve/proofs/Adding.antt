@@ -1,12 +1,12 @@
 -- The sum of two lists of lines, line by line.
-use Rattle.std.proofs.Common.{◌≡◌, ℕ, suc, ◌+◌, ◌<◌, ◌-◌, ℤ, pos, ◌≤ℤ◌, ◌<ℤ◌, ◌⊎◌, Option, List, [], ◌∷◌, ◌++◌, length, get_or, ap, ◌∙◌, sym, subst}
+use Rattle.std.proofs.Common.{◌≡◌, ℕ, zero, suc, ◌+◌, ◌<◌, ◌-◌, ℤ, pos, ◌≤ℤ◌, ◌<ℤ◌, ◌⊎◌, Option, List, [], ◌∷◌, ◌++◌, length, get_or, ap, ◌∙◌, sym, subst}
 use Rattle.std.proofs.Common.{inl, inr, refl, arith}
 use Rattle.std.specs.Int.{int_min, int_max}
 use Rattle.std.proofs.lemmas.Int.{ints, by_lt_z, int_min_is, int_max_is}
 use Rattle.std.proofs.lemmas.Bool.{cases_lt}
 use Rattle.std.proofs.lemmas.List.{get_or_default}
 use Rattle.dam_curve.specs.declared.line.Line.{Line}
-use Rattle.dam_curve.specs.Curve.{both, IsLine, end_of, AreLines, bottom_of, IsOutside, AreSmallLines}
+use Rattle.dam_curve.specs.Curve.{both, IsLine, end_of, AreLines, bottom_of, AreWithin, IsOutside, AreSmallLines}
 use Rattle.dam_curve.specs.inside.Lines.{joined, IsPast}
 use Rattle.dam_curve.proofs.ListsOfLines.{end_more, lines_more, bottom_more, small_more, line_inside, line_last, bottom_at, small_at, joined_is}
 use Rattle.dam_curve.proofs.ListsOfLines.{joined_small}
@@ -39,6 +39,11 @@ place_from ls at place d l most = record {
       (let last : suc (length ls - 1) ≡ length ls = omega (arith, l) in
       let bottom = bottom_at ls (length ls - 1) d last in omega (arith, ints, bottom, most));
 }
+
+pub bottom_over : (ls : List Line) (at : ℤ) (d : Line) → 0 < length ls → (get_or ls (length ls - 1) d).most ≤ℤ at → bottom_of ls ≤ℤ at
+bottom_over ls at d l most =
+    let last : suc (length ls - 1) ≡ length ls = omega (arith, l) in
+    let bottom = bottom_at ls (length ls - 1) d last in omega (arith, ints, bottom, most)
 
 pub stands_from : (ls : List Line) (at : ℤ) (place : ℕ) → ((d : Line) → at ≤ℤ (get_or ls place d).most)
     → ((d : Line) → place + 1 < length ls → (get_or ls (place + 1) d).most ≤ℤ at) → StandsAt ls at place
@@ -79,13 +84,24 @@ pub record IsAdded (a b sum : List Line) (start at : ℤ) (left right : ℕ) : T
   pub left_is : IsPlace a at left
   pub right_is : IsPlace b at right
   pub begins : end_of sum at ≡ start
+  pub over : (f : ℤ → Option ℤ) → AreLines f b (bottom_of b) → bottom_of b ≤ℤ at
   pub small : (n m : ℕ) → AreSmallLines n a → AreSmallLines m b → AreSmallLines (n + m) sum
   pub are_lines : (f g : ℤ → Option ℤ) → AreLines f a (bottom_of a) → AreLines g b (bottom_of b)
       → StandsAt a at left × StandsAt b at right × AreLines (λ net. both (f net) (g net)) sum at
 
-pub none_added : (a b : List Line) (at : ℤ) (left right : ℕ) → IsPlace a at left → IsPlace b at right → StandsAt a at left → StandsAt b at right
-    → IsAdded a b [] at at left right
-none_added a b at left right la lb sa sb = record {
+bottom_under : (f : ℤ → Option ℤ) (ls : List Line) (i : ℕ) (d : Line) → AreLines f ls (bottom_of ls) → i < length ls
+    → bottom_of ls ≤ℤ (get_or ls i d).most
+bottom_under f [] i d are l = absurd (omega (arith, l))
+bottom_under f (a ∷ []) zero d are l = omega (arith, ints)
+bottom_under f (a ∷ []) (suc i) d are l = absurd (omega (arith, l))
+bottom_under f (a ∷ b ∷ ls) zero d are l =
+    let rest = bottom_under f (b ∷ ls) zero d are.1 (omega arith) in let order = are.0.ordered in omega (arith, ints, rest, order)
+bottom_under f (a ∷ b ∷ ls) (suc i) d are l = bottom_under f (b ∷ ls) i d are.1 (omega (arith, l))
+
+pub none_added : (a b : List Line) (at : ℤ) (left right : ℕ) → IsPlace a at left → IsPlace b at right → bottom_of b ≤ℤ at → StandsAt a at left
+    → StandsAt b at right → IsAdded a b [] at at left right
+none_added a b at left right la lb over sa sb = record {
+  over = λ f t. over;
   left_is = la;
   right_is = lb;
   begins = refl;
@@ -119,6 +135,10 @@ next_added a b sum start at lower left right next_left next_right d is la lb top
       left_is = past_place a lower left next_left d sa pa;
       right_is = past_place b lower right next_right d sb pb;
       begins = begins_added sum (joined (get_or a left d) (get_or b right d) at) start at lower is.begins refl;
+      over = λ f t.
+          (let under = bottom_under f b (right + 1) d t lb in
+          let greatest = int_max_is (get_or a (left + 1) d).most (get_or b (right + 1) d).most in
+          omega (arith, ints, under, top, greatest));
       small = λ n m s t. small_added n m a b sum start at left right d is s t;
       are_lines = λ f g s t.
           (let was = is.are_lines f g s t in
@@ -202,6 +222,22 @@ under_first a b start d e la lb s =
     let x = most_at a 0 0 d e la refl in let y = most_at b 0 0 d e lb refl in
     let is = int_min_is (get_or a 0 d).most (get_or b 0 d).most in
     (omega (arith, ints, s, x, is), omega (arith, ints, s, y, is))
+
+-- the sum goes no further than the second list
+pub all_within : (g : ℤ → Option ℤ) (a b sum : List Line) (start at least most : ℤ) (left right : ℕ) (d : Line)
+    → IsAdded a b sum start at left right → AreLines g b (bottom_of b) → start ≡ int_min (get_or a 0 d).most (get_or b 0 d).most
+    → AreWithin b least most → AreWithin (sum ++ joined (get_or a left d) (get_or b right d) at ∷ []) least most
+all_within g a b sum start at least most left right d is t e within some =
+    let line = joined (get_or a left d) (get_or b right d) at in
+    let inside = is.right_is.inside in
+    let any : 0 < length b = omega (arith, inside) in
+    let ends = within any in
+    let over = is.over g t in
+    let bottom = bottom_more sum line in
+    let top = begins_added sum line start at (pos 0) is.begins refl in
+    let first = end_at b d any in
+    let is_least = int_min_is (get_or a 0 d).most (get_or b 0 d).most in
+    (omega (arith, ints, ends.0, over, bottom), omega (arith, ints, ends.1, top, first, e, is_least))
 
 -- where the one list ends above the greatest net volume of the other, one of the two holds nowhere
 pub apart_outside : (a b : List Line) (start net : ℤ) (d : Line) → 0 < length a → 0 < length b

@@ -9,7 +9,7 @@ use Rattle.dam_hour.specs.Limits.{most_steps, greatest_value}
 use Rattle.dam_hour.specs.Execution.{AreInRange, IsExecution, Balances, IsHour, IsNetVolume, executed_volume}
 use Rattle.dam_hour.specs.Best.{greatest_welfare, welfare_of, AreSmall}
 use Rattle.dam_curve.specs.declared.line.Line.{Line}
-use Rattle.dam_curve.specs.Curve.{both, joint_welfare, IsLine, AreLines, bottom_of, IsOutside, AreHours, IsSmallLine, AreSmallLines, IsCurve}
+use Rattle.dam_curve.specs.Curve.{both, joint_welfare, IsLine, AreLines, bottom_of, IsOutside, AreHours, IsSmallLine, AreSmallLines, IsCurve, AreWithin}
 use Rattle.dam_curve.proofs.PeriodLines.{IsPeriodCurve}
 
 -- ---- no period
@@ -36,6 +36,7 @@ flat_curve least most a b l = record {
   least_is = a;
   most_is = b;
   are_lines = (flat_is most least l, (flat_is least least (omega (arith, ints)), tt));
+  within = λ some. (omega (arith, ints), omega (arith, ints));
   small = (flat_small most, (flat_small least, tt));
   outside = λ net low high o. absurd (beyond net low high o);
 }
@@ -58,9 +59,10 @@ no_right (Some x) (Some y) e = absurd (cc)
 pub curve_more : (ss : List Step) (ps : List (List Step)) (least most : ℤ) (own old new : List Line) → IsHour ss → IsPeriodCurve ss own
     → IsCurve ps least most old → length ps < last_period
     → AreLines (λ net. both (greatest_welfare ss net) (joint_welfare ps net)) new (bottom_of new)
-    → ((net : ℤ) → IsOutside new net → IsOutside own net ⊎ IsOutside old net) → AreSmallLines (1 + length ps) new
-    → IsCurve (ss ∷ ps) least most new
-curve_more ss ps least most own old new hour period curve few lines outside small = record {
+    → AreWithin new least most → ((net : ℤ) → IsOutside new net → IsOutside own net ⊎ IsOutside old net)
+    → AreSmallLines (1 + length ps) new → IsCurve (ss ∷ ps) least most new
+curve_more ss ps least most own old new hour period curve few lines within outside small = record {
+  within = within;
   few = omega (arith, few);
   are_hours = (hour, curve.are_hours);
   least_is = curve.least_is;

@@ -73,14 +73,19 @@ abbrev pub AreSmallLines : ℕ → List Line → Type 0
 AreSmallLines count [] = Unit {0}
 AreSmallLines count (line ∷ lines) = IsSmallLine count line × AreSmallLines count lines
 
--- the lines are the joint welfare of the periods at each net volume from the least to the most: where no line holds,
--- there is none
+-- no line goes beyond these net volumes
+abbrev pub AreWithin : List Line → ℤ → ℤ → Type 0
+AreWithin lines least most = 0 < length lines → (least ≤ℤ bottom_of lines) × (end_of lines (pos 0) ≤ℤ most)
+
+-- the lines are the joint welfare of the periods at each net volume from the least to the most, and at no other: if no
+-- line holds at one of these, there is none
 pub record IsCurve (periods : List (List Step)) (least most : ℤ) (lines : List Line) : Type 0 where
   pub few : length periods ≤ last_period
   pub are_hours : AreHours periods
   pub least_is : IsNetVolume least
   pub most_is : IsNetVolume most
   pub are_lines : AreLines (joint_welfare periods) lines (bottom_of lines)
+  pub within : AreWithin lines least most
   pub small : AreSmallLines (length periods) lines
   pub outside : (net : ℤ) → least ≤ℤ net → net ≤ℤ most → IsOutside lines net → joint_welfare periods net ≡ None
 

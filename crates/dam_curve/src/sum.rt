@@ -6,7 +6,7 @@ ghost use Rattle.dam_hour.specs.Limits.{most_steps, price_span};
 ghost use Rattle.dam_hour.specs.declared.step.Step.{Step};
 ghost use Rattle.dam_curve.specs.declared.line.Line.{Line};
 ghost use Rattle.dam_curve.specs.Supply.{IsSupplyOf};
-ghost use Rattle.dam_curve.specs.Curve.{both, AreLines, bottom_of, IsOutside, AreSmallLines, IsSmallLine, IsCurve};
+ghost use Rattle.dam_curve.specs.Curve.{both, AreLines, bottom_of, AreWithin, IsOutside, AreSmallLines, IsSmallLine, IsCurve};
 ghost use Rattle.dam_curve.specs.inside.Supply.{worth_of};
 ghost use Rattle.dam_curve.specs.inside.Lines.{line_of, lines_from, joined, IsPast};
 
@@ -191,6 +191,8 @@ fn add_lines<A: Allocator>(a: &[Line], b: &[Line], sum: &mut Vec<Line, A>) -> Re
     ensures lines { (f g : ℤ → Option ℤ) → AreLines f a.now (bottom_of a.now)
         → AreLines g b.now (bottom_of b.now) → OnOk result
         (AreLines (λ net. both (f net) (g net)) sum.new.items (bottom_of sum.new.items)) }
+    ensures within { (g : ℤ → Option ℤ) (least most : ℤ) → AreLines g b.now (bottom_of b.now)
+        → AreWithin b.now least most → OnOk result (AreWithin sum.new.items least most) }
     ensures outside { (f g : ℤ → Option ℤ) (net : ℤ) → AreLines f a.now (bottom_of a.now)
         → AreLines g b.now (bottom_of b.now) → OnOk result
         (IsOutside sum.new.items net → IsOutside a.now net ⊎ IsOutside b.now net) }

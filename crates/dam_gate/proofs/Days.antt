@@ -1,12 +1,12 @@
 -- A settled gate through which each participant entered its own commands in their order holds a day run.
-use Rattle.std.proofs.Common.{All, slice_get, ◌≡◌, ◌≢◌, ℕ, zero, suc, ◌+◌, ◌<◌, ◌≤◌, ◌==◌, ◌⊎◌, inl, inr, Bool, true, false, cond}
+use Rattle.std.proofs.Common.{slice_get, ◌≡◌, ◌≢◌, ℕ, zero, suc, ◌+◌, ◌<◌, ◌≤◌, ◌==◌, ◌⊎◌, inl, inr, Bool, true, false, cond}
 use Rattle.std.proofs.Common.{if◌then◌else◌, ◌||◌, List, [], ◌∷◌, ◌++◌, length, get_or, map, take, drop, Option, Some, None, refl, sym, ap}
 use Rattle.std.proofs.Common.{ap₂, subst, ◌∙◌, append-nil, length-append, arith}
-use Rattle.std.specs.List.{filter}
+use Rattle.std.specs.List.{filter, cons_option}
 use Rattle.std.specs.Bool.{Decides}
 use Rattle.std.proofs.lemmas.Bool.{eqb-true, eqb-false, cases_lt, or_parts}
 use Rattle.std.proofs.lemmas.Bool.Decides.{Decides-eqb}
-use Rattle.std.proofs.lemmas.List.{length-map, take-append-drop, get_or-map}
+use Rattle.std.proofs.lemmas.List.{length-map, take-append-drop, take_more, get_or-map, map-append, append_assoc}
 use Rattle.std.proofs.lemmas.List.Elements.{filter-append}
 use Rattle.std.proofs.lemmas.Slice.Eq.{slice_eq-Decides}
 use Rattle.dam_book.specs.Name.{same_text}
@@ -14,12 +14,13 @@ use Rattle.dam_book.specs.declared.command.Command.{Command}
 use Rattle.dam_book.specs.declared.command.Command.TheVariants.{Submit, Amend, Cancel, Close}
 use Rattle.dam_book.specs.declared.command.Entry.{Entry}
 use Rattle.dam_book.specs.Book.{BookState, empty_book, book_after, commands_of, IsLegalFrom, IsLegalHistory}
-use Rattle.dam_gate.specs.Pass.{PassState, Knowledge, knowing_nothing, IsPass, AreInOrder, holders, new_pass, is_own, is_from, is_close}
+use Rattle.dam_gate.specs.Pass.{PassState, Knowledge, knowing_nothing, IsPass, AreInOrder, holders, new_pass, is_from, is_close}
 use Rattle.dam_gate.specs.Settled.{numbered, receipts_of}
 use Rattle.dam_book.specs.Command.{giver}
 use Rattle.dam_gate.specs.Day.{commands_by, is_one_of, AreTaken, IsDayFault, givers_from, givers_of, with_any, with_giver, IsDayRun}
 use Rattle.dam_gate.specs.inside.Tally.{AreReceipts}
-use Rattle.dam_gate.specs.inside.Entering.{AreApart, AreGivers, AreServed, Enters, HasAll, HasEntered, IsRefusalAt, own_commands}
+use Rattle.dam_gate.specs.inside.Entering.{AreApart, AreGivers, AreServed, AreShares, Enters, HasAll, HasEntered, IsRefusalAt}
+use Rattle.dam_gate.specs.inside.Entering.{at_places, share_at}
 use Rattle.dam_gate.specs.declared.day.DayFault.{DayFault}
 use Rattle.dam_gate.specs.declared.day.DayFault.TheVariants.{TooManyCommands, CloseGiven, TooManyParticipants, NotSettled, Memory}
 use Rattle.dam_book.specs.Limits.{most_entries}
@@ -30,7 +31,7 @@ use Rattle.dam_gate.proofs.Numbers.{numbered-head, numbered-tail}
 
 -- ---- texts
 
-text-Decides : (xs ys : List ℕ) → Decides (same_text xs ys) (xs ≡ ys)
+pub text-Decides : (xs ys : List ℕ) → Decides (same_text xs ys) (xs ≡ ys)
 text-Decides xs ys = slice_eq-Decides Decides-eqb xs ys (same_text xs ys) refl
 
 -- a command is from one participant only
@@ -221,7 +222,7 @@ no_close who (c ∷ cs) = no_close-step who c cs (is_from who c) (no_close who c
 
 -- ---- who gives the commands
 
-text-apart : (a b : List ℕ) → same_text a b ≡ false → same_text b a ≡ false
+pub text-apart : (a b : List ℕ) → same_text a b ≡ false → same_text b a ≡ false
 text-apart a b apart = go (same_text b a) refl
   where
     go : (t : Bool) → same_text b a ≡ t → t ≡ false
@@ -461,37 +462,86 @@ day_run periods given participants es ps op before legal are givers served close
 
 -- ---- what the code keeps
 
-pub own-split : (holder : Option (List ℕ)) (cs : List Command) (i : ℕ)
-    → own_commands holder cs ≡ own_commands holder (take i cs) ++ own_commands holder (drop i cs)
-own-split holder cs i = ap (own_commands holder) (sym (take-append-drop i cs)) ∙ filter-append (is_own holder) (take i cs) (drop i cs)
+split-head : (o : Option Command) (all front back : List Command) → all ≡ front ++ back → cons_option o all ≡ cons_option o front ++ back
+split-head None all front back is = is
+split-head (Some c) all front back is = ap (λ (ds : List Command). c ∷ ds) is
 
--- as many receipts as own commands are all of them
-none-left : (xs ys : List Command) → length xs ≡ length (xs ++ ys) → ys ≡ []
-none-left xs [] same = refl
-none-left xs (y ∷ ys) same = absurd (omega (arith, same, length-append xs (y ∷ ys)))
+at_places-split : (cs : List Command) (ps qs : List ℕ) → at_places cs (ps ++ qs) ≡ at_places cs ps ++ at_places cs qs
+at_places-split cs [] qs = refl
+at_places-split cs (p ∷ ps) qs =
+    split-head (slice_get cs p) (at_places cs (ps ++ qs)) (at_places cs ps) (at_places cs qs) (at_places-split cs ps qs)
 
-all-entered : (own : List Command) (p : PassState) → HasEntered [] own p → length p.receipts ≡ length own → commands_of p.receipts ≡ own
-all-entered own p has as_long =
-    let count : length has.entered ≡ length (has.entered ++ has.left) =
-    ap (λ (cs : List Command). length cs) (sym has.receipts) ∙ length-map p.receipts (λ (e : Entry). e.command) ∙ as_long
-    ∙ ap (λ (cs : List Command). length cs) has.own_is in
-    has.receipts ∙ sym (append-nil has.entered) ∙ ap (λ (cs : List Command). has.entered ++ cs) (sym (none-left has.entered has.left count))
+pub own-split : (cs : List Command) (places : List ℕ) (i : ℕ)
+    → at_places cs places ≡ at_places cs (take i places) ++ at_places cs (drop i places)
+own-split cs places i = ap (at_places cs) (sym (take-append-drop i places)) ∙ at_places-split cs (take i places) (drop i places)
+
+-- the commands at one place more
+pub one-place : (cs : List Command) (ps : List ℕ) (p : ℕ) (o : Option Command) → slice_get cs p ≡ o
+    → at_places cs (ps ++ p ∷ []) ≡ at_places cs ps ++ cons_option o []
+one-place cs ps p o is =
+    at_places-split cs ps (p ∷ []) ∙ ap (λ (x : Option Command). at_places cs ps ++ cons_option x []) is
+
+-- a place beyond the last has none
+pub none_past : (cs : List Command) (p : ℕ) → length cs ≤ p → slice_get cs p ≡ None
+none_past [] p past = refl
+none_past (c ∷ cs) zero past = absurd (omega (arith, past))
+none_past (c ∷ cs) (suc p) past = none_past cs p (omega (arith, past))
+
+-- the commands at the places so far and at the next one
+pub next-place : (cs : List Command) (ps : List ℕ) (i : ℕ) (o : Option Command) → i < length ps → slice_get cs (get_or ps i 0) ≡ o
+    → at_places cs (take (i + 1) ps) ≡ at_places cs (take i ps) ++ cons_option o []
+next-place cs ps i o within is = ap (at_places cs) (take_more ps i 0 within) ∙ one-place cs (take i ps) (get_or ps i 0) o is
+
+-- a receipt more
+pub one-receipt : (given : List Command) (before so_far : List Command) (es : List Entry) (e : Entry) → commands_of es ≡ before ++ so_far
+    → given ≡ so_far ++ e.command ∷ [] → commands_of (es ++ e ∷ []) ≡ before ++ given
+one-receipt given before so_far es e entered more =
+    map-append (λ (x : Entry). x.command) es (e ∷ []) ∙ ap (λ (cs : List Command). cs ++ e.command ∷ []) entered
+    ∙ append_assoc before so_far (e.command ∷ []) ∙ ap (λ (cs : List Command). before ++ cs) (sym more)
+
+fewer-head : (o : Option Command) (ds : List Command) (n : ℕ) → length ds ≤ n → length (cons_option o ds) ≤ suc n
+fewer-head None ds n few = omega (arith, few)
+fewer-head (Some c) ds n few = omega (arith, few)
+
+fewer : (cs : List Command) (places : List ℕ) → length (at_places cs places) ≤ length places
+fewer cs [] = omega arith
+fewer cs (p ∷ ps) = fewer-head (slice_get cs p) (at_places cs ps) (length ps) (fewer cs ps)
+
+-- as many receipts as places in the share are of all its commands
+none-left : (xs ys : List Command) (n : ℕ) → length xs ≡ n → length (xs ++ ys) ≤ n → ys ≡ []
+none-left xs [] n same few = refl
+none-left xs (y ∷ ys) n same few = absurd (omega (arith, same, few, length-append xs (y ∷ ys)))
+
+all-entered : (cs : List Command) (share : List ℕ) (p : PassState) → HasEntered [] (at_places cs share) p → length p.receipts ≡ length share
+    → commands_of p.receipts ≡ at_places cs share
+all-entered cs share p has as_long =
+    let count : length has.entered ≡ length share =
+    ap (λ (ds : List Command). length ds) (sym has.receipts) ∙ length-map p.receipts (λ (e : Entry). e.command) ∙ as_long in
+    let most : length (has.entered ++ has.left) ≤ length share =
+    subst (λ (ds : List Command). length ds ≤ length share) has.own_is (fewer cs share) in
+    has.receipts ∙ sym (append-nil has.entered)
+    ∙ ap (λ (ds : List Command). has.entered ++ ds) (sym (none-left has.entered has.left (length share) count most))
     ∙ sym has.own_is
 
 -- a participant's pass that has receipts of all its own commands
 abbrev pub IsServed : List Command → List ℕ → PassState → Type 0
 IsServed given who p = (commands_of p.receipts ≡ commands_by who given) × IsPass p
 
-served : (given : List Command) (who : List ℕ) (before p : PassState) → before ≡ new_pass (Some who) → Enters given before p
-    → HasAll given p → IsServed given who p
-served given who before p new enters all =
-    let holder : p.holder ≡ Some who = enters.holder ∙ ap (λ (q : PassState). q.holder) new in
-    let entered : HasEntered [] (own_commands (Some who) given) p =
-    subst (λ (q : PassState). HasEntered (commands_of q.receipts) (own_commands q.holder given) p) new enters.entered in (
-      all-entered (own_commands (Some who) given) p entered
-          (all.as_many ∙ ap (λ (h : Option (List ℕ)). length (own_commands h given)) holder),
-      all.pass,
-    )
+served : (given : List Command) (who : List ℕ) (share : List ℕ) (before p : PassState) → before ≡ new_pass (Some who)
+    → at_places given share ≡ commands_by who given → Enters (at_places given share) before p → HasAll share p → IsServed given who p
+served given who share before p new mine enters all =
+    let entered : HasEntered [] (at_places given share) p =
+    subst (λ (q : PassState). HasEntered (commands_of q.receipts) (at_places given share) p) new enters.entered in
+    (all-entered given share p entered all.as_many ∙ mine, all.pass)
+
+share-of : (all front : List Command) (participants : List (List ℕ)) (shares : List (List ℕ)) (i : ℕ) (w : List ℕ)
+    → AreShares all front participants shares → i < length participants
+    → at_places all (share_at shares i) ≡ commands_by (get_or participants i w) front
+share-of all front [] shares i w are within = absurd (omega (arith, within))
+share-of all front (who ∷ participants) [] i w are within = absurd are
+share-of all front (who ∷ participants) (share ∷ shares) zero w are within = are.0
+share-of all front (who ∷ participants) (share ∷ shares) (suc i) w are within =
+    share-of all front participants shares i w are.1 (omega (arith, within))
 
 served-from : (given : List Command) (participants : List (List ℕ)) (ps : List PassState) → length ps ≡ length participants
     → ((i : ℕ) (d : PassState) (w : List ℕ) → i < length ps → IsServed given (get_or participants i w) (get_or ps i d))
@@ -509,19 +559,22 @@ new_at [] i d w within = absurd (omega (arith, within))
 new_at (who ∷ participants) zero d w within = refl
 new_at (who ∷ participants) (suc i) d w within = new_at participants i d w (omega (arith, within))
 
-pub served-all : (given : List Command) (participants : List (List ℕ)) (olds news : List PassState)
+pub served-all : (given : List Command) (participants : List (List ℕ)) (shares : List (List ℕ)) (olds news : List PassState)
+    → AreShares given given participants shares
     → olds ≡ map (λ (who : List ℕ). new_pass (Some who)) participants → length news ≡ length olds
-    → ((i : ℕ) (d : PassState) → i < length olds → Enters given (get_or olds i d) (get_or news i d)) → All (HasAll given) news
+    → ((i : ℕ) (d : PassState) → i < length olds → Enters (at_places given (share_at shares i)) (get_or olds i d) (get_or news i d))
+    → ((i : ℕ) (d : PassState) → i < length news → HasAll (share_at shares i) (get_or news i d))
     → AreServed given participants news
-served-all given participants olds news new_ones as_long enters all =
+served-all given participants shares olds news are new_ones as_long enters all =
     let many : length olds ≡ length participants = ap (λ (ps : List PassState). length ps) new_ones
     ∙ length-map participants (λ (who : List ℕ). new_pass (Some who)) in
     served-from given participants news (as_long ∙ many)
     (λ i d w within.
     let at : get_or olds i d ≡ new_pass (Some (get_or participants i w)) =
     ap (λ (ps : List PassState). get_or ps i d) new_ones ∙ new_at participants i d w (omega (arith, within, as_long, many)) in
-    served given (get_or participants i w) (get_or olds i d) (get_or news i d) at (enters i d (omega (arith, within, as_long)))
-    (all i d within))
+    let mine = share-of given given participants shares i w are (omega (arith, within, as_long, many)) in
+    served given (get_or participants i w) (share_at shares i) (get_or olds i d) (get_or news i d) at mine
+    (enters i d (omega (arith, within, as_long))) (all i d within))
 
 held-from : (participants : List (List ℕ)) (ps : List PassState) → length ps ≡ length participants
     → ((i : ℕ) (d : PassState) (w : List ℕ) → i < length ps → (get_or ps i d).holder ≡ Some (get_or participants i w))
@@ -534,11 +587,11 @@ held-from [] (p ∷ ps) same are = absurd (omega (arith, same))
 held-from (who ∷ participants) [] same are = absurd (omega (arith, same))
 
 -- the passes stay in the order in which they were made
-pub held-all : (given : List Command) (participants : List (List ℕ)) (olds news : List PassState)
+pub held-all : (own : ℕ → List Command) (participants : List (List ℕ)) (olds news : List PassState)
     → olds ≡ map (λ (who : List ℕ). new_pass (Some who)) participants → length news ≡ length olds
-    → ((i : ℕ) (d : PassState) → i < length olds → Enters given (get_or olds i d) (get_or news i d))
+    → ((i : ℕ) (d : PassState) → i < length olds → Enters (own i) (get_or olds i d) (get_or news i d))
     → holders news ≡ map (λ (who : List ℕ). Some who) participants
-held-all given participants olds news new_ones as_long enters =
+held-all own participants olds news new_ones as_long enters =
     let many : length olds ≡ length participants = ap (λ (ps : List PassState). length ps) new_ones
     ∙ length-map participants (λ (who : List ℕ). new_pass (Some who)) in
     held-from participants news (as_long ∙ many)
@@ -557,13 +610,13 @@ pub new-accounts : (participants : List (List ℕ)) → accounts (map (λ (who :
 new-accounts [] = refl
 new-accounts (who ∷ participants) = ap (λ (ps : List PassState). new_pass (Some who) ∷ ps) (new-accounts participants)
 
-pub accounts-enter : (given : List Command) (olds news : List Knowledge) → length news ≡ length olds
-    → ((i : ℕ) (d : Knowledge) → i < length olds → Enters given (get_or olds i d).account (get_or news i d).account)
-    → (i : ℕ) (d : PassState) → i < length (accounts olds) → Enters given (get_or (accounts olds) i d) (get_or (accounts news) i d)
-accounts-enter given olds news same enters i d within =
+pub accounts-enter : (own : ℕ → List Command) (olds news : List Knowledge) → length news ≡ length olds
+    → ((i : ℕ) (d : Knowledge) → i < length olds → Enters (own i) (get_or olds i d).account (get_or news i d).account)
+    → (i : ℕ) (d : PassState) → i < length (accounts olds) → Enters (own i) (get_or (accounts olds) i d) (get_or (accounts news) i d)
+accounts-enter own olds news same enters i d within =
     let f = λ (k : Knowledge). k.account in
     let k : Knowledge = record { account = d; history = []; learnt = []; note = None } in
     let below : i < length olds = omega (arith, within, length-map olds f) in
-    subst (λ (p : PassState). Enters given p (get_or (accounts news) i d)) (sym (get_or-map f olds i k d below))
-    (subst (λ (p : PassState). Enters given (get_or olds i k).account p) (sym (get_or-map f news i k d (omega (arith, below, same))))
+    subst (λ (p : PassState). Enters (own i) p (get_or (accounts news) i d)) (sym (get_or-map f olds i k d below))
+    (subst (λ (p : PassState). Enters (own i) (get_or olds i k).account p) (sym (get_or-map f news i k d (omega (arith, below, same))))
     (enters i k below))

@@ -9,3 +9,4 @@ pub mod Tallies
 pub mod Permutations
 pub mod Accounts
 pub mod Days
+pub mod Places

@@ -1,11 +1,11 @@
 ghost use Rattle.std.specs.Option.{option_copied};
 ghost use Rattle.dam_gate.specs.Limits.{most_participants};
-ghost use Rattle.std.specs.Prelude.{◌≡◌, ◌≤◌, ◌<◌, ◌∷◌, ◌++◌, [], ℕ, All, true, None, Some, length, map, slice_index_or, IfOk, IfErr, OnOk};
+ghost use Rattle.std.specs.Prelude.{◌≡◌, ◌≤◌, ◌<◌, ◌∷◌, ◌++◌, [], ℕ, true, None, Some, length, map, slice_index_or, IfOk, IfErr, OnOk};
 ghost use Rattle.dam_book.specs.Book.{commands_of};
-ghost use Rattle.dam_gate.specs.Pass.{Knowledge, IsPass, holders, knowing_nothing};
+ghost use Rattle.dam_gate.specs.Pass.{Knowledge, PassState, IsPass, holders, knowing_nothing};
 ghost use Rattle.dam_gate.specs.Headline.{IsWholeAccount};
 ghost use Rattle.dam_gate.specs.Day.{AreTaken, IsDayFault, IsSettledDay, givers_of, is_one_of};
-ghost use Rattle.dam_gate.specs.inside.Entering.{AreGivers, AreServed, Enters, HasAll, IsClosedDay, IsLateFault, IsRefusalAt, Takes, own_commands};
+ghost use Rattle.dam_gate.specs.inside.Entering.{AreApart, AreGivers, AreServed, Enters, HasAll, IsClosedDay, IsLateFault, IsRefusalAt, Takes, at_places, share_at};
 
 use crate::account::Account;
 use crate::gate::{Gate, GateFault, PassFault};
@@ -16,6 +16,7 @@ use crate::limits::MOST_PARTICIPANTS;
 use crate::packed::{PackedCommand, pack};
 use crate::pass::Pass;
 use crate::settlement::{Mismatch, Settled, settle};
+use crate::shares::{Share, share_of, shares_of};
 use crate::version::{NextShown, Shown};
 use dam_book::{Command, DayLength, MOST_ENTRIES, Participant, Seed};
 use left_right::Absorb;
@@ -100,19 +101,20 @@ impl From<GateFault> for DayFault {
     }
 }
 
-/// Enters the holder's own commands in their order, up to the first that is refused.
+/// Enters the commands at these places in their order, up to the first that is refused.
 fn enter<J: GateName, H: Wait + Drop>(
     rt: &impl Wait,
     gate: &Gate<J, H>,
     pass: &mut Pass<J>,
     commands: &[PackedCommand],
+    places: &[usize],
 )
-    ensures { Enters commands.now pass.old.account pass.new.account }
+    ensures { Enters (at_places commands.now places.now) pass.old.account pass.new.account }
 {
-    for given in commands {
-        if !pass.owns_packed(given) {
+    for place in places {
+        let Some(given) = commands.get(*place) else {
             continue;
-        }
+        };
         let Ok(_answer) = gate.enter(rt, pass, &given.command()) else {
             return;
         };
@@ -127,11 +129,12 @@ fn attend<J: GateName, H: Wait + Drop, K: Hooks>(
     participant: u32,
     pass: &mut Pass<J>,
     commands: &[PackedCommand],
+    places: &[usize],
 )
-    ensures { Enters commands.now pass.old.account pass.new.account }
+    ensures { Enters (at_places commands.now places.now) pass.old.account pass.new.account }
 {
     hooks.before(participant);
-    enter(rt, gate, pass, commands);
+    enter(rt, gate, pass, commands, places);
     hooks.after(participant);
 }
 
@@ -142,38 +145,31 @@ fn enter_all<J: GateName + Send + Sync, R: Threads + Wait + Sync, K: Hooks + Syn
     hooks: &K,
     passes: &mut [Pass<J>],
     commands: &[PackedCommand],
+    shares: &[Share],
 )
     requires { length passes.old ≤ most_participants }
     ensures { (i : ℕ) (d : Knowledge) → i < length passes.old
-        → Enters commands.now (slice_index_or passes.old i d).account
-        (slice_index_or passes.new i d).account }
+        → Enters (at_places commands.now (share_at shares.now i))
+        (slice_index_or passes.old i d).account (slice_index_or passes.new i d).account }
 {
     thread::for_each_mut(
         rt,
         passes,
         MOST_PARTICIPANTS,
-        &|place, pass| attend(rt, gate, hooks, place as u32, pass, commands),
+        &|place, pass| {
+            let places = share_of(shares, place);
+            attend(rt, gate, hooks, place as u32, pass, commands, places)
+        },
     );
 }
 
-fn count_own(holder: &Option<Participant>, commands: &[PackedCommand]) -> usize
-    ensures { result ≡ length (own_commands holder.now commands.now) }
+/// Whether no call was refused: each pass has as many receipts as there are places in its share.
+fn have_all_entered(passes: &[Account], shares: &[Share]) -> bool
+    ensures { result ≡ true → (i : ℕ) (d : PassState) → i < length passes.now
+        → HasAll (share_at shares.now i) (slice_index_or passes.now i d) }
 {
-    let mut count = 0;
-    for command in commands {
-        if command.is_own(holder) {
-            count += 1;
-        }
-    }
-    count
-}
-
-/// Whether no call was refused: each holder has as many receipts as commands of its own.
-fn have_all_entered(passes: &[Account], commands: &[PackedCommand]) -> bool
-    ensures { result ≡ true → All (HasAll commands.now) passes.now }
-{
-    for pass in passes {
-        if pass.receipts().len() != count_own(&pass.holder(), commands) {
+    for (place, pass) in passes.iter().enumerate() {
+        if pass.receipts().len() != share_of(shares, place).len() {
             return false;
         }
     }
@@ -228,28 +224,28 @@ fn givers(alloc: Global, commands: &[PackedCommand]) -> Result<Vec<Participant>,
     Ok(participants)
 }
 
-/// A pass for the participant, with room for the receipts of its commands.
+/// A pass for the participant, with room for this number of receipts.
 fn pass_for<J: GateName, H: Wait + Drop>(
     rt: &impl Wait,
     gate: &Gate<J, H>,
     who: &Participant,
-    commands: &[PackedCommand],
+    receipts: usize,
 ) -> Result<Pass<J>, DayFault>
     ensures ok { IfOk result (λ pass. pass ≡ knowing_nothing (Some who.now)) }
     ensures err { IfErr result (λ fault. fault ≡ DayFault.Memory) }
 {
     let mut pass = gate.pass(rt, who.copy())?;
-    pass.make_room(count_own(&pass.holder(), commands))?;
+    pass.make_room(receipts)?;
     Ok(pass)
 }
 
-/// A pass for each participant.
+/// A pass for each participant, with room for the receipts of its commands.
 fn passes_for<J: GateName, H: Wait + Drop>(
     rt: &impl Wait,
     alloc: Global,
     gate: &Gate<J, H>,
     participants: &[Participant],
-    commands: &[PackedCommand],
+    shares: &[Share],
 ) -> Result<Vec<Pass<J>>, DayFault>
     ensures ok { IfOk result (λ passes.
         passes.items ≡ map (λ who. knowing_nothing (Some who)) participants.now) }
@@ -257,7 +253,8 @@ fn passes_for<J: GateName, H: Wait + Drop>(
 {
     let mut passes = Vec::with_capacity(alloc, participants.len() + 1)?;
     for who in participants {
-        passes.push(pass_for(rt, gate, who, commands)?)?;
+        let receipts = share_of(shares, passes.len()).len();
+        passes.push(pass_for(rt, gate, who, receipts)?)?;
     }
     Ok(passes)
 }
@@ -300,18 +297,21 @@ fn enter_day<J: GateName + Send + Sync, R: Threads + Wait + Sync, K: Hooks + Syn
     participants: &[Participant],
     commands: &[PackedCommand],
 ) -> Result<Vec<Account>, DayFault>
-    requires { length participants.now ≤ most_participants }
+    requires few { length participants.now ≤ most_participants }
+    requires apart { AreApart participants.now }
     ensures ok { IfOk result (λ passes. AreServed commands.now participants.now passes.items) }
     ensures holders { IfOk result (λ passes.
         holders passes.items ≡ map (λ who. Some who) participants.now) }
     ensures err { IfErr result (λ fault. fault ≡ DayFault.Memory) }
 {
-    let mut passes = passes_for(rt, alloc, gate, participants, commands)?;
+    let shares = shares_of(alloc, participants, commands)?;
+    let shares = shares.as_slice();
+    let mut passes = passes_for(rt, alloc, gate, participants, shares)?;
     // So that a journal which grows isn't copied.
     gate.make_room(rt, commands.len() + 1)?;
-    enter_all(rt, gate, hooks, &mut passes, commands);
+    enter_all(rt, gate, hooks, &mut passes, commands, shares);
     let accounts = accounts_of(alloc, passes)?;
-    if !have_all_entered(&accounts, commands) {
+    if !have_all_entered(&accounts, shares) {
         return Err(DayFault::Memory);
     }
     Ok(accounts)

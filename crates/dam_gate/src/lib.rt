@@ -54,6 +54,7 @@ mod locked;
 mod packed;
 mod pass;
 mod settlement;
+mod shares;
 mod tally;
 mod version;
 

@@ -1,10 +1,8 @@
 ghost use Rattle.std.specs.Prelude.{◌≡◌, IfOk};
 ghost use Rattle.std.specs.Option.{option_copied};
 ghost use Rattle.dam_book.specs.Command.{giver};
-ghost use Rattle.dam_gate.specs.Pass.{is_own};
 ghost use Rattle.dam_gate.specs.inside.Packed.{command_of};
 
-use crate::account::owns;
 use dam_book::{Command, Entry, HourOrder, Name, Order, Participant, Reply};
 use std::alloc::{AllocError, Global};
 use std::marker::Model;
@@ -87,13 +85,6 @@ impl PackedCommand {
             Form::Close => Command::Close,
             Form::Whole(command) => command.copy(),
         }
-    }
-
-    /// Whether the command is for the holder of a pass to give.
-    pub(crate) fn is_own(&self, holder: &Option<Participant>) -> bool
-        ensures { result ≡ is_own holder.now self.now }
-    {
-        owns(holder, self.giver())
     }
 
     /// Who gives the command; a close is nobody's.

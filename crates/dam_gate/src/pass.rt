@@ -143,13 +143,6 @@ impl<J: GateName> Pass<J> {
         owns(&self.holder, command.participant())
     }
 
-    /// The same of a packed command.
-    pub(crate) fn owns_packed(&self, command: &PackedCommand) -> bool
-        ensures { result ≡ is_own self.now.account.holder command.now }
-    {
-        command.is_own(&self.holder)
-    }
-
     /// The participant's order of that name, and whether the book is closed, in the version that is shown. It takes no
     /// lock and waits for nobody.
     ///

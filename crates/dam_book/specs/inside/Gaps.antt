@@ -1,6 +1,6 @@
 -- A list of places, each with an order or with none: a gap, from which an order was taken out.
-use Rattle.std.specs.Prelude.{◌≡◌, ◌<◌, ℕ, suc, ◌+◌, ◌-◌, Bool, false, ◌&&◌, nat_eq, List, [], ◌∷◌, ◌++◌, length, replicate, Option, Some, slice_get}
-use Rattle.std.specs.Prelude.{None, ⊤}
+use Rattle.std.specs.Prelude.{◌≡◌, ◌<◌, ℕ, suc, ◌+◌, ◌-◌, Bool, false, ◌&&◌, nat_eq, List, [], ◌∷◌, ◌++◌, length, replicate, Option, Some}
+use Rattle.std.specs.Prelude.{None, ⊤, slice_get}
 use Rattle.dam_book.specs.Limits.{longest_name, longest_participant}
 use Rattle.dam_book.specs.Name.{same_text}
 use Rattle.dam_book.specs.Order.{is_parent, parent_of}

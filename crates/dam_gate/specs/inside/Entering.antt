@@ -1,10 +1,10 @@
 -- How the participants enter a day's commands.
-use Rattle.std.specs.Prelude.{◌≡◌, ◌≢◌, ℕ, ◌<◌, false, List, [], ◌∷◌, ◌++◌, length, Option, None, Some}
-use Rattle.std.specs.List.{filter}
+use Rattle.std.specs.Prelude.{◌≡◌, ◌≢◌, ℕ, ◌<◌, false, List, [], ◌∷◌, ◌++◌, length, filter_map, slice_get, slice_index_or}
+use Rattle.std.specs.Prelude.{None, Some}
 use Rattle.dam_book.specs.Book.{commands_of}
 use Rattle.dam_book.specs.declared.command.Command.{Command}
 use Rattle.dam_book.specs.declared.command.Command.TheVariants.{Close}
-use Rattle.dam_gate.specs.Pass.{PassState, IsPass, is_own}
+use Rattle.dam_gate.specs.Pass.{PassState, IsPass}
 use Rattle.dam_gate.specs.Journal.{JournalState, IsJournal}
 use Rattle.dam_gate.specs.Limits.{most_participants}
 use Rattle.dam_book.specs.Command.{giver}
@@ -38,11 +38,23 @@ IsRefusalAt place participants c (TooManyParticipants at) =
 IsRefusalAt place participants c TooManyCommands = ⊥
 IsRefusalAt place participants c (NotSettled why) = ⊥
 
--- the commands that are the holder's to give, in their order
-abbrev pub own_commands : Option (List ℕ) → List Command → List Command
-own_commands holder cs = filter (is_own holder) cs
+-- the commands at these places, in their order
+abbrev pub at_places : List Command → List ℕ → List Command
+at_places cs places = filter_map (λ (place : ℕ). slice_get cs place) places
 
--- the pass has receipts of these commands, and then of some of its own, the first ones
+-- each participant's share, which is a list of places, has those of its commands among the first of all, `front`
+abbrev pub AreShares : List Command → List Command → List (List ℕ) → List (List ℕ) → Type 0
+AreShares all front [] [] = Unit {0}
+AreShares all front (who ∷ participants) (share ∷ shares) =
+    (at_places all share ≡ commands_by who front) × AreShares all front participants shares
+AreShares all front [] (share ∷ shares) = ⊥
+AreShares all front (who ∷ participants) [] = ⊥
+
+-- the share of the participant at this place; no places if there is none
+abbrev pub share_at : List (List ℕ) → ℕ → List ℕ
+share_at shares at = slice_index_or shares at []
+
+-- the pass has receipts of the earlier commands, and then of some of its own, the first ones
 pub record HasEntered (earlier own : List Command) (p : PassState) : Type 0 where
   pub entered : List Command
   pub left : List Command
@@ -50,9 +62,9 @@ pub record HasEntered (earlier own : List Command) (p : PassState) : Type 0 wher
   pub receipts : commands_of p.receipts ≡ earlier ++ entered
 
 -- the pass after has the holder and the receipts of the pass before, and then receipts of the first of its own commands
-pub record Enters (given : List Command) (before after : PassState) : Type 0 where
+pub record Enters (own : List Command) (before after : PassState) : Type 0 where
   pub holder : after.holder ≡ before.holder
-  pub entered : HasEntered (commands_of before.receipts) (own_commands before.holder given) after
+  pub entered : HasEntered (commands_of before.receipts) own after
 
 -- each participant's pass has receipts of just its own commands
 abbrev pub AreServed : List Command → List (List ℕ) → List PassState → Type 0
@@ -62,10 +74,10 @@ AreServed given (who ∷ participants) (p ∷ ps) =
 AreServed given [] (p ∷ ps) = ⊥
 AreServed given (who ∷ participants) [] = ⊥
 
--- the holder has as many receipts as commands of its own
-pub record HasAll (given : List Command) (p : PassState) : Type 0 where
+-- the pass has as many receipts as there are places in its share
+pub record HasAll (share : List ℕ) (p : PassState) : Type 0 where
   pub pass : IsPass p
-  pub as_many : length p.receipts ≡ length (own_commands p.holder given)
+  pub as_many : length p.receipts ≡ length share
 
 -- a journal whose last command is a close
 pub record IsClosedDay (j : JournalState) : Type 0 where

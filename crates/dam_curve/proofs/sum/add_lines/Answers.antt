@@ -2,7 +2,7 @@
 use Rattle.std.proofs.Common.{pos, inl, inr, to_z, of_z, w32, rules, arith}
 use Rattle.std.proofs.lemmas.Int.{ints}
 use Rattle.dam_curve.proofs.ListsOfLines.{small_at}
-use Rattle.dam_curve.proofs.Adding.{place_from, stands_from, none_added, next_added, shorter, all_lines, small_added, all_outside, apart_outside}
+use Rattle.dam_curve.proofs.Adding.{place_from, stands_from, none_added, next_added, shorter, all_lines, small_added, bottom_over, all_within, all_outside, apart_outside}
 use Rattle.dam_curve.proofs.Adding.{under_first}
 use Rattle.dam_curve.proofs.sum.add_lines.Goals.{then-a-at-via-then-a-at, then-a-at-via-else-a-at+then-b-at}
 use Rattle.dam_curve.proofs.sum.add_lines.Goals.{then-loop-left-test+else-right-b, else-loop-left-test}
@@ -26,6 +26,8 @@ loop-left-init g c =
     (record { most = pos 0; price = pos 0; surplus = pos 0 }) c.from_net-left.ensures.inside (search rules))
     (place_from c.args.b.now (to_z w32 (of_z w32 c.min-at.result)) c.from_net-right.result
     (record { most = pos 0; price = pos 0; surplus = pos 0 }) c.from_net-right.ensures.inside (search rules))
+    (bottom_over c.args.b.now (to_z w32 (of_z w32 c.min-at.result)) (record { most = pos 0; price = pos 0; surplus = pos 0 }) (search rules)
+    (search rules))
     (stands_from c.args.a.now (to_z w32 (of_z w32 c.min-at.result)) c.from_net-left.result c.from_net-left.ensures.holds
     (λ d l. (let less = c.from_net-left.ensures.last d l in omega (arith, ints, less))))
     (stands_from c.args.b.now (to_z w32 (of_z w32 c.min-at.result)) c.from_net-right.result c.from_net-right.ensures.holds
@@ -67,6 +69,12 @@ returns-clause-lines g c f h s t =
     rw (c.in_ok-push-2.ensures.items, c.joined-2.ensures)
     (all_lines f h c.args.a.now c.args.b.now c.loop-left.sum.items (to_z w32 (of_z w32 c.min-at.result)) (to_z w32 c.loop-left.at-bits) c.loop-left.left
     c.loop-left.right (record { most = pos 0; price = pos 0; surplus = pos 0 }) c.loop-left.invariant s t)
+
+pub returns-clause-within : goal.returns-clause-within
+returns-clause-within g c h least most t within =
+    rw (c.in_ok-push-2.ensures.items, c.joined-2.ensures)
+    (all_within h c.args.a.now c.args.b.now c.loop-left.sum.items (to_z w32 (of_z w32 c.min-at.result)) (to_z w32 c.loop-left.at-bits) least most
+    c.loop-left.left c.loop-left.right (record { most = pos 0; price = pos 0; surplus = pos 0 }) c.loop-left.invariant t (search rules) within)
 
 pub returns-clause-small : goal.returns-clause-small
 returns-clause-small g c n m s t =

@@ -60,5 +60,6 @@ returns-clause-added g c ps least most ss is supply few =
     subst (IsCurve (ss ∷ ps) least most) (sym new)
     (curve_more ss ps least most c.deref.result.now c.deref-2.result.now c.add_lines.new.sum.items supply.is_hour period curve few
     (c.in_ok-add_lines.ensures.lines _ _ period.are_lines curve.are_lines)
+    (c.in_ok-add_lines.ensures.within _ least most curve.are_lines curve.within)
     (λ net. c.in_ok-add_lines.ensures.outside _ _ net period.are_lines curve.are_lines)
     (c.in_ok-add_lines.ensures.small 1 (length ps) period.small curve.small))
