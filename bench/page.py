@@ -1,22 +1,50 @@
 #!/usr/bin/env python3
-"""page.py PART..: writes the figures that these parts of the bench printed to docs/MEASURED.md, one section for each part. The sections
-of the other parts stay unchanged, with their own date and commit."""
+"""page.py [PART..]: takes the figures that these parts of the bench have printed over into measured/PART.csv, notes the run in
+measured/runs.csv, and writes docs/MEASURED.md from all these files. Without a part it only writes the page again.
+
+If --before or --before-measures names a program, BEFORE_IS in the environment says what that is, such as its commit."""
 
 import ast
+import collections
+import csv
 import datetime
 import os
 import re
 import subprocess
 import sys
+from pathlib import Path
 
-PAGE = "../docs/MEASURED.md"
+HERE = Path(__file__).resolve().parent
+PAGE = HERE.parent / "docs" / "MEASURED.md"
+KEPT = HERE / "measured"
 PARTS = ["quick", "families", "blocks", "growth", "workers", "looks", "quarters"]
-COLUMNS = ["What", "Figure", "Target", "Holds", "Details"]
+COLUMNS = ["what", "figure", "target", "holds", "details"]
+RUN_COLUMNS = ["part", "date", "commit", "machine", "load", "kit", "notes"]
+# The figures that the page shows of each part, apart from those that miss a target; the others stand in the files alone. Of two groups the
+# first names the row of a table, and the second its column.
+SHOWN = {
+    "quick": r"(?:dam (?:replay|clear|day)|settle) .*(?:wall time|plain pass)|Hour::clear, 4,000.*",
+    "families": r"(\w+) (\d+), plan 2 3: dam clear",
+    "blocks": r"(\w+) (\d+), spread 50, seed 1: dam clear",
+    "growth": r"All selections of 24 blocks, tried one by one: (\w+), (\d+ periods), dam clear",
+    "workers": r".*4 workers as fast as 1",
+    "looks": r"a look compared with a plain one, while [03] threads.*|a call, 4,000 orders held|dam day.*",
+    "quarters": r"(\w+) (\d+): dam clear of 96 periods compared with 24",
+}
+# What the cells of such a table are, and the names of its columns.
+CELLS = {
+    "families": ("`dam clear` by the default plan", "{} hourly orders"),
+    "blocks": ("`dam clear` by the default plan, spread 50", "{} periods"),
+    "growth": ("`dam clear` with 24 blocks", "{}"),
+    "quarters": ("96 periods compared with 24", "{} hourly orders"),
+}
+PICTURES = {"growth": "![Nodes of each family by the number of blocks, compared with 2^n](growth.svg)\n"}
 HEAD = """# Measured figures
 
-`bench/run` writes this page. It has a section for each part of the bench, with the figures of the part's last run, and the day, commit
-and machine of that run. A figure is the median of several runs; runs that are compared take turns. If a figure compares two things, the
-details have the figure of each. The load says how busy the machine was before: on a busy machine a figure says little.
+`bench/run` measures, and `bench/page.py` writes this page. A figure is the median of several runs; runs that are compared take turns. Some
+figures of each part stand here, and all that miss their target. `bench/measured/` has every figure as CSV, with its target and, if two
+things are compared, the figure of each. The head of each part's script says how it measures, and explains some figures. The load says how
+busy the machine was before: on a busy machine a figure says little.
 """
 
 
@@ -34,54 +62,115 @@ def processor():
     return names[0] if names else os.uname().machine
 
 
-def state():
-    """The day, the commit, the machine and the kit of these figures."""
+def run_of(part):
+    """The day, the commit, the machine and the kit of a part's figures, and what else is to be known of them."""
     commit = printed(["git", "rev-parse", "--short", "HEAD"]) or "unknown"
-    if printed(["git", "status", "--porcelain", "--", "..", f":!{PAGE}"]):
+    if printed(["git", "status", "--porcelain", "--", "..", f":!{PAGE}", f":!{KEPT}"]):
         commit += " with changes"
-    machine = f"{os.cpu_count()} processors ({processor()}), load {os.environ.get('LOAD', 'unknown')} before"
-    return f"{datetime.date.today()}, commit {commit}, {machine},\nkit `{printed(['rt', 'version'])}`"
+    machine = f"{os.cpu_count()} processors ({processor()})"
+    load, limit, before = (os.environ.get(name, "") for name in ("LOAD", "HIGHS_LIMIT", "BEFORE_IS"))
+    notes = [f"HiGHS had {limit} s for each book"] if limit and part == "families" else []
+    notes += [f"the program before is {before}"] if before else []
+    return [part, str(datetime.date.today()), commit, machine, load, printed(["rt", "version"]), "; ".join(notes)]
+
+
+def read(path):
+    """The rows of a file below its head; none if it is missing."""
+    if not path.exists():
+        return []
+    with open(path, encoding="utf-8", newline="") as text:
+        return list(csv.reader(text))[1:]
+
+
+def write(path, columns, rows):
+    with open(path, "w", encoding="utf-8", newline="") as text:
+        csv.writer(text, lineterminator="\n").writerows([columns, *rows])
+
+
+def from_tables(text):
+    """The figures of tables, each with the heading of its table, the name of its row and the head of its column."""
+    for title, table in re.findall(r"^### (.*)\n\n((?:\|.*\n)+)", text, re.MULTILINE):
+        head, _, *rows = [[cell.strip() for cell in line.strip("|").split("|")] for line in table.splitlines()]
+        for row in rows:
+            for column, figure in zip(head[1:], row[1:]):
+                yield [f"{title}: {row[0]}, {column}".replace("`", ""), figure, "", "", ""]
+
+
+def figures(part):
+    """The figures that a part has just printed: those of its own tables if it wrote some."""
+    tables = HERE / "out" / f"{part}.md"
+    if tables.exists():
+        return list(from_tables(tables.read_text(encoding="utf-8")))
+    lines = (HERE / "out" / f"{part}.tsv").read_text(encoding="utf-8").splitlines()
+    return [line.split("\t") for line in lines]
+
+
+def take_over(parts):
+    """Replaces the kept figures and runs of these parts."""
+    runs = {row[0]: row for row in read(KEPT / "runs.csv")}
+    for part in parts:
+        write(KEPT / f"{part}.csv", COLUMNS, figures(part))
+        runs[part] = run_of(part)
+    write(KEPT / "runs.csv", RUN_COLUMNS, [runs[part] for part in PARTS if part in runs])
 
 
 def about(part):
-    """The opening text of the part's script."""
-    with open(f"{part}.py", encoding="utf-8") as text:
-        return ast.get_docstring(ast.parse(text.read()))
+    """The first paragraph of the part's script."""
+    text = (HERE / f"{part}.py").read_text(encoding="utf-8")
+    return ast.get_docstring(ast.parse(text)).split("\n\n")[0]
 
 
 def row(fields):
     return f"| {' | '.join(field.replace('|', '/') for field in fields)} |"
 
 
-def figures(part):
-    """The part's own tables if it wrote some, and else one with a row for each figure."""
-    if os.path.exists(f"out/{part}.md"):
-        with open(f"out/{part}.md", encoding="utf-8") as text:
-            return text.read()
-    with open(f"out/{part}.tsv", encoding="utf-8") as text:
-        rows = [line.rstrip("\n").split("\t") for line in text]
-    return "\n".join([row(COLUMNS), "|---" * len(COLUMNS) + "|", *map(row, rows)]) + "\n"
+def table(head, rows):
+    return "".join(f"{line}\n" for line in [row(head), "|---" * len(head) + "|", *map(row, rows)])
+
+
+def shown(part, rows):
+    """The figures that the page shows of a part."""
+    found = [(re.fullmatch(SHOWN[part], each[0]), *each[:4]) for each in rows]
+    found = [each for each in found if each[0]]
+    if part not in CELLS:
+        held = [[what, figure, target] for _, what, figure, target, holds in found if holds != "MISSED"]
+        return table(["What", "Figure", "Target"], held) if held else ""
+    cells = {match.groups(): figure for match, _, figure, *_ in found}
+    names, columns = (list(dict.fromkeys(pair[at] for pair in cells)) for at in (0, 1))
+    what, column = CELLS[part]
+    lines = [[name, *(cells.get((name, each), "") for each in columns)] for name in names]
+    return table([what, *map(column.format, columns)], lines) if found else ""
 
 
 def section(part):
-    return f"## `bench/run {part}`\n\n{about(part)}\n\nMeasured: {state()}.\n\n{figures(part)}"
+    rows = read(KEPT / f"{part}.csv")
+    counts = collections.Counter(holds for _, _, _, holds, _ in rows)
+    kept = f"[All {len(rows)} figures](../bench/measured/{part}.csv)"
+    kept += f"; {counts['holds']} targets hold, {counts['MISSED']} are missed." if counts["holds"] or counts["MISSED"] else "."
+    missed = [[what, figure, target] for what, figure, target, holds, _ in rows if holds == "MISSED"]
+    parts = [f"## `bench/run {part}`\n", f"{about(part)}\n", f"{kept}\n", shown(part, rows)]
+    parts += [table(["Missed", "Figure", "Target"], missed)] if missed else []
+    return "\n".join(filter(None, [*parts, PICTURES.get(part)]))
 
 
-def sections():
-    """The present sections of the page, by part."""
-    if not os.path.exists(PAGE):
-        return {}
-    with open(PAGE, encoding="utf-8") as text:
-        found = re.split(r"(?m)^(?=## `bench/run (\w+)`$)", text.read())
-    return {part: text.rstrip("\n") + "\n" for part, text in zip(found[1::2], found[2::2])}
+def page():
+    runs = read(KEPT / "runs.csv")
+    head = ["Part", "Day", "Commit", "Load before", "Notes"]
+    when = table(head, [[run[0], run[1], run[2], run[4] or "unknown", run[6]] for run in runs])
+    machines = dict.fromkeys(f"{run[3]}, kit `{run[5]}`" for run in runs)
+    where = "".join(f"Machine: {machine}.\n" for machine in machines)
+    return "\n".join([HEAD, when, where, *map(section, (run[0] for run in runs))])
 
 
 def main():
-    if not sys.argv[1:] or not set(sys.argv[1:]) <= set(PARTS):
-        sys.exit(f"usage: page.py PART.., of {' '.join(PARTS)}")
-    kept = {**sections(), **{part: section(part) for part in sys.argv[1:]}}
-    with open(PAGE, "w", encoding="utf-8") as text:
-        text.write("\n".join([HEAD, *(kept[part] for part in PARTS if part in kept)]))
+    parts = sys.argv[1:]
+    if not set(parts) <= set(PARTS):
+        sys.exit(f"usage: page.py [PART..], of {' '.join(PARTS)}")
+    KEPT.mkdir(exist_ok=True)
+    if parts:
+        take_over(parts)
+    PAGE.write_text(page(), encoding="utf-8")
 
 
-main()
+if __name__ == "__main__":
+    main()

@@ -59,6 +59,12 @@ def is_command(record):
 def worked_cases():
     """The worked cases for the built program: each with its name, its words and its input."""
     for given in sorted(CASES.glob("*/*.csv")):
+        table = given.with_suffix(".words")
+        for line in table.read_text(encoding="ascii").splitlines() if table.exists() else ():
+            words = line.split("\t")[2].split()
+            yield f"{given.parent.name}/{given.stem} {' '.join(words)}", words, given.read_bytes()
+        if table.exists():
+            continue
         own = given.with_suffix(".args")
         words = (own if own.exists() else given.parent / "args").read_text(encoding="ascii").splitlines()
         yield f"{given.parent.name}/{given.stem}", words, given.read_bytes()

@@ -209,8 +209,8 @@ class Module(unittest.TestCase):
         self.assertRegex(ran.stdout, r"STAD +-1193050\.0")
 
     def examples(self):
-        """Those of the recipes."""
-        recipes = (TOP / "docs" / "USING.md").read_text().partition("## Recipes")[2].partition("\n## ")[0]
+        """Those before the many days."""
+        recipes = (TOP / "docs" / "PYTHON.md").read_text().partition("\n## Many days")[0]
         return re.findall(r"```python\n([^`]*import dam_tools.*?)```", recipes, re.DOTALL)
 
     def test_the_example_for_parquet(self):
@@ -229,7 +229,7 @@ class Module(unittest.TestCase):
         if command.has("pyarrow") and command.has("duckdb"):
             import duckdb
 
-            query = re.search(r"```sql\n(.*?)```", (TOP / "docs" / "USING.md").read_text(), re.DOTALL)[1]
+            query = re.search(r"```sql\n(.*?)```", (TOP / "docs" / "PYTHON.md").read_text(), re.DOTALL)[1]
             found = duckdb.sql(query.replace("executions.parquet", str(Path(folder, "executions.parquet")))).fetchall()
             self.assertAlmostEqual(dict(found)["STAD"], -1_193_050.0)
 

@@ -111,8 +111,33 @@ class ReadingList(unittest.TestCase):
         with self.assertRaisesRegex(Exception, "^crates/lower/specs/Limits.antt says nothing above most$"):
             self.few(["most"])
 
-    def test_the_page_has_the_lists_of_this_repository(self):
+    def test_the_pages_have_the_lists_of_this_repository(self):
         self.assertEqual(tool("reading-list", "--check"), (0, b"", ""))
+
+    def test_the_page_of_definitions(self):
+        """Every definition of a module needs a sentence, also one that the page leaves out."""
+        module = loaded("reading-list")
+        with tempfile.TemporaryDirectory() as folder:
+            self.repository(folder)
+            sizes = Path(folder, "crates/lower/specs/Sizes.antt")
+            for crate, names in LIB.items():
+                for name in names:
+                    path = Path(folder, f"crates/{crate}/specs/{name}.antt")
+                    text = path.read_text().replace("abbrev", "-- something\nabbrev").replace("pub record", "-- a rule\npub record")
+                    path.write_text("-- About it.\n" + text.replace("-- a size\n-- something", "-- a size"))
+            page = module.definitions_list(module.Repository(Path(folder)))
+            self.assertIn("\n## `lower/specs/Sizes.antt`\n\nAbout it.\n\n- `IsSize`: a size\n- `other`: something\n\n", page)
+            self.assertIn("## `upper/specs/Rule.antt`\n\nAbout it.\n\n- `Rule`: a rule\n", page)
+            sizes.write_text(sizes.read_text() + "\nabbrev pub spare : ℕ\nspare = 1\n")
+            with self.assertRaisesRegex(Exception, "^crates/lower/specs/Sizes.antt says nothing above spare$"):
+                module.definitions_list(module.Repository(Path(folder)))
+
+    def test_sizes_may_differ_by_a_tenth(self):
+        is_near = loaded("reading-list").is_near
+        self.assertTrue(is_near("| `a_1` | 1,000 | 0 |\n", "| `a_1` | 1,100 | 0 |\n"))
+        self.assertFalse(is_near("| 1,000 |", "| 1,200 |"))
+        self.assertFalse(is_near("| 0 |", "| 1 |"))
+        self.assertFalse(is_near("| b | 1 |", "| c | 1 |"))
 
     def test_names_are_followed_to_what_they_stand_on(self):
         with tempfile.TemporaryDirectory() as folder:

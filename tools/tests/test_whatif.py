@@ -326,7 +326,7 @@ class Tools(unittest.TestCase):
 
 @unittest.skipUnless(engine.BUILT.exists() and command.has("numpy") and command.has("matplotlib"), "the program or a package is missing")
 class Examples(unittest.TestCase):
-    """The section of the page: that its commands work, one after another, and print what it quotes."""
+    """The page, and the section on many days: that the commands work, one after another, and print what is quoted."""
 
     def setUp(self):
         folder = tempfile.TemporaryDirectory()
@@ -334,7 +334,8 @@ class Examples(unittest.TestCase):
         self.folder = folder.name
         for name, target in (("tools", support.TOOLS), ("examples", support.TOP / "examples"), ("dam", engine.BUILT)):
             Path(self.folder, name).symlink_to(target)
-        page = (support.TOP / "docs" / "USING.md").read_text().partition("\n## What if")[2].partition("\n## ")[0]
+        docs = support.TOP / "docs"
+        page = (docs / "WHATIF.md").read_text() + (docs / "PYTHON.md").read_text().partition("\n## Many days")[2]
         self.blocks = re.findall(r"^```(\w+)\n(.*?)^```$", page, re.MULTILINE | re.DOTALL)
 
     def ran(self, words):

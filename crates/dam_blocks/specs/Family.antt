@@ -15,6 +15,7 @@ abbrev pub parent_among : List Block → Option Block → Option ℕ
 parent_among blocks None = None
 parent_among blocks (Some b) = position (λ p. names p b) blocks
 
+-- the place of the parent of the block at a place, if it has one
 abbrev pub parent_place : List Block → ℕ → Option ℕ
 parent_place blocks j = parent_among blocks (slice_get blocks j)
 

@@ -36,6 +36,7 @@ net_of_side side t (b ∷ bs) = if_of side b.order.side (net_volume_of t b.order
 abbrev pub least_net : List Block → ℕ → ℕ → ℤ
 least_net blocks depth c = net_of_side Buy (c + 1) (take depth blocks)
 
+-- the greatest net volume that decisions on the first blocks can make of that class
 abbrev pub most_net : List Block → ℕ → ℕ → ℤ
 most_net blocks depth c = net_of_side Sell (c + 1) (take depth blocks)
 
@@ -91,6 +92,7 @@ pub record LotState : Type 0 where
   pub accepted : List Touch
   pub rejected : List Touch
 
+-- the touches of the block at the place by either decision
 pub record IsLot (problem : ProblemState) (all : CurvesState) (place : ℕ) (b : Block) (lot : LotState) : Type 0 where
   pub accepted : AreTouches problem all place b true lot.accepted
   pub rejected : AreTouches problem all place b false lot.rejected
@@ -124,6 +126,8 @@ pub record TablesState : Type 0 where
   pub root : Day
   pub families : List (Option (List Bool))
 
+-- what the tables of a problem have: a curve for each class and depth, the lots of each block, the root's day, and the
+-- families
 pub record AreTablesOf (problem : ProblemState) (tables : TablesState) : Type 0 where
   pub count_is : tables.count ≡ length problem.hours
   pub few_periods : length problem.hours ≤ last_period

@@ -68,6 +68,7 @@ pub record IsSmallLine (count : ℕ) (line : Line) : Type 0 where
   pub surplus_at_least : neg_ℤ (pos (count * greatest_line_surplus)) ≤ℤ line.surplus
   pub surplus_at_most : line.surplus ≤ℤ pos (count * greatest_line_surplus)
 
+-- each of the lines is a line over this number of periods
 abbrev pub AreSmallLines : ℕ → List Line → Type 0
 AreSmallLines count [] = Unit {0}
 AreSmallLines count (line ∷ lines) = IsSmallLine count line × AreSmallLines count lines

@@ -25,6 +25,7 @@ abbrev pub IsKeeperFault : ℕ → Command → KeeperFault → Type 0
 IsKeeperFault held c (KeeperFull n) = (n ≡ held) × (is_full held c ≡ true)
 IsKeeperFault held c KeeperMemory = is_full held c ≡ false
 
+-- the gate's fault for one of its keeper
 abbrev pub gate_fault_of : KeeperFault → GateFault
 gate_fault_of (KeeperFull n) = JournalFull n
 gate_fault_of KeeperMemory = Memory

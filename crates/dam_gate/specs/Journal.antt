@@ -23,6 +23,7 @@ pub record IsHistory (periods : ℕ) (es : List Entry) : Type 0 where
   pub few : length es ≤ most_entries
   pub room : FoundRoom 0 es
 
+-- entries, and a book
 pub record JournalState : Type 0 where
   pub entries : List Entry
   pub book : BookState
@@ -32,6 +33,7 @@ pub record IsJournal (j : JournalState) : Type 0 where
   pub history : IsHistory j.book.periods j.entries
   pub book_is : j.book ≡ run j.book.periods (commands_of j.entries)
 
+-- no entries, and the empty book of a day of this many periods
 abbrev pub empty_journal : ℕ → JournalState
 empty_journal periods = record { entries = []; book = empty_book periods }
 

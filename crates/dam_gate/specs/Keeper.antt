@@ -10,6 +10,7 @@ pub record KeeperState : Type 0 where
   pub journal : JournalState
   pub room : ℕ
 
+-- an entry, and the book after its command
 pub record ReadyState : Type 0 where
   pub entry : Entry
   pub book : BookState

@@ -27,6 +27,7 @@ is_own holder c = same_giver holder (giver c)
 abbrev pub is_from : List ℕ → Command → Bool
 is_from who c = is_own (Some who) c
 
+-- whether the command is the operator's to give: the close
 abbrev pub is_close : Command → Bool
 is_close c = is_own None c
 
@@ -41,6 +42,8 @@ AreOwn holder [] = Unit {0}
 AreOwn holder (e ∷ es) =
     (is_own holder e.command ≡ true) × (is_full (e.number - 1) e.command ≡ false) × AreOwn holder es
 
+-- what every pass keeps: the numbers of its receipts increase, and none exceeds what it has seen; each is for a command
+-- that its holder may give and that found room
 pub record IsPass (p : PassState) : Type 0 where
   pub in_order : AreInOrder 0 p.seen p.receipts
   pub own : AreOwn p.holder p.receipts
@@ -49,6 +52,7 @@ pub record IsPass (p : PassState) : Type 0 where
 abbrev pub holders : List PassState → List (Option (List ℕ))
 holders passes = map (λ (p : PassState). p.holder) passes
 
+-- the pass of a holder who has seen nothing and has no receipt
 abbrev pub new_pass : Option (List ℕ) → PassState
 new_pass holder = record { holder = holder; seen = 0; receipts = [] }
 
@@ -68,6 +72,7 @@ pub record Knowledge : Type 0 where
   pub learnt : List Entry
   pub note : Option (List Entry)
 
+-- what a new pass knows
 abbrev pub knowing_nothing : Option (List ℕ) → Knowledge
 knowing_nothing holder = record { account = new_pass holder; history = []; learnt = []; note = None }
 
@@ -79,6 +84,7 @@ after_call k history e = record { account = with_receipt k.account e; history = 
 abbrev pub after_look : Knowledge → List Entry → Knowledge
 after_look k history = record { account = having_seen k.account (length history); history = history; learnt = k.learnt; note = k.note }
 
+-- after the pass has learnt of this history
 abbrev pub after_learning : Knowledge → List Entry → Knowledge
 after_learning k learnt = record { account = k.account; history = k.history; learnt = learnt; note = k.note }
 

@@ -28,12 +28,15 @@ pub record OptionTerms : Type 0 where
   pub most : ℕ
   pub default : ℕ
 
+-- the option `--workers`
 abbrev pub workers : OptionTerms
 workers = record { name = codes "workers"; least = 1; most = most_workers; default = 2 }
 
+-- the option `--cut`
 abbrev pub cut : OptionTerms
 cut = record { name = codes "cut"; least = 0; most = most_cut; default = 3 }
 
+-- the option `--nodes`
 abbrev pub nodes : OptionTerms
 nodes = record { name = codes "nodes"; least = 1; most = most_nodes; default = most_nodes }
 
@@ -51,12 +54,15 @@ rule_for option = record (new_rule option.name) {
 abbrev pub with_plan : App → App
 with_plan command = with_rule (with_rule (with_rule command (rule_for workers)) (rule_for cut)) (rule_for nodes)
 
+-- the subcommand `replay`
 abbrev pub replay : Shape
 replay = (new_app (codes "replay")).top
 
+-- the subcommand `clear`
 abbrev pub clear : Shape
 clear = (with_plan (new_app (codes "clear"))).top
 
+-- the subcommand `day`
 abbrev pub day : Shape
 day = (with_plan (new_app (codes "day"))).top
 
@@ -83,6 +89,7 @@ is_number text =
     let digits = without_leading_plus text in
     nat_lt 0 (length digits) && list_all (λ digit. nat_lt (digit_value digit) 10) digits
 
+-- the number that the text has in decimal digits
 abbrev pub number_in : Text → ℕ
 number_in text = digits_value 10 (without_leading_plus text)
 
@@ -96,9 +103,11 @@ read_number option text =
 abbrev pub number_given : OptionTerms → List Row → ℕ
 number_given option matches = unwrap_or (option_and_then (read_number option) (one_of option.name matches)) option.default
 
+-- a plan of these three numbers
 abbrev pub plan_of : ℕ → ℕ → ℕ → PlanTerms
 plan_of workers cut nodes = record { workers = workers; cut = cut; nodes = nodes }
 
+-- the plan that the matches give
 abbrev pub plan_given : List Row → PlanTerms
 plan_given matches = plan_of (number_given workers matches) (number_given cut matches) (number_given nodes matches)
 
@@ -134,6 +143,7 @@ pub record AsksFor (words : List Text) (job : Job) : Type 0 where
   pub taken : fault_of program words ≡ []
   pub found : option_and_then job_of (subcommand_of program words) ≡ Some job
 
+-- whether the kind of error is a request for help
 abbrev pub is_help : ErrorKind → Bool
 is_help DisplayHelp = true
 is_help _ = false

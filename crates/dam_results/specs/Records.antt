@@ -34,6 +34,7 @@ form_field fs = []
 abbrev pub day_row : ℕ → Fields
 day_row periods = codes "day" ∷ decimal periods ∷ [] ∷ [] ∷ [] ∷ [] ∷ [] ∷ [] ∷ [] ∷ []
 
+-- the word of a side
 abbrev pub side_word : Side → List ℕ
 side_word Buy = codes "buy"
 side_word Sell = codes "sell"

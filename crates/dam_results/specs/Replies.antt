@@ -10,6 +10,7 @@ use Rattle.dam_book.specs.declared.command.Command.{Command}
 use Rattle.dam_book.specs.declared.command.Entry.{Entry}
 use Rattle.dam_book.specs.Book.{entries_of}
 
+-- the word of a reason
 abbrev pub reason_word : Reason → List ℕ
 reason_word Closed = codes "Closed"
 reason_word PeriodOutOfDay = codes "PeriodOutOfDay"
@@ -22,6 +23,7 @@ reason_word HourlyFull = codes "HourlyFull"
 reason_word BlocksFull = codes "BlocksFull"
 reason_word HasChildren = codes "HasChildren"
 
+-- done, or refused with the reason
 abbrev pub reply_text : Reply → List ℕ
 reply_text Done = codes "done"
 reply_text (Refused reason) = codes "refused," ++ reason_word reason
@@ -30,12 +32,15 @@ reply_text (Refused reason) = codes "refused," ++ reason_word reason
 abbrev pub reply_line : ℕ → Reply → List ℕ
 reply_line number reply = decimal number ++ (codes "," ++ (reply_text reply ++ codes "\n"))
 
+-- the line of an entry
 abbrev pub entry_line : Entry → List ℕ
 entry_line e = reply_line e.number e.reply
 
+-- the first line: the day, with its number of periods
 abbrev pub day_line : ℕ → List ℕ
 day_line periods = codes "day," ++ (decimal periods ++ codes "\n")
 
+-- the lines that `dam replay` prints: the day's, and one for each entry
 abbrev pub replies_text : ℕ → List Entry → List ℕ
 replies_text periods entries = day_line periods ++ flat_map entry_line entries
 

@@ -43,6 +43,7 @@ Obeys NameOrEmpty field = (field ≡ []) ⊎ IsName field
 abbrev pub word : List ℕ → FieldRule
 word text = OneOf (text ∷ [])
 
+-- the rules of the record of the day
 abbrev pub day_rules : List FieldRule
 day_rules =
     word (codes "day") ∷ Periods ∷ Empty ∷ Empty ∷ Empty ∷ Empty ∷ Empty ∷ Empty ∷ Empty ∷ []
@@ -70,18 +71,22 @@ form_rules form =
 abbrev pub submit_of : List FieldRule → List FieldRule
 submit_of rules = word (codes "submit") ∷ Code ∷ OrderName ∷ rules
 
+-- the rules of the record of a submit, by its form in field 4
 abbrev pub submit_rules : Fields → List FieldRule
 submit_rules row = submit_of (form_rules (form_field row))
 
+-- the rules of the record of an amend
 abbrev pub amend_rules : List FieldRule
 amend_rules =
     word (codes "amend") ∷ Code ∷ OrderName ∷ Empty ∷ Empty ∷ LimitPrice ∷ AllVolumes ∷ Empty
     ∷ Empty ∷ []
 
+-- the rules of the record of a cancel
 abbrev pub cancel_rules : List FieldRule
 cancel_rules =
     word (codes "cancel") ∷ Code ∷ OrderName ∷ Empty ∷ Empty ∷ Empty ∷ Empty ∷ Empty ∷ Empty ∷ []
 
+-- the rules of the record of the close
 abbrev pub close_rules : List FieldRule
 close_rules =
     word (codes "close") ∷ Empty ∷ Empty ∷ Empty ∷ Empty ∷ Empty ∷ Empty ∷ Empty ∷ Empty ∷ []

@@ -11,6 +11,7 @@ use Rattle.dam_book.specs.declared.command.Reply.TheVariants.{Done, Refused}
 abbrev pub IsRun : ℕ → List Command → BookState → Type 0
 IsRun periods commands book = book ≡ run periods commands
 
+-- whether the reply is a refusal
 abbrev pub is_refusal : Reply → Bool
 is_refusal Done = false
 is_refusal (Refused reason) = true

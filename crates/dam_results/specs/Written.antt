@@ -12,6 +12,7 @@ use Rattle.dam_results.specs.Records.{Fields, day_row, row_of}
 abbrev pub row_line : Fields → List ℕ
 row_line row = join_with_byte comma row ++ line_feed ∷ []
 
+-- the line of a command
 abbrev pub command_line : Command → List ℕ
 command_line command = row_line (row_of command)
 
@@ -19,5 +20,6 @@ command_line command = row_line (row_of command)
 abbrev pub written : ℕ → List Command → List ℕ
 written periods commands = row_line (day_row periods) ++ flat_map command_line commands
 
+-- the written journal: the line of the day, and one for the command of each entry
 abbrev pub journal_text : ℕ → List Entry → List ℕ
 journal_text periods entries = written periods (commands_of entries)

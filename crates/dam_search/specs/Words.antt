@@ -32,6 +32,7 @@ once_below x bound = if nat_lt x bound then 1 else 0
 abbrev pub most_pieces : ℕ
 most_pieces = 2 ^ most_cut
 
+-- the most seats: one for each worker, and one more
 abbrev pub most_seats : ℕ
 most_seats = most_workers + 1
 
@@ -79,6 +80,7 @@ drawn_after v found =
 abbrev pub cut_left : View → View
 cut_left v = record v { seats_left = v.seats_left - 1 }
 
+-- the seat that is split off
 abbrev pub cut_right : View → View
 cut_right v = new_view v.pieces 0
 
@@ -123,6 +125,8 @@ pub record AreWordsOf (pieces claim incumbent : ℕ) (views : List View) : Type 
   pub greatest_offer : incumbent ≡ greatest (λ (v : View). v.greatest_offer) views
   pub none_above : (i : ℕ) (v : View) → get_elem? views i ≡ some v → v.greatest_read ≤ incumbent
 
+-- the rule of the two words, at any time: each piece under the claim word was drawn once, and the incumbent word is the
+-- greatest offer
 pub record AreWords (pieces : ℕ) (s : State (Unit {0}) View) : Type 0 where
   pub few_pieces : pieces ≤ most_pieces
   pub claim : ℕ

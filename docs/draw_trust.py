@@ -1,0 +1,161 @@
+#!/usr/bin/env python3
+"""draw_trust.py unit-7 | selections [--draw]: the numbers of TRUST.md, or with --draw the text of a picture of them.
+
+`unit-7` is about what the block UNIT-7 would do to the prices of the sunny day: the picture is docs/unit-7.svg. `selections` is about how
+many selections of its blocks each rule leaves: docs/selections.svg. The pictures need matplotlib, as tools/plot does."""
+
+import math
+import sys
+from pathlib import Path
+from typing import NamedTuple
+
+TOP = Path(__file__).resolve().parent.parent
+sys.dont_write_bytecode = True
+sys.path.insert(0, str(TOP / "tools"))
+
+from lib import best, book, journal, rules, selection, text
+
+BLOCK = "COAL", "UNIT-7"
+
+
+class Counting(best.Search):
+    """Sorts the selections that links and groups admit by whether a block loses, each with its welfare."""
+
+    def __init__(self, problem):
+        super().__init__(problem)
+        self.eligible, self.losing = [], []
+
+    def look(self, accepted, net, worth, value):
+        self.tried += 1
+        if None in worth.values():
+            return
+        prices = {number: rules.price_between(*curve.supporting(net[number]))[0] for number, curve in self.curves.items()}
+        surpluses = [selection.surplus(block.order, prices) for block in self.problem.blocks]
+        loses = selection.losing(self.problem, accepted, surpluses)
+        (self.losing if loses else self.eligible).append((sum(worth.values()) + value, accepted))
+
+
+class Counts(NamedTuple):
+    """How many selections each rule leaves."""
+
+    blocks: int
+    admitted: int  # by links and groups
+    balanced: int
+    eligible: int
+    greatest: int  # eligible, and none of them has more welfare
+    above: int  # with more welfare than these, but a block loses
+
+
+class Effect(NamedTuple):
+    """What the block does to the prices of its periods, and gains, if it is rejected and if it is accepted."""
+
+    limit: int
+    periods: list
+    prices: list  # of the two
+    gains: list
+
+
+def problem():
+    closed, _ = book.run(journal.read_journal((TOP / "examples/sunny-day.csv").read_bytes()))
+    return selection.Problem(closed)
+
+
+def counted(day):
+    """The counts, and the best selection."""
+    search = Counting(day)
+    search.run()
+    welfare, accepted = max(search.eligible, key=lambda found: found[0])
+    greatest = sum(other == welfare for other, _ in search.eligible)
+    above = sum(other > welfare for other, _ in search.losing)
+    balanced = len(search.eligible) + len(search.losing)
+    return Counts(len(day.blocks), search.tried, balanced, len(search.eligible), greatest, above), accepted
+
+
+def effect(day, accepted):
+    place = day.place(*BLOCK)
+    order = day.blocks[place].order
+    periods = [number for number, _ in order.volumes]
+    found = [selection.outcome(day, chosen) for chosen in (accepted, accepted | {place})]
+    prices = [[outcome.cleared[number].price for number in periods] for outcome in found]
+    return Effect(order.price, periods, prices, [outcome.surpluses[place] for outcome in found])
+
+
+def steps(counts):
+    """What each rule leaves, from all selections down to the published one."""
+    yield 2**counts.blocks, f"ways to accept or reject {counts.blocks} blocks"
+    yield counts.admitted, "of these obey links and groups"
+    yield counts.balanced, "of these balance in each hour"
+    yield counts.eligible, "of these let no accepted block lose"
+    yield counts.greatest, "of these has the greatest welfare: the published one"
+
+
+def say_effect(day):
+    found = effect(day, counted(day)[1])
+    yield f"{' '.join(BLOCK):<18}{'rejected':>12}{'accepted':>12}"
+    for number, *prices in zip(found.periods, *found.prices):
+        yield f"price of hour {number:<4}" + "".join(f"{text.cents(price):>12}" for price in prices)
+    yield f"{'its limit':<18}" + f"{text.cents(found.limit):>12}" * 2
+    yield f"{'its gain, EUR':<18}" + "".join(f"{day.euros(gain):>12}" for gain in found.gains)
+
+
+def say_selections(day):
+    counts, _ = counted(day)
+    for count, words in steps(counts):
+        yield f"{count:>5,}  {words}"
+    yield f"{counts.above:>5,}  have more welfare, but in each an accepted block loses"
+
+
+def draw_effect(day):
+    """The prices of the block's periods without it and with it, and its limit."""
+    from lib import pictures
+
+    found = effect(day, counted(day)[1])
+    edges = [found.periods[0] - 1, *found.periods]
+    with pictures.matplotlib.rc_context(pictures.STYLE):
+        drawn, axes = pictures.pyplot.subplots(figsize=(pictures.BROAD * 0.7, 3))
+        looks = {"color": pictures.COLOURS["sell"], "linewidth": 2.2}, {"color": pictures.COLOURS["ink"], "linewidth": 1.6, "linestyle": "--"}
+        for prices, look, words in zip(found.prices, looks, ("UNIT-7 is rejected", "UNIT-7 is accepted")):
+            axes.stairs([pictures.eur(price) for price in prices], edges, baseline=None, label=f"price if {words}", **look)
+        axes.axhline(pictures.eur(found.limit), color=pictures.COLOURS["soft"], linewidth=1)
+        axes.annotate(f"its limit: {pictures.eur(found.limit):g}", (edges[0], pictures.eur(found.limit)), (3, 4), textcoords="offset points")
+        axes.set_xticks([edge + 0.5 for edge in edges[:-1]], [f"hour {number}" for number in found.periods])
+        axes.set_ylabel("EUR/MWh")
+        axes.set_ylim(0)
+        axes.legend(loc="lower left")
+        drawn.tight_layout()
+    return drawn
+
+
+def draw_selections(day):
+    """How many selections each rule leaves, as bars of logarithmic length."""
+    from lib import pictures
+
+    rows = list(steps(counted(day)[0]))
+    with pictures.matplotlib.rc_context({**pictures.STYLE, "axes.grid": False}):
+        drawn, axes = pictures.pyplot.subplots(figsize=(pictures.BROAD * 0.7, 2.4))
+        for at, (count, words) in enumerate(rows):
+            axes.barh(-at, math.log2(count) + 0.6, color=pictures.COLOURS["buy"])
+            axes.annotate(f"{count:,} {words}", (0, -at), (6, -3), textcoords="offset points")
+        axes.set_axis_off()
+        drawn.tight_layout()
+    return drawn
+
+
+SUBJECTS = {"unit-7": (say_effect, draw_effect), "selections": (say_selections, draw_selections)}
+
+
+def main():
+    words = sys.argv[1:]
+    if not words or words[0] not in SUBJECTS or words[1:] not in ([], ["--draw"]):
+        sys.exit(__doc__.split("\n\n", 1)[0])
+    say, draw = SUBJECTS[words[0]]
+    if not words[1:]:
+        print(*say(problem()), sep="\n")
+        return
+    from lib import pictures
+
+    sys.stdout.buffer.write(pictures.picture(draw(problem()), "svg"))
+
+
+if __name__ == "__main__":
+    main()

@@ -1,0 +1,27 @@
+"""The list of crates: crates.txt, and the lists of the tests and of the bench that have its form. It runs with Python 3.8."""
+
+
+def listed(text, with_kinds=False):
+    """The libraries that each crate of such a list uses, by its name, in the order of the list. A crate that comes twice uses what both
+    lines say. `#` begins a comment. The kind of a library may come after its name; it is kept in the name if that is asked for."""
+    found = {}
+    for line in text.splitlines():
+        name, colon, below = line.partition("#")[0].partition(":")
+        if colon:
+            words = name.split()
+            found.setdefault(" ".join(words) if with_kinds else words[0], []).extend(below.split())
+    return found
+
+
+def own(crates):
+    """The same crates, each with those libraries alone that are in the list too."""
+    return {name: [library for library in below if library in crates] for name, below in crates.items()}
+
+
+def all_below(crates, name):
+    """The crates of the list that a crate uses, directly or not."""
+    found = set()
+    for library in crates[name]:
+        if library in crates:
+            found |= {library} | all_below(crates, library)
+    return found

@@ -1,0 +1,48 @@
+"""The list of crates, its picture, and the notes of the crates."""
+
+import re
+import sys
+import unittest
+
+from support import TOP
+
+from lib import crates
+
+sys.path.insert(0, str(TOP / "docs"))
+import draw_crates
+
+LIST = "# a comment\nlow:\nhigh staticlib: low kit # more\nmiddle: low\ntop: high middle low\nhigh: other\n"
+
+
+class Crates(unittest.TestCase):
+    def test_a_list(self):
+        found = crates.listed(LIST)
+        self.assertEqual(found, {"low": [], "high": ["low", "kit", "other"], "middle": ["low"], "top": ["high", "middle", "low"]})
+        self.assertEqual(list(crates.listed(LIST, with_kinds=True)), ["low", "high staticlib", "middle", "top", "high"])
+        self.assertEqual(crates.own(found)["high"], ["low"])
+        self.assertEqual(crates.all_below(found, "top"), {"low", "high", "middle"})
+
+    def test_a_line_by_way_of_another_is_left_out(self):
+        used = crates.own(crates.listed(LIST))
+        self.assertEqual(draw_crates.direct(used, "top"), ["high", "middle"])
+        self.assertEqual(list(draw_crates.ways({**used, "last": ["top", "low"]}))[-1], ["last", "top"])
+        self.assertEqual(list(draw_crates.ways({"a": [], "b": ["a"], "c": ["b"], "d": [], "e": ["c", "d"]}))[-1],
+                         ["e", ("e-d", 2), ("e-d", 1), "d"])
+
+    def test_the_picture_is_that_of_the_list(self):
+        used = draw_crates.read()
+        programs = {path.parent.parent.name for path in (TOP / "crates").glob("*/src/main.rt")}
+        self.assertEqual((TOP / "docs" / "crates.svg").read_text(), draw_crates.drawing(used, programs))
+
+    def test_the_files_that_notes_name_are_there(self):
+        notes = sorted((TOP / "crates").glob("*/NOTES.md"))
+        self.assertGreater(len(notes), 9)
+        for path in notes:
+            files = re.search(r"^The files of `src/`: (.*?)\n\n|\Z", path.read_text() + "\n", re.MULTILINE | re.DOTALL)[1] or ""
+            for name in re.findall(r"(?:^|; |, |and )`(\w+)`", re.sub(r"\([^)]*\)", "", files).replace("\n", " ")):
+                with self.subTest(path.parent.name, name=name):
+                    self.assertTrue((path.parent / "src" / f"{name}.rt").exists())
+
+
+if __name__ == "__main__":
+    unittest.main()
