@@ -216,7 +216,7 @@ pub fn search<R: Threads + Sync, T: Turnstile + Sync>(
         → IsUnfinished problem.now (min plan.cut (length problem.now.blocks))
         plan.nodes piece visited }
 
-    // Each piece was drawn once: none lacks its answer or has two.
+    // It never ends in the fault of a piece that lacks its answer or has two.
     ensures whole { (piece : ℕ) → ¬ (IsErrOf result (SearchFault.Collected piece)) }
 {
     let tables = Tables::of(alloc, problem)?;
