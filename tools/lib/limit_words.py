@@ -99,14 +99,14 @@ def short(search, found):
     return f"With a limit of {text.shown_price(found.limit)} EUR/MWh or {BETTER[search.order.side]} it would have been accepted."
 
 
-def of_rejected(day):
-    """The same for each rejected block of a day that can be had soon, by place. Nothing of results that are wrong, or if there is no
-    program to run."""
+def of_rejected(day, who=None):
+    """The same for each rejected block of a day, or of a participant, that can be had soon, by place. Nothing of results that are wrong, or
+    if there is no program to run."""
     said = {}
     if day.wrong:
         return said
     for place, block in enumerate(day.problem.blocks):
-        if place not in day.said.accepted:
+        if place not in day.said.accepted and who in (None, block.who):
             until = time.monotonic() + SECONDS
             search = limits.Search(day.book, (block.who, block.name), lambda given: soon(given, until))
             try:

@@ -256,7 +256,7 @@ class Statement(unittest.TestCase):
             ],
         )
         whys = [row["why"] for row in self.rows("--participant", "A")]
-        self.assertEqual(whys[:2], ["command 4 changes it", "command 5 changes it"])
+        self.assertEqual(whys[:2], ["command 4 changes it", "command 5 cancels it"])
         self.assertEqual(whys[2], "its limit is better than the price, 52.50 EUR/MWh")
         self.assertEqual(whys[4], "the participant has no such order: it was cancelled, refused, or never entered")
 

@@ -230,7 +230,7 @@ class CommandLine(unittest.TestCase):
     def test_tables_and_journals(self):
         texts = [AUCTION, AUCTION.with_suffix(".stdout")]
         with tempfile.TemporaryDirectory() as folder:
-            note = "table: 1 of 94 commands was refused: see --rows commands\n"
+            note = "table: 1 of 94 commands was refused (of GAS): see --rows commands\n"
             self.assertEqual(tool("table", *texts, "--all", folder), (0, b"", note))
             for name in tables.TABLES:
                 said = "" if name in ("commands", "statement") else note
