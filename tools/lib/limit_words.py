@@ -52,8 +52,10 @@ def record(search, found):
     own = search.order.price
 
     def case(name, limit, day):
-        surplus, welfare = (float(text.euros(amount, day.hours, "")) for amount in (day.surplus(search.key), day.welfare))
-        numbers = {"limit_eur_mwh": limit / 100, "accepted": day.orders[search.key], "surplus_eur": surplus, "welfare_eur": welfare}
+        amounts = day.surplus(search.key), day.gain(search.key[0]), day.welfare
+        surplus, gain, welfare = (float(text.euros(amount, day.hours, "")) for amount in amounts)
+        numbers = {"limit_eur_mwh": limit / 100, "accepted": day.orders[search.key], "surplus_eur": surplus, "gain_eur": gain}
+        numbers["welfare_eur"] = welfare
         return {"case": name, **numbers, "prices_eur_mwh": [price / 100 for price in day.prices]}
 
     def other(key):
@@ -137,7 +139,9 @@ def table(search, found):
     yield ["", *(name for name, _, _ in days)]
     yield ["limit, EUR/MWh", *(text.shown_price(limit) for _, limit, _ in days)]
     yield ["result", *(day.outcome(search.key) for _, _, day in days)]
-    yield ["surplus, EUR", *(text.amount(day.surplus(search.key), day.hours) for _, _, day in days)]
+    yield ["surplus at these prices, EUR", *(text.amount(day.surplus(search.key), day.hours) for _, _, day in days)]
+    who = search.key[0]
+    yield [f"gain of {who}, EUR", *(text.amount(day.gain(who), day.hours) for _, _, day in days)]
     yield ["welfare, EUR", *(text.amount(day.welfare, day.hours) for _, _, day in days)]
     own = {period for period, _ in search.order.volumes}
     for period, prices in enumerate(zip(*(day.prices for _, _, day in days)), 1):

@@ -204,8 +204,8 @@ class Page(unittest.TestCase):
         # Blocks stand before hourly orders, and so do the commands that follow on them.
         own = [words for words in read.texts if words in ("START", "STAY", "EVENING", "FLEX-1", "FLEX-24")]
         self.assertLess(max(at for at, words in enumerate(own) if words in ("START", "STAY", "EVENING")), own.index("FLEX-1"))
-        status, _, err = tool("report", *texts, "--participant", "NOBODY", "--curves", "none")
-        self.assertEqual((status, err), (0, "report: NOBODY has no command in the journal\n"))
+        found = tool("report", *texts, "--participant", "NOBODY", "--curves", "none")
+        self.assertEqual(found, (command.NO_INPUT, b"", "report: NOBODY has no command in the journal\n"))
         self.assertEqual(tool("report", *texts, "--participant", "gas")[0], command.COMMAND_LINE)
 
     def test_a_participants_rejected_block_says_which_limit_it_needed(self):
