@@ -15,15 +15,15 @@ class Columns:
     orders are needed as far as its commands have them."""
 
     def __init__(self, data, needed):
-        self.header = header_of(data)
-        self.table = order_table.table_of("", data, self.needed(data), (*needed, WHAT))
+        rows = rows_of(data)
+        self.header = header_of(rows)
+        self.table = order_table.table_of("", data, self.needed(rows[1:]), (*needed, WHAT))
         for name in needed:
             if name not in self.header:
                 raise order_table.Wrong(f"line 1: there is no column {name}")
 
-    def needed(self, data):
+    def needed(self, rows):
         """The columns of orders that the commands of the rows need; all of them if there are none."""
-        rows = [cells for _, cells in rows_of(data)][1:]
         filled = [cells for cells in rows if any(self.cell(cells, name) for name in (WHAT, *order_table.ORDER))]
         every = [NEEDED.get(self.cell(cells, WHAT).lower(), order_table.NEEDED) for cells in filled]
         return {name for names in every for name in names} if every else order_table.NEEDED
@@ -40,19 +40,19 @@ class Columns:
 def rows_of(data):
     """The rows of a table that aren't empty; none if it can't be read."""
     try:
-        return [(line, cells) for line, cells in sheets.rows_of(data)[0] if any(map(str.strip, cells))]
+        return [cells for _, cells in sheets.rows_of(data)[0] if any(map(str.strip, cells))]
     except sheets.Wrong:
         return []
 
 
-def header_of(data):
-    """The names of a table's columns; none if it can't be read."""
-    return [cell.strip().lower() for cell in next((cells for _, cells in rows_of(data)), [])]
+def header_of(rows):
+    """The names of a table's columns."""
+    return [cell.strip().lower() for cell in rows[0]] if rows else []
 
 
 def is_command_table(data):
     """Whether a text or workbook is a table with the column `what`."""
-    return WHAT in header_of(data)
+    return WHAT in header_of(rows_of(data))
 
 
 def read_command(row, what):

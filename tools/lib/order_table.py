@@ -29,9 +29,7 @@ DAYS = [str(periods) for periods in rules.DAYS]
 
 # By whether a comma may be the decimal point.
 DECIMAL = {comma: re.compile(rf"(-?)([0-9]{{1,9}})(?:[{points}]([0-9]+))?") for comma, points in ((False, "."), (True, ".,"))}
-
-
-# A number with separators of thousands, such as 1.234,50 or 1'234.50: those before the last mark are alike.
+# A number with separators of thousands, such as 1.234,50 or 1'234.50: they are alike, and differ from the decimal point.
 GROUPED = re.compile(r"(?P<whole>-?[0-9]{1,3}([.,' \u00a0\u202f])[0-9]{3}(?:\2[0-9]{3})*)(?:(?!\2)[.,](?P<digits>[0-9]+))?")
 
 
@@ -47,8 +45,8 @@ def trimmed(cells):
 
 
 def columns_of(header, needed, further):
-    """Where each column stands, and notes on those that aren't used; if not, all that is wrong with the columns, a line each. Those that are
-    needed have to be there; the further ones are used, and read by others."""
+    """Where each column stands, and notes on those that aren't used; if not, all that is wrong with the columns, a line each. Those that
+    are needed have to be there; the further ones are used, and read by others."""
     names = [cell.strip().lower() for cell in header]
     missing = [name for name in ORDER if name not in names]
     places, wrong, notes = {}, [], []

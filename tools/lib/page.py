@@ -345,7 +345,7 @@ def statement_table(day, who, limits):
         row = [name_cell(cells["order"]), cells["outcome"] or reply, why, amount]
         row += [cells[name] for name in ("executed_mwh", "command", "what", "kind", "side", "price_eur_mwh", "periods")]
         rows.append([*row, cells["volume_mw"].replace(";", "; ")])
-    columns = [*heads("is paid, EUR", "executed, MWh"), Head("command", NUMBER), *heads("what", "kind", "side", "limit, EUR/MWh", "periods")]
+    columns = heads("is paid, EUR", "executed, MWh", "#command", "what", "kind", "side", "limit, EUR/MWh", "periods")
     columns.append(Head("volume, MW", f"{NUMBER} list"))
     caption = f"Each command of {who}: what became of its order, or the reply, and the reason; an amount below 0 is paid by {who}"
     return Table(caption, [Head("order"), Head("outcome", "outcome"), Head("what decided", "why"), *columns], rows)

@@ -100,16 +100,17 @@ class Limits(unittest.TestCase):
 class Page(unittest.TestCase):
     """The sentence of a page for each rejected block."""
 
-    def said(self, lines, answer=lambda text, nodes: (None, support.results_of(text, best(text))), results=None):
+    def said(self, lines, answer=lambda text, nodes: (None, support.results_of(text, best(text))), results=None, who=None):
         data = journal_of(*lines)
         day = support.day_of(data, results or support.results_of(data, best(data)))
         with unittest.mock.patch.object(engine, "answer", answer):
-            return limit_words.of_rejected(day)
+            return limit_words.of_rejected(day, who)
 
     def test_the_sentence(self):
         high = SMALL[0], SMALL[1].replace("4000", "6000")
         sentence = "With a limit of 50.00 EUR/MWh or lower it would have been accepted."
         self.assertEqual(self.said(high), {0: sentence})
+        self.assertEqual((self.said(high, who="GEN"), self.said(high, who="CITY")), ({0: sentence}, {}))
         low = BUYER[0], BUYER[1].replace("3000", "1999")
         self.assertEqual(self.said(low), {0: sentence.replace("50", "20").replace("lower", "higher")})
         self.assertEqual(self.said(NEVER)[1], "With no limit would it have been accepted.")
@@ -201,7 +202,7 @@ class Tools(unittest.TestCase):
         self.assertEqual(status, 0)
         self.assertEqual([(row["limit_eur_mwh"], row["executed_mw"]) for row in self.rows(out)],
                          [("39.99", "0.0"), ("40.00", "2.0"), ("40.01", "2.0"), ("50.00", "2.0")])
-        said = "whatif: sampled at 4 limits, one of them the order's own, 50.00 EUR/MWh: between them the result may be another, since no law"
+        said = "whatif: sampled at 4 limits, one of them the order's own, 50.00 EUR/MWh: between them the result may be another"
         self.assertTrue(err.startswith(said), err)
         err = self.whatif("limit", self.journal, *words[:4], "--from", "50", "--to", "51")[2]
         self.assertTrue(err.startswith("whatif: sampled at 2 limits: between"), err)
@@ -272,8 +273,8 @@ class Tools(unittest.TestCase):
             (["change", self.journal, "-"], TABLE + b"amend,GEN,UNIT,,,60,25,2\n", 3,
              "standard input: line 2, column periods: the day has periods 1 to 24, so there is no period 25 (PeriodOutOfDay)"),
             (["change", self.journal, "-"], b"what,participant,price_eur_mwh,periods,volume_mw\namend,GEN,60,1,2\n", 3,
-             "standard input: line 1: there is no column order; the columns are what, participant, order, kind, side, price_eur_mwh, periods,"
-             " volume_mw, parent, group"),
+             "standard input: line 1: there is no column order; the columns are what, participant, order, kind, side, price_eur_mwh,"
+             " periods, volume_mw, parent, group"),
             (["change", self.journal, self.journal, "--participant", "NONE"], b"", 3, None),
         ):
             with self.subTest(said):
