@@ -3,6 +3,7 @@
 from . import book, command_table, journal, order_table, sent, text
 from .engine import Fault
 
+MOST_LINES = 5  # of what is wrong with a table
 HEADS = ["what", "unit", "participant", "order", "period", "before", "after", "change", "outcome_before", "outcome_after"]
 
 
@@ -68,10 +69,11 @@ def differing(before, after, but=None):
     return [key for key in before.rows if key != but and key in after.rows and before.orders[key] != after.orders[key]]
 
 
-def in_one_line(fault):
-    """The first line of what is wrong, and how many more there are."""
-    first, *more = str(fault).split("\n")
-    return f"{first}{f' (and {len(more)} more)' if more else ''}"
+def in_few_lines(fault):
+    """The first lines of what is wrong, and how many more there are."""
+    lines = str(fault).split("\n")
+    more = len(lines) - MOST_LINES
+    return "\n  ".join(lines[:MOST_LINES] + ([f"and {more} more"] if more > 0 else []))
 
 
 def read_changes(data, periods):
@@ -84,7 +86,7 @@ def read_changes(data, periods):
             return [(f"line {line}", command) for line, command in command_table.read_commands(data, periods)]
         return [(f"order {number}", submit) for number, submit in order_table.read_tables([("", data)], periods).submits]
     except (sent.Wrong, order_table.Wrong) as fault:
-        raise Fault(in_one_line(fault)) from None
+        raise Fault(in_few_lines(fault)) from None
 
 
 def before_close(read):

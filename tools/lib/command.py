@@ -263,6 +263,12 @@ class Day:
             tell(tool, f"the encoding of the results differs ({self.odd[0]}): {SEE_AUDIT}")
 
 
+def need_participant(who, read):
+    """Ends the tool if a participant is asked for that has no command in a journal, such as one whose name is misspelt."""
+    if who and who not in {getattr(entry, "who", None) for entry in read.commands}:
+        raise Stop(f"{who} has no command in the journal")
+
+
 def has(module):
     return importlib.util.find_spec(module) is not None
 

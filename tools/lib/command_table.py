@@ -2,44 +2,57 @@
 tools/table --rows commands prints them."""
 
 from . import journal, order_table, sheets, text
+from .order_table import WHAT
 
-WHAT = "what"
+# The columns that each command needs.
+CANCEL = ("participant", "order")
+AMEND = (*CANCEL, "price_eur_mwh", "periods", "volume_mw")
+NEEDED = {"cancel": CANCEL, "amend": AMEND, "close": ()}
 
 
 class Columns:
-    """A table of orders that has further columns, some of which it must have: where these stand, and the table."""
+    """A table of commands or of orders that has further columns, some of which it must have: where these stand, and the table. Those of
+    orders are needed as far as its commands have them."""
 
     def __init__(self, data, needed):
-        self.table, self.further = order_table.table_of("", data), (WHAT, *needed)
-        self.header = header_of(data)
+        rows = rows_of(data)
+        self.header = header_of(rows)
+        self.table = order_table.table_of("", data, self.needed(rows[1:]), (*needed, WHAT))
         for name in needed:
             if name not in self.header:
                 raise order_table.Wrong(f"line 1: there is no column {name}")
+
+    def needed(self, rows):
+        """The columns of orders that the commands of the rows need; all of them if there are none."""
+        filled = [cells for cells in rows if any(self.cell(cells, name) for name in (WHAT, *order_table.ORDER))]
+        every = [NEEDED.get(self.cell(cells, WHAT).lower(), order_table.NEEDED) for cells in filled]
+        return {name for names in every for name in names} if every else order_table.NEEDED
 
     def cell(self, cells, name):
         at = self.header.index(name) if name in self.header else len(cells)
         return sheets.unescaped(cells[at].strip()) if at < len(cells) else ""
 
-    def notes(self):
-        """Notes on columns that aren't used."""
-        return [note for note in self.table.notes if not any(text.quoted(name) in note.lower() for name in self.further)]
-
     def is_empty(self, cells):
-        """Whether a row has no command."""
-        return not any(self.cell(cells, name) for name in (WHAT, *self.table.places))
+        """Whether a row adds no command to a day: it has none, or the close, before which the commands are put."""
+        return not any(self.cell(cells, name) for name in (WHAT, *self.table.places)) or self.cell(cells, WHAT).lower() == "close"
 
 
-def header_of(data):
+def rows_of(data):
+    """The rows of a table that aren't empty; none if it can't be read."""
+    try:
+        return [cells for _, cells in sheets.rows_of(data)[0] if any(map(str.strip, cells))]
+    except sheets.Wrong:
+        return []
+
+
+def header_of(rows):
     """The names of a table's columns."""
-    return [cell.strip().lower() for cell in next(cells for _, cells in sheets.rows_of(data)[0] if any(map(str.strip, cells)))]
+    return [cell.strip().lower() for cell in rows[0]] if rows else []
 
 
 def is_command_table(data):
     """Whether a text or workbook is a table with the column `what`."""
-    try:
-        return WHAT in header_of(data)
-    except (sheets.Wrong, StopIteration):
-        return False
+    return WHAT in header_of(rows_of(data))
 
 
 def read_command(row, what):
@@ -62,7 +75,7 @@ def read_command(row, what):
 
 def read_commands(data, periods):
     """The commands of a table, each with its line. What is wrong with them, a line each, is `order_table.Wrong`."""
-    columns, found, wrong = Columns(data, (WHAT,)), [], []
+    columns, found, wrong = Columns(data, ()), [], []
     for line, cells in columns.table.rows:
         if columns.is_empty(cells):
             continue

@@ -52,8 +52,10 @@ def record(search, found):
     own = search.order.price
 
     def case(name, limit, day):
-        surplus, welfare = (float(text.euros(amount, day.hours, "")) for amount in (day.surplus(search.key), day.welfare))
-        numbers = {"limit_eur_mwh": limit / 100, "accepted": day.orders[search.key], "surplus_eur": surplus, "welfare_eur": welfare}
+        amounts = day.surplus(search.key), day.gain(search.key[0]), day.welfare
+        surplus, gain, welfare = (float(text.euros(amount, day.hours, "")) for amount in amounts)
+        numbers = {"limit_eur_mwh": limit / 100, "accepted": day.orders[search.key], "surplus_eur": surplus, "gain_eur": gain}
+        numbers["welfare_eur"] = welfare
         return {"case": name, **numbers, "prices_eur_mwh": [price / 100 for price in day.prices]}
 
     def other(key):
@@ -99,14 +101,14 @@ def short(search, found):
     return f"With a limit of {text.shown_price(found.limit)} EUR/MWh or {BETTER[search.order.side]} it would have been accepted."
 
 
-def of_rejected(day):
-    """The same for each rejected block of a day that can be had soon, by place. Nothing of results that are wrong, or if there is no
-    program to run."""
+def of_rejected(day, who=None):
+    """The same for each rejected block of a day, or of a participant, that can be had soon, by place. Nothing of results that are wrong, or
+    if there is no program to run."""
     said = {}
     if day.wrong:
         return said
     for place, block in enumerate(day.problem.blocks):
-        if place not in day.said.accepted:
+        if place not in day.said.accepted and who in (None, block.who):
             until = time.monotonic() + SECONDS
             search = limits.Search(day.book, (block.who, block.name), lambda given: soon(given, until))
             try:
@@ -137,7 +139,9 @@ def table(search, found):
     yield ["", *(name for name, _, _ in days)]
     yield ["limit, EUR/MWh", *(text.shown_price(limit) for _, limit, _ in days)]
     yield ["result", *(day.outcome(search.key) for _, _, day in days)]
-    yield ["surplus, EUR", *(text.amount(day.surplus(search.key), day.hours) for _, _, day in days)]
+    yield ["surplus at these prices, EUR", *(text.amount(day.surplus(search.key), day.hours) for _, _, day in days)]
+    who = search.key[0]
+    yield [f"gain of {who}, EUR", *(text.amount(day.gain(who), day.hours) for _, _, day in days)]
     yield ["welfare, EUR", *(text.amount(day.welfare, day.hours) for _, _, day in days)]
     own = {period for period, _ in search.order.volumes}
     for period, prices in enumerate(zip(*(day.prices for _, _, day in days)), 1):

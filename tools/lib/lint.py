@@ -273,7 +273,7 @@ class Lint:
         if reason == "HasChildren":
             children = [other for (owner, other), order in self.held.rows.items() if (owner, order.parent) == (who, name)]
             line = self.lines[who, children[0]]
-            return "order", f"{children[0]} of line {line} names {name} as its parent: cancel that first"
+            return "order", f"{children[0]} of line {line} names {name} as its parent: cancel {children[0]} first"
         return {
             "Closed": ("", f"the book is closed by line {self.closed}: put the command before it"),
             "NameTaken": (

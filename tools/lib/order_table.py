@@ -11,6 +11,10 @@ from .tables import ORDER, RESULT
 
 # The columns that a row may leave empty, or a table out.
 OPTIONAL = ["parent", "group"]
+NEEDED = [name for name in ORDER if name not in OPTIONAL]
+# The column of a table of commands that says what a row does, and what a table of orders can't do.
+WHAT = "what"
+COMMANDS_ALONE = ("amend", "cancel", "close")
 MOST_ERRORS = 20
 ALIKE = 0.75  # a column whose name is at least so similar to one that is missing is probably meant to be that
 TIMES = re.compile(r"([0-9]{1,2}:[0-9]{2})-([0-9]{1,2}:[0-9]{2})")
@@ -25,6 +29,8 @@ DAYS = [str(periods) for periods in rules.DAYS]
 
 # By whether a comma may be the decimal point.
 DECIMAL = {comma: re.compile(rf"(-?)([0-9]{{1,9}})(?:[{points}]([0-9]+))?") for comma, points in ((False, "."), (True, ".,"))}
+# A number with separators of thousands, such as 1.234,50 or 1'234.50: they are alike, and differ from the decimal point.
+GROUPED = re.compile(r"(?P<whole>-?[0-9]{1,3}([.,' \u00a0\u202f])[0-9]{3}(?:\2[0-9]{3})*)(?:(?!\2)[.,](?P<digits>[0-9]+))?")
 
 
 class Wrong(Exception):
@@ -38,8 +44,9 @@ def trimmed(cells):
     return cells
 
 
-def columns_of(header):
-    """Where each column stands, and notes on those that aren't used; if not, all that is wrong with the columns, a line each."""
+def columns_of(header, needed, further):
+    """Where each column stands, and notes on those that aren't used; if not, all that is wrong with the columns, a line each. Those that
+    are needed have to be there; the further ones are used, and read by others."""
     names = [cell.strip().lower() for cell in header]
     missing = [name for name in ORDER if name not in names]
     places, wrong, notes = {}, [], []
@@ -48,13 +55,15 @@ def columns_of(header):
             wrong.append(f"line 1, column {at}: the column {text.quoted(name)} appears twice")
         elif name in ORDER + RESULT:
             places[name] = at - 1
+        elif name in further:
+            continue
         elif alike := difflib.get_close_matches(name, missing, 1, ALIKE):
             wrong.append(f"line 1, column {at}: {text.quoted(cell)} is not a column: write {alike[0]}")
         elif name:
             notes.append(f"the column {text.quoted(cell)} isn't used")
-    lacking = [name for name in missing if name not in OPTIONAL]
+    lacking = [name for name in missing if name in needed]
     if lacking:
-        wrong.append(f"line 1: there is no column {', '.join(lacking)}; the columns are {', '.join(ORDER)}")
+        wrong.append(f"line 1: there is no column {', '.join(lacking)}; the columns are {', '.join([*further, *ORDER])}")
     if wrong:
         raise Wrong("\n".join([*wrong, *(f"line 1: {note}" for note in notes)] if lacking else wrong))
     return places, notes
@@ -66,7 +75,7 @@ def scaled(cell, factor, least, greatest, unit, decimal_comma):
         raise Wrong(f"it is empty, or a formula that wasn't saved with its value: it should be a number of {unit}, such as 92.5")
     found = DECIMAL[decimal_comma].fullmatch(cell)
     if not found:
-        raise Wrong(f"{text.quoted(cell)} should be a number of {unit}, such as 92.5")
+        raise Wrong(f"{text.quoted(cell)} should be a number of {unit}, {such_as(cell, decimal_comma)}")
     sign, whole, rest = found.groups()
     value = Fraction(f"{whole}.{rest or 0}") * factor * (-1 if sign else 1)
     digits = len(str(factor)) - 1
@@ -76,6 +85,15 @@ def scaled(cell, factor, least, greatest, unit, decimal_comma):
         ends = [text.fixed(Fraction(end) / factor, digits) for end in (least, greatest)]
         raise Wrong(f"{text.quoted(cell)} should be from {ends[0]} to {ends[1]} {unit}")
     return int(value)
+
+
+def such_as(cell, decimal_comma):
+    """An example of a number, or how to write the one of a cell that has separators of thousands."""
+    found = GROUPED.fullmatch(cell)
+    if not found:
+        return "such as 92.5"
+    whole, digits, mark = re.sub(r"[^0-9-]", "", found["whole"]), found["digits"], "," if decimal_comma else "."
+    return f"without separators of thousands: {whole}{mark + digits if digits else ''}"
 
 
 def parts(cell):
@@ -142,16 +160,19 @@ def read_word(*words):
     return read
 
 
-def read_participant(cell):
-    if not cell.isascii() or text.participant(cell.encode()) is None:
-        raise Wrong(f"{text.quoted(cell)} should be {text.A_PARTICIPANT}")
-    return cell
+def read_field(name):
+    """A name, as a field of a journal; of one that breaks its rule it is said what to write."""
+
+    def read(cell):
+        found, wrong = fields.read(name, cell)
+        if wrong:
+            raise Wrong(f"{text.quoted(cell)} {wrong.removeprefix('it ')}")
+        return found
+
+    return read
 
 
-def read_name(cell):
-    if not cell.isascii() or text.name(cell.encode()) is None:
-        raise Wrong(f"{text.quoted(cell)} should be {text.A_NAME}")
-    return cell
+read_participant, read_name = read_field("participant"), read_field("order")
 
 
 def read_price(cell, decimal_comma):
@@ -251,8 +272,8 @@ class Table(NamedTuple):
         return f"{self.name}: {words}" if self.name else words
 
 
-def table_of(name, data):
-    """A table of orders, of which the header has been read."""
+def table_of(name, data, needed=NEEDED, further=()):
+    """A table of orders, of which the header has been read; or one that needs other columns, and has further ones."""
     if kinds.kind_of(data) in (kinds.JOURNAL, kinds.DAY):
         raise Wrong("this seems to be a journal already")
     try:
@@ -263,12 +284,25 @@ def table_of(name, data):
     if not rows:
         raise Wrong(f"the table is empty: its first line should name the columns {', '.join(ORDER)}")
     header = rows[0][1]
-    places, notes = columns_of(header)
+    if WHAT not in further:
+        refuse_commands(header, rows[1:])
+    places, notes = columns_of(header, needed, further)
     again = [number for number, cells in rows[1:] if cells == header]
     if again:
         notes.append(f"line {', '.join(map(str, again))} names the columns once more")
     rows = [(number, cells) for number, cells in rows[1:] if cells != header]
     return Table(name, rows, places, len(header), decimal_comma, notes)
+
+
+def refuse_commands(header, rows):
+    """Refuses a table of commands with one that no order of a table can be."""
+    names = [cell.strip().lower() for cell in header]
+    at = names.index(WHAT) if WHAT in names else None
+    for line, cells in rows if at is not None else []:
+        word = cells[at].strip().lower() if at < len(cells) else ""
+        if word in COMMANDS_ALONE:
+            words = "this is a table of commands; a table of orders has no amend, cancel or close"
+            raise Wrong(f"line {line}, column {WHAT}: {text.quoted(word)}: {words}")
 
 
 class Orders(NamedTuple):

@@ -2,7 +2,7 @@
 
 from . import command, shapes, sheets
 
-WORKBOOK = ".xlsx"
+WORKBOOK, CSV = ".xlsx", ".csv"
 
 
 def add_options(parser):
@@ -26,6 +26,11 @@ def check_options(args, *inputs):
 
 def is_workbook(path):
     return path.lower().endswith(WORKBOOK)
+
+
+def is_table(path):
+    """Whether the name of a file is one of a table."""
+    return is_workbook(path) or path.lower().endswith(CSV)
 
 
 def write(tool, args, name, rows, periods):

@@ -326,19 +326,27 @@ def sections(day, found, limits, curves):
         yield Section("refused", "Refused commands", refused)
 
 
-def statement_table(day, who):
-    """What a participant sent, the replies, and what became of its orders."""
-    heads_of, *commands = tables.statement(day)
+def own_commands(day, who):
+    """The commands of a participant as in its statement, each by the names of its columns: those of blocks first."""
+    heads_of, *commands = tables.statement(day, text.amount)
+    own = [cells for cells in (dict(zip(heads_of, row)) for row in commands) if cells["participant"] == who]
+    blocks = {cells["order"] for cells in own if cells["kind"] == "block"}
+    return sorted(own, key=lambda cells: cells["order"] not in blocks)
+
+
+def statement_table(day, who, limits):
+    """What a participant sent, the replies, and what became of its orders, with the limits that its rejected blocks needed."""
+    needed = {day.problem.blocks[place].name: words for place, words in limits.items()}
     rows = []
-    for cells in (dict(zip(heads_of, row)) for row in commands):
-        if cells["participant"] == who:
-            reply = "done" if cells["reply"] == "done" else f"refused: {cells['reason']}"
-            amount = text.shown(Fraction(cells["amount_eur"]), 2) if cells["amount_eur"] else ""
-            row = [name_cell(cells["order"]), cells["outcome"] or reply, cells["why"], amount]
-            row += [cells[name] for name in ("executed_mwh", "what", "kind", "side", "price_eur_mwh", "periods")]
-            rows.append([*row, cells["volume_mw"].replace(";", "; "), cells["command"]])
-    columns = heads("is paid, EUR", "executed, MWh", "what", "kind", "side", "limit, EUR/MWh", "periods")
-    columns += [Head("volume, MW", f"{NUMBER} list"), Head("command", NUMBER)]
+    for cells in own_commands(day, who):
+        reply = "done" if cells["reply"] == "done" else f"refused: {cells['reason']}"
+        amount = text.shown(Fraction(cells["amount_eur"]), 2) if cells["amount_eur"] else ""
+        why = f"{cells['why']}. {needed[cells['order']]}" if cells["outcome"] and cells["order"] in needed else cells["why"]
+        row = [name_cell(cells["order"]), cells["outcome"] or reply, why, amount]
+        row += [cells[name] for name in ("executed_mwh", "command", "what", "kind", "side", "price_eur_mwh", "periods")]
+        rows.append([*row, cells["volume_mw"].replace(";", "; ")])
+    columns = heads("is paid, EUR", "executed, MWh", "#command", "what", "kind", "side", "limit, EUR/MWh", "periods")
+    columns.append(Head("volume, MW", f"{NUMBER} list"))
     caption = f"Each command of {who}: what became of its order, or the reply, and the reason; an amount below 0 is paid by {who}"
     return Table(caption, [Head("order"), Head("outcome", "outcome"), Head("what decided", "why"), *columns], rows)
 
@@ -354,9 +362,9 @@ def own_periods(day, who):
     return Table(f"What {who} trades in each period", columns, rows)
 
 
-def own_sections(day, who, curves):
+def own_sections(day, who, limits, curves):
     """The page of a participant: its statement, its periods, and what everybody may see."""
-    yield Section("statement", f"Orders of {who}", [statement_table(day, who)])
+    yield Section("statement", f"Orders of {who}", [statement_table(day, who, limits)])
     yield Section("periods", "Periods", [own_periods(day, who)])
     yield Section("prices", "Prices and volumes", [drawn(lambda width: pictures.prices_picture(day, width), "prices", prices_words(day))])
     if made := list(curves):
@@ -375,6 +383,7 @@ def own_figures(day, who):
         ("pays", euros(day, total.paid), "EUR"),
         ("is paid", euros(day, total.received), "EUR"),
         ("net", euros(day, total.received - total.paid), "EUR"),
+        ("gain", euros(day, total.gained), "EUR"),
     ):
         yield words, value, unit
 
@@ -382,9 +391,9 @@ def own_figures(day, who):
 def page(day, title, curves, date=None, who=None):
     """The page of a day, or of a participant's part of it, with the curves of some periods, and the date of delivery if it is known."""
     found = decisions.decisions(day.problem, day.said.accepted, day.outcome)
-    limits = {} if who else limit_words.of_rejected(day)  # before the curves, which would take the time that it has
+    limits = limit_words.of_rejected(day, who)  # before the curves, which would take the time that it has
     with curves_of(day, curves) as drawn_curves:
-        parts = list(own_sections(day, who, drawn_curves) if who else sections(day, found, limits, drawn_curves))
+        parts = list(own_sections(day, who, limits, drawn_curves) if who else sections(day, found, limits, drawn_curves))
     return TEMPLATES.get_template("page.html").render(
         title=title,
         style=style(),

@@ -6,6 +6,7 @@ from .scenario_tables import quantile
 from matplotlib import pyplot
 
 BINS = 30
+MEDIAN = "median of the surplus"
 HEIGHT = 1.7  # inches, of a block
 
 
@@ -29,4 +30,6 @@ def draw(axes, over, key):
     axes.set_ylabel("scenarios")
     axes.xaxis.set_major_formatter(lambda value, _: f"{value:,.0f}")
     if found:
-        axes.axvline(quantile(sorted(found), 50), color=pictures.COLOURS["ink"], linewidth=1, linestyle="--")
+        middle = f"{MEDIAN}: {quantile(sorted(found), 50):,.2f} EUR"
+        axes.axvline(quantile(sorted(found), 50), color=pictures.COLOURS["ink"], linewidth=1, linestyle="--", label=middle)
+        axes.legend(loc="lower right", bbox_to_anchor=(1, 1), borderaxespad=0, fontsize=8, frameon=False)  # beside the title

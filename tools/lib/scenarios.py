@@ -82,7 +82,7 @@ def read_table(name, data, held):
     try:
         columns = Columns(data, (SCENARIO,))
     except order_table.Wrong as fault:
-        raise Fault(f"{name}: {changes.in_one_line(fault)}") from None
+        raise Fault(f"{name}: {changes.in_few_lines(fault)}") from None
     lines = [(line, columns.cell(cells, SCENARIO), cells) for line, cells in columns.table.rows]
     seen, found = {}, []
     for scenario, rows in itertools.groupby(lines, lambda each: each[1]):
@@ -98,7 +98,7 @@ def read_table(name, data, held):
         found.append(Scenario(scenario, book_text(after, held.periods), lambda after=after: after))
     if not found:
         raise Fault(f"{name}: it has no scenarios")
-    return found, columns.notes()
+    return found, columns.table.notes
 
 
 def entered(name, columns, rows, held):
@@ -109,7 +109,8 @@ def entered(name, columns, rows, held):
         row = order_table.Row(cells, columns.table, held.periods)
         command = read_command(row, columns.cell(cells, WHAT).lower())
         if row.wrong:
-            raise Fault(f"{name}: line {line}, {row.wrong[0]}{f' (and {len(row.wrong) - 1} more)' if row.wrong[1:] else ''}")
+            wrong = "\n".join(f"line {line}, {words}" for words in row.wrong)
+            raise Fault(f"{name}: {changes.in_few_lines(wrong)}")
         try:
             held = changes.entered(held, [(f"line {line}", command)])
         except Fault as fault:

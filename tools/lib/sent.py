@@ -38,9 +38,10 @@ class Own(NamedTuple):
     is_table: bool  # whether it is a table of orders, which may also be what they have become at the end
 
 
-def read_sent(data, who, periods):
+def read_sent(data, who, periods, has_none):
     """The commands of a participant in a list: records as in a journal, with the records `day` and `close` or without them, or a table
-    of orders. Those of others are left out."""
+    of orders. Those of others are left out. A list with those of others alone is wrong, except a table if the participant `has_none` in the
+    book at the end, having cancelled them."""
     is_table = not WORDS.match(data.removeprefix(text.MARK))
     if is_table:
         own, others = read_table(data, periods, who)
@@ -48,7 +49,7 @@ def read_sent(data, who, periods):
         every = list(read_records(data, periods))
         own = [sent for sent in every if sent.command.who == who]
         others = len(every) - len(own)
-    if others and not own:
+    if others and not own and not (is_table and has_none):
         raise Wrong(f"it has {text.counted(others, 'command')} of others, and none of {who}")
     return Own(own, others, is_table)
 
@@ -161,15 +162,20 @@ def about(entry):
     return f"order {entry.command.who},{entry.command.name}"
 
 
+def placed(entry):
+    """A record of the journal, with its number among the commands, which other tools print."""
+    return f"record {entry.record} (command {entry.record - 1})"
+
+
 def moved_line(one, other):
     shown = journal.command_line(one.command)
-    words = f"sent record {one.record} is moved: record {other.record} of the journal is out of its order: {shown}"
+    words = f"sent record {one.record} is moved: {placed(other)} of the journal is out of its order: {shown}"
     return Fault(words, "moved", other.record, about(one))
 
 
 def changed_line(one, other):
     was, now = journal.command_line(one.command), journal.command_line(other.command)
-    words = f"sent record {one.record} is changed: it was '{was}', and record {other.record} of the journal is '{now}'"
+    words = f"sent record {one.record} is changed: it was '{was}', and {placed(other)} of the journal is '{now}'"
     return Fault(words, "changed", other.record, about(one))
 
 
@@ -182,9 +188,9 @@ def more_line(other, times):
     """What is said of a record that wasn't sent; its command was sent `count` times."""
     shown = journal.command_line(other.command)
     if not times:
-        return Fault(f"record {other.record} of the journal was not sent: {shown}", "unsent", other.record, about(other))
+        return Fault(f"{placed(other)} of the journal was not sent: {shown}", "unsent", other.record, about(other))
     count = "once" if times == 1 else f"{times} times"
-    words = f"record {other.record} of the journal repeats what was sent {count}: {shown}"
+    words = f"{placed(other)} of the journal repeats what was sent {count}: {shown}"
     return Fault(words, "repeated", other.record, about(other))
 
 
@@ -197,4 +203,4 @@ def place_of(one, sent, published, pairs):
 def replies(sent, published):
     """The reply to each command, if all are published as they were sent."""
     for one, other in zip(sent, published):
-        yield f"sent record {one.record} is record {other.record}: {other.reply}: {journal.command_line(one.command)}"
+        yield f"sent record {one.record} is {placed(other)}: {other.reply}: {journal.command_line(one.command)}"

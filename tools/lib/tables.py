@@ -11,6 +11,7 @@ from .book import REASONS
 ORDER = ["participant", "order", "kind", "side", "price_eur_mwh", "periods", "volume_mw", "parent", "group"]
 # What the table of a result's orders has in addition.
 RESULT = ["offered_mwh", "executed_mwh", "outcome", "surplus_eur", "amount_eur"]
+MOST_NAMED = 5  # participants whose commands were refused
 
 
 def euros(day, amount):
@@ -124,9 +125,9 @@ class Result(NamedTuple):
     why: str
 
 
-def results_by_row(day):
-    """What became of each order of the book, by participant and name."""
-    found = iter(zip(decisions.decisions(day.problem, day.said.accepted, day.outcome, plain_amount), day.said.surpluses))
+def results_by_row(day, write=plain_amount):
+    """What became of each order of the book, by participant and name. `write` writes the amounts of the reasons."""
+    found = iter(zip(decisions.decisions(day.problem, day.said.accepted, day.outcome, write), day.said.surpluses))
     executed = iter(day.said.executed)
     made = {}
     for row, trades_made in trades.row_trades(day):
@@ -154,10 +155,11 @@ def last_commands(day):
     return last, replaced
 
 
-def statement(day):
-    """Each command with the book's reply, and with what became of its order if no later command changed it."""
+def statement(day, write=plain_amount):
+    """Each command with the book's reply, and with what became of its order if no later command changed it. `write` writes the amounts of
+    the reasons."""
     yield ["command", "what", *ORDER, "reply", "reason", "outcome", "executed_mwh", "surplus_eur", "amount_eur", "code", "why"]
-    became, (last, replaced) = results_by_row(day), last_commands(day)
+    became, (last, replaced) = results_by_row(day, write), last_commands(day)
     for number, (command, reason) in enumerate(zip(day.journal.commands, day.reasons), 1):
         key = getattr(command, "who", None), getattr(command, "name", None)
         cells = [number, *command_cells(command), "refused" if reason else "done", reason or ""]
@@ -165,14 +167,24 @@ def statement(day):
         if result:
             yield [*cells, result.outcome, result.executed, result.surplus, result.amount, result.code, result.why]
         else:
-            why = REASONS[reason] if reason else f"command {replaced[number]} changes it" if number in replaced else ""
+            why = REASONS[reason] if reason else later_why(day, replaced[number]) if number in replaced else ""
             yield [*cells, "", "", "", "", "", why]
 
 
-def refused(reasons):
-    """How many commands were refused, in words; None if none was."""
-    count = sum(reason is not None for reason in reasons)
-    return f"{count} of {len(reasons)} commands {'was' if count == 1 else 'were'} refused" if count else None
+def later_why(day, number):
+    """What the command that changed an order last did to it."""
+    does = "cancels" if isinstance(day.journal.commands[number - 1], journal.Cancel) else "changes"
+    return f"command {number} {does} it"
+
+
+def refused(read, reasons):
+    """How many commands of a journal were refused, and whose, in words; None if none was."""
+    refusals = [command for command, reason in zip(read.commands, reasons) if reason]
+    if not refusals:
+        return None
+    owners = list(dict.fromkeys(command.who for command in refusals if not isinstance(command, journal.Close)))
+    whose = f" (of {', '.join(owners)})" if 0 < len(owners) <= MOST_NAMED else ""
+    return f"{len(refusals)} of {len(reasons)} commands {'was' if len(refusals) == 1 else 'were'} refused{whose}"
 
 
 def figure_values(day):

@@ -151,11 +151,12 @@ class Audit:
         """Compares what a participant sent with the journal."""
         options = self.options
         self.checked.append("commands sent")
+        published = sent.published_of(read, reasons, options.participant)
+        has_none = bool(published) and all(who != options.participant for who, _ in closed.rows)
         try:
-            own = sent.read_sent(self.read("sent", options.sent), options.participant, read.periods)
+            own = sent.read_sent(self.read("sent", options.sent), options.participant, read.periods, has_none)
         except sent.Wrong as fault:
             raise command.Stop(f"{command.shown(options.sent)} isn't what {options.participant} sent: {fault}") from None
-        published = sent.published_of(read, reasons, options.participant)
         wrong, right = sent.compared(own, published, closed, options.participant)
         self.wrong, self.unlike = wrong, len(wrong)
         self.right += right if not wrong else []

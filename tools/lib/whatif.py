@@ -111,8 +111,9 @@ def clear_one(args, running=None):
 
 
 def limit(args):
-    """The worst limit at which a block is accepted, to the cent, or why no limit is enough; the prices, its surplus and the welfare at it
-    and one cent past it, and the other orders whose result differs. For an hourly order, what becomes of it under some limits."""
+    """The worst limit at which a block is accepted, to the cent, or why no limit is enough; the prices, its surplus, the participant's gain
+    and the welfare at it and one cent past it, and the other orders whose result differs. That is in words; with --decimal-comma, or a file
+    whose name ends with .csv or .xlsx, it is a table of one row. For an hourly order, what becomes of it under some limits."""
     output.check_options(args, args.journal)
     if args.all == bool(args.order):
         raise command.Stop("give --order with the order's name, or --all for every block", command.COMMAND_LINE)
@@ -130,7 +131,7 @@ def limit(args):
     found = search.worst()
     if args.json:
         data = json.dumps(limit_words.record(search, found), indent=1) + "\n"
-    elif output.is_workbook(args.out) or args.decimal_comma:
+    elif output.is_table(args.out) or args.decimal_comma:
         output.write("whatif", args, "limits", [limit_words.HEADS, limit_words.row(search, found)], held.periods)
         return command.DONE
     else:
@@ -188,7 +189,10 @@ def sampled(args, held, key):
         day = search.at(cents)
         amounts = [text.euros(amount, day.hours, thousands="") for amount in (day.surplus(key), day.welfare)]
         rows.append([text.cents(cents), text.tenths(day.executed(key)), text.cents(day.prices[period - 1]), *amounts])
-    command.tell("whatif", f"sampled at {text.counted(len(grid), 'limit')}: between them the result may be another, since {limits.NO_LAW}")
+    own = search.order.price
+    extra = "" if own in range(least, greatest + 1, step) else f", one of them the order's own, {text.shown_price(own)} EUR/MWh"
+    count = text.counted(len(grid), "limit") + extra
+    command.tell("whatif", f"sampled at {count}: between them the result may be another, since {limits.NO_LAW}")
     output.write("whatif", args, "samples", rows, held.periods)
     return command.DONE
 
@@ -260,7 +264,8 @@ def check_scenarios(args):
 
     drawn = {"--seed": args.seed, "--price-sd": args.price_sd, "--volume-sd": args.volume_sd}
     if (args.scenarios is None) == (args.sample is None):
-        stop("give a table of scenarios, or --sample with how many random ones")
+        both = "; for another limit of your own, put an amend into a copy of the journal" if args.sample else ""
+        stop(f"give a table of scenarios, or --sample with how many random ones{', not both' * bool(both)}{both}")
     if args.sample is None:
         given = [name for name, value in drawn.items() if value is not None]
         if given:

@@ -14,7 +14,7 @@ from lib import command, tables
 PACKAGES = {"plot": ["matplotlib"], "report": ["matplotlib", "jinja2"], "table": []}
 MARK = b"\xef\xbb\xbf"
 TOOLS_HERE = [name for name, packages in PACKAGES.items() if all(map(command.has, packages))]
-NOTE = "table: 1 of 94 commands was refused: see --rows commands\n"
+NOTE = "table: 1 of 94 commands was refused (of GAS): see --rows commands\n"
 
 
 def at_a_terminal(name, *words, cwd):

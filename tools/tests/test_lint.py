@@ -166,7 +166,7 @@ class Hand(unittest.TestCase):
         ):
             self.check(GOOD.replace(b"close", line + b"\nclose"), (f"line 4, {field}", part))
         both = child + b"UNIT-1,\ncancel,GAS,UNIT-1,,,,,,\n"
-        self.check(GOOD.replace(b"close", both + b"close"), ("line 5, order", "UNIT-2 of line 4 names UNIT-1 as its parent"))
+        self.check(GOOD.replace(b"close", both + b"close"), ("line 5, order", "UNIT-2 of line 4 names UNIT-1 as its parent: cancel UNIT-2 first"))
         self.check(GOOD + HOUR, ("line 5", "the book is closed by line 4: put the command before it"))
         blocks = b"".join(b"submit,A,K%d,block,sell,1,1:1,,\n" % number for number in range(24))
         self.check(GOOD.replace(b"close", blocks + b"close"), ("line 27", "a book holds at most 24 blocks"))

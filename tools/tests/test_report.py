@@ -2,9 +2,11 @@
 
 import functools
 import html.parser
+import importlib
 import re
 import tempfile
 import unittest
+import unittest.mock
 from pathlib import Path
 
 import support
@@ -196,9 +198,26 @@ class Page(unittest.TestCase):
             self.assertIn(words, read.texts)
         self.assertNotIn("LOAD-1", read.texts)
         self.assertFalse([words for words in ("STAD", "COAL BASE", "PUMP") if words in text])
-        status, _, err = tool("report", *texts, "--participant", "NOBODY", "--curves", "none")
-        self.assertEqual((status, err), (0, "report: NOBODY has no command in the journal\n"))
+        figures = re.findall(r"<dt>([^<]*)</dt>", text)
+        self.assertEqual(figures[-2:], ["net", "gain"])
+        self.assertIn("37,060.00", read.texts)
+        # Blocks stand before hourly orders, and so do the commands that follow on them.
+        own = [words for words in read.texts if words in ("START", "STAY", "EVENING", "FLEX-1", "FLEX-24")]
+        self.assertLess(max(at for at, words in enumerate(own) if words in ("START", "STAY", "EVENING")), own.index("FLEX-1"))
+        found = tool("report", *texts, "--participant", "NOBODY", "--curves", "none")
+        self.assertEqual(found, (command.NO_INPUT, b"", "report: NOBODY has no command in the journal\n"))
         self.assertEqual(tool("report", *texts, "--participant", "gas")[0], command.COMMAND_LINE)
+
+    def test_a_participants_rejected_block_says_which_limit_it_needed(self):
+        """As the page of the day does, with amounts written alike."""
+        day, whys = day_of(AUCTION.read_bytes(), printed(AUCTION)), []
+        place = next(place for place, block in enumerate(day.problem.blocks) if block.name == "UNIT-7")
+        with unittest.mock.patch("lib.limit_words.of_rejected", lambda day, who=None: {place: "With a limit of 92.00 EUR/MWh."}):
+            for who in (None, "OLD"):
+                page = importlib.import_module("lib.page").page(day, "day", [], None, who)
+                whys.append(re.search(r"[^>]*With a limit of 92.00 EUR/MWh[^<]*", page)[0].strip())
+        self.assertEqual(whys[0], whys[1])
+        self.assertIn("7,920.00 EUR", whys[0])
 
     def test_many_curves_are_the_same_as_few(self):
         """Several processes draw them, in their order."""

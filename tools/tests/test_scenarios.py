@@ -50,16 +50,18 @@ class Tables(unittest.TestCase):
             (HEADS + ",WIND,M,hour,sell,10,1,2,,\n", "line 2, column scenario: it should name the scenario"),
             (HEADS + "A,,,,,,,,,\nB,,,,,,,,,\nA,,,,,,,,,\n", "line 4: there is a scenario 'A' in line 2: the lines of a scenario"),
             (HEADS + "A,WIND,M,hour,sell,10,25,2,,\n", "line 2, column periods: the day has periods 1 to 24, so there is no period 25"),
-            (HEADS + "A,wind,M,hour,sell,1x,1,2,,\n", "line 2, column participant: 'wind' should be 1 to 8 letters A to Z (and 1 more)"),
+            (HEADS + "A,wind,M,hour,sell,1x,1,2,,\n",
+             "line 2, column participant: 'wind' should be 1 to 8 capitals A to Z: write WIND\n  line 2, column price"),
             (HEADS + "A,GEN,UNIT,hour,sell,10,1,2,,\n", "line 2: the book refuses submit,GEN,UNIT,hour,sell,1000,1:20,,: the"),
-            (COMMANDS + "A,close,,,,,,,,,\n", "line 2, column what: 'close' should be submit, amend or cancel"),
+            (COMMANDS + "A,stop,,,,,,,,,\n", "line 2, column what: 'stop' should be submit, amend or cancel"),
+            (COMMANDS.replace("volume_mw,", "") + "A,amend,GEN,UNIT,,,50,1,,\n", "line 1: there is no column volume_mw; the columns are"),
             (COMMANDS + "A,cancel,GEN,NONE,,,,,,,\n", "line 2: the book refuses cancel,GEN,NONE,,,,,,: the participant has no such order"),
             (COMMANDS + "A,amend,GEN,UNIT,,,5000,1,2,,\n", "line 2, column price_eur_mwh: '5000' should be from -500.00 to 4000.00"),
         ):
             with self.subTest(said), self.assertRaises(engine.Fault) as fault:
                 self.read(table)
             self.assertTrue(str(fault.exception).startswith(f"a.csv: {said}"), fault.exception)
-            self.assertNotIn("\n", str(fault.exception))
+            self.assertLessEqual(len(str(fault.exception).splitlines()), changes.MOST_LINES + 1)
 
 
 class Distribution(unittest.TestCase):
@@ -166,6 +168,7 @@ class Tool(unittest.TestCase):
                 path = Path(self.folder, name)
                 self.assertEqual(tool("whatif", "scenarios", "--quiet", *words, "-o", path), (0, out, ""))
                 self.assertTrue(path.read_bytes().startswith(begin))
+        self.assertIn("<!-- median of the surplus: ", Path(self.folder, "a.svg").read_text())
 
     def test_bad_input_is_one_line(self):
         out = Path(self.folder, "out.csv")
@@ -174,7 +177,8 @@ class Tool(unittest.TestCase):
         opened = Path(self.folder, "open.csv")
         opened.write_bytes(self.journal.read_bytes().replace(b"close,,,,,,,,\n", b""))
         for words, status, said in (
-            ([*table, "--sample", "5"], 2, "give a table of scenarios, or --sample with how many random ones"),
+            ([*table, "--sample", "5"], 2, "give a table of scenarios, or --sample with how many random ones, not both; for another limit"
+             " of your own, put an amend into a copy of the journal"),
             (table[:3], 2, "give a table of scenarios, or --sample with how many random ones"),
             ([*table, "--seed", "2"], 2, "--seed can't be used without --sample"),
             (sample, 2, "--sample needs --participant, whose orders stay as they are"),

@@ -59,10 +59,10 @@ class Worked(unittest.TestCase):
             out.splitlines(),
             [
                 "as sent: 4 commands of A, each once, in their order, and no others, 1 of 4 commands refused",
-                f"sent record 1 is record 2: done: {OWN[0]}",
-                f"sent record 2 is record 4: refused, NameTaken: {OWN[1]}",
-                f"sent record 3 is record 5: done: {OWN[2]}",
-                f"sent record 4 is record 7: done: {OWN[3]}",
+                f"sent record 1 is record 2 (command 1): done: {OWN[0]}",
+                f"sent record 2 is record 4 (command 3): refused, NameTaken: {OWN[1]}",
+                f"sent record 3 is record 5 (command 4): done: {OWN[2]}",
+                f"sent record 4 is record 7 (command 6): done: {OWN[3]}",
             ],
         )
         self.assertEqual(audit(PUBLISHED, text_of(OWN), "A", "--quiet"), (0, "", ""))
@@ -74,34 +74,34 @@ class Worked(unittest.TestCase):
     def test_twice(self):
         data = PUBLISHED.replace(b"cancel,B", f"{OWN[0]}\ncancel,B".encode())
         status, out, _ = audit(data, text_of(OWN))
-        said = ["not as sent: 1 difference in the commands of A", f"record 6 of the journal repeats what was sent once: {OWN[0]}"]
+        said = ["not as sent: 1 difference in the commands of A", f"record 6 (command 5) of the journal repeats what was sent once: {OWN[0]}"]
         self.assertEqual((status, out.splitlines()), (command.DIFFERS, said))
         self.assertEqual(audit(data, text_of([*OWN[:3], OWN[0], OWN[3]]))[0], command.DONE)
 
     def test_changed(self):
         other = OWN[2].replace(",300,", ",301,")
-        said = f"sent record 3 is changed: it was '{other}', and record 5 of the journal is '{OWN[2]}'"
+        said = f"sent record 3 is changed: it was '{other}', and record 5 (command 4) of the journal is '{OWN[2]}'"
         self.assertEqual(self.differences([*OWN[:2], other, OWN[3]]), [said])
 
     def test_moved(self):
-        said = f"sent record 1 is moved: record 7 of the journal is out of its order: {OWN[3]}"
+        said = f"sent record 1 is moved: record 7 (command 6) of the journal is out of its order: {OWN[3]}"
         self.assertEqual(self.differences([OWN[3], *OWN[:3]]), [said])
 
     def test_not_sent(self):
-        self.assertEqual(self.differences([*OWN[:2], OWN[3]]), [f"record 5 of the journal was not sent: {OWN[2]}"])
+        self.assertEqual(self.differences([*OWN[:2], OWN[3]]), [f"record 5 (command 4) of the journal was not sent: {OWN[2]}"])
         self.assertEqual(len(self.differences(["day,24,,,,,,,"])), 4)
 
     def test_forms_of_what_was_sent(self):
         """A journal of the participant's own, its day counted as a record and its close left out; a day's text; a table."""
         own = journal_of(*OWN)
         status, out, _ = audit(PUBLISHED, own)
-        self.assertEqual((status, out.count("\n"), f"sent record 2 is record 2: done: {OWN[0]}" in out), (command.DONE, 5, True))
+        self.assertEqual((status, out.count("\n"), f"sent record 2 is record 2 (command 1): done: {OWN[0]}" in out), (command.DONE, 5, True))
         self.assertEqual(audit(PUBLISHED, own.replace(b"\n", b"\r\n\r\n"))[0], command.DONE)
         day = AUCTION.read_bytes() + b"results\n" + printed(AUCTION)
         self.assertEqual(audit(day, text_of(own_lines(AUCTION.read_bytes(), "GAS")), "GAS")[0], command.DONE)
         table = b"participant,order,kind,side,price_eur_mwh,periods,volume_mw\nB,H1,hour,sell,0.50,1,1\n"
         self.assertEqual(audit(PUBLISHED.replace(b"cancel,B,H1,,,,,,\n", b""), table, "B")[0], command.DONE)
-        said = ["not as sent: 1 difference in the commands of B", "record 6 of the journal was not sent: cancel,B,H1,,,,,,"]
+        said = ["not as sent: 1 difference in the commands of B", "record 6 (command 5) of the journal was not sent: cancel,B,H1,,,,,,"]
         self.assertEqual(audit(PUBLISHED, table, "B")[1].splitlines(), said)
         # A whole market's file: of it, the participant's alone count.
         status, out, _ = audit(PUBLISHED, PUBLISHED)
@@ -119,6 +119,16 @@ class Worked(unittest.TestCase):
         self.assertEqual((status, out), (command.DONE, f"{said} (1 of others left out)\n"))
         for other in ([rows[1], rows[0]], rows[:1], [rows[0].replace("3.00", "3.01"), rows[1]]):
             self.assertEqual(audit(PUBLISHED, text_of([heads, *other]))[0], command.DIFFERS)
+
+    def test_a_table_of_the_end_when_no_order_is_left(self):
+        """B cancelled its only order, so a table of the orders at the end has none of it."""
+        heads, row = "participant,order,kind,side,price_eur_mwh,periods,volume_mw", "A,H1,hour,buy,3.00,1,1"
+        said = "as in the table: 0 orders of B in the book at the end, and no others, after 2 commands of B (1 of others left out)\n"
+        self.assertEqual(audit(PUBLISHED, text_of([heads, row]), "B"), (command.DONE, said, ""))
+        # Of one that has orders, or that the journal doesn't know, such a table says nothing; nor do records of others.
+        uncancelled = PUBLISHED.replace(b"cancel,B,H1,,,,,,\n", b"")
+        for data, own, who in ((uncancelled, [heads, row], "B"), (PUBLISHED, [heads, row], "C"), (PUBLISHED, OWN, "B")):
+            self.assertEqual(audit(data, text_of(own), who)[:2], (command.NO_INPUT, ""))
 
     @unittest.skipUnless(command.has("openpyxl"), "openpyxl is missing (Debian's python3-openpyxl)")
     def test_a_workbook(self):

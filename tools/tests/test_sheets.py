@@ -256,7 +256,7 @@ class Statement(unittest.TestCase):
             ],
         )
         whys = [row["why"] for row in self.rows("--participant", "A")]
-        self.assertEqual(whys[:2], ["command 4 changes it", "command 5 changes it"])
+        self.assertEqual(whys[:2], ["command 4 changes it", "command 5 cancels it"])
         self.assertEqual(whys[2], "its limit is better than the price, 52.50 EUR/MWh")
         self.assertEqual(whys[4], "the participant has no such order: it was cancelled, refused, or never entered")
 
@@ -270,8 +270,12 @@ class Statement(unittest.TestCase):
         self.assertEqual([row["participant"] for row in self.rows("--participant", "A", "--rows", "participants")], ["A"])
         self.assertEqual(len(self.rows("--participant", "B", "--rows", "orders", "--long")), 1)
         self.assertEqual([row["command"] for row in self.rows("--participant", "B", "--rows", "commands")], ["2"])
-        status, out, err = tool("table", "--participant", "C", "-", data=self.DAY)
-        self.assertEqual((status, out.count(b"\n"), err), (0, 1, "table: C has no command in the journal\n"))
+
+    def test_a_participant_without_a_command_is_a_fault(self):
+        """Such as one whose name is misspelt: a script would take an empty table for an answer."""
+        said = (command.NO_INPUT, b"", "table: C has no command in the journal\n")
+        for words in ([], ["--rows", "orders"], ["--rows", "commands"], ["--quiet"]):
+            self.assertEqual(tool("table", "--participant", "C", *words, "-", data=self.DAY), said)
 
     def test_amounts_add_up(self):
         texts = [AUCTION, AUCTION.with_suffix(".stdout")]

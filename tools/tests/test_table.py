@@ -124,9 +124,9 @@ class Orders(unittest.TestCase):
 
     def test_errors_name_line_and_column(self):
         for old, new, column, words in (
-            ("NORD", "nord", "participant", "1 to 8 letters A to Z"),
-            ("NORD", "", "participant", "1 to 8 letters A to Z"),
-            ("NORD", "ØRSTED", "participant", "1 to 8 letters A to Z"),
+            ("NORD", "nord", "participant", "1 to 8 capitals A to Z"),
+            ("NORD", "", "participant", "1 to 8 capitals A to Z"),
+            ("NORD", "ØRSTED", "participant", "1 to 8 capitals A to Z"),
             ("WIND-8", "WIND_8", "order", "1 to 12 of A to Z"),
             ("WIND-8", "ABCDEFGHIJKLM", "order", "1 to 12 of A to Z"),
             ("hour", "hourly", "kind", "hour or block"),
@@ -200,6 +200,28 @@ class Orders(unittest.TestCase):
         ):
             self.assertIn(words, self.wrong(row, header=header))
 
+    def test_a_name_or_a_number_that_is_nearly_right(self):
+        """The message says what to write."""
+        header = HEADER.replace(",", ";")
+        for row, words in (
+            ("Coal;H;hour;buy;1;1;5;;", "column participant: 'Coal' should be 1 to 8 capitals A to Z: write COAL"),
+            ("A;my_h;hour;buy;1;1;5;;", "column order: 'my_h' should be 1 to 12 of A to Z, 0 to 9 and -: write MY-H"),
+            ("A;H;hour;buy;1.234,50;1;5;;", "should be a number of EUR/MWh, without separators of thousands: 1234,50"),
+            ("A;H;hour;buy;-1'234;1;5;;", "should be a number of EUR/MWh, without separators of thousands: -1234"),
+            ("A;H;hour;buy;1;1;1.234,5;;", "should be a number of MW, without separators of thousands: 1234,5"),
+        ):
+            self.assertIn(words, self.wrong(row, header=header))
+        words = "'1,234.50' should be a number of EUR/MWh, without separators of thousands: 1234.50"
+        self.assertIn(words, self.wrong('A,H,hour,buy,"1,234.50",1,5,,'))
+        self.assertIn("such as 92.5", self.wrong("A,H,hour,buy,1.23.4,1,5,,"))
+
+    def test_a_table_of_commands_is_none_of_orders(self):
+        words = "this is a table of commands; a table of orders has no amend, cancel or close"
+        for what, row in (("amend", "NORD,WIND-8,,,12.5,8,45,,"), ("cancel", "NORD,WIND-8,,,,,,,"), ("close", ",,,,,,,,")):
+            said = self.wrong(f"submit,{HOUR}", f"{what},{row}", header=f"what,{HEADER}")
+            self.assertEqual(said, f"line 3, column what: '{what}': {words}")
+        self.assertEqual(self.made(f"submit,{HOUR}", header=f"what,{HEADER}"), self.made(HOUR))
+
     def test_days_that_are_none(self):
         with self.assertRaisesRegex(order_table.Wrong, "^a day has 23, 24, 25, 92, 96 or 100 periods, not 26$"):
             self.made(HOUR, periods=26)
@@ -230,7 +252,7 @@ class CommandLine(unittest.TestCase):
     def test_tables_and_journals(self):
         texts = [AUCTION, AUCTION.with_suffix(".stdout")]
         with tempfile.TemporaryDirectory() as folder:
-            note = "table: 1 of 94 commands was refused: see --rows commands\n"
+            note = "table: 1 of 94 commands was refused (of GAS): see --rows commands\n"
             self.assertEqual(tool("table", *texts, "--all", folder), (0, b"", note))
             for name in tables.TABLES:
                 said = "" if name in ("commands", "statement") else note

@@ -100,16 +100,17 @@ class Limits(unittest.TestCase):
 class Page(unittest.TestCase):
     """The sentence of a page for each rejected block."""
 
-    def said(self, lines, answer=lambda text, nodes: (None, support.results_of(text, best(text))), results=None):
+    def said(self, lines, answer=lambda text, nodes: (None, support.results_of(text, best(text))), results=None, who=None):
         data = journal_of(*lines)
         day = support.day_of(data, results or support.results_of(data, best(data)))
         with unittest.mock.patch.object(engine, "answer", answer):
-            return limit_words.of_rejected(day)
+            return limit_words.of_rejected(day, who)
 
     def test_the_sentence(self):
         high = SMALL[0], SMALL[1].replace("4000", "6000")
         sentence = "With a limit of 50.00 EUR/MWh or lower it would have been accepted."
         self.assertEqual(self.said(high), {0: sentence})
+        self.assertEqual((self.said(high, who="GEN"), self.said(high, who="CITY")), ({0: sentence}, {}))
         low = BUYER[0], BUYER[1].replace("3000", "1999")
         self.assertEqual(self.said(low), {0: sentence.replace("50", "20").replace("lower", "higher")})
         self.assertEqual(self.said(NEVER)[1], "With no limit would it have been accepted.")
@@ -177,14 +178,23 @@ class Tools(unittest.TestCase):
         self.assertEqual((status, err), (0, ""))
         self.assertIn("Its worst limit is 50.00 EUR/MWh: with it, and with every lower limit, it is accepted", out.decode())
         self.assertIn("docs/MARKET.md", out.decode())
+        lines = [line.split("  ") for line in out.decode().splitlines()]
+        found = {cells[0]: [cell.strip() for cell in cells[1:] if cell.strip()] for cells in lines}
+        self.assertEqual(found["surplus at these prices, EUR"], ["20.00", "0.00", "-0.02"])
+        self.assertEqual(found["gain of GEN, EUR"], ["20.00", "0.00", "0.00"])
         status, out, _ = self.whatif("limit", self.journal, "--participant", "GEN", "--order", "UNIT", "--json")
         record = json.loads(out)
         self.assertEqual((record["worst_limit_eur_mwh"], [case["accepted"] for case in record["cases"]]), (50.0, [True, True, False]))
         self.assertEqual([case["surplus_eur"] for case in record["cases"]], [20.0, 0.0, -0.02])
         self.assertEqual(record["others"], [{"participant": "CITY", "order": "TOWN", "past_mwh": 0.0, "at_mwh": 2.0}])
+        self.assertEqual([case["gain_eur"] for case in record["cases"]], [20.0, 0.0, 0.0])
         status, out, _ = self.whatif("limit", self.journal, "--participant", "GEN", "--all")
         (row,) = self.rows(out)
         self.assertEqual((row["worst_limit_eur_mwh"], row["others"], row["surplus_eur"]), ("50.00", "1", "0.000"))
+        # A file of values has a table, not words.
+        path = Path(self.folder, "limits.CSV")
+        self.whatif("limit", self.journal, "--participant", "GEN", "--order", "UNIT", "-o", path)
+        self.assertEqual(path.read_bytes(), out)
 
     def test_an_hourly_order_is_sampled(self):
         words = ["--participant", "CITY", "--order", "TOWN", "--from", "39.99", "--to", "40.01", "--step", "0.01"]
@@ -192,7 +202,10 @@ class Tools(unittest.TestCase):
         self.assertEqual(status, 0)
         self.assertEqual([(row["limit_eur_mwh"], row["executed_mw"]) for row in self.rows(out)],
                          [("39.99", "0.0"), ("40.00", "2.0"), ("40.01", "2.0"), ("50.00", "2.0")])
-        self.assertTrue(err.startswith("whatif: sampled at 4 limits: between them the result may be another, since no law says"), err)
+        said = "whatif: sampled at 4 limits, one of them the order's own, 50.00 EUR/MWh: between them the result may be another"
+        self.assertTrue(err.startswith(said), err)
+        err = self.whatif("limit", self.journal, *words[:4], "--from", "50", "--to", "51")[2]
+        self.assertTrue(err.startswith("whatif: sampled at 2 limits: between"), err)
 
     def test_a_change_and_the_comparison_of_the_two_days(self):
         more = self.file("more.csv", b"submit,WIND,MILL,hour,sell,1000,1:20,,\n")
@@ -257,8 +270,11 @@ class Tools(unittest.TestCase):
             (["change", self.journal, "-"], TABLE.removeprefix(b"what,") + b"GEN,UNIT,hour,sell,10,1,2\n", 3,
              "standard input: order 1: the book refuses submit,GEN,UNIT,hour,sell,1000,1:20,,: the participant has an order of that name"
              " (NameTaken)"),
-            (["change", self.journal, "-"], TABLE + b"amend,GEN,UNIT,,,60,25,2\nclose,,,,,,,\nmove,A,X,hour,buy,1,1,1\n", 3,
-             "standard input: line 2, column periods: the day has periods 1 to 24, so there is no period 25 (PeriodOutOfDay) (and 2 more)"),
+            (["change", self.journal, "-"], TABLE + b"amend,GEN,UNIT,,,60,25,2\n", 3,
+             "standard input: line 2, column periods: the day has periods 1 to 24, so there is no period 25 (PeriodOutOfDay)"),
+            (["change", self.journal, "-"], b"what,participant,price_eur_mwh,periods,volume_mw\namend,GEN,60,1,2\n", 3,
+             "standard input: line 1: there is no column order; the columns are what, participant, order, kind, side, price_eur_mwh,"
+             " periods, volume_mw, parent, group"),
             (["change", self.journal, self.journal, "--participant", "NONE"], b"", 3, None),
         ):
             with self.subTest(said):
@@ -267,6 +283,23 @@ class Tools(unittest.TestCase):
                 if said:
                     self.assertEqual(found[2], f"whatif: {said}\n")
                 self.assertFalse(out.exists())
+
+    def test_several_faults_of_a_table_are_said(self):
+        table = TABLE + b"amend,GEN,UNIT,,,60,25,2\nclose,,,,,,,\nmove,A,X,hour,buy,1,1,1\n"
+        said = "whatif: standard input: line 2, column periods: the day has periods 1 to 24, so there is no period 25 (PeriodOutOfDay)\n"
+        said += "  line 4, column what: 'move' should be submit, amend or cancel\n"
+        self.assertEqual(self.whatif("change", self.journal, "-", data=table), (3, b"", said))
+        *_, last = self.whatif("change", self.journal, "-", data=TABLE + b"move,A,X,hour,buy,1,1,1\n" * 9)[2].splitlines()
+        self.assertEqual(last, "  and 4 more")
+
+    def test_a_table_needs_the_columns_of_its_commands(self):
+        """An amend has no kind and no side, a cancel has neither limit nor volumes, and a close is left out."""
+        amended = self.whatif("change", self.journal, "-", data=b"amend,GEN,UNIT,,,6000,1:20,,\n")
+        table = b"what,participant,order,price_eur_mwh,periods,volume_mw\namend,GEN,UNIT,60,1,2\nclose,,,,,\n"
+        self.assertEqual(self.whatif("change", self.journal, "-", data=table), amended)
+        cancelled = self.whatif("change", self.journal, "-", data=b"cancel,GEN,UNIT,,,,,,\n")
+        self.assertEqual(self.whatif("change", self.journal, "-", data=b"what,participant,order\ncancel,GEN,UNIT\n"), cancelled)
+        self.assertEqual((amended[0], cancelled[0]), (0, 0))
 
     def test_bad_words_and_bad_comparisons(self):
         for word in ("abc", "4000.01", "1e3", "0.001"):
