@@ -5,7 +5,7 @@ import re
 from collections import Counter, defaultdict, deque
 from typing import NamedTuple
 
-from . import journal, lint, order_table, text
+from . import command_table, journal, kinds, lint, order_table, text
 from .faults import Fault
 
 WORDS = re.compile(rb'[\s"]*(?:day|submit|amend|cancel|close)\b', re.IGNORECASE)
@@ -67,10 +67,14 @@ def read_records(data, periods):
 
 def read_table(data, periods, who):
     """The orders of a participant in a table, as what was sent, and how many others it has."""
+    if command_table.is_command_table(data):
+        raise Wrong(f"it is a table of commands, with the column {command_table.WHAT}: give records of a journal, or a table of orders")
     try:
         orders = order_table.read_tables([("", data)], periods, who)
     except order_table.Wrong as fault:
-        raise Wrong(f"it has no journal records and isn't a table of orders: {fault}") from None
+        is_table = kinds.kind_of(data) == kinds.ORDERS
+        where = "not each row of its table is an order" if is_table else "it has no journal records and isn't a table of orders"
+        raise Wrong(f"{where}: {fault}") from None
     return [Sent(number, submit) for number, submit in orders.submits], orders.others
 
 
@@ -197,4 +201,5 @@ def place_of(one, sent, published, pairs):
 def replies(sent, published):
     """The reply to each command, if all are published as they were sent."""
     for one, other in zip(sent, published):
-        yield f"sent record {one.record} is record {other.record}: {other.reply}: {journal.command_line(one.command)}"
+        shown = journal.command_line(one.command)
+        yield f"sent record {one.record} is record {other.record} of the journal; the book's reply is {other.reply}: {shown}"

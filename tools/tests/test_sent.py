@@ -59,10 +59,10 @@ class Worked(unittest.TestCase):
             out.splitlines(),
             [
                 "as sent: 4 commands of A, each once, in their order, and no others, 1 of 4 commands refused",
-                f"sent record 1 is record 2: done: {OWN[0]}",
-                f"sent record 2 is record 4: refused, NameTaken: {OWN[1]}",
-                f"sent record 3 is record 5: done: {OWN[2]}",
-                f"sent record 4 is record 7: done: {OWN[3]}",
+                f"sent record 1 is record 2 of the journal; the book's reply is done: {OWN[0]}",
+                f"sent record 2 is record 4 of the journal; the book's reply is refused, NameTaken: {OWN[1]}",
+                f"sent record 3 is record 5 of the journal; the book's reply is done: {OWN[2]}",
+                f"sent record 4 is record 7 of the journal; the book's reply is done: {OWN[3]}",
             ],
         )
         self.assertEqual(audit(PUBLISHED, text_of(OWN), "A", "--quiet"), (0, "", ""))
@@ -95,7 +95,8 @@ class Worked(unittest.TestCase):
         """A journal of the participant's own, its day counted as a record and its close left out; a day's text; a table."""
         own = journal_of(*OWN)
         status, out, _ = audit(PUBLISHED, own)
-        self.assertEqual((status, out.count("\n"), f"sent record 2 is record 2: done: {OWN[0]}" in out), (command.DONE, 5, True))
+        said = f"sent record 2 is record 2 of the journal; the book's reply is done: {OWN[0]}"
+        self.assertEqual((status, out.count("\n"), said in out), (command.DONE, 5, True))
         self.assertEqual(audit(PUBLISHED, own.replace(b"\n", b"\r\n\r\n"))[0], command.DONE)
         day = AUCTION.read_bytes() + b"results\n" + printed(AUCTION)
         self.assertEqual(audit(day, text_of(own_lines(AUCTION.read_bytes(), "GAS")), "GAS")[0], command.DONE)
@@ -119,6 +120,17 @@ class Worked(unittest.TestCase):
         self.assertEqual((status, out), (command.DONE, f"{said} (1 of others left out)\n"))
         for other in ([rows[1], rows[0]], rows[:1], [rows[0].replace("3.00", "3.01"), rows[1]]):
             self.assertEqual(audit(PUBLISHED, text_of([heads, *other]))[0], command.DIFFERS)
+
+    def test_a_table_of_commands_is_no_table_of_orders(self):
+        """Its cancels would count as orders."""
+        heads = "what,participant,order,kind,side,price_eur_mwh,periods,volume_mw"
+        rows = ["submit,A,H1,hour,buy,3.00,1,1", "cancel,A,K1,block,buy,1.00,1-2,1"]
+        said = "it is a table of commands, with the column what: give records of a journal, or a table of orders"
+        wanted = (command.NO_INPUT, "", f"audit: sent isn't what A sent: {said}\n")
+        self.assertEqual(audit(PUBLISHED, text_of([heads, *rows])), wanted)
+        heads, rows = heads.removeprefix("what,"), ["A,H1,hour,bye,3.00,1,1"]
+        said = "audit: sent isn't what A sent: not each row of its table is an order: line 2, column side: 'bye' should be buy or sell\n"
+        self.assertEqual(audit(PUBLISHED, text_of([heads, *rows])), (command.NO_INPUT, "", said))
 
     @unittest.skipUnless(command.has("openpyxl"), "openpyxl is missing (Debian's python3-openpyxl)")
     def test_a_workbook(self):
