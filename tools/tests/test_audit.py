@@ -517,7 +517,8 @@ class CommandLine(unittest.TestCase):
         data, text = AUCTION.read_bytes(), printed(AUCTION)
         renamed = re.sub(rb"^(hour|block),([A-Z]+),", rb"\1,\2X,", text, flags=re.MULTILINE)
         status, out, _ = audit(data, renamed)
-        said = "these seem to be the results of another journal: 89 of their 89 lines of orders are of orders that this journal doesn't have"
+        said = "these seem to be the results of another journal: 89 of their 89 lines of orders are"
+        said += " of orders that this journal doesn't have"
         self.assertEqual((status, out.decode().splitlines()[0]), (command.DIFFERS, said))
         another = re.sub(rb"^((?:welfare|period|hour|block),(?:.*,)?)-?(\d+)$", rb"\g<1>1\2", text, flags=re.MULTILINE)
         status, out, _ = audit(data, another)
