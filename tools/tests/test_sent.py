@@ -121,6 +121,19 @@ class Worked(unittest.TestCase):
         for other in ([rows[1], rows[0]], rows[:1], [rows[0].replace("3.00", "3.01"), rows[1]]):
             self.assertEqual(audit(PUBLISHED, text_of([heads, *other]))[0], command.DIFFERS)
 
+    def test_a_table_is_compared_both_ways(self):
+        """Of one with the orders at the end, only what differs there is said, and not each amend that led to it."""
+        heads = "participant,order,kind,side,price_eur_mwh,periods,volume_mw"
+        status, out, _ = audit(PUBLISHED, text_of([heads, "A,H1,hour,buy,3.01,1,1", "A,K1,block,buy,1.00,1-2,1"]))
+        was, now = "submit,A,H1,hour,buy,301,1:10,,", "submit,A,H1,hour,buy,300,1:10,,"
+        said = ["not as sent: 1 difference in the commands of A"]
+        said.append(f"sent record 1 is changed: it was '{was}', and order 1 in the book at the end is '{now}'")
+        self.assertEqual((status, out.splitlines()), (command.DIFFERS, said))
+        status, out, _ = audit(PUBLISHED, text_of([heads, "A,H1,hour,buy,3.00,1,1", "A,K1,block,buy,1.00,1-2,1", "A,K2,block,buy,1,1,1"]))
+        self.assertEqual((status, "sent record 3 is missing in the book at the end: submit,A,K2," in out), (command.DIFFERS, True))
+        status, out, _ = audit(PUBLISHED, text_of([heads, "A,H1,hour,buy,3.00,1,1"]))
+        self.assertIn("\norder 2 in the book at the end was not sent: submit,A,K1,", out)
+
     def test_a_table_of_commands_is_no_table_of_orders(self):
         """Its cancels would count as orders."""
         heads = "what,participant,order,kind,side,price_eur_mwh,periods,volume_mw"
