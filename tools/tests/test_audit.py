@@ -364,6 +364,8 @@ class CommandLine(unittest.TestCase):
         self.assertEqual(tool("audit", "-", data=day.replace(b"welfare,3", b"welfare,4"))[0], command.DIFFERS)
         self.assertEqual(tool("audit", "-", data=day.replace(b"day,24,", b'"day",24,'))[0], command.ENCODING)
         self.assertEqual(tool("audit", "-", data=AUCTION.read_bytes())[0], command.NO_INPUT)
+        for other in (b"\xef\xbb\xbf" + day, day.replace(b"\n", b"\r"), day.replace(b"\nresults\n", b'\n"results"\n')):
+            self.assertEqual(tool("audit", "-", data=other)[:2], (command.NO_INPUT, b""))
 
     def test_the_most_blocks(self):
         blocks = [f"submit,A,K{number},block,sell,1,1:1,," for number in range(24)]
@@ -402,6 +404,13 @@ class CommandLine(unittest.TestCase):
         ):
             status, out, err = audit(AUCTION.read_bytes(), data)
             self.assertEqual((status, out, err.endswith(f"{said}\n")), (command.NO_INPUT, b"", True))
+
+    def test_what_a_spreadsheet_changes_besides_the_encoding_is_wrong(self):
+        """Padding to a rectangle, and other separators: docs/FORMATS.md says so."""
+        data, text = AUCTION.read_bytes(), printed(AUCTION)
+        tabs = text.replace(b",", b"\t").decode().encode("utf-16")
+        for other in (text.replace(b"day,24\n", b"day,24,,,\n"), text.replace(b",", b";"), tabs, text.replace(b"\n", b"\r\r\n")):
+            self.assertEqual(audit(data, other)[0], command.DIFFERS)
 
     def test_other_encodings_are_named_right(self):
         """UTF-32 isn't UTF-16, and a tab somewhere isn't a separator."""
