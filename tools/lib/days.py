@@ -61,8 +61,15 @@ def pair_of(name, journal, published):
         return Pair(name, journal, published, f"{command.shown(journal)} is missing")
     if published.is_file():
         return Pair(name, journal, published)
-    is_day = results.split_day(journal.read_bytes()) is not None
-    return Pair(name, journal, None, None if is_day else f"{command.shown(published)} is missing")
+    return Pair(name, journal, None, f"{command.shown(published)} is missing" if lacks_results(journal) else None)
+
+
+def lacks_results(journal):
+    """Whether a file isn't the text of a day, as far as it can be read."""
+    try:
+        return results.split_day(journal.read_bytes()) is None
+    except OSError:
+        return False
 
 
 def listed_pairs(path):
@@ -81,14 +88,19 @@ def listed_pairs(path):
         if any(cells.values()):
             journal, published = (path.parent / cells.get(name, "") for name in COLUMNS)
             name = cells.get("day") or journal.stem
-            yield Pair(name, journal, published if cells.get("results") else None, unread_row(cells))
+            yield Pair(name, journal, published if cells.get("results") else None, unread_row(cells, journal))
 
 
-def unread_row(cells):
+def unread_row(cells, journal):
     """Why the files that a row of a manifest names can't be read, if that is known beforehand."""
     if not cells.get("journal"):
         return "its row names no journal"
-    return next((f"the name {text.quoted(cells[name])} has a NUL" for name in COLUMNS if "\0" in cells.get(name, "")), None)
+    for name in COLUMNS:
+        if "\0" in cells.get(name, ""):
+            return f"the name {text.quoted(cells[name])} has a NUL"
+    if not cells.get("results") and lacks_results(journal):
+        return f"its row names no results, and {command.shown(journal)} has no line 'results'"
+    return None
 
 
 def options_of(args):

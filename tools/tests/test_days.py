@@ -117,13 +117,15 @@ class Days(unittest.TestCase):
 
     def test_rows_of_a_manifest_that_name_no_files(self):
         self.write(a=(DATA, TEXT))
-        (self.folder / "list").write_bytes(b"day,journal,results\nnul,a\0.csv,a.txt\nempty,,a.txt\nright,a.csv,a.txt\n")
+        (self.folder / "list").write_bytes(b"day,journal,results\nnul,a\0.csv,a.txt\nempty,,a.txt\nright,a.csv,a.txt\nalone,a.csv,\nfolder,.,\n")
         status, out, err = self.audit(place=self.folder / "list")
-        nul, empty, right = out.splitlines()[1:4]
+        nul, empty, right, alone, folder = out.splitlines()[1:6]
         self.assertEqual((status, err, right.split()[1]), (command.NO_INPUT, "", verdict.RIGHT))
         self.assertEqual((nul.split()[1], empty.split()[1]), (verdict.UNREAD, verdict.UNREAD))
         self.assertTrue(nul.endswith("the name 'a\\x00.csv' has a NUL"), nul)
         self.assertTrue(empty.endswith("its row names no journal"), empty)
+        self.assertTrue(folder.endswith(f"{self.folder} can't be read: Is a directory"), folder)
+        self.assertTrue(alone.endswith(f"its row names no results, and {self.folder / 'a.csv'} has no line 'results'"), alone)
 
     def test_a_process_that_cannot_be_started(self):
         pair, full = days.Pair("a", Path("a.csv"), Path("a.txt")), OSError(errno.EMFILE, os.strerror(errno.EMFILE))
