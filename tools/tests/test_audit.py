@@ -51,7 +51,7 @@ class Results(unittest.TestCase):
             for other, line in changed_numbers(text):
                 wrong = [fault for fault in check.differences(day, other)[1] if fault.kind not in ("money", "sum")]
                 with self.subTest(name, line=line):
-                    self.assertIn(f"results line {line}:", "\n".join(wrong))
+                    self.assertRegex("\n".join(wrong), rf"results line {line}\b")
                 refused += 1
         self.assertGreater(refused, 1_000)
 
