@@ -381,7 +381,7 @@ class CommandLine(unittest.TestCase):
         with tempfile.TemporaryDirectory() as folder:
             copy = shutil.copy(support.TOOLS / "audit", folder)
             ran = subprocess.run([sys.executable, copy, *words], capture_output=True)
-            said = f"audit: {os.path.realpath(folder)} lacks a part of this tool: No module named 'lib'\n"
+            said = f"audit: the rest of this tool is missing: the folder {os.path.realpath(folder)}/lib\n"
             self.assertEqual((ran.returncode, ran.stdout, ran.stderr.decode()), (command.FAILED, b"", said))
 
     def test_what_was_not_checked_is_said(self):
