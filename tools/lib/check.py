@@ -26,7 +26,7 @@ def differences(problem, data):
     follows = selection.outcome(problem, said.accepted)
     wrong += selection_faults(problem, said, follows)
     most = MOST_WITH_A_FAULT if wrong else MOST
-    wrong += welfare_difference(said, follows)
+    wrong += welfare_difference(problem, said, follows)
     wrong += period_differences(problem, said, follows)
     wrong += hourly_differences(problem, said, follows)
     wrong += surplus_differences(problem, said, follows)
@@ -60,9 +60,10 @@ def selection_faults(problem, said, follows):
             yield fault(said, "balance", f"period {number}", words)
 
 
-def welfare_difference(said, follows):
+def welfare_difference(problem, said, follows):
     if follows.welfare is not None and said.welfare != follows.welfare:
-        words = f"the welfare is {said.welfare}, and that of these executions {follows.welfare}"
+        published, right = (f"{welfare} ({problem.euros(welfare)} EUR)" for welfare in (said.welfare, follows.welfare))
+        words = f"the welfare is {published}, and of these executions it is {right}"
         yield fault(said, "welfare", "the welfare", words)
 
 

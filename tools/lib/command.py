@@ -206,7 +206,7 @@ def refuse_kind(path, data, right, hints=()):
     kind = kinds.kind_of(data)
     if kind not in (None, right):
         hint = hints[kind] if kind in hints else ""
-        raise Stop(f"{shown(path)} {'is' if kind in kinds.SIGNATURES.values() else 'has'} {kind} instead of {right}{hint}")
+        raise Stop(f"{shown(path)} {'is' if kind in kinds.FILES else 'has'} {kind} instead of {right}{hint}")
 
 
 def parse_journal(path, data):

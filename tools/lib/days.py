@@ -14,6 +14,7 @@ from .progress import Bar
 TOOL = Path(__file__).resolve().parents[1] / "audit"
 JOURNAL, RESULTS = ".csv", ".txt"
 COLUMNS = ["journal", "results"]  # of a manifest
+MOST_SHOWN = command.LONGEST_PATH + 200  # characters of the first fault, which may begin with a file's name
 # Of the statuses of the days, the first that one of them has is that of all.
 WORST = [command.DIFFERS, command.FAILED, command.NO_INPUT, command.UNDECIDED, command.ENCODING]
 VERDICTS = [verdict.RIGHT, verdict.WRONG, verdict.ENCODING, verdict.UNREAD, verdict.UNDECIDED, verdict.FAILED]
@@ -27,7 +28,7 @@ class Pair(NamedTuple):
     name: str
     journal: Path
     results: object
-    missing: object = None  # the file that isn't there
+    unread: object = None  # why they can't be checked, if that is known beforehand
 
 
 def pairs_of(place):
@@ -57,11 +58,18 @@ def named_pairs(folder):
 
 def pair_of(name, journal, published):
     if not journal.is_file():
-        return Pair(name, journal, published, journal)
+        return Pair(name, journal, published, f"{command.shown(journal)} is missing")
     if published.is_file():
         return Pair(name, journal, published)
-    is_day = results.split_day(journal.read_bytes()) is not None
-    return Pair(name, journal, None, None if is_day else published)
+    return Pair(name, journal, None, f"{command.shown(published)} is missing" if lacks_results(journal) else None)
+
+
+def lacks_results(journal):
+    """Whether a file isn't the text of a day, as far as it can be read."""
+    try:
+        return results.split_day(journal.read_bytes()) is None
+    except OSError:
+        return False
 
 
 def listed_pairs(path):
@@ -80,7 +88,19 @@ def listed_pairs(path):
         if any(cells.values()):
             journal, published = (path.parent / cells.get(name, "") for name in COLUMNS)
             name = cells.get("day") or journal.stem
-            yield Pair(name, journal, published if cells.get("results") else None)
+            yield Pair(name, journal, published if cells.get("results") else None, unread_row(cells, journal))
+
+
+def unread_row(cells, journal):
+    """Why the files that a row of a manifest names can't be read, if that is known beforehand."""
+    if not cells.get("journal"):
+        return "its row names no journal"
+    for name in COLUMNS:
+        if "\0" in cells.get(name, ""):
+            return f"the name {text.quoted(cells[name])} has a NUL"
+    if not cells.get("results") and lacks_results(journal):
+        return f"its row names no results, and {command.shown(journal)} has no line 'results'"
+    return None
 
 
 def options_of(args):
@@ -92,11 +112,14 @@ def options_of(args):
 
 def audited(pair, options, running):
     """The record of the audit of a day. Its process is among those that run, until it ends."""
-    if pair.missing is not None:
-        return failed(pair, command.NO_INPUT, f"{command.shown(pair.missing)} is missing")
+    if pair.unread is not None:
+        return failed(pair, command.NO_INPUT, pair.unread)
     files = [str(path) for path in (pair.journal, pair.results) if path is not None]
     words = [sys.executable, os.fspath(TOOL), "--json", *options, "--", *files]
-    process = subprocess.Popen(words, stdin=subprocess.DEVNULL, stdout=subprocess.PIPE, stderr=subprocess.PIPE)
+    try:
+        process = subprocess.Popen(words, stdin=subprocess.DEVNULL, stdout=subprocess.PIPE, stderr=subprocess.PIPE)
+    except OSError as fault:
+        return failed(pair, command.FAILED, f"its process can't be started: {fault.strerror}")
     running.add(process)
     out, err = process.communicate()
     running.discard(process)
@@ -112,9 +135,12 @@ def audited(pair, options, running):
 
 
 def failed(pair, status, message):
-    """A record of a day without a verdict."""
-    files = [{"role": role, "file": str(path)} for role, path in (("journal", pair.journal), ("results", pair.results)) if path]
-    return {"name": pair.name, "verdict": verdict.OF_STATUS[status], "status": status, "message": message, "inputs": files, "faults": []}
+    """A record of a day without a verdict, of which no file was read."""
+    paths = [("journal", pair.journal), ("results", pair.results)]
+    files = [{"role": role, "file": str(path), "bytes": None, "sha256": None} for role, path in paths if path]
+    said = {"verdict": verdict.OF_STATUS[status], "status": status, "message": message}
+    made = {"version": verdict.VERSION, "seconds": 0.0, "inputs": files, "checked": [], "day": None, "search": None, "faults": []}
+    return {"name": pair.name, **said, **made}
 
 
 def audit_all(pairs, options, jobs, bar):
@@ -140,12 +166,13 @@ def audit_all(pairs, options, jobs, bar):
 def cells(record):
     """The row of a day."""
     day, faults = record.get("day") or {}, record["faults"]
-    first = str(faults[0]["words"]) if faults else record["message"] or ""
+    words = faults[0]["words"].split("\n")[:1] if faults else (record["message"] or "").split("\n")
+    first = "; ".join(map(str.strip, words))
     welfare = day.get("welfare_eur")
     numbers = [day.get(name, "") for name in ("periods", "hourly_orders", "blocks", "accepted")]
     shown = text.grouped(welfare) if welfare is not None else ""
     seconds = f"{record['seconds']:.1f}" if "seconds" in record else ""
-    ends = [day.get("refused", ""), len(faults), seconds, text.safe(first, 160)]
+    ends = [day.get("refused", ""), len(faults), seconds, text.safe(first, MOST_SHOWN)]
     return [text.safe(record["name"]), record["verdict"], *numbers, shown, *ends]
 
 

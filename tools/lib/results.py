@@ -29,6 +29,9 @@ def split_day(data):
     return line and (data[: line.start()], data[line.end() :])
 
 
+OTHER_NUMBER = re.compile(rb"[+-]?[0-9]{1,16}")
+
+
 def number(field):
     return text.number(field, -LARGE, LARGE)
 
@@ -72,13 +75,14 @@ def beginning(line):
 QUOTED = re.compile(rb'(?<![^,\n])"([^",\n]*)"(?![^,\n])')
 MARKS = {text.MARK: ("utf-8-sig", "a byte order mark"), b"\xff\xfe": ("utf-16", "a byte order mark of UTF-16")}
 MARKS[b"\xfe\xff"] = MARKS[b"\xff\xfe"]
+UTF_32 = b"\xff\xfe\0\0"  # its mark begins as that of UTF-16
 
 
 def plain(data):
     """The text as `dam` writes it, if other programs have changed only how it is encoded; and what they have changed."""
     odd = []
     for mark, (encoding, words) in MARKS.items():
-        if data.startswith(mark) and is_text(data, encoding):
+        if data.startswith(mark) and not data.startswith(UTF_32) and is_text(data, encoding):
             data = data.decode(encoding).encode()
             odd.append(f"the text begins with {words}")
     for end, words in ((b"\r\n", "CR LF"), (b"\r", "CR")):
@@ -108,16 +112,16 @@ def is_text(data, encoding):
 def foreign(wanted, beginnings):
     """Says so if most lines of orders are of none of this journal's."""
     orders = [begin for begin in beginnings if begin[0] in (b"hour", b"block")]
-    others = len(orders) - len(set(orders) & set(wanted))
+    others = len(orders) - sum(map(set(wanted).__contains__, orders))
     if 2 * others <= len(orders):
         return []
-    return [Fault(f"{ANOTHER}: {others} of their {len(orders)} lines of orders are of no order of this one", "journal")]
+    return [Fault(f"{ANOTHER}: {others} of their {len(orders)} lines of orders are of orders that this journal doesn't have", "journal")]
 
 
-def none_belongs(line):
+def none_belongs(line, wanted):
     """What is said of results of which no line is one of this journal's."""
     for comma, name in ((b";", "semicolons"), (b"\t", "tabs")):
-        if comma in line:
+        if comma in line and beginning(line.replace(comma, b",")) in wanted:
             words = f"the fields of the results are separated by {name} instead of commas: the first line is {text.quoted(line)}"
             return Fault(words, "form", 1)
     return Fault(f"none of the lines of the results belongs to this journal: the first is {text.quoted(line)}", "journal", 1)
@@ -134,7 +138,7 @@ def read_results(problem, data):
     wanted = [tuple(field.encode() for field in known) for _, known, _ in expected]
     beginnings = [beginning(line) for line in found]
     if set(wanted).isdisjoint(beginnings):
-        return None, [none_belongs(found[0]) if data else Fault("the results are empty", "form")]
+        return None, [none_belongs(found[0], wanted) if data else Fault("the results are empty", "form")]
     pairs = matched(wanted, beginnings)
     away = moved(wanted, beginnings, pairs)
     elsewhere = set(away.values())
@@ -148,17 +152,33 @@ def read_results(problem, data):
             continue
         about, known, behind = expected[at]
         if place is None or place in away:
-            wrong.append(of_line("missing", last + (place is None), about, f"there is no line for {about}"))
+            wrong.append(missing_line(last + (place is None), len(found), about))
             continue
         read = line_values(found[place], known, behind)
         lines[about] = last
         if read is None:
-            form = ",".join(known + [{"n": "<number>", "a": "accepted|rejected"}[kind] for kind in behind])
-            wrong.append(of_line("form", last, about, f"{about} should be '{form}' and is {text.quoted(found[place])}"))
+            wrong.append(of_line("form", last, about, form_words(about, found[place], known, behind)))
         values.append(read)
     if wrong:
         return None, foreign(wanted, beginnings) + wrong
     return gather(problem, values, lines), wrong
+
+
+def missing_line(line, lines, about):
+    """What is said of a line that is missing before another, or at the end."""
+    where = f"before results line {line}" if line <= lines else f"at the end of the results, as line {line}"
+    return Fault(f"the line for {about} is missing {where}", "missing", line, about)
+
+
+def form_words(about, line, known, behind):
+    """What is said of a line whose fields after the known ones aren't numbers or words as they should be."""
+    fields = line.split(b",")
+    if len(fields) == len(known) + len(behind):
+        for field, kind in zip(fields[len(known) :], behind):
+            if kind == "n" and number(field) is None and OTHER_NUMBER.fullmatch(field):
+                return f"{about}: {text.quoted(field)} isn't a number as dam writes it: no +, no leading zeros, no -0"
+    form = ",".join(known + [{"n": "<number>", "a": "accepted|rejected"}[kind] for kind in behind])
+    return f"{about} should be '{form}' and is {text.quoted(line)}"
 
 
 def moved_line(expected, at):
@@ -168,7 +188,7 @@ def moved_line(expected, at):
 
 
 def stray_line(line):
-    return f"{text.quoted(line)} is not a line of these results" if line else "the line is empty, and should not be there"
+    return f"{text.quoted(line)} doesn't belong here" if line else "the line is empty, and should not be there"
 
 
 def gather(problem, values, lines):

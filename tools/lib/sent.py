@@ -5,9 +5,10 @@ import re
 from collections import Counter, defaultdict, deque
 from typing import NamedTuple
 
-from . import journal, lint, order_table, text
+from . import command_table, journal, kinds, lint, order_table, text
 from .faults import Fault
 
+JOURNAL, BOOK = "the journal", "the book at the end"
 WORDS = re.compile(rb'[\s"]*(?:day|submit|amend|cancel|close)\b', re.IGNORECASE)
 
 
@@ -28,6 +29,27 @@ class Published(NamedTuple):
     @property
     def reply(self):
         return f"refused, {self.reason}" if self.reason else "done"
+
+    @property
+    def place(self):
+        """The record with its number among the commands, which other tools print."""
+        return f"record {self.record} (command {self.record - 1}) of {JOURNAL}"
+
+    @property
+    def line(self):
+        return self.record
+
+
+class Held(NamedTuple):
+    """An order in the book at the end, as the command that would enter it."""
+
+    record: int  # its number among the participant's orders there, from 1
+    command: object
+    line = None  # it is no line of the journal
+
+    @property
+    def place(self):
+        return f"order {self.record} in {BOOK}"
 
 
 class Own(NamedTuple):
@@ -68,10 +90,14 @@ def read_records(data, periods):
 
 def read_table(data, periods, who):
     """The orders of a participant in a table, as what was sent, and how many others it has."""
+    if command_table.is_command_table(data):
+        raise Wrong(f"it is a table of commands, with the column {command_table.WHAT}: give records of a journal, or a table of orders")
     try:
         orders = order_table.read_tables([("", data)], periods, who)
     except order_table.Wrong as fault:
-        raise Wrong(f"it has no journal records and isn't a table of orders: {fault}") from None
+        is_table = kinds.kind_of(data) == kinds.ORDERS
+        where = "not each row of its table is an order" if is_table else "it has no journal records and isn't a table of orders"
+        raise Wrong(f"{where}: {fault}") from None
     return [Sent(number, submit) for number, submit in orders.submits], orders.others
 
 
@@ -116,14 +142,17 @@ def paired(sent, published, key):
 
 def compared(own, published, closed, who):
     """What is wrong with a participant's commands in a journal, and lines about what is right. A table of orders may have the commands, or
-    what the orders are at the end."""
+    what the orders are at the end: of both, the one with fewer differences is meant."""
     commands, reasons = own.commands, [entry.reason for entry in published]
     wrong = differences(commands, published)
     others = f" ({own.others} of others left out)" if own.others else ""
-    if wrong and own.is_table and is_at_the_end(commands, closed, who):
-        count = f"{text.counted(len(commands), 'order')} of {who}"
-        by = f"{text.counted(len(published), 'command')} of {who}{refused(reasons)}"
-        return [], [f"as in the table: {count} in the book at the end, and no others, after {by}{others}"]
+    if wrong and own.is_table:
+        at_the_end = differences(commands, held_of(closed, who), BOOK)
+        if not at_the_end:
+            count = f"{text.counted(len(commands), 'order')} of {who}"
+            by = f"{text.counted(len(published), 'command')} of {who}{refused(reasons)}"
+            return [], [f"as in the table: {count} in {BOOK}, and no others, after {by}{others}"]
+        wrong = min(wrong, at_the_end, key=len)
     count = f"{text.counted(len(commands), 'command')} of {who}"
     line = f"as sent: {count}, each once, in their order, and no others{refused(reasons)}{others}"
     return wrong, [line, *replies(commands, published)]
@@ -135,14 +164,14 @@ def refused(reasons):
     return f", {count} of {len(reasons)} commands refused" if count else ""
 
 
-def is_at_the_end(sent, closed, who):
-    """Whether the orders of a table are those of a participant in the book, in its order."""
-    rows = [(name, order) for (owner, name), order in closed.rows.items() if owner == who]
-    return rows == [(entry.command.name, entry.command.order) for entry in sent]
+def held_of(closed, who):
+    """The orders of a participant in the book, in its order."""
+    own = [journal.Submit(*key, order) for key, order in closed.rows.items() if key[0] == who]
+    return [Held(number, submit) for number, submit in enumerate(own, 1)]
 
 
-def differences(sent, published):
-    """What is wrong with the published commands, a line each, by their records."""
+def differences(sent, published, where=JOURNAL):
+    """What is wrong with the published commands, or with those of the book, a line each, by their records."""
     pairs = in_order(sent, published)
     there, here = ({place[side] for place in pairs} for side in (0, 1))
     left = [entry for at, entry in enumerate(sent) if at not in there]
@@ -152,7 +181,7 @@ def differences(sent, published):
     sent_times = Counter(entry.command for entry in sent)
     lines = [(other.record, moved_line(one, other)) for one, other in moved]
     lines += [(other.record, changed_line(one, other)) for one, other in changed]
-    lines += [(place_of(one, sent, published, pairs), missing_line(one)) for one in left]
+    lines += [(place_of(one, sent, published, pairs), missing_line(one, where)) for one in left]
     lines += [(other.record, more_line(other, sent_times[other.command])) for other in more]
     return [line for _, line in sorted(lines, key=lambda line: line[0])]
 
@@ -162,25 +191,20 @@ def about(entry):
     return f"order {entry.command.who},{entry.command.name}"
 
 
-def placed(entry):
-    """A record of the journal, with its number among the commands, which other tools print."""
-    return f"record {entry.record} (command {entry.record - 1})"
-
-
 def moved_line(one, other):
     shown = journal.command_line(one.command)
-    words = f"sent record {one.record} is moved: {placed(other)} of the journal is out of its order: {shown}"
-    return Fault(words, "moved", other.record, about(one))
+    words = f"sent record {one.record} is moved: {other.place} is out of its order: {shown}"
+    return Fault(words, "moved", other.line, about(one))
 
 
 def changed_line(one, other):
     was, now = journal.command_line(one.command), journal.command_line(other.command)
-    words = f"sent record {one.record} is changed: it was '{was}', and {placed(other)} of the journal is '{now}'"
-    return Fault(words, "changed", other.record, about(one))
+    words = f"sent record {one.record} is changed: it was '{was}', and {other.place} is '{now}'"
+    return Fault(words, "changed", other.line, about(one))
 
 
-def missing_line(one):
-    words = f"sent record {one.record} is missing in the journal: {journal.command_line(one.command)}"
+def missing_line(one, where):
+    words = f"sent record {one.record} is missing in {where}: {journal.command_line(one.command)}"
     return Fault(words, "missing", None, about(one))
 
 
@@ -188,10 +212,10 @@ def more_line(other, times):
     """What is said of a record that wasn't sent; its command was sent `count` times."""
     shown = journal.command_line(other.command)
     if not times:
-        return Fault(f"{placed(other)} of the journal was not sent: {shown}", "unsent", other.record, about(other))
+        return Fault(f"{other.place} was not sent: {shown}", "unsent", other.line, about(other))
     count = "once" if times == 1 else f"{times} times"
-    words = f"{placed(other)} of the journal repeats what was sent {count}: {shown}"
-    return Fault(words, "repeated", other.record, about(other))
+    words = f"{other.place} repeats what was sent {count}: {shown}"
+    return Fault(words, "repeated", other.line, about(other))
 
 
 def place_of(one, sent, published, pairs):
@@ -203,4 +227,5 @@ def place_of(one, sent, published, pairs):
 def replies(sent, published):
     """The reply to each command, if all are published as they were sent."""
     for one, other in zip(sent, published):
-        yield f"sent record {one.record} is {placed(other)}: {other.reply}: {journal.command_line(one.command)}"
+        shown = journal.command_line(one.command)
+        yield f"sent record {one.record} is {other.place}; the book's reply is {other.reply}: {shown}"

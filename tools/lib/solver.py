@@ -243,7 +243,7 @@ def better(problem, accepted, welfare, progress, tell=lambda words: None):
                 return best.Found(other, value), "found by HiGHS"
             model.forbid(other)
     kind = "which breaks a rule or ranks below" if looked == 1 else "which break a rule or rank below"
-    return None, f"HiGHS offers {looked or 'no'} other{'s' * (looked > 1)}" + (f", {kind}" if looked else "")
+    return None, f"HiGHS offers {looked} other{'s' * (looked > 1)}, {kind}" if looked else "HiGHS found none better"
 
 
 def offered(looked):

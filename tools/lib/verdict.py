@@ -20,7 +20,10 @@ OF_STATUS = {
     command.ENCODING: ENCODING,
 }
 SECONDS = 600  # that the search for a better selection may take
+NOT_COMPARED = "no number was compared, since the form is wrong"
 NOT_LOOKED = "no better selection was looked for, since the results break other rules"
+NEITHER = "no number was compared and no better selection was looked for, since the form is wrong"
+NOT_CHECKED = "; whether another selection of blocks is better was not checked (--best)"
 HINTS = {
     kinds.REPLIES: "; --replies checks replies",
     kinds.DAY: "; give it as the only file",
@@ -106,7 +109,7 @@ class Audit:
         self.right.append(f"as the rules say: {text.counted(len(reasons), 'reply', 'replies')}{sent.refused(reasons)}")
 
     def check_results(self, closed, reasons, published):
-        self.checked += ["results", "sums"]
+        self.checked.append("results")
         data, odd = results.plain(published)
         self.odd += odd
         if not closed.closed:
@@ -115,13 +118,15 @@ class Audit:
         problem = selection.Problem(closed)
         said, wrong = check.differences(problem, data)
         self.wrong += wrong
+        self.checked += ["sums"] if said is not None else []
         self.day.update(figures(problem, said))
         if wrong:
-            self.last = NOT_LOOKED if self.options.best else None
+            self.last = last_line(said is not None, self.options.best)
             return
         how = self.look(problem, said) if self.options.best else None
         if self.search is None or self.search["better"] is None:
-            self.right.append(right_line(problem, said, reasons) + (f"; no selection is better: {how}" if how else ""))
+            others = f"; no selection is better: {how}" if how else NOT_CHECKED if problem.blocks else ""
+            self.right.append(right_line(problem, said, reasons) + others)
             self.right.append(sums.line(problem, sums.sums(problem, said)))
             if self.options.sent is not None:
                 self.right += own_lines(data, self.options.participant)
@@ -220,6 +225,13 @@ def own_lines(data, who):
         kind, *fields = line.split(",")
         if kind in ("hour", "block") and fields[0] == who:
             yield f"results line {number}: {line}"
+
+
+def last_line(is_compared, is_best):
+    """What is said after the faults of results about what wasn't checked."""
+    if not is_compared:
+        return NEITHER if is_best else NOT_COMPARED
+    return NOT_LOOKED if is_best else None
 
 
 def right_line(problem, said, reasons):

@@ -1,8 +1,13 @@
 """The audit: that it accepts what is right and refuses what isn't, by other readings of the rules than its own."""
 
 import itertools
+import os
 import random
 import re
+import shutil
+import subprocess
+import sys
+import tempfile
 import unittest
 import unittest.mock
 from fractions import Fraction
@@ -11,11 +16,12 @@ import support
 from support import AUCTION, audit, cleared_cases, journal_of, printed, problem, results_of, tool
 
 import days
-from lib import best, book, check, command, journal, period, results, rules, selection, sheets, tables
+from lib import best, book, check, command, journal, period, results, rules, selection, sheets, tables, verdict
 from lib.progress import Progress
 from lib.text import exact_euros
 from small_days import ranked, small_problems
 
+NOT_COMPARED = f"{verdict.NOT_COMPARED}\n"
 NUMBER = re.compile(rb"(?<=,)-?\d+(?=[,\n])")
 
 
@@ -45,7 +51,7 @@ class Results(unittest.TestCase):
             for other, line in changed_numbers(text):
                 wrong = [fault for fault in check.differences(day, other)[1] if fault.kind not in ("money", "sum")]
                 with self.subTest(name, line=line):
-                    self.assertIn(f"results line {line}:", "\n".join(wrong))
+                    self.assertRegex("\n".join(wrong), rf"results line {line}\b")
                 refused += 1
         self.assertGreater(refused, 1_000)
 
@@ -358,6 +364,8 @@ class CommandLine(unittest.TestCase):
         self.assertEqual(tool("audit", "-", data=day.replace(b"welfare,3", b"welfare,4"))[0], command.DIFFERS)
         self.assertEqual(tool("audit", "-", data=day.replace(b"day,24,", b'"day",24,'))[0], command.ENCODING)
         self.assertEqual(tool("audit", "-", data=AUCTION.read_bytes())[0], command.NO_INPUT)
+        for other in (b"\xef\xbb\xbf" + day, day.replace(b"\n", b"\r"), day.replace(b"\nresults\n", b'\n"results"\n')):
+            self.assertEqual(tool("audit", "-", data=other)[:2], (command.NO_INPUT, b""))
 
     def test_the_most_blocks(self):
         blocks = [f"submit,A,K{number},block,sell,1,1:1,," for number in range(24)]
@@ -365,6 +373,56 @@ class CommandLine(unittest.TestCase):
         text = results_of(data, frozenset())
         wanted = command.DONE if command.has("numpy") or command.elsewhere("numpy") else command.FAILED
         self.assertEqual(audit(data, text, "--best")[0], wanted)
+
+    def test_a_tool_without_its_parts_has_no_verdict(self):
+        """If Python leaves the tool's folder out, the tool finds it; a copy without it says so, and never that the results are wrong."""
+        words = [AUCTION, AUCTION.with_suffix(".stdout"), "--quiet"]
+        self.assertEqual(tool("audit", *words, python=(sys.executable, "-I")), (command.DONE, b"", ""))
+        with tempfile.TemporaryDirectory() as folder:
+            copy = shutil.copy(support.TOOLS / "audit", folder)
+            ran = subprocess.run([sys.executable, copy, *words], capture_output=True)
+            said = f"audit: the rest of this tool is missing: the folder {os.path.realpath(folder)}/lib\n"
+            self.assertEqual((ran.returncode, ran.stdout, ran.stderr.decode()), (command.FAILED, b"", said))
+
+    def test_what_was_not_checked_is_said(self):
+        """Without --best, that of the selection; of a wrong form, that of the numbers."""
+        data, text = AUCTION.read_bytes(), printed(AUCTION)
+        said = "welfare 3,021,520.00 EUR, 1 of 94 commands refused" + verdict.NOT_CHECKED
+        self.assertTrue(audit(data, text)[1].decode().splitlines()[0].endswith(said))
+        self.assertNotIn(b"not checked", audit(data, text, "--best")[1])
+        self.assertNotIn(b"not checked", audit(journal_of(), results_of(journal_of(), frozenset()))[1])
+        status, out, _ = audit(data, text.replace(b"period,20,", b"period,20,+"), "--best")
+        number = text.split(b"period,20,")[1].split(b",")[0].decode()
+        form = f"results line 22: period 20: '+{number}' isn't a number as dam writes it: no +, no leading zeros, no -0"
+        self.assertEqual((status, out.decode().splitlines()), (command.DIFFERS, [form, verdict.NEITHER]))
+
+    def test_files_that_are_no_text_have_no_verdict(self):
+        for data, said in (
+            (b"%PDF-1.7\n", "is a PDF instead of results"),
+            (b"\x1f\x8b\x08\r\n", "is a compressed file (.gz) instead of results"),
+            (b"\n<!DOCTYPE html>\n", "is a web page (HTML) instead of results"),
+        ):
+            status, out, err = audit(AUCTION.read_bytes(), data)
+            self.assertEqual((status, out, err.endswith(f"{said}\n")), (command.NO_INPUT, b"", True))
+
+    def test_what_a_spreadsheet_changes_besides_the_encoding_is_wrong(self):
+        """Padding to a rectangle, and other separators: docs/FORMATS.md says so."""
+        data, text = AUCTION.read_bytes(), printed(AUCTION)
+        tabs = text.replace(b",", b"\t").decode().encode("utf-16")
+        for other in (text.replace(b"day,24\n", b"day,24,,,\n"), text.replace(b",", b";"), tabs, text.replace(b"\n", b"\r\r\n")):
+            self.assertEqual(audit(data, other)[0], command.DIFFERS)
+
+    def test_other_encodings_are_named_right(self):
+        """UTF-32 isn't UTF-16, and a tab somewhere isn't a separator."""
+        for data in (printed(AUCTION).decode().encode("utf-32"), b"\x07\tday,24\n"):
+            status, out, _ = audit(AUCTION.read_bytes(), data)
+            self.assertEqual((status, b"none of the lines of the results belongs" in out), (command.DIFFERS, True), out)
+            self.assertNotIn(b"separated", out)
+            self.assertNotIn(b"UTF-16", out)
+
+    def test_repeated_results_are_of_this_journal(self):
+        status, out, _ = audit(AUCTION.read_bytes(), printed(AUCTION) * 3)
+        self.assertEqual((status, b"another journal" in out), (command.DIFFERS, False))
 
     def test_too_little_time(self):
         """The other rules have been checked, and it is said how far the search is."""
@@ -384,7 +442,7 @@ class CommandLine(unittest.TestCase):
         accepted = frozenset(results.read_results(day, printed(AUCTION))[0].accepted)
         welfare = selection.eligible(day, accepted)
         for offers, said in (
-            ([None], "HiGHS offers no other"),
+            ([None], "HiGHS found none better"),
             ([{0}, None], "HiGHS offers 1 other, which breaks a rule or ranks below"),
             ([{0}, {1}, None], "HiGHS offers 2 others, which break a rule or rank below"),
         ):
@@ -402,7 +460,7 @@ class CommandLine(unittest.TestCase):
             self.assertEqual(status, command.ENCODING)
             self.assertIn(b"the encoding differs: empty lines follow the last line\n", out)
         self.assertEqual(audit(AUCTION.read_bytes(), b"\n\n")[0], command.DIFFERS)
-        said = b"results line 4: the line is empty, and should not be there\n"
+        said = f"results line 4: the line is empty, and should not be there\n{NOT_COMPARED}".encode()
         self.assertEqual(audit(AUCTION.read_bytes(), printed(AUCTION).replace(b"period,2,", b"\nperiod,2,")), (command.DIFFERS, said, ""))
 
     def test_a_text_in_the_place_of_another_is_named(self):
@@ -426,21 +484,24 @@ class CommandLine(unittest.TestCase):
         data, lines = AUCTION.read_bytes(), printed(AUCTION).splitlines(keepends=True)
         for at in (0, 1, 2, 30, len(lines)):
             stray = b"".join([*lines[:at], b"stray,\xff\x0b\x1b,line\n", *lines[at:]])
-            said = f"results line {at + 1}: 'stray,\\xff\\x0b\\x1b,line' is not a line of these results\n".encode()
+            said = f"results line {at + 1}: 'stray,\\xff\\x0b\\x1b,line' doesn't belong here\n{NOT_COMPARED}".encode()
             self.assertEqual(audit(data, stray), (command.DIFFERS, said, ""))
         for at, about in (0, "the day"), (1, "the welfare"), (4, "period 3"), (len(lines) - 1, "block OLD,UNIT-7"):
             missing = b"".join(lines[:at] + lines[at + 1 :])
-            said = f"results line {at + 1}: there is no line for {about}\n".encode()
+            where = f"before results line {at + 1}" if at + 1 < len(lines) else f"at the end of the results, as line {at + 1}"
+            said = f"the line for {about} is missing {where}\n{NOT_COMPARED}".encode()
             self.assertEqual(audit(data, missing), (command.DIFFERS, said, ""))
         twice = b"".join(lines[:5] + lines[4:])
-        self.assertEqual(audit(data, twice)[1].count(b"\n"), 1)
+        self.assertEqual(audit(data, twice)[1].count(b"\n"), 2)
 
     def test_lines_in_another_order_are_said_to_be(self):
         """Which line stands where, and where it belongs: once for a line that moved, twice for two that were swapped."""
         data, lines = AUCTION.read_bytes(), printed(AUCTION).splitlines(keepends=True)
 
         def told(*places):
-            return audit(data, b"".join(lines[place] for place in places))[1].decode().splitlines()
+            *faults, last = audit(data, b"".join(lines[place] for place in places))[1].decode().splitlines()
+            self.assertEqual(f"{last}\n", NOT_COMPARED)
+            return faults
 
         every = list(range(len(lines)))
         self.assertEqual(
@@ -465,7 +526,8 @@ class CommandLine(unittest.TestCase):
         data, text = AUCTION.read_bytes(), printed(AUCTION)
         renamed = re.sub(rb"^(hour|block),([A-Z]+),", rb"\1,\2X,", text, flags=re.MULTILINE)
         status, out, _ = audit(data, renamed)
-        said = "these seem to be the results of another journal: 89 of their 89 lines of orders are of no order of this one"
+        said = "these seem to be the results of another journal: 89 of their 89 lines of orders are"
+        said += " of orders that this journal doesn't have"
         self.assertEqual((status, out.decode().splitlines()[0]), (command.DIFFERS, said))
         another = re.sub(rb"^((?:welfare|period|hour|block),(?:.*,)?)-?(\d+)$", rb"\g<1>1\2", text, flags=re.MULTILINE)
         status, out, _ = audit(data, another)
@@ -496,16 +558,16 @@ class CommandLine(unittest.TestCase):
         junk = b"".join(b"%d\n" % number for number in range(500))
         status, out, _ = audit(data, printed(AUCTION) + junk)
         lines = out.decode().splitlines()
-        self.assertEqual((status, len(lines), lines[-1]), (command.DIFFERS, 21, "and 480 more: --all prints every line"))
-        self.assertEqual(len(audit(data, printed(AUCTION) + junk, "--all")[1].splitlines()), 500)
-        said = b"none of the lines of the results belongs to this journal: the first is '0'\n"
+        self.assertEqual((status, len(lines), lines[-2]), (command.DIFFERS, 22, "and 480 more: --all prints every line"))
+        self.assertEqual(len(audit(data, printed(AUCTION) + junk, "--all")[1].splitlines()), 501)
+        said = f"none of the lines of the results belongs to this journal: the first is '0'\n{NOT_COMPARED}".encode()
         self.assertEqual(audit(data, junk), (command.DIFFERS, said, ""))
         for comma, name in (b";", b"semicolons"), (b"\t", b"tabs"):
             other = printed(AUCTION).replace(b",", comma)
             shown = other.split(b"\n")[0].replace(b"\t", b"\\t")
             said = b"the fields of the results are separated by %s instead of commas: the first line is '%s'\n" % (name, shown)
-            self.assertEqual(audit(data, other), (command.DIFFERS, said, ""))
-        self.assertEqual(audit(data, b""), (command.DIFFERS, b"the results are empty\n", ""))
+            self.assertEqual(audit(data, other), (command.DIFFERS, said + NOT_COMPARED.encode(), ""))
+        self.assertEqual(audit(data, b""), (command.DIFFERS, f"the results are empty\n{NOT_COMPARED}".encode(), ""))
         self.assertEqual(len(audit(data, b"day,24\n" + junk, "--replies")[1].splitlines()), 21)
 
     def test_refused_commands_are_counted(self):

@@ -1,8 +1,11 @@
 """The audit of many days: one broken pair doesn't end the rest, and the status is that of the worst."""
 
+import errno
 import json
+import os
 import tempfile
 import unittest
+import unittest.mock
 from pathlib import Path
 
 from support import AUCTION, QUARTERS, printed, results_of, tool
@@ -96,6 +99,9 @@ class Days(unittest.TestCase):
         self.assertEqual((status, made["status"], [day["verdict"] for day in made["days"]]), (3, 3, ["right", "unread"]))
         self.assertEqual(made["counts"], {**dict.fromkeys(days.VERDICTS, 0), "right": 1, "unread": 1})
         self.assertEqual(made["days"][0]["day"]["periods"], 24)
+        self.assertEqual(made["days"][0].keys(), made["days"][1].keys())
+        inputs = made["days"][1]["inputs"]
+        self.assertEqual([entry.keys() for entry in inputs], [made["days"][0]["inputs"][0].keys()] * len(inputs))
 
     def test_a_manifest(self):
         self.write(a=(DATA, TEXT), b=(DATA + b"results\n" + TEXT, None))
@@ -108,6 +114,32 @@ class Days(unittest.TestCase):
         (self.folder / "list").write_text("journal\na.csv\n")
         said = f"audit: {self.folder / 'list'} isn't a table of days: its first line should name the columns journal, results\n"
         self.assertEqual(self.audit(place=self.folder / "list"), (command.NO_INPUT, "", said))
+
+    def test_rows_of_a_manifest_that_name_no_files(self):
+        self.write(a=(DATA, TEXT))
+        (self.folder / "list").write_bytes(b"day,journal,results\nnul,a\0.csv,a.txt\nempty,,a.txt\nright,a.csv,a.txt\nalone,a.csv,\nfolder,.,\n")
+        status, out, err = self.audit(place=self.folder / "list")
+        nul, empty, right, alone, folder = out.splitlines()[1:6]
+        self.assertEqual((status, err, right.split()[1]), (command.NO_INPUT, "", verdict.RIGHT))
+        self.assertEqual((nul.split()[1], empty.split()[1]), (verdict.UNREAD, verdict.UNREAD))
+        self.assertTrue(nul.endswith("the name 'a\\x00.csv' has a NUL"), nul)
+        self.assertTrue(empty.endswith("its row names no journal"), empty)
+        self.assertTrue(folder.endswith(f"{self.folder} can't be read: Is a directory"), folder)
+        self.assertTrue(alone.endswith(f"its row names no results, and {self.folder / 'a.csv'} has no line 'results'"), alone)
+
+    def test_a_process_that_cannot_be_started(self):
+        pair, full = days.Pair("a", Path("a.csv"), Path("a.txt")), OSError(errno.EMFILE, os.strerror(errno.EMFILE))
+        with unittest.mock.patch.object(days.subprocess, "Popen", side_effect=full):
+            record = days.audited(pair, [], set())
+        said = "its process can't be started: Too many open files"
+        self.assertEqual((record["status"], record["verdict"], record["message"]), (command.FAILED, verdict.FAILED, said))
+
+    def test_the_first_fault_is_one_line_and_whole(self):
+        name = "d" * 200
+        self.write(**{"a": (DATA, results_of(DATA, frozenset({0, 1}))), name: (b"x", TEXT)})
+        _, out, _ = self.audit("--best")
+        self.assertNotIn("\\n", out)
+        self.assertIn(f"{name}.csv isn't a journal: input: NotDay", out)
 
     def test_command_lines(self):
         said = f"audit: {self.folder} has no days: a day is NAME.csv with its results NAME.txt\n"

@@ -59,10 +59,10 @@ class Worked(unittest.TestCase):
             out.splitlines(),
             [
                 "as sent: 4 commands of A, each once, in their order, and no others, 1 of 4 commands refused",
-                f"sent record 1 is record 2 (command 1): done: {OWN[0]}",
-                f"sent record 2 is record 4 (command 3): refused, NameTaken: {OWN[1]}",
-                f"sent record 3 is record 5 (command 4): done: {OWN[2]}",
-                f"sent record 4 is record 7 (command 6): done: {OWN[3]}",
+                f"sent record 1 is record 2 (command 1) of the journal; the book's reply is done: {OWN[0]}",
+                f"sent record 2 is record 4 (command 3) of the journal; the book's reply is refused, NameTaken: {OWN[1]}",
+                f"sent record 3 is record 5 (command 4) of the journal; the book's reply is done: {OWN[2]}",
+                f"sent record 4 is record 7 (command 6) of the journal; the book's reply is done: {OWN[3]}",
             ],
         )
         self.assertEqual(audit(PUBLISHED, text_of(OWN), "A", "--quiet"), (0, "", ""))
@@ -95,7 +95,8 @@ class Worked(unittest.TestCase):
         """A journal of the participant's own, its day counted as a record and its close left out; a day's text; a table."""
         own = journal_of(*OWN)
         status, out, _ = audit(PUBLISHED, own)
-        self.assertEqual((status, out.count("\n"), f"sent record 2 is record 2 (command 1): done: {OWN[0]}" in out), (command.DONE, 5, True))
+        said = f"sent record 2 is record 2 (command 1) of the journal; the book's reply is done: {OWN[0]}"
+        self.assertEqual((status, out.count("\n"), said in out), (command.DONE, 5, True))
         self.assertEqual(audit(PUBLISHED, own.replace(b"\n", b"\r\n\r\n"))[0], command.DONE)
         day = AUCTION.read_bytes() + b"results\n" + printed(AUCTION)
         self.assertEqual(audit(day, text_of(own_lines(AUCTION.read_bytes(), "GAS")), "GAS")[0], command.DONE)
@@ -129,6 +130,30 @@ class Worked(unittest.TestCase):
         uncancelled = PUBLISHED.replace(b"cancel,B,H1,,,,,,\n", b"")
         for data, own, who in ((uncancelled, [heads, row], "B"), (PUBLISHED, [heads, row], "C"), (PUBLISHED, OWN, "B")):
             self.assertEqual(audit(data, text_of(own), who)[:2], (command.NO_INPUT, ""))
+
+    def test_a_table_is_compared_both_ways(self):
+        """Of one with the orders at the end, only what differs there is said, and not each amend that led to it."""
+        heads = "participant,order,kind,side,price_eur_mwh,periods,volume_mw"
+        status, out, _ = audit(PUBLISHED, text_of([heads, "A,H1,hour,buy,3.01,1,1", "A,K1,block,buy,1.00,1-2,1"]))
+        was, now = "submit,A,H1,hour,buy,301,1:10,,", "submit,A,H1,hour,buy,300,1:10,,"
+        said = ["not as sent: 1 difference in the commands of A"]
+        said.append(f"sent record 1 is changed: it was '{was}', and order 1 in the book at the end is '{now}'")
+        self.assertEqual((status, out.splitlines()), (command.DIFFERS, said))
+        status, out, _ = audit(PUBLISHED, text_of([heads, "A,H1,hour,buy,3.00,1,1", "A,K1,block,buy,1.00,1-2,1", "A,K2,block,buy,1,1,1"]))
+        self.assertEqual((status, "sent record 3 is missing in the book at the end: submit,A,K2," in out), (command.DIFFERS, True))
+        status, out, _ = audit(PUBLISHED, text_of([heads, "A,H1,hour,buy,3.00,1,1"]))
+        self.assertIn("\norder 2 in the book at the end was not sent: submit,A,K1,", out)
+
+    def test_a_table_of_commands_is_no_table_of_orders(self):
+        """Its cancels would count as orders."""
+        heads = "what,participant,order,kind,side,price_eur_mwh,periods,volume_mw"
+        rows = ["submit,A,H1,hour,buy,3.00,1,1", "cancel,A,K1,block,buy,1.00,1-2,1"]
+        said = "it is a table of commands, with the column what: give records of a journal, or a table of orders"
+        wanted = (command.NO_INPUT, "", f"audit: sent isn't what A sent: {said}\n")
+        self.assertEqual(audit(PUBLISHED, text_of([heads, *rows])), wanted)
+        heads, rows = heads.removeprefix("what,"), ["A,H1,hour,bye,3.00,1,1"]
+        said = "audit: sent isn't what A sent: not each row of its table is an order: line 2, column side: 'bye' should be buy or sell\n"
+        self.assertEqual(audit(PUBLISHED, text_of([heads, *rows])), (command.NO_INPUT, "", said))
 
     @unittest.skipUnless(command.has("openpyxl"), "openpyxl is missing (Debian's python3-openpyxl)")
     def test_a_workbook(self):

@@ -18,7 +18,8 @@ class Encoding(unittest.TestCase):
     """What other programs add to a text is no wrong number: it has a status of its own."""
 
     RIGHT = (
-        "as the rules say: 24 periods, 80 hourly orders, 6 of 9 blocks accepted, welfare 3,021,520.00 EUR, 1 of 94 commands refused\n"
+        "as the rules say: 24 periods, 80 hourly orders, 6 of 9 blocks accepted, welfare 3,021,520.00 EUR, 1 of 94 commands refused"
+        f"{verdict.NOT_CHECKED}\n"
         "by adding: buyers pay 1,238,670.00 EUR, sellers receive 1,238,670.00 EUR; the surpluses add up to the welfare, and nobody loses\n"
     )
 
@@ -114,6 +115,11 @@ class Record(unittest.TestCase):
         self.assertEqual((made["verdict"], made["search"]["tried"], made["search"]["selections"]), ("undecided", 0, 512))
         for words in ("--quiet", "--all"):
             self.assertEqual(audit(DATA, TEXT, "--json", words)[0], command.COMMAND_LINE)
+
+    def test_sums_are_checked_of_results_that_can_be_read(self):
+        for data, text in ((DATA, b""), (DATA, TEXT.replace(b"welfare,", b"welfare,+")), (b"day,24,,,,,,,\n", TEXT)):
+            self.assertEqual(self.record(data, text)[0]["checked"], ["results"])
+        self.assertEqual(self.record(DATA, TEXT.replace(b"welfare,3", b"welfare,4"))[0]["checked"], ["results", "sums"])
 
     def test_other_texts(self):
         made, _ = self.record(journal_of(), b"day,24\n1,refused,Closed\n", "--replies")
