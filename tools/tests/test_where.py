@@ -55,6 +55,8 @@ class Where(unittest.TestCase):
         self.assertEqual(self.where(folder), f"library package {library}")
         self.assertEqual(self.where(folder, DAM="dam"), "program environment dam")
         self.assertEqual(self.where(folder, DAM="dam", DAM_LIBRARY="libdam.so"), "library environment libdam.so")
+        self.assertEqual(self.where(folder, DAM="dam", DAM_LIBRARY=""), "program environment dam")
+        self.assertEqual(self.where(folder, DAM="", DAM_LIBRARY=""), f"library package {library}")
 
     def test_a_wheel(self):
         self.installed("site-packages")
