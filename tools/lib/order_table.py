@@ -61,7 +61,8 @@ def columns_of(header):
 
 
 def scaled(cell, factor, least, greatest, unit, decimal_comma):
-    """A decimal number times a factor, which must be whole and in a range."""
+    """A decimal number times a factor, which must be whole and in a range. Further digits are refused even if they are zeros: 2.000 may be
+    meant for two thousand."""
     if not cell:
         raise Wrong(f"it is empty, or a formula that wasn't saved with its value: it should be a number of {unit}, such as 92.5")
     found = DECIMAL[decimal_comma].fullmatch(cell)
@@ -70,8 +71,9 @@ def scaled(cell, factor, least, greatest, unit, decimal_comma):
     sign, whole, rest = found.groups()
     value = Fraction(f"{whole}.{rest or 0}") * factor * (-1 if sign else 1)
     digits = len(str(factor)) - 1
-    if value.denominator != 1:
-        raise Wrong(f"{text.quoted(cell)} has more than {digits} digit{'s' * (digits > 1)} after the decimal point")
+    if len(rest or "") > digits:
+        hint = ": write thousands without a separator" if len(rest) == 3 else ""
+        raise Wrong(f"{text.quoted(cell)} has more than {digits} digit{'s' * (digits > 1)} after the decimal point{hint}")
     if not least <= value <= greatest:
         ends = [text.fixed(Fraction(end) / factor, digits) for end in (least, greatest)]
         raise Wrong(f"{text.quoted(cell)} should be from {ends[0]} to {ends[1]} {unit}")
