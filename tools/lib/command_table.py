@@ -10,7 +10,9 @@ class Columns:
     """A table of orders that has further columns, some of which it must have: where these stand, and the table."""
 
     def __init__(self, data, needed):
-        self.table, self.further = order_table.table_of("", data), (WHAT, *needed)
+        has_commands = is_command_table(data)
+        further = (*(name for name in needed if name != WHAT), *([WHAT] if has_commands else []))
+        self.table = order_table.table_of("", data, further, order_table.OF_SUBMITS if has_commands else order_table.OPTIONAL)
         self.header = header_of(data)
         for name in needed:
             if name not in self.header:
@@ -19,10 +21,6 @@ class Columns:
     def cell(self, cells, name):
         at = self.header.index(name) if name in self.header else len(cells)
         return sheets.unescaped(cells[at].strip()) if at < len(cells) else ""
-
-    def notes(self):
-        """Notes on columns that aren't used."""
-        return [note for note in self.table.notes if not any(text.quoted(name) in note.lower() for name in self.further)]
 
     def is_empty(self, cells):
         """Whether a row has no command."""

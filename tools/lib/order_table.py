@@ -11,6 +11,7 @@ from .tables import ORDER, RESULT
 
 # The columns that a row may leave empty, or a table out.
 OPTIONAL = ["parent", "group"]
+OF_SUBMITS = [name for name in ORDER if name not in ("participant", "order")]  # that cancels don't have
 MOST_ERRORS = 20
 ALIKE = 0.75  # a column whose name is at least so similar to one that is missing is probably meant to be that
 TIMES = re.compile(r"([0-9]{1,2}:[0-9]{2})-([0-9]{1,2}:[0-9]{2})")
@@ -38,8 +39,9 @@ def trimmed(cells):
     return cells
 
 
-def columns_of(header):
-    """Where each column stands, and notes on those that aren't used; if not, all that is wrong with the columns, a line each."""
+def columns_of(header, further=(), optional=OPTIONAL):
+    """Where each column stands, and notes on those that aren't used; if not, all that is wrong with the columns, a line each. Further
+    columns are another's to read."""
     names = [cell.strip().lower() for cell in header]
     missing = [name for name in ORDER if name not in names]
     places, wrong, notes = {}, [], []
@@ -50,11 +52,11 @@ def columns_of(header):
             places[name] = at - 1
         elif alike := difflib.get_close_matches(name, missing, 1, ALIKE):
             wrong.append(f"line 1, column {at}: {text.quoted(cell)} is not a column: write {alike[0]}")
-        elif name:
+        elif name and name not in further:
             notes.append(f"the column {text.quoted(cell)} isn't used")
-    lacking = [name for name in missing if name not in OPTIONAL]
+    lacking = [name for name in missing if name not in optional]
     if lacking:
-        wrong.append(f"line 1: there is no column {', '.join(lacking)}; the columns are {', '.join(ORDER)}")
+        wrong.append(f"line 1: there is no column {', '.join(lacking)}; the columns are {', '.join([*further, *ORDER])}")
     if wrong:
         raise Wrong("\n".join([*wrong, *(f"line 1: {note}" for note in notes)] if lacking else wrong))
     return places, notes
@@ -253,8 +255,8 @@ class Table(NamedTuple):
         return f"{self.name}: {words}" if self.name else words
 
 
-def table_of(name, data):
-    """A table of orders, of which the header has been read."""
+def table_of(name, data, further=(), optional=OPTIONAL):
+    """A table of orders, or of commands with further columns, of which the header has been read."""
     if kinds.kind_of(data) in (kinds.JOURNAL, kinds.DAY):
         raise Wrong("this seems to be a journal already")
     try:
@@ -265,7 +267,7 @@ def table_of(name, data):
     if not rows:
         raise Wrong(f"the table is empty: its first line should name the columns {', '.join(ORDER)}")
     header = rows[0][1]
-    places, notes = columns_of(header)
+    places, notes = columns_of(header, further, optional)
     again = [number for number, cells in rows[1:] if cells == header]
     if again:
         notes.append(f"line {', '.join(map(str, again))} names the columns once more")

@@ -98,7 +98,7 @@ def read_table(name, data, held):
         found.append(Scenario(scenario, book_text(after, held.periods), lambda after=after: after))
     if not found:
         raise Fault(f"{name}: it has no scenarios")
-    return found, columns.notes()
+    return found, columns.table.notes
 
 
 def entered(name, columns, rows, held):

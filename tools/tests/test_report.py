@@ -2,7 +2,9 @@
 
 import functools
 import html.parser
+import multiprocessing
 import re
+import signal
 import tempfile
 import unittest
 from pathlib import Path

@@ -37,6 +37,10 @@ class Tables(unittest.TestCase):
         self.assertEqual([list(found["none"]), ("GEN", "X") in found["more"]], [[("CITY", "TOWN")], True])
         self.assertEqual(len(HELD.rows), 2)
 
+    def test_cancels_need_no_other_columns(self):
+        found, notes = self.read("scenario,what,participant,order\nnone,cancel,GEN,UNIT\n")
+        self.assertEqual([list(found["none"]), notes], [[("CITY", "TOWN")], []])
+
     def test_the_texts_are_those_of_the_books(self):
         found, _ = scenarios.read_table("a.csv", (HEADS + "A,WIND,M-1,hour,sell,10.00,1,2,,\n").encode(), HELD)
         held, _ = book.run(journal.read_journal(found[0].text))
@@ -52,6 +56,8 @@ class Tables(unittest.TestCase):
             (HEADS + "A,WIND,M,hour,sell,10,25,2,,\n", "line 2, column periods: the day has periods 1 to 24, so there is no period 25"),
             (HEADS + "A,wind,M,hour,sell,1x,1,2,,\n", "line 2, column participant: 'wind' should be 1 to 8 letters A to Z (and 1 more)"),
             (HEADS + "A,GEN,UNIT,hour,sell,10,1,2,,\n", "line 2: the book refuses submit,GEN,UNIT,hour,sell,1000,1:20,,: the"),
+            ("scenario,what,participant\nA,cancel,GEN\n", "line 1: there is no column order; the columns are scenario, what, participant, order,"),
+            ("scenario,what,participant,order\nA,submit,GEN,X\n", "line 2, column kind: '' should be hour or block (and 4 more)"),
             (COMMANDS + "A,close,,,,,,,,,\n", "line 2, column what: 'close' should be submit, amend or cancel"),
             (COMMANDS + "A,cancel,GEN,NONE,,,,,,,\n", "line 2: the book refuses cancel,GEN,NONE,,,,,,: the participant has no such order"),
             (COMMANDS + "A,amend,GEN,UNIT,,,5000,1,2,,\n", "line 2, column price_eur_mwh: '5000' should be from -500.00 to 4000.00"),
@@ -176,6 +182,14 @@ class Tool(unittest.TestCase):
         for words, status, said in (
             ([*table, "--sample", "5"], 2, "give a table of scenarios, or --sample with how many random ones"),
             (table[:3], 2, "give a table of scenarios, or --sample with how many random ones"),
+            ([*table, "--participant", "GEN"], 2,
+             "--participant can't be used with --rows welfare: give --rows orders or --rows participants"),
+            ([*table, "--rows", "orders", "--participant", "NOBODY"], 3, "NOBODY has no order in the book or in a scenario"),
+            ([*table, "--rows", "orders", "--participant", "GEN", "--order", "NONE"], 3,
+             "GEN has no order NONE in the book or in a scenario"),
+            ([*table, "--rows", "orders", "--participant", "WIND", "--order", "MILL"], 3,
+             "the day as it was: /bin/true printed no results of this journal"),
+            ([*sample, "--participant", "GEN"], 3, "the day as it was: /bin/true printed no results of this journal"),
             ([*table, "--seed", "2"], 2, "--seed can't be used without --sample"),
             (sample, 2, "--sample needs --participant, whose orders stay as they are"),
             ([*sample, "--participant", "NOBODY"], 3, "NOBODY has no order in the book"),
