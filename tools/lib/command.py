@@ -71,7 +71,7 @@ def on_lines(words):
 def tell(tool, words):
     """Says something on standard error; if that can't be written, the status alone says it."""
     try:
-        print(f"{tool}: {on_lines(words)}", file=sys.stderr, flush=True)
+        print(f"{place.command(tool)}: {on_lines(words)}", file=sys.stderr, flush=True)
     except OSError:
         discard(sys.stderr)
 
