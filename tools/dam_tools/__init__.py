@@ -112,7 +112,7 @@ def clear(source, program=None, workers=None, cut=None, nodes=None, timeout=None
     """The results of a journal: a file, its text, or one that was read. If neither a program nor an option is named, the library for C
     is called if there is one; otherwise the program is run: `where` says which. Both give the same answer, the library on one thread. The
     options are those of `dam clear`; none but a limit on nodes changes the answer. The environment variable DAM names the program to run,
-    and DAM_LIBRARY the library."""
+    and DAM_LIBRARY the library, which comes first."""
     read = as_journal(source)
     path = engine.library() if (program, workers, cut, nodes, timeout) == (None,) * 5 else None
     if path:
