@@ -6,8 +6,9 @@
     for row in dam_tools.records(day, "periods"):
         print(row["period"], row["price_eur_mwh"])
     frame = dam_tools.frame(day, "orders", long=True)
-    for day in dam_tools.clear_many(Path("days").glob("*.csv")):
-        print(day)
+    paths = sorted(Path("days").glob("*.csv"))
+    for path, day in zip(paths, dam_tools.clear_many(paths)):
+        print(path, day)
 
 The tables and their columns are those of tools/table, which docs/TABLES.md describes. Results are checked against the journal as
 they are read: `Day.wrong` lists what breaks the market rules, and is empty for every result of the program; `Day.odd` lists how their
@@ -15,6 +16,8 @@ encoding differs from the program's."""
 
 import collections
 import contextlib
+import functools
+import os
 import sys
 from pathlib import Path
 from typing import NamedTuple
@@ -25,7 +28,7 @@ if not Path(__file__).with_name("lib").is_dir():
 
 from .lib import book, command, engine, journal, order_table, shapes, tables
 from .lib.command import Day
-from .lib.engine import Fault, where
+from .lib.engine import Fault, TimedOut, where
 from .lib.journal import Journal
 from .lib.version import VERSION as __version__
 
@@ -35,6 +38,7 @@ __all__ = [
     "Journal",
     "Reply",
     "TABLES",
+    "TimedOut",
     "__version__",
     "clear",
     "clear_many",
@@ -48,6 +52,7 @@ __all__ = [
 ]
 
 TABLES = tuple(tables.TABLES)
+REFUSED = 1  # the program's status for a text that it doesn't take
 
 
 @contextlib.contextmanager
@@ -68,6 +73,8 @@ def bytes_of(source):
     """The bytes of a file, or of a text that was given."""
     if is_text(source):
         return source if isinstance(source, bytes) else source.encode(errors="surrogatepass")
+    if source == "":
+        raise Fault("a file with an empty name can't be read")
     try:
         return Path(source).read_bytes()
     except OSError as fault:
@@ -75,9 +82,13 @@ def bytes_of(source):
 
 
 def read_journal(source):
-    """The journal of a file, or of a text: bytes, or a string with line ends."""
-    with as_faults():
-        return command.parse_journal("the text" if is_text(source) else str(source), bytes_of(source))
+    """The journal of a file, or of a text: bytes, or a string with line ends. Of a text that isn't a journal the fault has the status with
+    which the program refuses it."""
+    data = bytes_of(source)
+    try:
+        return command.parse_journal("the text" if is_text(source) else str(source), data)
+    except command.Stop as fault:
+        raise Fault(str(fault), REFUSED) from None
 
 
 def journal_of_orders(*sources, periods=24, close=True):
@@ -101,7 +112,7 @@ def clear(source, program=None, workers=None, cut=None, nodes=None, timeout=None
     """The results of a journal: a file, its text, or one that was read. If neither a program nor an option is named, the library for C
     is called if there is one; otherwise the program is run: `where` says which. Both give the same answer, the library on one thread. The
     options are those of `dam clear`; none but a limit on nodes changes the answer. The environment variable DAM names the program to run,
-    and DAM_LIBRARY the library."""
+    and DAM_LIBRARY the library, which comes first."""
     read = as_journal(source)
     path = engine.library() if (program, workers, cut, nodes, timeout) == (None,) * 5 else None
     if path:
@@ -116,8 +127,7 @@ def printed(read, words, timeout):
 
 
 class LateDay(Day):
-    """A day of `clear_many`. `text` has its results as they were printed; they are read, and checked against the journal, when anything
-    else is first asked for."""
+    """A day of `clear_many`, whose results are read, and checked against the journal, when anything but its `text` is first asked for."""
 
     PARTS = frozenset(["journal", "book", "reasons", "problem", "said", "odd", "wrong", "outcome"])
 
@@ -140,7 +150,7 @@ def text_of(source):
         return fault
 
 
-def clear_many(journals, jobs=None, executor=None, program=None, quiet=False):
+def clear_many(journals, jobs=None, executor=None, program=None, quiet=False, nodes=None, timeout=None):
     """The results of many journals, in their order, as an iterator: for each a `Day`, or a `Fault` if the journal can't be read or cleared,
     which doesn't end the others. `journals` are files, bytes or journals that were read, as `clear` takes one, and may be any iterator:
     they are taken as they are needed.
@@ -148,11 +158,26 @@ def clear_many(journals, jobs=None, executor=None, program=None, quiet=False):
     Without an executor `jobs` threads, as many as there are processors by default, call the library for C if it was built or installed,
     or run the program otherwise, or if one is named. With one, a `concurrent.futures.Executor`, its workers do the same, and need this
     package and the library or the program; at most `jobs` journals, 1,024 by default, then wait at the same time. If it loses a journal,
-    that is the journal's fault; if it takes no more, `Fault` is raised.
+    that is the journal's fault; if it takes no more, `Fault` is raised, and so it is if there is neither library nor program.
+
+    `nodes` limits each search, and `timeout` each run in seconds: a day that takes longer is the fault `TimedOut`. With a timeout the
+    program is run, since a call of the library can't be stopped.
 
     The results of a day are read and checked when they are first used, so that a program which only wants `day.text`, the bytes that
     `dam clear` prints, waits for nothing else. At a terminal a bar of tqdm, if that is installed, says how far the days are, unless
     `quiet`."""
+    if isinstance(journals, (str, bytes, os.PathLike, Journal)):
+        raise TypeError("journals should be several, such as a list of files: clear takes one")
+    if nodes is not None and not 1 <= nodes <= engine.MOST_NODES:
+        raise ValueError(f"nodes should be from 1 to {engine.MOST_NODES}")
+    if executor is None and (timeout is not None or where() is None):
+        program = engine.program_of(program)
+    call = functools.partial(engine.answer, nodes=nodes or engine.MOST_NODES, timeout=timeout)
+    return days_of(journals, quiet, lambda texts: engine.answers(texts, jobs, executor, program, call))
+
+
+def days_of(journals, quiet, answers):
+    """The days of journals, or their faults, by what answers their texts."""
     whole = len(journals) if hasattr(journals, "__len__") else None
     kept = collections.deque()  # the journals whose results are still to come
 
@@ -162,7 +187,7 @@ def clear_many(journals, jobs=None, executor=None, program=None, quiet=False):
             kept.append(source if isinstance(source, Journal) else text)
             yield text
 
-    for found in engine.with_bar(engine.answers(texts(), jobs, executor, program), whole, quiet=quiet):
+    for found in engine.with_bar(answers(texts()), whole, quiet=quiet):
         source = kept.popleft()
         yield found if isinstance(found, Fault) else LateDay(source, found)
 

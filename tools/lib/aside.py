@@ -1,6 +1,7 @@
 """A long call in a process of its own. What is written in C may keep Python from everything else, Ctrl-C too; another process can be
 ended, and this one shows meanwhile how long it takes."""
 
+import contextlib
 import ctypes
 import multiprocessing
 import signal
@@ -9,15 +10,23 @@ PAUSE = 0.2  # seconds from one look at the time to the next
 DEATH = 1  # Linux's PR_SET_PDEATHSIG: which signal a process gets if the one that started it dies
 
 
+@contextlib.contextmanager
+def deaf():
+    """Ctrl-C waits until the end of the block; processes that it starts keep it blocked, and the one that started them ends them."""
+    before = signal.pthread_sigmask(signal.SIG_BLOCK, {signal.SIGINT})
+    try:
+        yield
+    finally:
+        signal.pthread_sigmask(signal.SIG_SETMASK, before)
+
+
 def answer(call, progress, words):
     """What a call returns, in a process of its own. The words say how far it is; the call gets a function that reports others."""
     context = multiprocessing.get_context("fork")
     ours, theirs = context.Pipe(duplex=False)
     process = context.Process(target=work, args=(call, theirs), daemon=True)
-    # The other process keeps Ctrl-C blocked: this one ends it.
-    before = signal.pthread_sigmask(signal.SIG_BLOCK, {signal.SIGINT})
-    process.start()
-    signal.pthread_sigmask(signal.SIG_SETMASK, before)
+    with deaf():
+        process.start()
     theirs.close()
     try:
         return received(ours, progress, words)

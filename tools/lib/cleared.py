@@ -2,6 +2,7 @@
 made of what a run of the program has just printed, or of results that were checked."""
 
 from . import journal, rules, trades
+from .engine import Fault
 
 
 class Cleared:
@@ -14,7 +15,7 @@ class Cleared:
 
     @classmethod
     def of_text(cls, rows, periods, printed):
-        """The same of what `dam clear` printed for a book."""
+        """The same of what `dam clear` printed for a book; a fault if it isn't of this book."""
         welfare, prices, volumes, orders = None, [], [], {}
         for line in printed.decode().splitlines():
             kind, *fields = line.split(",")
@@ -27,6 +28,8 @@ class Cleared:
                 orders[fields[0], fields[1]] = int(fields[2])
             elif kind == "block":
                 orders[fields[0], fields[1]] = fields[2] == "accepted"
+        if len(prices) != periods or orders.keys() != rows.keys():
+            raise Fault("the program printed no results of this journal")
         return cls(rows, periods, welfare, prices, volumes, orders)
 
     @classmethod

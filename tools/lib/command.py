@@ -71,7 +71,7 @@ def on_lines(words):
 def tell(tool, words):
     """Says something on standard error; if that can't be written, the status alone says it."""
     try:
-        print(f"{tool}: {on_lines(words)}", file=sys.stderr, flush=True)
+        print(f"{place.command(tool)}: {on_lines(words)}", file=sys.stderr, flush=True)
     except OSError:
         discard(sys.stderr)
 
@@ -217,8 +217,8 @@ def parse_journal(path, data):
 
 
 class Day:
-    """A journal with its results, whose form is right. `wrong` lists where the results break the rules, and `odd` how they are encoded in
-    another way than `dam` does it."""
+    """A journal with its results, whose form is right. `text` has the bytes of the results. `wrong` lists where they break the rules, and
+    `odd` how they are encoded in another way than `dam` does it."""
 
     def __init__(self, path, results_path):
         journal_data, results_data = read_texts(path, results_path)
@@ -244,7 +244,7 @@ class Day:
     def read(self, read, results_data, path, results_path):
         from . import check
 
-        self.journal = read
+        self.journal, self.text = read, results_data
         self.book, self.reasons = book.run(read)
         if not self.book.closed:
             raise Stop(f"no command of {shown(path)} closes the book, so it has no results")

@@ -6,6 +6,8 @@ A tool calls `watch` before it imports anything else of this folder, since an im
 import os
 import sys
 
+from . import place
+
 FAILED = 5
 INTERRUPTED = 130  # as shells have it for Ctrl-C
 
@@ -36,7 +38,7 @@ def fail(tool, fault):
             said = words(fault)
             if os.environ.get("DAM_DEBUG") == "1":
                 sys.__excepthook__(type(fault), fault, fault.__traceback__)
-        os.write(2, f"{tool}: {said}\n".encode(errors="backslashreplace"))
+        os.write(2, f"{place.command(tool)}: {said}\n".encode(errors="backslashreplace"))
     finally:
         os._exit(status)
 

@@ -8,6 +8,7 @@ import ctypes
 import functools
 import os
 import queue
+import re
 import shutil
 import subprocess
 import sys
@@ -29,6 +30,8 @@ PREFIX = Path(*place.FOLDER.parts[:-4]) if place.FOLDER.parts[-4:-1] == ("lib", 
 WHEELS = place.FOLDER / LIBRARY.name
 MOST_NODES, MOST_ANSWER = 67_108_864, 300_000  # of library/dam.h
 ONE_WORKER = ("clear", "--workers=1", "--cut=0")  # as the library searches: many days share the processors
+RESULTS = re.compile(rb"day,[0-9]+\nwelfare,-?[0-9]+\n")  # what the results of a day begin with
+LATE = "late"  # instead of the status of a run that took too long
 AHEAD = 2  # texts for each job that wait for a thread
 MOST_AHEAD = 1_024  # texts that wait for an executor
 
@@ -39,6 +42,10 @@ class Fault(Exception):
     def __init__(self, words, status=None):
         super().__init__(words)
         self.status = status
+
+
+class TimedOut(Fault):
+    """A run of the program that took longer than its timeout."""
 
 
 class Answer(ctypes.Structure):
@@ -79,10 +86,9 @@ def packaged(*parts):
 def where():
     """What clears a journal if neither an option nor a program is named; None if there is neither library nor program. The library and
     the program that belong to this module come before those that the system finds."""
-    if "DAM_LIBRARY" in os.environ:
-        return Where("library", "environment", os.environ["DAM_LIBRARY"])
-    if "DAM" in os.environ:
-        return Where("program", "environment", os.environ["DAM"])
+    for what, name in ("library", "DAM_LIBRARY"), ("program", "DAM"):
+        if path := os.environ.get(name):
+            return Where(what, "environment", path)
     for of, path in (
         ("package", packaged("lib", "x86_64-linux-gnu", LIBRARY.name)),
         ("wheel", WHEELS if WHEELS.exists() else None),
@@ -167,7 +173,7 @@ def ran(words, text, timeout=None, running=None):
             out, said = process.communicate(text, timeout=timeout)
         except subprocess.TimeoutExpired:
             process.kill()
-            raise Fault(f"{words[0]} took longer than {timeout:g} seconds") from None
+            raise TimedOut(f"{words[0]} took longer than {timeout:g} seconds") from None
         except BaseException:
             process.kill()
             raise
@@ -178,8 +184,18 @@ def printed(words, text, timeout=None):
     """What a run of a program prints."""
     status, out, said = ran(words, text, timeout)
     if status:
-        raise Fault(said.decode(errors="replace").strip(), status)
+        raise Fault(fault_words(status, said), status)
     return out
+
+
+def fault_words(status, said):
+    """The words of a run that failed; one that said nothing was ended by the system, or isn't the program."""
+    return said.decode(errors="replace").strip() or f"the program ended with status {status}"
+
+
+def has_results(out):
+    """Whether an output begins as the results of a day do; whether these are right isn't looked at."""
+    return RESULTS.match(out) is not None
 
 
 def cleared_by_library(path, text):
@@ -278,27 +294,34 @@ def team_of(jobs):
         team.end()
 
 
-def answer(text, program=None, running=None, nodes=MOST_NODES):
-    """What `dam clear` prints for the text of a journal, as a pair of None and these bytes; or else of the status (0 if there is none) and
-    the words of the fault. By the library if there is one, unless a program is named. The pair has no type of this package, so that any
-    executor can send it."""
+def answer(text, program=None, running=None, nodes=MOST_NODES, timeout=None):
+    """What `dam clear` prints for the text of a journal, as a pair of None and these bytes; or else of the status (0 if there is none, LATE
+    of a run that took too long) and the words of the fault. By the library if there is one, unless a program is named, or a timeout, which
+    only a run of the program can have. The pair has no type of this package, so that any executor can send it."""
     try:
-        path = None if program else library()
+        path = None if program or timeout is not None else library()
         if path:
             status, out = called(path, text, nodes)
             said = out
         else:
-            status, out, said = ran([program_of(program), *ONE_WORKER, f"--nodes={nodes}"], text, running=running)
+            words = [program_of(program), *ONE_WORKER, f"--nodes={nodes}"]
+            status, out, said = ran(words, text, timeout, running)
+            if not status and not has_results(out):
+                return 0, f"{words[0]} printed no results of this journal"
+    except TimedOut as fault:
+        return LATE, str(fault)
     except Fault as fault:
         return 0, str(fault)
     if not status:
         return None, out
-    return status, said.decode(errors="replace").strip() or f"the program ended with status {status}"
+    return status, fault_words(status, said)
 
 
 def result(answered):
     """The bytes of an answer, or its fault."""
     status, found = answered
+    if status == LATE:
+        return TimedOut(found)
     return found if status is None else Fault(found, status or None)
 
 

@@ -59,7 +59,7 @@ def columns_of(header, needed, further):
             continue
         elif alike := difflib.get_close_matches(name, missing, 1, ALIKE):
             wrong.append(f"line 1, column {at}: {text.quoted(cell)} is not a column: write {alike[0]}")
-        elif name:
+        elif name and name not in further:
             notes.append(f"the column {text.quoted(cell)} isn't used")
     lacking = [name for name in missing if name in needed]
     if lacking:
@@ -70,7 +70,8 @@ def columns_of(header, needed, further):
 
 
 def scaled(cell, factor, least, greatest, unit, decimal_comma):
-    """A decimal number times a factor, which must be whole and in a range."""
+    """A decimal number times a factor, which must be whole and in a range. Further digits are refused even if they are zeros: 2.000 may be
+    meant for two thousand."""
     if not cell:
         raise Wrong(f"it is empty, or a formula that wasn't saved with its value: it should be a number of {unit}, such as 92.5")
     found = DECIMAL[decimal_comma].fullmatch(cell)
@@ -79,8 +80,9 @@ def scaled(cell, factor, least, greatest, unit, decimal_comma):
     sign, whole, rest = found.groups()
     value = Fraction(f"{whole}.{rest or 0}") * factor * (-1 if sign else 1)
     digits = len(str(factor)) - 1
-    if value.denominator != 1:
-        raise Wrong(f"{text.quoted(cell)} has more than {digits} digit{'s' * (digits > 1)} after the decimal point")
+    if len(rest or "") > digits:
+        hint = ": write thousands without a separator" if len(rest) == 3 else ""
+        raise Wrong(f"{text.quoted(cell)} has more than {digits} digit{'s' * (digits > 1)} after the decimal point{hint}")
     if not least <= value <= greatest:
         ends = [text.fixed(Fraction(end) / factor, digits) for end in (least, greatest)]
         raise Wrong(f"{text.quoted(cell)} should be from {ends[0]} to {ends[1]} {unit}")

@@ -13,7 +13,7 @@ from typing import NamedTuple
 import jinja2
 from markupsafe import Markup, escape
 
-from . import book, clock, decisions, limit_words, pictures, published, spans, tables, text, trades
+from . import aside, book, clock, decisions, limit_words, pictures, published, spans, tables, text, trades
 from .journal import command_line
 from .progress import Bar
 
@@ -298,7 +298,9 @@ def curves_of(day, numbers):
         yield (curve(day, number, len(numbers) > MOST_SHOWN) for number in numbers)
         return
     curves_of.day, bar = day, Bar("report", len(numbers), "curves")
-    with multiprocessing.get_context("fork").Pool(jobs) as pool:
+    with aside.deaf():
+        made = multiprocessing.get_context("fork").Pool(jobs)
+    with made as pool:
         try:
             yield counted(pool.imap(folded_curve, numbers), bar)
         finally:

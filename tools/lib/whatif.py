@@ -4,6 +4,7 @@ import argparse
 import collections
 import contextlib
 import inspect
+import itertools
 import json
 import re
 import socket
@@ -272,6 +273,8 @@ def check_scenarios(args):
             stop(f"{given[0]} can't be used without --sample")
         if is_picture(args.out):
             stop("a picture can't be drawn without --sample")
+        if args.participant and args.rows in (None, "welfare", "prices"):
+            stop(f"--participant can't be used with --rows {args.rows or 'welfare'}: give --rows orders or --rows participants")
     elif not args.participant:
         stop("--sample needs --participant, whose orders stay as they are")
     if args.order and not args.participant:
@@ -282,6 +285,14 @@ def check_scenarios(args):
         stop(f"--order can't be used with --rows {args.rows}")
     if args.journal == args.scenarios == "-":
         stop("only one file can be standard input")
+
+
+def need_asked(args, books):
+    """Ends the tool if no book has an order that is asked for."""
+    is_asked = asked_of(args)
+    if not any(map(is_asked, itertools.chain(*books))):
+        name = f" {args.order}" if args.order else ""
+        raise command.Stop(f"{args.participant} has no order{name} in the book or in a scenario")
 
 
 def keys_asked(args, held):
@@ -339,6 +350,8 @@ def run_scenarios(args):
         data = command.read_bytes(args.scenarios)
         given, notes = scenarios.read_table(command.shown(args.scenarios), data, held)
         count = len(given)
+        if args.participant:
+            need_asked(args, [held.rows, *(scenario.rows() for scenario in given)])
     else:
         sds = [3 if args.price_sd is None else args.price_sd, 0.1 if args.volume_sd is None else args.volume_sd]
         sampler = scenarios.Sampler(held, args.participant, args.seed or "1", sds[0] * 100, sds[1])

@@ -23,6 +23,7 @@ from lib import command
 FAKE = Path(__file__).with_name("fake_dam.py")
 SECONDS = 30
 OPEN = b"day,24,,,,,,,\n"
+EMPTY = "printf 'day,24\\nwelfare,0\\n'"  # what results begin with, by a shell
 # A stand-in for the library: it answers with the text itself, or with status 1 if that is empty.
 ECHO = """
 #include <stdint.h>
@@ -79,9 +80,10 @@ class Many(unittest.TestCase):
             found[0].nothing
 
     def test_a_slow_journal_keeps_its_place(self):
-        slow = self.script("slow", "read line; sleep $line; echo $line")
+        slow = self.script("slow", f"read line; sleep $line; {EMPTY}; echo $line")
         given = [f"{seconds}\n".encode() for seconds in ("0.3", "0.01", "0.02", "0.15", "0")]
-        self.assertEqual([day.text for day in dam_tools.clear_many(given, 3, program=slow)], given)
+        wanted = [b"day,24\nwelfare,0\n" + text for text in given]
+        self.assertEqual([day.text for day in dam_tools.clear_many(given, 3, program=slow)], wanted)
 
     def test_journals_are_taken_as_they_are_needed(self):
         taken = []
@@ -89,10 +91,10 @@ class Many(unittest.TestCase):
         def journals():
             for number in itertools.count():
                 taken.append(number)
-                yield f"{number}\n".encode()
+                yield f"day,24\nwelfare,{number}\n".encode()
 
         days = dam_tools.clear_many(journals(), 2, program=self.script("echo", "cat"))
-        self.assertEqual([next(days).text for _ in range(5)], [b"%d\n" % number for number in range(5)])
+        self.assertEqual([next(days).text for _ in range(5)], [b"day,24\nwelfare,%d\n" % number for number in range(5)])
         self.assertLess(len(taken), 12)
         days.close()
 
@@ -150,6 +152,58 @@ class Many(unittest.TestCase):
         (fault,) = dam_tools.clear_many([AUCTION], program="/nowhere/dam")
         self.assertEqual((str(fault), fault.status), ("/nowhere/dam can't be run: No such file or directory", None))
         self.assertEqual(list(dam_tools.clear_many([])), [])
+        for one in ("day.csv", Path("day.csv"), b"day,24,,,,,,,\n", dam_tools.read_journal(AUCTION)):
+            with self.assertRaisesRegex(TypeError, "^journals should be several"):
+                dam_tools.clear_many(one)
+        for nodes in (0, engine.MOST_NODES + 1):
+            with self.assertRaisesRegex(ValueError, "^nodes should be from 1 to 67108864$"):
+                dam_tools.clear_many([AUCTION], nodes=nodes)
+        with self.assertRaisesRegex(dam_tools.Fault, "^a file with an empty name can't be read$"):
+            dam_tools.clear("")
+
+    def test_neither_library_nor_program(self):
+        with unittest.mock.patch.multiple(engine, where=lambda: None, built=lambda: None):
+            with unittest.mock.patch.object(dam_tools, "where", engine.where), unittest.mock.patch.dict(os.environ, {"DAM": ""}):
+                with self.assertRaisesRegex(dam_tools.Fault, "^no program was found: "):
+                    dam_tools.clear_many([AUCTION, AUCTION])
+
+    def test_a_program_that_prints_no_results(self):
+        for line in (":", "cat", "echo day,24"):
+            other = self.script("other", line)
+            (fault,) = dam_tools.clear_many([AUCTION], program=other)
+            self.assertIsInstance(fault, dam_tools.Fault)
+            self.assertEqual((str(fault), fault.status), (f"{other} printed no results of this journal", None))
+
+    def test_a_program_that_fails_without_words(self):
+        for line, status in ("exit 1", 1), ("kill -9 $$", -9):
+            silent, said = self.script("silent", line), f"the program ended with status {status}"
+            (fault,) = dam_tools.clear_many([AUCTION], program=silent)
+            self.assertEqual((str(fault), fault.status), (said, status))
+            for call in dam_tools.clear, dam_tools.replay:
+                with self.assertRaises(dam_tools.Fault) as raised:
+                    call(AUCTION, silent)
+                self.assertEqual((str(raised.exception), raised.exception.status), (said, status))
+
+    def test_limits_of_nodes_and_time(self):
+        days = dam_tools.clear_many([AUCTION], program=self.script("nodes", f"{EMPTY}; echo $*"), nodes=7)
+        self.assertEqual(next(days).text.splitlines()[-1], b"clear --workers=1 --cut=0 --nodes=7")
+        slow = self.script("slow", f'read line; [ "$line" = day ] || exec sleep 600; {EMPTY}')
+        with unittest.mock.patch.dict(os.environ, {"DAM": os.fspath(slow), "DAM_LIBRARY": "/nowhere/libdam.so"}):
+            late, found = dam_tools.clear_many([b"x\n", b"day\n"], timeout=0.5)
+        self.assertIsInstance(late, dam_tools.TimedOut)
+        self.assertEqual(str(late), f"{slow} took longer than 0.5 seconds")
+        self.assertEqual(found.text, b"day,24\nwelfare,0\n")
+
+    def test_one_broken_journal_has_one_status(self):
+        broken = OPEN + b"submit,x\n"
+        (fault,) = dam_tools.clear_many([broken], program=self.program)
+        with self.assertRaises(dam_tools.Fault) as raised:
+            dam_tools.clear(broken, self.program)
+        self.assertEqual((fault.status, raised.exception.status), (1, 1))
+
+    def test_each_day_has_its_text(self):
+        self.assertEqual(dam_tools.clear(AUCTION, self.program).text, printed(AUCTION))
+        self.assertEqual(dam_tools.read_results(AUCTION, printed(AUCTION)).text, printed(AUCTION))
 
     def test_an_executor(self):
         given = [AUCTION, OPEN, QUARTERS, AUCTION]

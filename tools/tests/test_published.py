@@ -155,7 +155,7 @@ class Times(unittest.TestCase):
             (["--date", "29.3.2026"], "it should be a day, such as 2026-11-25"),
             (["--date", "20261125"], "it should be a day, such as 2026-11-25"),
             (["--date", "2026-02-29"], "it should be a day, such as 2026-11-25"),
-            (["--date", "2026-11-25", "--rows", "orders"], "--date can't be used with orders"),
+            (["--date", "2026-11-25", "--rows", "orders"], "--date can't be used with orders, which has no column of periods: add --long"),
             (["--only", "3", "--rows", "orders"], "--only can't be used with orders"),
             (["--only", "25"], "from 1 to 24"),
             (["--long", "--rows", "curves"], "--long can't be used with curves"),

@@ -3,7 +3,9 @@
 import functools
 import html.parser
 import importlib
+import multiprocessing
 import re
+import signal
 import tempfile
 import unittest
 import unittest.mock
@@ -226,6 +228,10 @@ class Page(unittest.TestCase):
         day = day_of(QUARTERS.read_bytes(), printed(QUARTERS))
         numbers = list(range(60, 60 + page.FEW_CURVES + 2))
         with page.curves_of(day, numbers) as many:
+            for child in multiprocessing.active_children():  # which this process ends at Ctrl-C
+                blocked = re.search(r"^SigBlk:\t(\w+)$", Path(f"/proc/{child.pid}/status").read_text(), re.MULTILINE)[1]
+                self.assertTrue(int(blocked, 16) >> signal.SIGINT - 1 & 1)
+            self.assertNotIn(signal.SIGINT, signal.pthread_sigmask(signal.SIG_BLOCK, ()))
             self.assertEqual(list(many), [page.curve(day, number, True) for number in numbers])
 
     def test_the_axis_is_cut_about_the_price(self):

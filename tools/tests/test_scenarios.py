@@ -37,6 +37,10 @@ class Tables(unittest.TestCase):
         self.assertEqual([list(found["none"]), ("GEN", "X") in found["more"]], [[("CITY", "TOWN")], True])
         self.assertEqual(len(HELD.rows), 2)
 
+    def test_cancels_need_no_other_columns(self):
+        found, notes = self.read("scenario,what,participant,order\nnone,cancel,GEN,UNIT\n")
+        self.assertEqual([list(found["none"]), notes], [[("CITY", "TOWN")], []])
+
     def test_the_texts_are_those_of_the_books(self):
         found, _ = scenarios.read_table("a.csv", (HEADS + "A,WIND,M-1,hour,sell,10.00,1,2,,\n").encode(), HELD)
         held, _ = book.run(journal.read_journal(found[0].text))
@@ -180,6 +184,14 @@ class Tool(unittest.TestCase):
             ([*table, "--sample", "5"], 2, "give a table of scenarios, or --sample with how many random ones, not both; for another limit"
              " of your own, put an amend into a copy of the journal"),
             (table[:3], 2, "give a table of scenarios, or --sample with how many random ones"),
+            ([*table, "--participant", "GEN"], 2,
+             "--participant can't be used with --rows welfare: give --rows orders or --rows participants"),
+            ([*table, "--rows", "orders", "--participant", "NOBODY"], 3, "NOBODY has no order in the book or in a scenario"),
+            ([*table, "--rows", "orders", "--participant", "GEN", "--order", "NONE"], 3,
+             "GEN has no order NONE in the book or in a scenario"),
+            ([*table, "--rows", "orders", "--participant", "WIND", "--order", "MILL"], 3,
+             "the day as it was: /bin/true printed no results of this journal"),
+            ([*sample, "--participant", "GEN"], 3, "the day as it was: /bin/true printed no results of this journal"),
             ([*table, "--seed", "2"], 2, "--seed can't be used without --sample"),
             (sample, 2, "--sample needs --participant, whose orders stay as they are"),
             ([*sample, "--participant", "NOBODY"], 3, "NOBODY has no order in the book"),

@@ -195,6 +195,10 @@ class Orders(unittest.TestCase):
         for row, words in (
             ("A;H;hour;buy;68,005;1;5;;", "'68,005' has more than 2 digits after the decimal point"),
             ("A;H;hour;buy;68,00;1;5,25;;", "'5,25' has more than 1 digit after the decimal point"),
+            ("A;H;hour;buy;2.000;1;5;;", "'2.000' has more than 2 digits after the decimal point: write thousands without a separator"),
+            ("A;H;hour;buy;2,000;1;5;;", "'2,000' has more than 2 digits after the decimal point: write thousands without a separator"),
+            ("A;H;hour;buy;20;1;1.000;;", "'1.000' has more than 1 digit after the decimal point: write thousands without a separator"),
+            ("A;H;hour;buy;20;1;5,00;;", "'5,00' has more than 1 digit after the decimal point"),
             ("A;H;hour;buy;4000,01;1;5;;", "'4000,01' should be from -500.00 to 4000.00 EUR/MWh"),
             ("A;H;hour;buy;1,2,3;1;5;;", "'1,2,3' should be a number of EUR/MWh"),
         ):

@@ -89,7 +89,8 @@ class Limits(unittest.TestCase):
     def answered(self, text, worst):
         price = int(text.decode().split("GEN,UNIT,block,sell,")[1].split(",")[0])
         word = "accepted" if worst is not None and price <= worst else "rejected"
-        return f"day,24\nwelfare,0\nhour,CITY,TOWN,0\nblock,GEN,UNIT,{word},0\n".encode()
+        periods = "".join(f"period,{number},0,0\n" for number in range(1, 25))
+        return f"day,24\nwelfare,0\n{periods}hour,CITY,TOWN,0\nblock,GEN,UNIT,{word},0\n".encode()
 
     def test_a_fault_of_a_clearing_ends_the_search(self):
         held, _ = book.run(journal.read_journal(journal_of(*SMALL)))
@@ -331,6 +332,16 @@ class Tools(unittest.TestCase):
         self.program = self.script("fails", "echo memory >&2; exit 4")
         for words in (["--order", "UNIT"], ["--all"]):
             self.assertEqual(self.whatif("limit", self.journal, "--participant", "GEN", *words), (3, b"", "whatif: memory\n"))
+
+    def test_a_program_that_prints_something_else(self):
+        limit, more = ["limit", self.journal, "--participant", "GEN"], TABLE + b"cancel,GEN,UNIT,,,,,\n"
+        for line, said in (
+            (":", "{} printed no results of this journal"),
+            ("printf 'day,24\nwelfare,0\n'", "the program printed no results of this journal"),
+        ):
+            self.program = self.script("other", line)
+            for words in [*limit, "--all"], [*limit, "--order", "UNIT"], ["change", self.journal, "-"]:
+                self.assertEqual(self.whatif(*words, data=more), (3, b"", f"whatif: {said.format(self.program)}\n"))
 
     def test_an_interrupt_ends_the_program_too(self):
         support.heed_interrupts(self)

@@ -1,5 +1,7 @@
 """Which library or program clears a journal, by where dam_tools is: in a package, in a wheel, or in a clone."""
 
+import contextlib
+import io
 import os
 import shutil
 import subprocess
@@ -12,7 +14,7 @@ from pathlib import Path
 from support import AUCTION, TOP
 
 import dam_tools
-from lib import place
+from lib import command, place
 
 CODE = "import dam_tools; print(*(dam_tools.where() or ['nothing']))"
 
@@ -55,6 +57,8 @@ class Where(unittest.TestCase):
         self.assertEqual(self.where(folder), f"library package {library}")
         self.assertEqual(self.where(folder, DAM="dam"), "program environment dam")
         self.assertEqual(self.where(folder, DAM="dam", DAM_LIBRARY="libdam.so"), "library environment libdam.so")
+        self.assertEqual(self.where(folder, DAM="dam", DAM_LIBRARY=""), "program environment dam")
+        self.assertEqual(self.where(folder, DAM="", DAM_LIBRARY=""), f"library package {library}")
 
     def test_a_wheel(self):
         self.installed("site-packages")
@@ -104,6 +108,9 @@ class Names(unittest.TestCase):
         self.assertEqual(place.as_here(words), words)
         with unittest.mock.patch.object(place, "IS_INSTALLED", True):
             self.assertEqual(place.as_here(words), "dam clear < a; dam-audit a tools/../x other/tools/b ./damn")
+            with contextlib.redirect_stderr(io.StringIO()) as said:
+                command.tell("table", "no such file")
+            self.assertEqual(said.getvalue(), "dam-table: no such file\n")
             self.assertEqual([place.command("audit"), place.command("dam-whatif limit")], ["dam-audit", "dam-whatif limit"])
 
 
