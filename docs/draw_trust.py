@@ -4,7 +4,6 @@
 `unit-7` is about what the block UNIT-7 would do to the prices of the sunny day: the picture is docs/unit-7.svg. `selections` is about how
 many selections of its blocks each rule leaves: docs/selections.svg. The pictures need matplotlib, as tools/plot does."""
 
-import math
 import sys
 from pathlib import Path
 from typing import NamedTuple
@@ -16,6 +15,7 @@ sys.path.insert(0, str(TOP / "tools"))
 from lib import best, book, journal, rules, selection, text
 
 BLOCK = "COAL", "UNIT-7"
+LEFT = 0.6  # where the bars of the selections begin, so that one selection is seen
 
 
 class Counting(best.Search):
@@ -44,6 +44,7 @@ class Counts(NamedTuple):
     eligible: int
     greatest: int  # eligible, and none of them has more welfare
     above: int  # with more welfare than these, but a block loses
+    more: int  # by how much the selection that adds the block to the best one has more welfare
 
 
 class Effect(NamedTuple):
@@ -66,9 +67,10 @@ def counted(day):
     search.run()
     welfare, accepted = max(search.eligible, key=lambda found: found[0])
     greatest = sum(other == welfare for other, _ in search.eligible)
-    above = sum(other > welfare for other, _ in search.losing)
+    above = {chosen: other - welfare for other, chosen in search.losing if other > welfare}
+    more = above[accepted | {day.place(*BLOCK)}]
     balanced = len(search.eligible) + len(search.losing)
-    return Counts(len(day.blocks), search.tried, balanced, len(search.eligible), greatest, above), accepted
+    return Counts(len(day.blocks), search.tried, balanced, len(search.eligible), greatest, len(above), more), accepted
 
 
 def effect(day, accepted):
@@ -84,8 +86,8 @@ def steps(counts):
     """What each rule leaves, from all selections down to the published one."""
     yield 2**counts.blocks, f"ways to accept or reject {counts.blocks} blocks"
     yield counts.admitted, "of these obey links and groups"
-    yield counts.balanced, "of these balance in each hour"
-    yield counts.eligible, "of these let no accepted block lose"
+    yield counts.balanced, f"{'all ' if counts.balanced == counts.admitted else ''}of these balance in each hour"
+    yield counts.eligible, "of these let no accepted block lose, with its accepted descendants"
     yield counts.greatest, "of these has the greatest welfare: the published one"
 
 
@@ -102,7 +104,8 @@ def say_selections(day):
     counts, _ = counted(day)
     for count, words in steps(counts):
         yield f"{count:>5,}  {words}"
-    yield f"{counts.above:>5,}  have more welfare, but in each an accepted block loses"
+    yield f"{counts.above:>5,}  have more welfare, but in each an accepted block loses, with its descendants"
+    yield f"       (the published one with {BLOCK[1]}: {day.euros(counts.more)} EUR more)"
 
 
 def draw_effect(day):
@@ -127,16 +130,23 @@ def draw_effect(day):
 
 
 def draw_selections(day):
-    """How many selections each rule leaves, as bars of logarithmic length."""
+    """How many selections each rule leaves, as bars on a logarithmic scale."""
     from lib import pictures
 
     rows = list(steps(counted(day)[0]))
     with pictures.matplotlib.rc_context({**pictures.STYLE, "axes.grid": False}):
-        drawn, axes = pictures.pyplot.subplots(figsize=(pictures.BROAD * 0.7, 2.4))
+        drawn, axes = pictures.pyplot.subplots(figsize=(pictures.BROAD * 0.7, 2.8))
+        axes.set_xscale("log")
         for at, (count, words) in enumerate(rows):
-            axes.barh(-at, math.log2(count) + 0.6, color=pictures.COLOURS["buy"])
-            axes.annotate(f"{count:,} {words}", (0, -at), (6, -3), textcoords="offset points")
-        axes.set_axis_off()
+            axes.barh(-at, count - LEFT, left=LEFT, color=pictures.COLOURS["buy"])
+            axes.annotate(f"{count:,} {words}", (LEFT, -at), (6, -3), textcoords="offset points")
+        axes.set_xlim(LEFT, rows[0][0])
+        ticks = [10**digits for digits in range(len(str(rows[0][0])))]
+        axes.set_xticks(ticks, [f"{tick:,}" for tick in ticks])
+        axes.set_xlabel("selections, on a logarithmic scale: each mark is ten times the one before")
+        axes.minorticks_off()
+        axes.set_yticks([])
+        axes.spines["left"].set_visible(False)
         drawn.tight_layout()
     return drawn
 
