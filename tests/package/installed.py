@@ -11,7 +11,7 @@ from pathlib import Path
 TOP = Path(__file__).resolve().parents[2]
 CASE = TOP / "tests/cases/clear-merit-order"
 SUNNY = "/usr/share/doc/dam/examples/sunny-day.csv"
-DAY = "/tmp/day"  # in the system: the files of the day
+DAY = "/srv/day"  # in the system: the files of the day
 # What Debian's own tools keep there isn't the package's.
 KEPT = ("proc", "dev", "sys", "run", "tmp", "var/cache", "var/log", "var/lib/apt", "var/lib/dpkg/status-old", "var/lib/dpkg/triggers")
 OF_THE_REPORT = "python3-jinja2, python3-matplotlib"
