@@ -129,8 +129,8 @@ impl<'a, A: Allocator> Model for Deciding<'a, A> {
 impl<A: Allocator> Deciding<'_, A> {
     /// What the accepted block is worth in all periods of the class that begins at the place.
     fn value(&self, at: usize) -> i64
-        requires { (problem : ProblemState) × (k : ℕ) × (b : Block) × IsDeciding problem k b self.now
-            × IsClass problem at }
+        requires { (problem : ProblemState) × (k : ℕ) × (b : Block)
+            × IsDeciding problem k b self.now × IsClass problem at }
         ensures value { (problem : ProblemState) (k : ℕ) (b : Block)
             → IsDeciding problem k b self.now → IsClass problem at
             → result ≡ class_value problem b.order at }
@@ -147,8 +147,8 @@ impl<A: Allocator> Deciding<'_, A> {
         at: usize,
         qty: Qty,
     ) -> Result<Touch, AllocError>
-        requires { (problem : ProblemState) × (k : ℕ) × (b : Block) × IsDeciding problem k b self.now
-            × IsClass problem at × (volume_in b.order.volumes (at + 1) ≡ qty) }
+        requires { (problem : ProblemState) × (k : ℕ) × (b : Block)
+            × IsDeciding problem k b self.now × IsClass problem at × (volume_in b.order.volumes (at + 1) ≡ qty) }
         ensures touch { (problem : ProblemState) (k : ℕ) (b : Block)
             → IsDeciding problem k b self.now → IsClass problem at
             → volume_in b.order.volumes (at + 1) ≡ qty

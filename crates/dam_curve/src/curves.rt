@@ -166,7 +166,8 @@ fn write_values<A: Allocator>(values: &mut Vec<i64, A>, lines: &[Line]) -> Resul
     ensures values { (periods : List (List Step)) (least most : ℤ)
         → IsCurve periods least most lines.now → OnOk result
         (AreValuesOf periods lines.now (length values.old.items) values.new.items) }
-    ensures kept { OnOk result (take (length values.old.items) values.new.items ≡ values.old.items) }
+    ensures kept { OnOk result
+        (take (length values.old.items) values.new.items ≡ values.old.items) }
     ensures err { OnErr result (values.new.items ≡ values.old.items) }
 {
     let (top, count) = span_of(lines);
@@ -199,8 +200,8 @@ impl<A: Allocator + Copy> Curves<A> {
 impl<A: Allocator> Curves<A> {
     /// Adds a curve whose lines are looked for. The error is out of memory, and no curve is then added.
     pub fn add<B: Allocator>(&mut self, sum: &Sum<B>) -> Result<Curve, AllocError>
-        ensures added { (periods : List (List Step)) (least most : ℤ) → IsCurve periods least most sum.now
-            → IfOk result (λ curve. IsCurveAt self.new curve periods least most) }
+        ensures added { (periods : List (List Step)) (least most : ℤ)
+            → IsCurve periods least most sum.now → IfOk result (λ curve. IsCurveAt self.new curve periods least most) }
         ensures kept { Keeps self.old self.new }
         ensures err { OnErr result (self.new ≡ self.old) }
     {
@@ -226,8 +227,8 @@ impl<A: Allocator> Curves<A> {
     pub fn add_values<B: Allocator>(&mut self, sum: &Sum<B>) -> Result<Curve, AllocError>
         requires { (periods : List (List Step)) × (least : ℤ) × (most : ℤ)
             × IsCurve periods least most sum.now }
-        ensures added { (periods : List (List Step)) (least most : ℤ) → IsCurve periods least most sum.now
-            → IfOk result (λ curve. IsCurveAt self.new curve periods least most) }
+        ensures added { (periods : List (List Step)) (least most : ℤ)
+            → IsCurve periods least most sum.now → IfOk result (λ curve. IsCurveAt self.new curve periods least most) }
         ensures kept { Keeps self.old self.new }
         ensures err { OnErr result (self.new ≡ self.old) }
     {
