@@ -52,5 +52,5 @@ mod walk;
 pub use day::Day;
 pub use relaxed::Relaxed;
 pub use tables::Tables;
-pub use trail::Trail;
+pub use trail::{Extensions, Trail};
 pub use walk::{Bounds, Walk};

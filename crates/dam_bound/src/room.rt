@@ -7,9 +7,8 @@ ghost use Rattle.dam_book.specs.Limits.{last_period};
 use dam_blocks::{Block, MOST_PERIODS};
 use dam_book::BlockOrder;
 
-/// How many welfares of 8 bytes the tables of a day keep at most, for each of its periods. A class may take more than
-/// its periods' part.
-const VALUES_EACH: u64 = 5_000;
+/// How many losses of 8 bytes are kept at most.
+const MOST_LOSSES: u64 = 750_000;
 
 /// How many net volumes the decided blocks can make of each class at most, at the place of its first period; 0 at
 /// other places.
@@ -59,25 +58,24 @@ impl Reach {
 }
 
 /// From which block on the tables keep a welfare for each net volume: as many of the last blocks as there is room for.
-pub(crate) fn first_with_values(
+pub(crate) fn first_with_losses(
     blocks: &[Block],
     firsts: &[u32; MOST_PERIODS],
-    periods: usize,
 ) -> usize {
     let mut reach = Reach::of(firsts);
     for block in blocks {
         reach.widen(&block.order);
     }
-    let mut room = VALUES_EACH.saturating_mul(periods as u64);
+    let mut room = MOST_LOSSES;
     let mut place = blocks.len();
     while place > 0 {
         let order = &blocks[place - 1].order;
+        reach.narrow(order);
         let count = reach.over(order);
         if count > room {
             break;
         }
         room -= count;
-        reach.narrow(order);
         place -= 1;
     }
     place

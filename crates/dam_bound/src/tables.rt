@@ -18,14 +18,13 @@ ghost use Rattle.dam_hour.specs.Limits.{greatest_value};
 ghost use Rattle.dam_blocks.specs.Magnitude.{IsWithin};
 
 use crate::classes::firsts_of;
-use crate::day::{Day, Position};
 use crate::families::families_of;
 use crate::periods::Periods;
-use crate::room::first_with_values;
-use crate::touch::{Lot, Touch};
+use crate::room::first_with_losses;
+use crate::touch::Touch;
 use dam_blocks::{Block, MOST_PERIODS, Problem, Selection, value_of};
 use dam_book::{BlockOrder, Period, Qty, Side};
-use dam_curve::{Curve, Curves, Sum};
+use dam_curve::{Choice, Curve, Curves, Sum};
 use dam_hour::laws;
 use std::alloc::{AllocError, Allocator, Global};
 use std::marker::Model;
@@ -42,11 +41,13 @@ pub struct Tables<A: Allocator = Global> {
     pub(crate) firsts: [u32; MOST_PERIODS],
     /// For each class the curve with every block decided, at the place of its first period.
     pub(crate) ends: Vec<Curve, A>,
-    pub(crate) lots: Vec<Lot<A>, A>,
+    pub(crate) lots: Vec<Vec<Touch, A>, A>,
+    /// From which block on the losses are kept.
+    pub(crate) kept: usize,
     /// The slot in which each class stands with every block decided.
     pub(crate) places: [u32; MOST_PERIODS],
-    /// The day with no block decided.
-    pub(crate) root: Day,
+    /// The relaxed welfare with no block decided.
+    pub(crate) root: i64,
     /// For each block those that descend from it.
     pub(crate) families: Vec<Option<Selection>, A>,
 }
@@ -109,8 +110,10 @@ struct Deciding<'a, A: Allocator> {
     places: &'a [u32; MOST_PERIODS],
     /// The first slot of the block's row.
     row: u32,
-    /// Whether its tables keep a welfare for each net volume.
-    with_values: bool,
+    /// The curve of each class before the block is decided.
+    ends: &'a [Curve],
+    /// Whether its losses are kept.
+    with_losses: bool,
 }
 
 impl<'a, A: Allocator> Model for Deciding<'a, A> {
@@ -156,16 +159,27 @@ impl<A: Allocator> Deciding<'_, A> {
         ensures at { IfOk result (λ touch. touch.at ≡ at) }
         ensures kept { Keeps curves.old curves.new }
     {
-        let curve = self.periods.curve(curves, sum, at, self.with_values)?;
+        let after = self.periods.curve(curves, sum, at)?;
         let value = self.value(at);
+        let choice = Choice {
+            before: self.ends[at],
+            after,
+            net: net_of(self.order.side(), qty),
+            value,
+        };
+        let offset = if self.with_losses {
+            let range = self.periods.ranges[at];
+            curves.keep_losses(choice, range.least, range.most)?
+        } else {
+            0
+        };
         Ok(Touch {
             at: at as u32,
             from: self.places[at],
             to: self.row + at as u32,
-            net: net_of(self.order.side(), qty),
-            value,
-            curve,
-            stake: stake_of(self.order, qty, value, curves.price_near(curve, 0)),
+            choice,
+            offset,
+            stake: stake_of(self.order, qty, value, curves.price_near(after, 0)),
         })
     }
 
@@ -196,27 +210,13 @@ impl<A: Allocator> Deciding<'_, A> {
     }
 }
 
-/// The touches of the block if it is rejected.
-fn rejected<A: Allocator>(alloc: A, touches: &[Touch]) -> Result<Vec<Touch, A>, AllocError>
-    ensures { IfOk result (λ others. others.items ≡ map rejected touches.now) }
+/// The touches with what may be lost or gained most at the front.
+fn by_stake<A: Allocator>(touches: Vec<Touch, A>) -> Vec<Touch, A>
+    ensures { IsPermutation touches.items result.items }
 {
-    let mut others = Vec::with_capacity(alloc, touches.len())?;
-    for touch in touches {
-        others.push(touch.rejected())?;
-    }
-    Ok(others)
-}
-
-/// The lot with what may be lost most at the front of either list.
-fn by_stake<A: Allocator>(accepted: Vec<Touch, A>, rejected: Vec<Touch, A>) -> Lot<A>
-    ensures accepted { IsPermutation accepted.items result.accepted }
-    ensures rejected { IsPermutation rejected.items result.rejected }
-{
-    let mut accepted = accepted;
-    let mut rejected = rejected;
-    accepted.sort_unstable_by_key(|touch| !touch.stake);
-    rejected.sort_unstable_by_key(|touch| touch.stake);
-    Lot { accepted, rejected }
+    let mut touches = touches;
+    touches.sort_unstable_by_key(|touch| !touch.stake.saturating_abs());
+    touches
 }
 
 /// Puts the block's own slots and curves in the place of those that its classes have before it.
@@ -240,7 +240,7 @@ fn take_over(places: &mut [u32; MOST_PERIODS], ends: &mut [Curve], touches: &[To
     for touch in touches {
         let at = touch.at as usize;
         places[at] = touch.to;
-        ends[at] = touch.curve;
+        ends[at] = touch.choice.after;
     }
 }
 
@@ -260,7 +260,7 @@ fn first_curves<A: Allocator, B: Allocator, C: Allocator, D: Allocator>(
     for at in 0..periods.count() {
         let first = periods.firsts[at] as usize;
         let curve = if first == at {
-            periods.curve(curves, sum, at, false)?
+            periods.curve(curves, sum, at)?
         } else {
             ends[first]
         };
@@ -269,8 +269,8 @@ fn first_curves<A: Allocator, B: Allocator, C: Allocator, D: Allocator>(
     Ok(ends)
 }
 
-/// The day with no block decided.
-fn root_of<A: Allocator>(curves: &Curves<A>, firsts: &[u32], ends: &[Curve]) -> Day
+/// The relaxed welfare with no block decided.
+fn root_of<A: Allocator>(curves: &Curves<A>, firsts: &[u32], ends: &[Curve]) -> i64
     requires { (problem : ProblemState) × AreFirsts problem firsts.now
         × AreCurves problem curves.now 0 ends.now × (length problem.hours ≤ last_period) }
     ensures { (problem : ProblemState) → AreFirsts problem firsts.now
@@ -279,15 +279,13 @@ fn root_of<A: Allocator>(curves: &Curves<A>, firsts: &[u32], ends: &[Curve]) -> 
 {
     laws::balance();
     laws::welfare();
-    let mut root = Day::empty();
+    let mut total = 0;
     for at in 0..ends.len() {
         if firsts[at] as usize == at {
-            let welfare = curves.welfare(ends[at], 0).unwrap();
-            root.classes[at] = Position { net: 0, welfare };
-            root.total += welfare;
+            total += curves.welfare(ends[at], 0).unwrap();
         }
     }
-    root
+    total
 }
 
 /// The slots in which the classes stand with no block decided.
@@ -310,7 +308,8 @@ fn lots_of<A: Allocator, B: Allocator, C: Allocator + Copy>(
     places: &mut [u32; MOST_PERIODS],
     ends: &mut [Curve],
     blocks: &[Block],
-) -> Result<Vec<Lot<C>, C>, AllocError>
+    kept: usize,
+) -> Result<Vec<Vec<Touch, C>, C>, AllocError>
     requires { (problem : ProblemState) × (problem.blocks ≡ blocks.now)
         × AreDecided problem 0 periods.old × AreCurves problem curves.old 0 ends.old
         × ArePlaces problem 0 places.old }
@@ -333,20 +332,19 @@ fn lots_of<A: Allocator, B: Allocator, C: Allocator + Copy>(
     let mut sum = Sum::new(alloc);
     let mut lots = Vec::with_capacity(alloc, blocks.len())?;
     let mut row = MOST_PERIODS as u32;
-    let valued = first_with_values(blocks, &periods.firsts, periods.count());
     for block in blocks {
         periods.decide(&block.order);
-        let accepted = Deciding {
+        let touches = Deciding {
             periods,
             order: &block.order,
             places,
             row,
-            with_values: lots.len() >= valued,
+            ends,
+            with_losses: lots.len() >= kept,
         }
         .touches(alloc, curves, &mut sum)?;
-        take_over(places, ends, &accepted);
-        let rejected = rejected(alloc, &accepted)?;
-        lots.push(by_stake(accepted, rejected))?;
+        take_over(places, ends, &touches);
+        lots.push(by_stake(touches))?;
         row += MOST_PERIODS as u32;
     }
     Ok(lots)
@@ -364,6 +362,7 @@ impl<A: Allocator + Copy> Tables<A> {
         let mut ends = first_curves(alloc, &periods, &mut curves, &mut sum)?;
         let root = root_of(&curves, &periods.firsts, &ends);
         let mut places = first_places();
+        let kept = first_with_losses(blocks, &periods.firsts);
         let lots = lots_of(
             alloc,
             &mut periods,
@@ -371,6 +370,7 @@ impl<A: Allocator + Copy> Tables<A> {
             &mut places,
             &mut ends,
             blocks,
+            kept,
         )?;
         Ok(Tables {
             count: periods.count(),
@@ -378,6 +378,7 @@ impl<A: Allocator + Copy> Tables<A> {
             firsts: periods.firsts,
             ends,
             lots,
+            kept,
             places,
             root,
             families: families_of(alloc, blocks)?,

@@ -12,7 +12,7 @@ ghost use Rattle.dam_bound.specs.declared.day.Position.{Position};
 ghost use Rattle.dam_bound.specs.Tables.{AreTablesOf};
 
 use crate::day::{Day, Position};
-use crate::lookup::{moved, touches_of};
+use crate::lookup::touches_of;
 use crate::tables::Tables;
 use dam_blocks::MOST_PERIODS;
 use dam_book::MOST_BLOCKS;
@@ -28,7 +28,7 @@ const SLOTS: usize = (MOST_BLOCKS + 1) * MOST_PERIODS;
 /// begins from the same day.
 #[derive(Drop)]
 pub struct Trail {
-    pub(crate) slots: [Position; SLOTS],
+    pub(crate) slots: [i64; SLOTS],
 }
 
 impl Trail {
@@ -37,102 +37,132 @@ impl Trail {
         ensures { length result.slots ≡ slot_count }
     {
         Trail {
-            slots: [Position::none(); SLOTS],
+            slots: [0; SLOTS],
         }
     }
 }
 
-/// Writes the first `count` places of the root's day to their slots.
-pub(crate) fn write_root(root: &Day, trail: &mut Trail, count: usize)
-    requires { count ≤ last_period }
-    ensures classes { (i : ℕ) (own : Position) → i < count
-        → slice_index_or trail.new.slots i own ≡ slice_index_or root.now.classes i own }
-    ensures room { length trail.new.slots ≡ slot_count }
-{
-    trail.slots[..count].copy_from_slice(&root.classes[..count]);
+/// Writes the net volumes of the root.
+pub(crate) fn write_root(trail: &mut Trail, count: usize) {
+    for at in 0..count {
+        trail.slots[at] = 0;
+    }
 }
 
 /// The least total that isn't under what is asked for.
-fn floor_of(least: u64) -> i64
-    ensures floor { (total : ℤ) → IsWithin (last_period * greatest_period_bound) total
-        → (total <ℤ result) ↔ (total <ℤ pos least) }
-    ensures at_least { pos 0 ≤ℤ result }
-    ensures at_most { result <ℤ pos (2 ^ 63) }
-{
+fn floor_of(least: u64) -> i64 {
     i64::try_from(least).unwrap_or(i64::MAX)
 }
 
-/// Whether the total is under the floor.
-fn is_under(total: i64, floor: i64) -> bool
-    ensures { IsTrue result ↔ (total <ℤ floor) }
-{
-    total < floor
+/// The relaxed welfares of the two extensions of a prefix by a decision on its next block.
+#[derive(Clone, Copy)]
+pub struct Extensions {
+    pub rejected: Option<i64>,
+    pub accepted: Option<i64>,
 }
 
-/// Decides the block at the place in each of its classes, and returns the new total, which is at least
-/// `least`; `None` if some period doesn't balance, or if the total is under `least` after one of them. In a
-/// walk no decision raises the relaxed welfare of a period, so a total under `least` stays under it.
-///
-/// The slots below the block's row stay as they are.
-pub(crate) fn decide_block<A: Allocator>(
+impl Extensions {
+    /// Of the extension by this decision.
+    #[inline(always)]
+    pub fn of(&self, accept: bool) -> Option<i64> {
+        if accept { self.accepted } else { self.rejected }
+    }
+}
+
+/// What is left of a total. One that is under the floor is of no use, and stays under it.
+fn lowered(total: i64, loss: Option<i64>, floor: i64) -> i64 {
+    match loss {
+        Some(loss) if total >= floor => total - loss,
+        Some(_) => total,
+        None => -1,
+    }
+}
+
+/// The total, if it isn't under the floor.
+fn reached(total: i64, floor: i64) -> Option<i64> {
+    if total < floor {
+        return None;
+    }
+    Some(total)
+}
+
+/// Whether a loss of 32 bits brings the total under the floor.
+fn is_near(total: i64, floor: i64) -> bool {
+    total - floor < i64::from(u32::MAX)
+}
+
+/// The relaxed welfares of both extensions, from the curves.
+#[inline(never)]
+fn both_looked_up<A: Allocator>(
     tables: &Tables<A>,
-    trail: &mut Trail,
+    trail: &Trail,
     place: usize,
-    accept: bool,
     total: i64,
-    least: u64,
-) -> Option<i64>
-    requires { (problem : ProblemState) × (before : List Bool) × (after : List Bool)
-        × AreTablesOf problem tables.now
-        × (place < length problem.blocks)
-        × IsChange problem.blocks place Decide accept (place + 1) before after
-        × IsDayIn problem before trail.old total }
-    ensures day { (problem : ProblemState) (before after : List Bool)
-        → AreTablesOf problem tables.now
-        → place < length problem.blocks
-        → IsChange problem.blocks place Decide accept (place + 1) before after
-        → IsDayIn problem before trail.old total
-        → MatchOption result (IsGivenUp problem least before after)
-        (IsDayIn problem after trail.new) }
-    ensures reached { IfSome result (λ left. pos least ≤ℤ left) }
-    ensures below { (i : ℕ) (own : Position) → i < (place + 1) * last_period
-        → slice_index_or trail.new.slots i own ≡ slice_index_or trail.old.slots i own }
-    ensures room { length trail.new.slots ≡ slot_count }
-{
-    dam_hour::laws::joining();
-    dam_hour::laws::welfare();
-    dam_hour::laws::magnitude();
-    dam_blocks::laws::sums();
-    let floor = floor_of(least);
-    let mut left = total;
-    for touch in touches_of(tables, place, accept) {
-        let own = trail.slots[touch.from as usize];
-        let next = moved(tables, touch.curve, own, i64::from(touch.net), touch.value);
-        let Some((next, gained)) = next else {
-            return None;
-        };
-        trail.slots[touch.to as usize] = next;
-        left += gained;
-        if is_under(left, floor) {
-            return None;
+    floor: i64,
+) -> Extensions {
+    let mut rejected = total;
+    let mut accepted = total;
+    for touch in touches_of(tables, place) {
+        let net = trail.slots[touch.from as usize];
+        let (left, taken) = tables.curves.losses(&touch.choice, net);
+        rejected = lowered(rejected, left, floor);
+        accepted = lowered(accepted, taken, floor);
+        if rejected < floor && accepted < floor {
+            break;
         }
     }
-    Some(left)
+    Extensions {
+        rejected: reached(rejected, floor),
+        accepted: reached(accepted, floor),
+    }
 }
 
-/// The day that stands in the slots, in which the class at each place stands in the slot of the list.
-pub(crate) fn day_of(trail: &Trail, places: &[u32], count: usize, total: i64) -> Day
-    requires count { count ≤ last_period }
-    requires places { (i d : ℕ) → i < count → slice_index_or places.now i d < slot_count }
-    requires long { length places.now ≡ last_period }
-    ensures classes { (i : ℕ) (own : Position) → i < count → slice_index_or result.classes i own
-        ≡ slice_index_or trail.now.slots (slice_index_or places.now i 0) own }
-    ensures total { result.total ≡ total }
-    ensures long { length result.classes ≡ last_period }
-{
+/// The relaxed welfares of both extensions.
+pub(crate) fn both_extensions<A: Allocator>(
+    tables: &Tables<A>,
+    trail: &Trail,
+    place: usize,
+    total: i64,
+    least: u64,
+) -> Extensions {
+    let floor = floor_of(least);
+    if place < tables.kept || !is_near(total, floor) {
+        return both_looked_up(tables, trail, place, total, floor);
+    }
+    let mut rejected = total;
+    let mut accepted = total;
+    for touch in touches_of(tables, place) {
+        let net = trail.slots[touch.from as usize];
+        let loss = tables.curves.loss(touch.offset, net);
+        rejected -= i64::from(loss.left);
+        accepted -= i64::from(loss.taken);
+        if rejected < floor && accepted < floor {
+            break;
+        }
+    }
+    Extensions {
+        rejected: reached(rejected, floor),
+        accepted: reached(accepted, floor),
+    }
+}
+
+/// Writes the net volumes of the extension.
+pub(crate) fn write_block<A: Allocator>(tables: &Tables<A>, trail: &mut Trail, place: usize, accept: bool) {
+    for touch in touches_of(tables, place) {
+        let net = trail.slots[touch.from as usize];
+        trail.slots[touch.to as usize] = if accept { net + i64::from(touch.choice.net) } else { net };
+    }
+}
+
+/// The day that stands in the slots.
+pub(crate) fn day_of<A: Allocator>(tables: &Tables<A>, trail: &Trail, total: i64) -> Day {
     let mut day = Day::empty();
-    for at in 0..count {
-        day.classes[at] = trail.slots[places[at] as usize];
+    for at in 0..tables.count {
+        if tables.firsts[at] as usize == at {
+            let net = trail.slots[tables.places[at] as usize];
+            let welfare = tables.curves.welfare(tables.ends[at], net).unwrap();
+            day.classes[at] = Position { net, welfare };
+        }
     }
     day.total = total;
     day

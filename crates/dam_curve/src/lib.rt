@@ -25,10 +25,12 @@
 
 mod curves;
 mod line;
+mod losses;
 mod row;
 mod sum;
 mod supply;
 
 pub use curves::{Curve, Curves};
+pub use losses::{Choice, ExactLoss, Loss};
 pub use sum::Sum;
 pub use supply::Supply;

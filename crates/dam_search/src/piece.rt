@@ -1,10 +1,11 @@
 ghost use Rattle.std.specs.Prelude.{◌≡◌, ◌⊎◌, ◌+◌, ◌-◌, ◌^◌, ◌<◌, ◌≤◌, max, ℤ, pos, ◌<ℤ◌, ◌≤ℤ◌, true, false, Some, None};
-ghost use Rattle.std.specs.Prelude.{Option, [], ◌∷◌, ◌++◌, length, IsTrue, ◌↔◌, MatchBool, IfSome, IfNone};
+ghost use Rattle.std.specs.Prelude.{List, Option, [], ◌∷◌, ◌++◌, length, IsTrue, ◌↔◌, MatchBool, IfSome, IfNone};
 ghost use Rattle.dam_blocks.specs.Selection.{choice, padded, IsAdmissible};
+ghost use Rattle.dam_blocks.specs.Eligible.{ArePrices, HasNoLoss};
 ghost use Rattle.dam_bound.specs.Relaxed.{without_rows};
 ghost use Rattle.dam_bound.specs.Trail.{IsDayIn, KeepsDays};
 ghost use Rattle.dam_search.specs.Piece.{IsFind, IsMatched, Rises, welfare_found, IsSound, IsSpent};
-ghost use Rattle.dam_search.specs.inside.Walk.{IsBoundIn, Finds, Covers, IsGoing, IsWalked};
+ghost use Rattle.dam_search.specs.inside.Walk.{IsBoundIn, IsExtended, Finds, Covers, IsGoing, IsWalked};
 
 use crate::answer::PieceAnswer;
 use crate::incumbent::Incumbent;
@@ -65,6 +66,22 @@ fn equals(bound: i64, value: u64) -> bool
 }
 
 impl<A: Allocator, B: Allocator> SearchSpace<'_, A, B> {
+    /// Whether some accepted block loses at the prices of a prefix that decides every block, with the accepted ones
+    /// that descend from it. The day of the prefix is in the slots, with this relaxed welfare.
+    ///
+    /// It isn't inlined, since few prefixes come so far, and its day takes room on the stack.
+    #[inline(never)]
+    fn loses(&self, prefix: &Prefix, trail: &Trail, total: i64) -> bool
+        requires full { length self.now.problem.now.blocks ≡ length prefix.now }
+        requires day { IsDayIn self.now.walk.now prefix.now trail.now total }
+        ensures { (prices : List ℤ)
+            → ArePrices self.now.walk.now.blocks (padded prefix.now) 1 self.now.walk.now.hours prices
+            → (result ≡ false) ↔ HasNoLoss self.now.walk.now.blocks (padded prefix.now) prices }
+    {
+        let day = self.walk.day_at(trail, total);
+        prefix.has_loss(self.walk, &day)
+    }
+
     /// Takes the selection of a prefix that decides every block and that the links and the groups admit,
     /// and offers its welfare, if it is eligible and the best so far.
     ///
@@ -103,8 +120,7 @@ impl<A: Allocator, B: Allocator> SearchSpace<'_, A, B> {
         let Some(best) = candidate(prefix.selection(), total, found) else {
             return;
         };
-        let day = self.walk.day_at(trail, total);
-        if prefix.has_loss(self.walk, &day) {
+        if self.loses(prefix, trail, total) {
             return;
         }
         let welfare = best.welfare;
@@ -162,16 +178,19 @@ impl<A: Allocator, B: Allocator> SearchSpace<'_, A, B> {
             return true;
         };
         let accept = equals(bound, found.read);
-        if !self.decide(nodes, &prefix, accept, trail, bound, incumbent, found) {
+        let next = self
+            .walk
+            .extensions(trail, prefix.depth(), bound, found.read);
+        if !self.decide(nodes, &prefix, accept, trail, next.by(accept), incumbent, found) {
             return false;
         }
-        self.decide(nodes, &prefix, !accept, trail, bound, incumbent, found)
+        self.decide(nodes, &prefix, !accept, trail, next.by(!accept), incumbent, found)
     }
 
     /// Explores the extension of a prefix by this decision on the next block, as `explore` does.
     ///
-    /// If the links and the groups don't admit it, it is passed over without a visit. Its day is made of the
-    /// prefix's, and no further than until its bound is under what was read: there is no total then.
+    /// If the links and the groups don't admit it, it is passed over without a visit. `total` is its bound; there is
+    /// none if it has no bound, or one that is known to be under what was read. Its day is made only if there is one.
     #[cycle(explore)]
     fn decide<I: Incumbent>(
         &self,
@@ -179,12 +198,13 @@ impl<A: Allocator, B: Allocator> SearchSpace<'_, A, B> {
         prefix: &Prefix,
         accept: bool,
         trail: &mut Trail,
-        total: i64,
+        total: Option<i64>,
         incumbent: &mut I,
         found: &mut Progress,
     ) -> bool
         requires depth { length prefix.now < length self.now.problem.now.blocks }
-        requires day { IsDayIn self.now.walk.now prefix.now trail.old total }
+        requires day { (total : ℤ) × IsDayIn self.now.walk.now prefix.now trail.old total }
+        requires extension { IsExtended self.now.walk.now prefix.now accept found.old.read total }
         requires admissible { IsAdmissible self.now.problem.now.blocks (padded prefix.now) }
         requires going { IsGoing self.now.problem.now nodes
             (I.greatest_read incumbent.old) (I.greatest_offer incumbent.old) found.old }
@@ -200,10 +220,10 @@ impl<A: Allocator, B: Allocator> SearchSpace<'_, A, B> {
         if accept && !extended.is_still_admissible(self.problem) {
             return true;
         }
-        let next = self
-            .walk
-            .extend(trail, prefix.depth(), accept, total, found.read);
-        self.explore(nodes, extended, trail, next, incumbent, found)
+        if total.is_some() {
+            self.walk.enter(trail, prefix.depth(), accept);
+        }
+        self.explore(nodes, extended, trail, total, incumbent, found)
     }
 }
 
