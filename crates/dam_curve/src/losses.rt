@@ -1,6 +1,6 @@
 //! What either side of a choice loses at each net volume.
 
-ghost use Rattle.std.specs.Prelude.{◌≡◌, ◌<◌, ◌+◌, ◌^◌, ℕ, ℤ, pos, neg_ℤ, ◌+ℤ◌, ◌-ℤ◌, ◌≤ℤ◌, Option, Some, None, List, length, slice_index_or, take, IfOk, IfSome, MatchOption};
+ghost use Rattle.std.specs.Prelude.{◌≡◌, ◌<◌, ◌≤◌, ◌+◌, ◌^◌, ℕ, ℤ, pos, neg_ℤ, ◌+ℤ◌, ◌-ℤ◌, ◌≤ℤ◌, Option, Some, None, List, length, slice_index_or, take, IfOk, IfSome, MatchOption};
 ghost use Rattle.dam_hour.specs.declared.step.Step.{Step};
 ghost use Rattle.dam_curve.specs.Curve.{IsCurve, joint_welfare, lines_at};
 ghost use Rattle.dam_curve.specs.Losses.{IsKept, IsLoss, AreLosses, IsChoice, IsChoiceAt, Keeps, welfare_left, welfare_taken};
