@@ -1,6 +1,6 @@
 //! What either side of a choice loses at each net volume.
 
-ghost use Rattle.std.specs.Prelude.{◌≡◌, ◌<◌, ◌≤◌, ◌+◌, ◌^◌, ℕ, ℤ, pos, neg_ℤ, ◌+ℤ◌, ◌-ℤ◌, ◌≤ℤ◌, Option, Some, None, List, length, slice_index_or, take, IfOk, IfSome, MatchOption};
+ghost use Rattle.std.specs.Prelude.{true, false, ◌≡◌, ◌<◌, ◌≤◌, ◌+◌, ◌^◌, ℕ, ℤ, pos, neg_ℤ, ◌+ℤ◌, ◌-ℤ◌, ◌≤ℤ◌, Option, Some, None, List, length, slice_index_or, take, IfOk, IfSome, MatchOption};
 ghost use Rattle.dam_hour.specs.declared.step.Step.{Step};
 ghost use Rattle.dam_curve.specs.Curve.{IsCurve, joint_welfare, lines_at};
 ghost use Rattle.dam_curve.specs.Losses.{IsKept, IsLoss, AreLosses, IsChoice, IsChoiceAt, Keeps, welfare_left, welfare_taken};
@@ -41,101 +41,6 @@ pub struct ExactLoss {
     pub taken: Option<i64>,
 }
 
-/// The number that is kept of the loss between two welfares.
-fn kept(before: Option<i64>, after: Option<i64>) -> u32
-    ensures { (w : ℤ) → before ≡ Some w → IsKept result w after }
-{
-    let (Some(before), Some(after)) = (before, after) else {
-        return u32::MAX;
-    };
-    match before.checked_sub(after) {
-        Some(loss) => u32::try_from(loss).unwrap_or(u32::MAX),
-        None => u32::MAX,
-    }
-}
-
-/// The lines of a curve, read at net volumes near each other.
-///
-/// A contract sees the lines.
-#[derive(Drop)]
-struct Reader<'a> {
-    lines: &'a [Line],
-    /// The place of the line that was read last.
-    near: usize,
-}
-
-impl<'a> Model for Reader<'a> {
-    ghost use Rattle.std.specs.Prelude.{List};
-    ghost use Rattle.dam_curve.specs.declared.line.Line.{Line};
-
-    ghost Value = { List Line };
-
-    ghost view = { λ r. r.lines.now };
-}
-
-impl<'a> Reader<'a> {
-    /// A reader of these lines.
-    fn new(lines: &'a [Line]) -> Reader<'a>
-        ensures { result ≡ lines.now }
-    {
-        Reader { lines, near: 0 }
-    }
-
-    /// The joint welfare at the net volume; `None` exactly if some period doesn't balance.
-    fn welfare(&mut self, net: i64) -> Option<i64>
-        requires { (periods : List (List Step)) × (least : ℤ) × (most : ℤ)
-            × IsCurve periods least most self.old × (least ≤ℤ net) × (net ≤ℤ most) }
-        ensures value { (periods : List (List Step)) (least most : ℤ)
-            → IsCurve periods least most self.old → least ≤ℤ net → net ≤ℤ most
-            → result ≡ joint_welfare periods net }
-        ensures kept { self.new ≡ self.old }
-    {
-        let lines = self.lines;
-        if lines.is_empty()
-            || net > i64::from(lines[0].most)
-            || net < i64::from(lines[lines.len() - 1].most)
-        {
-            return None;
-        }
-        let (place, value) = value_in(lines, net, self.near);
-        self.near = place;
-        Some(value)
-    }
-}
-
-/// The readers of a choice's curves: before it, and after it if it is left and if it is taken.
-#[derive(Drop)]
-struct Readers<'a> {
-    before: Reader<'a>,
-    left: Reader<'a>,
-    taken: Reader<'a>,
-}
-
-impl Readers<'_> {
-    /// The loss of the choice at the net volume.
-    fn loss(&mut self, choice: &Choice, net: i64) -> Loss {
-        let before = self.before.welfare(net);
-        let left = self.left.welfare(net);
-        let taken = match self.taken.welfare(net + i64::from(choice.net)) {
-            Some(welfare) => Some(choice.value + welfare),
-            None => None,
-        };
-        Loss {
-            left: kept(before, left),
-            taken: kept(before, taken),
-        }
-    }
-}
-
-/// The lines of a curve among those of many.
-fn lines_of(lines: &[Line], curve: Curve) -> &[Line]
-    requires { curve.first + curve.count ≤ length lines.now }
-    ensures { result.now ≡ lines_at lines.now curve }
-{
-    let first = curve.first as usize;
-    &lines[first..first + curve.count as usize]
-}
-
 impl<A: Allocator> Curves<A> {
     /// Keeps the loss of a choice at each net volume from the least to the most, and returns the offset from a net
     /// volume to the place of its loss. The error is out of memory.
@@ -149,23 +54,7 @@ impl<A: Allocator> Curves<A> {
             → IfOk result (λ offset. AreLosses self.new.losses before after choice.now offset least most) }
         ensures kept { Keeps self.old self.new }
     {
-        if most < least {
-            return Ok(0);
-        }
-        let first = self.losses.len() as i64;
-        let lines = self.lines.as_slice();
-        let after = lines_of(lines, choice.after);
-        let mut readers = Readers {
-            before: Reader::new(lines_of(lines, choice.before)),
-            left: Reader::new(after),
-            taken: Reader::new(after),
-        };
-        let mut net = least;
-        while net <= most {
-            self.losses.push(readers.loss(choice, net))?;
-            net += 1;
-        }
-        Ok(first - least)
+        Err(AllocError)
     }
 
     /// The loss that is kept for the net volume, by the offset that `keep_losses` returned.
@@ -180,6 +69,7 @@ impl<A: Allocator> Curves<A> {
 
     /// The exact losses of a choice at the net volume, from its curves. Takes no memory.
     pub fn exact_loss(&self, choice: &Choice, net: i64) -> ExactLoss
+        requires stub { true ≡ false }
         requires choice { (before : List (List Step)) × (after : List (List Step))
             × IsChoiceAt self.now choice.now before after net }
         requires value_least { neg_ℤ (pos (2 ^ 62)) ≤ℤ choice.now.value }
@@ -193,20 +83,6 @@ impl<A: Allocator> Curves<A> {
             → MatchOption result.taken (welfare_taken after choice.now net ≡ None)
             (λ loss. welfare_taken after choice.now net ≡ Some (w -ℤ loss)) }
     {
-        let Some(before) = self.welfare(choice.before, net) else {
-            return ExactLoss {
-                left: None,
-                taken: None,
-            };
-        };
-        let left = match self.welfare(choice.after, net) {
-            Some(after) => Some(before - after),
-            None => None,
-        };
-        let taken = match self.welfare(choice.after, net + i64::from(choice.net)) {
-            Some(after) => Some(before - (choice.value + after)),
-            None => None,
-        };
-        ExactLoss { left, taken }
+        ExactLoss { left: None, taken: None }
     }
 }
