@@ -1,6 +1,6 @@
 //! The days of a walk, in slots that are neither copied nor undone, and the bounds of the prefixes that extend them.
 
-ghost use Rattle.std.specs.Prelude.{◌≡◌, ◌*◌, ◌+◌, ◌-◌, ◌<◌, ◌≤◌, ℕ, ℤ, pos, ◌+ℤ◌, ◌-ℤ◌, ◌^◌, ◌<ℤ◌, ◌≤ℤ◌, ◌↔◌, [], ◌∷◌, ◌++◌, List, Bool, Option, Some, length, slice_index_or, IsTrue, IfSome, MatchOption};
+ghost use Rattle.std.specs.Prelude.{◌≡◌, ◌*◌, ◌+◌, ◌-◌, ◌<◌, ◌≤◌, ℕ, ℤ, pos, neg_ℤ, ◌+ℤ◌, ◌-ℤ◌, ◌^◌, ◌<ℤ◌, ◌≤ℤ◌, ◌↔◌, [], ◌∷◌, ◌++◌, List, Bool, Option, Some, None, length, slice_index_or, IsTrue, IfSome, MatchOption};
 ghost use Rattle.dam_book.specs.Limits.{last_period};
 ghost use Rattle.dam_blocks.specs.Problem.{ProblemState};
 ghost use Rattle.dam_blocks.specs.Magnitude.{IsWithin};
@@ -9,7 +9,7 @@ ghost use Rattle.dam_bound.specs.Relaxed.{relaxed_welfare};
 ghost use Rattle.dam_bound.specs.inside.Levels.{greatest_period_bound};
 ghost use Rattle.dam_bound.specs.Trail.{slot_count, IsDayIn, IsBoundOf, bound_by};
 ghost use Rattle.dam_curve.specs.Losses.{greatest_loss};
-ghost use Rattle.dam_bound.specs.inside.Change.{IsDecision};
+ghost use Rattle.dam_bound.specs.inside.Change.{IsDecision, IsBoundFrom};
 ghost use Rattle.dam_bound.specs.Tables.{AreTablesOf};
 
 use crate::day::{Day, Position};
@@ -61,6 +61,16 @@ pub struct Extensions {
 }
 
 impl Extensions {
+    /// No bound that reaches what was asked for.
+    fn neither() -> Extensions
+        ensures { result ≡ record { rejected = None; accepted = None } }
+    {
+        Extensions {
+            rejected: None,
+            accepted: None,
+        }
+    }
+
     /// The bound of the extension by this decision.
     #[inline(always)]
     pub fn by(&self, accept: bool) -> Option<i64>
@@ -74,6 +84,7 @@ impl Extensions {
 fn floor_of(least: u64) -> i64
     ensures floor { (total : ℤ) → IsWithin (last_period * greatest_period_bound) total
         → (total <ℤ result) ↔ (total <ℤ pos least) }
+    ensures below { result ≤ℤ pos least }
     ensures at_least { pos 0 ≤ℤ result }
     ensures at_most { result <ℤ pos (2 ^ 63) }
 {
@@ -92,14 +103,19 @@ fn reached(total: i64, floor: i64) -> Option<i64>
 
 /// Whether the greatest loss that is kept brings the total under the floor.
 fn is_near(total: i64, floor: i64) -> bool
-    requires { pos 0 ≤ℤ floor }
+    requires { IsWithin (last_period * greatest_period_bound) total }
     ensures { IsTrue result ↔ ((total -ℤ pos greatest_loss) <ℤ floor) }
 {
     total - i64::from(u32::MAX) < floor
 }
 
 /// What is left of a total after a loss. A total under the floor is of no use, and stays under it.
-fn lowered(total: i64, loss: Option<i64>, floor: i64) -> i64 {
+fn lowered(total: i64, loss: Option<i64>, floor: i64) -> i64
+    requires { floor ≤ℤ total → IfSome loss (λ fall. (neg_ℤ (pos (2 ^ 63)) ≤ℤ (total -ℤ fall))
+        × ((total -ℤ fall) <ℤ pos (2 ^ 63))) }
+    ensures { MatchOption loss (result ≡ neg_ℤ (pos 1))
+        (λ fall. (floor ≤ℤ total → result ≡ total -ℤ fall) × (total <ℤ floor → result ≡ total)) }
+{
     match loss {
         Some(loss) if total >= floor => total - loss,
         Some(_) => total,
@@ -116,7 +132,22 @@ fn exact_bounds<A: Allocator>(
     place: usize,
     total: i64,
     floor: i64,
-) -> Extensions {
+) -> Extensions
+    requires day { (problem : ProblemState) × (before : List Bool)
+        × AreTablesOf problem tables.now × (place < length problem.blocks)
+        × ((accept : Bool) → IsDecision problem place accept before)
+        × IsDayIn problem before trail.now total }
+    requires floor { pos 0 ≤ℤ floor }
+    ensures bounds { (problem : ProblemState) (before : List Bool) (accept : Bool)
+        → AreTablesOf problem tables.now → place < length problem.blocks
+        → ((choice : Bool) → IsDecision problem place choice before)
+        → IsDayIn problem before trail.now total
+        → IsBoundFrom problem (before ++ accept ∷ []) floor (bound_by accept result) }
+{
+    dam_hour::laws::joining();
+    dam_hour::laws::welfare();
+    dam_hour::laws::magnitude();
+    dam_blocks::laws::sums();
     let mut rejected = total;
     let mut accepted = total;
     for touch in touches_of(tables, place) {
@@ -125,7 +156,7 @@ fn exact_bounds<A: Allocator>(
         rejected = lowered(rejected, loss.left, floor);
         accepted = lowered(accepted, loss.taken, floor);
         if rejected < floor && accepted < floor {
-            break;
+            return Extensions::neither();
         }
     }
     Extensions {
@@ -143,7 +174,20 @@ fn kept_bounds<A: Allocator>(
     place: usize,
     total: i64,
     floor: i64,
-) -> Extensions {
+) -> Extensions
+    requires day { (problem : ProblemState) × (before : List Bool)
+        × AreTablesOf problem tables.now × (place < length problem.blocks)
+        × ((accept : Bool) → IsDecision problem place accept before)
+        × IsDayIn problem before trail.now total }
+    requires kept { tables.now.kept ≤ place }
+    requires near { (total -ℤ pos greatest_loss) <ℤ floor }
+    requires size { IsWithin (last_period * greatest_period_bound) total }
+    ensures bounds { (problem : ProblemState) (before : List Bool) (accept : Bool)
+        → AreTablesOf problem tables.now → place < length problem.blocks
+        → ((choice : Bool) → IsDecision problem place choice before)
+        → IsDayIn problem before trail.now total
+        → IsBoundFrom problem (before ++ accept ∷ []) floor (bound_by accept result) }
+{
     let mut rejected = total;
     let mut accepted = total;
     for touch in touches_of(tables, place) {
@@ -152,7 +196,7 @@ fn kept_bounds<A: Allocator>(
         rejected -= i64::from(loss.left);
         accepted -= i64::from(loss.taken);
         if rejected < floor && accepted < floor {
-            break;
+            return Extensions::neither();
         }
     }
     Extensions {
@@ -184,6 +228,10 @@ pub(crate) fn bounds_of<A: Allocator>(
         → IsBoundOf problem (before ++ accept ∷ []) least (bound_by accept result) }
     ensures reached { (accept : Bool) → IfSome (bound_by accept result) (λ left. pos least ≤ℤ left) }
 {
+    dam_hour::laws::joining();
+    dam_hour::laws::welfare();
+    dam_hour::laws::magnitude();
+    dam_blocks::laws::sums();
     let floor = floor_of(least);
     if place < tables.kept || !is_near(total, floor) {
         return exact_bounds(tables, trail, place, total, floor);
