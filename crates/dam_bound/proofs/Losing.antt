@@ -1,8 +1,12 @@
 -- What is left of the total once a block is decided, class by class.
-use Rattle.std.proofs.Common.{◌≡◌, ◌≢◌, ℕ, zero, suc, ◌+◌, ◌-◌, ◌*◌, ◌<◌, ◌≤◌, ◌==◌, cond, Bool, true, false, ℤ, pos, neg_ℤ, ◌+ℤ◌, ◌-ℤ◌, ◌≤ℤ◌, ◌<ℤ◌, ◌⊎◌}
+use Rattle.std.proofs.Common.{◌≡◌, ◌≢◌, ℕ, zero, suc, ◌+◌, ◌-◌, ◌*◌, ◌^◌, ◌<◌, ◌≤◌, ◌==◌, cond, Bool, true, false, ℤ, pos, neg_ℤ, ◌+ℤ◌, ◌-ℤ◌, ◌≤ℤ◌, ◌<ℤ◌, ◌⊎◌}
 use Rattle.std.proofs.Common.{Option, Some, None, MatchOption, IfSome, List, [], ◌∷◌, ◌++◌, length, take, drop, get_or, inl, inr, ap, ap₂, ◌∙◌, sym, subst, refl, arith}
 use Rattle.std.specs.List.{slice_get}
-use Rattle.std.proofs.lemmas.Int.{ints, by_lt_z}
+use Rattle.std.proofs.lemmas.Int.{ints, by_lt_z, to_z-of_z}
+use Rattle.std.specs.Int.Signed.{lt_z, lt_z_yes}
+use Rattle.std.proofs.lemmas.Float.{T_from_true}
+use mir.Syntax.{w64}
+use mir.Val.{to_z, of_z, SFits}
 use Rattle.dam_book.specs.Limits.{last_period, most_blocks}
 use Rattle.dam_hour.specs.declared.step.Step.{Step}
 use Rattle.dam_curve.specs.declared.losses.Choice.{Choice}
@@ -21,7 +25,7 @@ use Rattle.dam_bound.specs.declared.trail.Extensions.{Extensions}
 use Rattle.dam_bound.specs.Relaxed.{relaxed_welfare}
 use Rattle.dam_bound.specs.Classes.{class_hours, class_welfare}
 use Rattle.dam_bound.specs.Day.{IsPosition}
-use Rattle.dam_bound.specs.Tables.{AreTouches, IsTouch, touches_at, class_value}
+use Rattle.dam_bound.specs.Tables.{AreTouches, IsTouch, least_net, most_net}
 use Rattle.dam_bound.specs.Trail.{slot_at, IsDayIn, bound_by}
 use Rattle.dam_bound.specs.inside.Change.{by, IsDecision, IsBelow, IsBoundFrom}
 use Rattle.dam_bound.specs.inside.Levels.{greatest_period_bound}
@@ -213,11 +217,85 @@ touch_lost {problem} {all} {place} {kept} {j} {b} {accept} {touches} {touch} {be
           ])
     ] refl (fall more))
 
--- ---- either decision
--- what is left for a decision, of the two
-abbrev pub left_by : Bool → ℤ → ℤ → ℤ
-left_by true rejected accepted = accepted
-left_by false rejected accepted = rejected
+-- ---- the loss that is kept
+-- of the two losses the one by this decision
+abbrev pub loss_by : Bool → Loss → ℕ
+loss_by true loss = loss.taken
+loss_by false loss = loss.left
+
+kept_by : (accept : Bool) (before after : List (List Step)) (choice : Choice) (net w : ℤ) (loss : Loss) → IsLoss before after choice net loss
+    → joint_welfare before net ≡ Some w → IsKept (loss_by accept loss) w (welfare_by accept after choice net)
+kept_by true before after choice net w loss is e = is.taken w e
+kept_by false before after choice net w loss is e = is.left w e
+
+kept_falls : (k : ℕ) (floor left next total w : ℤ) (x : Option ℤ) → IsKept k w x → next ≡ left -ℤ pos k → left ≤ℤ total
+    → (total -ℤ pos greatest_loss) <ℤ floor → Falls floor left next w x
+kept_falls k floor left next total w None is e most near = omega (arith, ints, is, e, most, near)
+kept_falls k floor left next total w (Some u) is e most near = λ lower. elim (is lower) [
+  | inl same ↦ inl (omega (arith, ints, same, e))
+  | inr great ↦ (let a = great.0 in let b = great.1 in inr (omega (arith, ints, a, e, most, near), omega (arith, ints, a, b, e)))
+]
+
+-- the net volume of the class that a touch is of, as the slots have it
+pub own_net : {problem : ProblemState} {all : CurvesState} {place kept : ℕ} {b : Block} {touch : Touch} {before : List Bool} {trail : Trail}
+    {total : ℤ} (d : ℤ) → IsTouch problem all place b kept touch → length before ≡ place → IsDayIn problem before trail total
+    → get_or trail.slots touch.from d ≡ net_volume problem.blocks before (touch.at + 1)
+own_net {problem} {all} {place} {kept} {b} {touch} {before} {trail} {total} d t depth is =
+    ap (λ (n : ℕ). get_or trail.slots n d) (t.from_is ∙ ap (slot_at problem.blocks touch.at) (sym depth))
+    ∙ is.nets_are touch.at d t.inside t.first
+
+-- it is one that decisions on the earlier blocks can make
+own_within : (problem : ProblemState) (before : List Bool) (place c : ℕ) (net : ℤ) → length before ≡ place
+    → net ≡ net_volume problem.blocks before (c + 1)
+    → (least_net problem.blocks place c ≤ℤ net) × (net ≤ℤ most_net problem.blocks place c)
+own_within problem before place c net depth is =
+    subst (λ (k : ℕ). (least_net problem.blocks k c ≤ℤ net) × (net ≤ℤ most_net problem.blocks k c)) depth
+    (subst (λ (z : ℤ). (least_net problem.blocks (length before) c ≤ℤ z) × (z ≤ℤ most_net problem.blocks (length before) c)) (sym is)
+    (net_within (c + 1) problem.blocks before))
+
+-- where the class stands, with the net volume as it was read
+abbrev pub read_at : ProblemState → List Bool → ℕ → ℤ → Position
+read_at problem before c net = record { net = net; welfare = (stand_of problem before c).welfare }
+
+read_is : (problem : ProblemState) (before : List Bool) (c : ℕ) (net total : ℤ) → net ≡ net_volume problem.blocks before (c + 1)
+    → Some total ≡ relaxed_welfare problem before → IsPosition problem before c (read_at problem before c net)
+read_is problem before c net total is whole = record {
+  net_is = is;
+  welfare_is = ap (class_welfare problem (length before) c) is ∙ (balanced problem before total c whole).welfare_is;
+}
+
+-- its loss stands in the tables
+pub loss_there : {problem : ProblemState} {all : CurvesState} {place kept : ℕ} {b : Block} {touch : Touch} (before : List Bool) (net offset : ℤ)
+    → IsTouch problem all place b kept touch → kept ≤ place → length before ≡ place
+    → net ≡ net_volume problem.blocks before (touch.at + 1) → offset ≡ touch.offset
+    → (n : ℕ) × (pos n ≡ net +ℤ offset)
+    × IsLossAt all.losses (class_hours problem place touch.at) (class_hours problem (place + 1) touch.at) touch.choice net n
+loss_there {problem} {all} {place} {kept} {b} {touch} before net offset t many depth is same =
+    let within = own_within problem before place touch.at net depth is in
+    let found = t.losses_are many net within.0 within.1 in
+    (found.0, found.1 ∙ ap (λ (z : ℤ). net +ℤ z) (sym same), found.2)
+
+pub kept_touch : {problem : ProblemState} {all : CurvesState} {place kept j : ℕ} {b : Block} {accept : Bool} {touches : List Touch}
+    {touch : Touch} {before : List Bool} {whole : ℤ} (loss : Loss) (net offset floor total left next : ℤ) → IsDecision problem place accept before
+    → slice_get problem.blocks place ≡ Some b → Touched problem all place b kept touches j touch → kept ≤ place
+    → Some whole ≡ relaxed_welfare problem before → net ≡ net_volume problem.blocks before (touch.at + 1) → offset ≡ touch.offset
+    → ((n : ℕ) (d : Loss) → pos n ≡ net +ℤ offset → loss ≡ get_or all.losses n d)
+    → next ≡ left -ℤ pos (loss_by accept loss) → left ≤ℤ total → (total -ℤ pos greatest_loss) <ℤ floor
+    → IsLeft problem before (before ++ accept ∷ []) floor (drop j touches) left
+    → IsLeft problem before (before ++ accept ∷ []) floor (drop (j + 1) touches) next
+kept_touch {problem} {all} {place} {kept} {j} {b} {accept} {touches} {touch} {before} {whole} loss net offset floor total left next
+    is at t many relaxed net_is offset_is read e most near left_is =
+    let c = touch.at in let depth = is.change.kind.0 in
+    let own = read_at problem before c net in
+    let was = read_is problem before c net whole net_is relaxed in
+    let there = loss_there before net offset t.is many depth net_is offset_is in
+    let lost = subst (IsLoss (class_hours problem place c) (class_hours problem (place + 1) c) touch.choice net)
+    (sym (read there.0 loss there.1)) (there.2.loss_is loss) in
+    let kept_is = kept_by accept (class_hours problem place c) (class_hours problem (place + 1) c) touch.choice net own.welfare loss lost
+    (ap (λ (k : ℕ). class_welfare problem k c net) (sym depth) ∙ was.welfare_is) in
+    touch_lost own floor left next is at t was (λ less. omega (arith, ints, e, less))
+    (λ more. kept_falls (loss_by accept loss) floor left next total own.welfare
+    (welfare_by accept (class_hours problem (place + 1) c) touch.choice net) kept_is e most near) left_is
 
 -- ---- all touches
 pub all_lost : {problem : ProblemState} {before after : List Bool} {floor left : ℤ} {rest : List Touch} (result : Option ℤ)
@@ -228,6 +306,58 @@ all_lost {problem} {before} {after} {floor} {left} {rest} (Some z) m none is =
     let same = m.0 in let high = m.1 in
     let all = all_changed problem before after rest (stand_by problem before after rest) left none (is.above (omega (arith, ints, same, high))) in
     (ap (λ (x : ℤ). Some x) same ∙ all.1, high)
+
+-- ---- either decision
+-- what is left for a decision, of the two
+abbrev pub left_by : Bool → ℤ → ℤ → ℤ
+left_by true rejected accepted = accepted
+left_by false rejected accepted = rejected
+
+pub same_left : (accept : Bool) (z : ℤ) → left_by accept z z ≡ z
+same_left true z = refl
+same_left false z = refl
+
+-- less by either loss
+pub both_off : (accept : Bool) (r a r' a' : ℤ) (loss : Loss) → r' ≡ r -ℤ pos loss.left → a' ≡ a -ℤ pos loss.taken
+    → left_by accept r' a' ≡ left_by accept r a -ℤ pos (loss_by accept loss)
+both_off true r a r' a' loss e f = f
+both_off false r a r' a' loss e f = e
+
+pub loss_small : (accept : Bool) (loss : Loss) → loss.left < 2 ^ 32 → loss.taken < 2 ^ 32 → loss_by accept loss < 2 ^ 32
+loss_small true loss l t = t
+loss_small false loss l t = l
+
+-- a difference as the code has it
+pub taken_off : (x y : ℤ) (k : ℕ) → y ≡ pos k → SFits w64 y → SFits w64 (x -ℤ y)
+    → SFits w64 (x -ℤ to_z w64 (of_z w64 y)) × (to_z w64 (of_z w64 (x -ℤ to_z w64 (of_z w64 y))) ≡ x -ℤ pos k)
+taken_off x y k e fits all =
+    let same = ap (λ (v : ℤ). x -ℤ v) (to_z-of_z w64 y fits) in (
+      subst (SFits w64) (sym same) all,
+      ap (λ (z : ℤ). to_z w64 (of_z w64 z)) same ∙ to_z-of_z w64 (x -ℤ y) all ∙ ap (λ (v : ℤ). x -ℤ v) e,
+    )
+
+-- a test of the code
+pub less : (x y : ℤ) → lt_z x y ≡ true → x <ℤ y
+less x y e = lt_z_yes (T_from_true (lt_z x y) e)
+
+-- with both under the floor there is nothing to look at
+pub none_left : {problem : ProblemState} {before after : List Bool} {floor : ℤ} {rest : List Touch} (accept : Bool) (result : Extensions)
+    (rejected accepted : ℤ) → result ≡ record { rejected = None; accepted = None } → rejected <ℤ floor → accepted <ℤ floor
+    → IsLeft problem before after floor rest (left_by accept rejected accepted)
+    → IsBoundFrom problem after floor (bound_by accept result)
+none_left {problem} {before} {after} {floor} {rest} true result rejected accepted e low high is =
+    subst (λ (x : Extensions). IsBoundFrom problem after floor (bound_by true x)) (sym e) (is.under high)
+none_left {problem} {before} {after} {floor} {rest} false result rejected accepted e low high is =
+    subst (λ (x : Extensions). IsBoundFrom problem after floor (bound_by false x)) (sym e) (is.under low)
+
+-- and else each is what is left of the total, if it isn't under the floor
+pub both_left : {problem : ProblemState} {before after : List Bool} {floor : ℤ} {rest : List Touch} (accept : Bool)
+    (rejected accepted : ℤ) (x y : Option ℤ) → MatchOption x (rejected <ℤ floor) (λ z. (z ≡ rejected) × (floor ≤ℤ z))
+    → MatchOption y (accepted <ℤ floor) (λ z. (z ≡ accepted) × (floor ≤ℤ z)) → rest ≡ []
+    → IsLeft problem before after floor rest (left_by accept rejected accepted)
+    → IsBoundFrom problem after floor (bound_by accept (record { rejected = x; accepted = y }))
+both_left true rejected accepted x y m n none is = all_lost y n none is
+both_left false rejected accepted x y m n none is = all_lost x m none is
 
 -- ---- sizes
 pub relaxed_within : Laws → (problem : ProblemState) (prefix : List Bool) (total : ℤ) → IsSized problem

@@ -14,7 +14,7 @@ invariant-loop-touch g l = record {
   left : (problem : ProblemState) (before : List Bool) (b : Block) (accept : Bool)
       → AreTablesOf problem l.tables
       → slice_get problem.blocks l.place ≡ Some b
-      → IsDecision problem l.place accept before
+      → ((choice : Bool) → IsDecision problem l.place choice before)
       → (total : ℤ) → total ≡ l.total → IsDayIn problem before l.trail total
       → IsLeft problem before (before ++ accept ∷ []) l.floor (drop l.touch-index l.touch-items) (left_by accept l.rejected l.accepted);
   most : (accept : Bool) → left_by accept l.rejected l.accepted ≤ℤ l.total;
