@@ -11,8 +11,9 @@ use Rattle.dam_book.specs.Limits.{last_period, most_blocks}
 use Rattle.dam_hour.specs.declared.step.Step.{Step}
 use Rattle.dam_curve.specs.declared.losses.Choice.{Choice}
 use Rattle.dam_curve.specs.declared.losses.Loss.{Loss}
+use Rattle.dam_curve.specs.declared.losses.ExactLoss.{ExactLoss}
 use Rattle.dam_curve.specs.Curve.{joint_welfare, CurvesState}
-use Rattle.dam_curve.specs.Losses.{greatest_loss, IsKept, IsLoss, IsLossAt, welfare_left, welfare_taken}
+use Rattle.dam_curve.specs.Losses.{greatest_loss, IsKept, IsLoss, IsLossAt, IsChoiceAt, welfare_left, welfare_taken}
 use Rattle.dam_blocks.specs.declared.problem.Block.{Block}
 use Rattle.dam_blocks.specs.Problem.{ProblemState}
 use Rattle.dam_blocks.specs.Selection.{net_volume_of, net_volume}
@@ -32,7 +33,7 @@ use Rattle.dam_bound.specs.inside.Levels.{greatest_period_bound}
 use Rattle.dam_bound.proofs.Changing.{IsClassOf, IsChangedSoFar, IsSized, chosen, chosen_after, class_part, class_gain, class_falls, class_unbalanced}
 use Rattle.dam_bound.proofs.Changing.{all_some, both_some, both_none, nothing_changed, touches_elsewhere, touch_changed, all_changed, total_within, total_at_least}
 use Rattle.dam_bound.proofs.Covering.{Laws}
-use Rattle.dam_bound.proofs.Walking.{Touched, untouched, net_within, now_position, looked_none}
+use Rattle.dam_bound.proofs.Walking.{Touched, untouched, net_within, moved_within, now_position, looked_none}
 use Rattle.dam_bound.proofs.Worth.{worth, sum_from}
 
 -- ---- where a class stands under a prefix
@@ -297,6 +298,117 @@ kept_touch {problem} {all} {place} {kept} {j} {b} {accept} {touches} {touch} {be
     (λ more. kept_falls (loss_by accept loss) floor left next total own.welfare
     (welfare_by accept (class_hours problem (place + 1) c) touch.choice net) kept_is e most near) left_is
 
+-- ---- the exact loss
+abbrev pub exact_by : Bool → ExactLoss → Option ℤ
+exact_by true loss = loss.taken
+exact_by false loss = loss.left
+
+-- a loss of a class's welfare; if there is none, there is no welfare afterwards
+abbrev pub IsExact : Option ℤ → ℤ → Option ℤ → Type 0
+IsExact loss before after = MatchOption loss (after ≡ None) (λ fall. after ≡ Some (before -ℤ fall))
+
+pub exact_either : (accept : Bool) (after : List (List Step)) (choice : Choice) (net w : ℤ) (loss : ExactLoss)
+    → IsExact loss.left w (welfare_left after net) → IsExact loss.taken w (welfare_taken after choice net)
+    → IsExact (exact_by accept loss) w (welfare_by accept after choice net)
+exact_either true after choice net w loss l t = t
+exact_either false after choice net w loss l t = l
+
+-- what 'lowered' makes of the total
+abbrev pub IsLowered : ℤ → Option ℤ → ℤ → ℤ → Type 0
+IsLowered left loss floor next =
+    MatchOption loss (next ≡ neg_ℤ (pos 1)) (λ fall. (floor ≤ℤ left → next ≡ left -ℤ fall) × (left <ℤ floor → next ≡ left))
+
+exact_falls : (floor left next w : ℤ) (loss welfare : Option ℤ) → pos 0 ≤ℤ floor → floor ≤ℤ left → IsExact loss w welfare
+    → IsLowered left loss floor next → Falls floor left next w welfare
+exact_falls floor left next w None welfare some high e f =
+    subst (Falls floor left next w) (sym e) (omega (arith, ints, f, some))
+exact_falls floor left next w (Some fall) welfare some high e f =
+    let same = f.0 high in subst (Falls floor left next w) (sym e) (λ lower. inl (omega (arith, ints, same)))
+
+exact_low : (floor left next : ℤ) (loss : Option ℤ) → pos 0 ≤ℤ floor → IsLowered left loss floor next → left <ℤ floor → next <ℤ floor
+exact_low floor left next None some f low = omega (arith, ints, f, some)
+exact_low floor left next (Some fall) some f low = let same = f.1 low in omega (arith, ints, same, low)
+
+-- where the class stands is on the curves of the choice
+pub choice_there : {problem : ProblemState} {all : CurvesState} {place kept : ℕ} {b : Block} {touch : Touch} (before : List Bool) (net whole : ℤ)
+    → ((choice : Bool) → IsDecision problem place choice before) → slice_get problem.blocks place ≡ Some b
+    → IsTouch problem all place b kept touch → Some whole ≡ relaxed_welfare problem before
+    → net ≡ net_volume problem.blocks before (touch.at + 1)
+    → IsChoiceAt all touch.choice (class_hours problem place touch.at) (class_hours problem (place + 1) touch.at) net
+choice_there {problem} {all} {place} {kept} {b} {touch} before net whole is at t relaxed net_is =
+    let c = touch.at in
+    let within = own_within problem before place c net (is true).change.kind.0 net_is in
+    let own = read_at problem before c net in let was = read_is problem before c net whole net_is relaxed in
+    let left = moved_within problem place (place + 1) Decide false before (before ++ false ∷ []) c b own (pos 0) (is false).change at was refl in
+    let taken = moved_within problem place (place + 1) Decide true before (before ++ true ∷ []) c b own touch.choice.net (is true).change at was
+    t.net_is in
+    let a = left.0 in let b = left.1 in
+    record {
+      before_is = record {
+        least = least_net problem.blocks place c;
+        most = most_net problem.blocks place c;
+        curve_is = t.before_is;
+        at_least = within.0;
+        at_most = within.1;
+      };
+      left_is = record {
+        least = least_net problem.blocks (place + 1) c;
+        most = most_net problem.blocks (place + 1) c;
+        curve_is = t.after_is;
+        at_least = omega (arith, ints, a);
+        at_most = omega (arith, ints, b);
+      };
+      taken_is = record {
+        least = least_net problem.blocks (place + 1) c;
+        most = most_net problem.blocks (place + 1) c;
+        curve_is = t.after_is;
+        at_least = taken.0;
+        at_most = taken.1;
+      };
+    }
+
+-- what the class is worth there, as the curve before the choice has it
+pub own_welfare : {problem : ProblemState} {place : ℕ} {accept : Bool} (before : List Bool) (c : ℕ) (net whole : ℤ)
+    → IsDecision problem place accept before → Some whole ≡ relaxed_welfare problem before → net ≡ net_volume problem.blocks before (c + 1)
+    → joint_welfare (class_hours problem place c) net ≡ Some (read_at problem before c net).welfare
+own_welfare {problem} {place} {accept} before c net whole is relaxed net_is =
+    ap (λ (k : ℕ). class_welfare problem k c net) (sym is.change.kind.0) ∙ (read_is problem before c net whole net_is relaxed).welfare_is
+
+-- a class that balances afterwards leaves no more than a total can be
+pub exact_size : Laws → {problem : ProblemState} {all : CurvesState} {place kept j : ℕ} {b : Block} {accept : Bool} {touches : List Touch}
+    {touch : Touch} {before : List Bool} {whole : ℤ} (loss : Option ℤ) (net floor left : ℤ) → IsSized problem
+    → IsDecision problem place accept before → slice_get problem.blocks place ≡ Some b → Touched problem all place b kept touches j touch
+    → Some whole ≡ relaxed_welfare problem before → net ≡ net_volume problem.blocks before (touch.at + 1)
+    → IsExact loss (read_at problem before touch.at net).welfare
+    (welfare_by accept (class_hours problem (place + 1) touch.at) touch.choice net)
+    → IsLeft problem before (before ++ accept ∷ []) floor (drop j touches) left → floor ≤ℤ left
+    → IfSome loss (λ fall. (neg_ℤ (pos (2 ^ 63)) ≤ℤ (left -ℤ fall)) × ((left -ℤ fall) <ℤ pos (2 ^ 63)))
+exact_size laws None net floor left sized is at t relaxed net_is exact left_is high = tt {0}
+exact_size laws {problem} {all} {place} {kept} {j} {b} {accept} {touches} {touch} {before} {whole} (Some fall) net floor left sized is at t
+    relaxed net_is exact left_is high =
+    let c = touch.at in let own = read_at problem before c net in let rest = drop (j + 1) touches in
+    let n = counted own left (own.welfare -ℤ fall) is at t (read_is problem before c net whole net_is relaxed) exact (left_is.above high) in
+    let within = total_within laws problem before (before ++ accept ∷ []) rest (stand_by problem before (before ++ accept ∷ []) rest)
+    (left -ℤ (own.welfare -ℤ (own.welfare -ℤ fall))) sized n.changed in
+    let l = within.at_least in let m = within.at_most in (omega (arith, ints, l), omega (arith, ints, m))
+
+pub exact_touch : {problem : ProblemState} {all : CurvesState} {place kept j : ℕ} {b : Block} {accept : Bool} {touches : List Touch}
+    {touch : Touch} {before : List Bool} {whole : ℤ} (loss : Option ℤ) (net floor left next : ℤ) → IsDecision problem place accept before
+    → slice_get problem.blocks place ≡ Some b → Touched problem all place b kept touches j touch
+    → Some whole ≡ relaxed_welfare problem before → net ≡ net_volume problem.blocks before (touch.at + 1) → pos 0 ≤ℤ floor
+    → IsExact loss (read_at problem before touch.at net).welfare
+    (welfare_by accept (class_hours problem (place + 1) touch.at) touch.choice net)
+    → IsLowered left loss floor next
+    → IsLeft problem before (before ++ accept ∷ []) floor (drop j touches) left
+    → IsLeft problem before (before ++ accept ∷ []) floor (drop (j + 1) touches) next
+exact_touch {problem} {all} {place} {kept} {j} {b} {accept} {touches} {touch} {before} {whole} loss net floor left next is at t relaxed net_is
+    some exact lowered left_is =
+    let c = touch.at in let own = read_at problem before c net in
+    touch_lost own floor left next is at t (read_is problem before c net whole net_is relaxed)
+    (exact_low floor left next loss some lowered)
+    (λ more. exact_falls floor left next own.welfare loss
+    (welfare_by accept (class_hours problem (place + 1) c) touch.choice net) some more exact lowered) left_is
+
 -- ---- all touches
 pub all_lost : {problem : ProblemState} {before after : List Bool} {floor left : ℤ} {rest : List Touch} (result : Option ℤ)
     → MatchOption result (left <ℤ floor) (λ z. (z ≡ left) × (floor ≤ℤ z)) → rest ≡ [] → IsLeft problem before after floor rest left
@@ -326,6 +438,11 @@ both_off false r a r' a' loss e f = e
 pub loss_small : (accept : Bool) (loss : Loss) → loss.left < 2 ^ 32 → loss.taken < 2 ^ 32 → loss_by accept loss < 2 ^ 32
 loss_small true loss l t = t
 loss_small false loss l t = l
+
+pub lowered_either : (accept : Bool) (r a r' a' floor : ℤ) (loss : ExactLoss) → IsLowered r loss.left floor r' → IsLowered a loss.taken floor a'
+    → IsLowered (left_by accept r a) (exact_by accept loss) floor (left_by accept r' a')
+lowered_either true r a r' a' floor loss l t = t
+lowered_either false r a r' a' floor loss l t = l
 
 -- a difference as the code has it
 pub taken_off : (x y : ℤ) (k : ℕ) → y ≡ pos k → SFits w64 y → SFits w64 (x -ℤ y)
