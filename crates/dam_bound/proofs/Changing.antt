@@ -315,7 +315,7 @@ chosen rest before after c = cond (touches_at c rest == 0) after before
 abbrev pub class_by : ProblemState → List Bool → List Bool → List Touch → ℕ → ℤ
 class_by problem before after rest c = class_part problem (chosen rest before after c) c
 
-chosen_after : (rest : List Touch) (before after : List Bool) (c : ℕ) → touches_at c rest ≡ 0 → chosen rest before after c ≡ after
+pub chosen_after : (rest : List Touch) (before after : List Bool) (c : ℕ) → touches_at c rest ≡ 0 → chosen rest before after c ≡ after
 chosen_after rest before after c e =
     let none : (touches_at c rest == 0) ≡ true = grind (arith, nat_tests) in ap (λ (t : Bool). cond t after before) none
 
@@ -378,6 +378,29 @@ class_unbalanced problem prefix c net is none =
     (ap (option_map (λ (w : ℤ). w +ℤ block_value problem.blocks prefix (suc n.j)))
     (ap (greatest_welfare (n.ss ++ as_steps (suc n.j) left))
     (class_net problem.blocks prefix n.j c n.first ∙ sym is) ∙ n.none))
+
+-- where a prefix puts a class
+some_if : (x y : Option ℤ) (total : ℤ) → (x ≡ None → y ≡ None) → Some total ≡ y → x ≡ Some (worth x)
+some_if (Some w) y total none is = refl
+some_if None y total none is = let no : y ≡ None = none refl in absurd (cc)
+
+abbrev pub standing : ProblemState → List Bool → ℕ → Position
+standing problem prefix c = record {
+  net = net_volume problem.blocks prefix (c + 1);
+  welfare = worth (class_welfare problem (length prefix) c (net_volume problem.blocks prefix (c + 1)));
+}
+
+-- if the prefix has a relaxed welfare, the class has a welfare
+pub stands : (problem : ProblemState) (prefix : List Bool) (c : ℕ) (total : ℤ) → Some total ≡ relaxed_welfare problem prefix
+    → IsPosition problem prefix c (standing problem prefix c)
+stands problem prefix c total is =
+    let one : c + 1 ≡ suc c = omega arith in
+    let net = net_volume problem.blocks prefix (c + 1) in
+    record {
+      net_is = refl;
+      welfare_is = some_if (class_welfare problem (length prefix) c net) (relaxed_welfare problem prefix) total
+          (class_unbalanced problem prefix c net (ap (net_volume problem.blocks prefix) one)) is;
+    }
 
 -- ---- the start, a touch more, and the end
 some_is : (x y : ℤ) → Some x ≡ Some y → x ≡ y
