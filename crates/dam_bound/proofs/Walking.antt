@@ -8,6 +8,8 @@ use Rattle.std.proofs.lemmas.Bool.Decides.{nat_tests}
 use Rattle.std.proofs.lemmas.List.{get_or_default, get_or-set_same, get_or-set_other}
 use Rattle.std.proofs.lemmas.List.Sums.{sum_by-take-drop, count_by-le-length}
 use Rattle.std.proofs.lemmas.Option.{slice_get-get_or}
+use mir.Syntax.{w64}
+use mir.Val.{SFits}
 use Rattle.dam_book.specs.Limits.{last_period, most_blocks}
 use Rattle.dam_book.specs.Terms.{BlockTerms, IsBlockOrder}
 use Rattle.dam_book.specs.Volumes.{Pair, IsVolumes, have_beyond}
@@ -469,6 +471,35 @@ choice_at {problem} {all} {place} {b} {kept} {touch} {before} z t at is was =
       taken_is = on_curve_by problem all place before touch.at touch.choice.after b (z +ℤ touch.choice.net) touch.choice.net z true (is true) at
           was t.net_is refl t.after_is;
     }
+
+-- a net volume that a curve has is no large number
+curve_fits : (all : CurvesState) (curve : Curve) (periods : List (List Step)) (least most z : ℤ) → IsCurveAt all curve periods least most
+    → least ≤ℤ z → z ≤ℤ most → SFits w64 z
+curve_fits all curve periods least most z at low high =
+    let l = at.is_curve.least_is.at_least in let h = at.is_curve.most_is.at_most in omega (arith, ints, low, high, l, h)
+
+pub net_fits : {problem : ProblemState} {all : CurvesState} {place : ℕ} {b : Block} {kept : ℕ} {touch : Touch} (before : List Bool) (z : ℤ)
+    → IsTouch problem all place b kept touch → length before ≡ place → z ≡ net_volume problem.blocks before (touch.at + 1) → SFits w64 z
+net_fits {problem} {all} {place} {b} {kept} {touch} before z t depth is =
+    let within = net_in_range problem before touch.at place depth in
+    subst (SFits w64) (sym is) (curve_fits all touch.choice.before (class_hours problem place touch.at) (least_net problem.blocks place touch.at)
+    (most_net problem.blocks place touch.at) (net_volume problem.blocks before (touch.at + 1)) t.before_is within.0 within.1)
+
+-- the net volume after the decision on the block
+pub net_decided : {problem : ProblemState} {all : CurvesState} {place : ℕ} {b : Block} {kept : ℕ} {touch : Touch} (before : List Bool)
+    (accept : Bool) (z next : ℤ) → IsTouch problem all place b kept touch → slice_get problem.blocks place ≡ Some b
+    → IsChange problem.blocks place Decide accept (place + 1) before (before ++ accept ∷ [])
+    → z ≡ net_volume problem.blocks before (touch.at + 1) → next ≡ z +ℤ by Decide accept touch.choice.net
+    → (next ≡ net_volume problem.blocks (before ++ accept ∷ []) (touch.at + 1)) × SFits w64 next
+net_decided {problem} {all} {place} {b} {kept} {touch} before accept z next t at is was e =
+    let same : next ≡ net_volume problem.blocks (before ++ accept ∷ []) (touch.at + 1) =
+    e ∙ ap₂ (λ (x y : ℤ). x +ℤ by Decide accept y) was t.net_is ∙ sym (is.net (touch.at + 1) b at) in
+    let within = net_in_range problem (before ++ accept ∷ []) touch.at (place + 1) is.long in (
+      same,
+      subst (SFits w64) (sym same) (curve_fits all touch.choice.after (class_hours problem (place + 1) touch.at)
+          (least_net problem.blocks (place + 1) touch.at) (most_net problem.blocks (place + 1) touch.at)
+          (net_volume problem.blocks (before ++ accept ∷ []) (touch.at + 1)) t.after_is within.0 within.1),
+    )
 
 -- what a look-up answers
 abbrev pub Looked : List (List Step) → Position → ℤ → ℤ → Option (Position × ℤ) → Type 0

@@ -47,9 +47,7 @@ pub(crate) fn write_root(trail: &mut Trail, count: usize)
     ensures nets { (i : ℕ) (d : ℤ) → i < count → slice_index_or trail.new.slots i d ≡ pos 0 }
     ensures room { length trail.new.slots ≡ slot_count }
 {
-    for at in 0..count {
-        trail.slots[at] = 0;
-    }
+    trail.slots[..count].fill(0);
 }
 
 /// The bounds of the two extensions of a prefix by a decision on its next block, in cents per MWh times tenths of a MW:
