@@ -12,6 +12,7 @@ pub mod Classing
 pub mod Changing
 pub mod Slots
 pub mod Walking
+pub mod Reading
 pub mod Volumes
 pub mod Gains
 pub mod Members

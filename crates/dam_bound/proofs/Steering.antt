@@ -1,5 +1,5 @@
 -- The decision on the next block, and one turned round, as a walk has them.
-use Rattle.std.proofs.Common.{◌≡◌, ℤ, Bool, MatchBool, None, List, ◌++◌, ap, ◌∙◌, sym, subst}
+use Rattle.std.proofs.Common.{◌≡◌, ℕ, ℤ, Bool, MatchBool, None, List, [], ◌∷◌, ◌++◌, length, ap, ◌∙◌, sym, subst}
 use Rattle.std.proofs.lemmas.Int.{to_z-of_z}
 use mir.Syntax.{w64}
 use mir.Val.{to_z, of_z, SFits}
@@ -11,14 +11,22 @@ use Rattle.dam_bound.specs.Day.{IsDay}
 use Rattle.dam_bound.specs.Trail.{IsDayIn}
 use Rattle.dam_bound.specs.declared.day.Day.{Day}
 use Rattle.dam_bound.specs.declared.trail.Trail.{Trail}
-use Rattle.dam_bound.specs.inside.Change.{NeverRises}
+use Rattle.dam_bound.specs.inside.Change.{NeverRises, IsDecision}
 use Rattle.dam_bound.proofs.Covering.{Laws, period_extended, drop_more}
+use Rattle.dam_bound.proofs.Extending.{decision}
 
-pub never_rises : Laws → (blocks : List Block) (prefix rest : List Bool) → NeverRises blocks prefix (prefix ++ rest)
+never_rises : Laws → (blocks : List Block) (prefix rest : List Bool) → NeverRises blocks prefix (prefix ++ rest)
 never_rises laws blocks prefix rest t ss w e =
     period_extended laws t blocks prefix rest ss w
     (ap (λ (left : List Block). period_welfare blocks (prefix ++ rest) t (ss ++ as_steps t left)) (sym (drop_more blocks prefix rest))
     ∙ e)
+
+pub is_decision : Laws → (problem : ProblemState) (prefix : List Bool) (place : ℕ) (accept : Bool) → length prefix ≡ place
+    → IsDecision problem place accept prefix
+is_decision laws problem prefix place accept is = record {
+  change = decision laws.sums problem.blocks prefix accept place is;
+  never = never_rises laws problem.blocks prefix (accept ∷ []);
+}
 
 pub turned_answer : (result : Bool) (p q : ProblemState) (after : List Bool) (day : Day) → p ≡ q
     → MatchBool result (IsDay p after day) (relaxed_welfare p after ≡ None)

@@ -473,7 +473,7 @@ choice_at {problem} {all} {place} {b} {kept} {touch} {before} z t at is was =
     }
 
 -- a net volume that a curve has is no large number
-curve_fits : (all : CurvesState) (curve : Curve) (periods : List (List Step)) (least most z : ℤ) → IsCurveAt all curve periods least most
+pub curve_fits : (all : CurvesState) (curve : Curve) (periods : List (List Step)) (least most z : ℤ) → IsCurveAt all curve periods least most
     → least ≤ℤ z → z ≤ℤ most → SFits w64 z
 curve_fits all curve periods least most z at low high =
     let l = at.is_curve.least_is.at_least in let h = at.is_curve.most_is.at_most in omega (arith, ints, low, high, l, h)
