@@ -1,18 +1,17 @@
 -- A decision in the slots, and one turned round on a day, touch by touch.
-use Rattle.std.proofs.Common.{◌≡◌, ◌≢◌, ℕ, zero, suc, ◌+◌, ◌-◌, ◌*◌, ◌<◌, ◌≤◌, ◌==◌, ◌&&◌, not, nat_lt, cond, ℤ, pos, neg_ℤ, ◌+ℤ◌, ◌-ℤ◌, ◌≤ℤ◌, ◌<ℤ◌, ◌↔◌, IsTrue, Bool, true, false, true≢false, Option}
-use Rattle.std.proofs.Common.{Some, None, MatchOption, List, [], ◌∷◌, ◌++◌, length, take, drop, get_or, slice_set, inl, inr, ap, ap₂, ◌∙◌, sym, subst, refl, arith}
+use Rattle.std.proofs.Common.{◌≡◌, ◌≢◌, ℕ, zero, suc, ◌+◌, ◌*◌, ◌<◌, ◌≤◌, ◌==◌, ◌&&◌, not, nat_lt, cond, ℤ, pos, neg_ℤ, ◌+ℤ◌, ◌-ℤ◌, ◌≤ℤ◌, Bool, true, false}
+use Rattle.std.proofs.Common.{Some, None, List, [], ◌∷◌, ◌++◌, length, take, drop, get_or, slice_set, inl, inr, ap, ap₂, ◌∙◌, sym, subst, refl, arith}
 use Rattle.std.specs.List.{slice_get}
-use Rattle.std.proofs.lemmas.Int.{ints, by_lt_z}
+use Rattle.std.proofs.lemmas.Int.{ints}
 use Rattle.std.proofs.lemmas.Bool.{cases_lt}
 use Rattle.std.proofs.lemmas.Bool.Decides.{nat_tests}
 use Rattle.std.proofs.lemmas.List.{get_or_default, get_or-set_same, get_or-set_other}
-use Rattle.std.proofs.lemmas.List.Sums.{sum_by-take-drop, count_by-le-length}
+use Rattle.std.proofs.lemmas.List.Sums.{sum_by-take-drop}
 use Rattle.std.proofs.lemmas.Option.{slice_get-get_or}
 use mir.Syntax.{w64}
 use mir.Val.{SFits}
 use Rattle.dam_book.specs.Limits.{last_period, most_blocks}
 use Rattle.dam_book.specs.Terms.{BlockTerms, IsBlockOrder}
-use Rattle.dam_book.specs.Volumes.{Pair, IsVolumes, have_beyond}
 use Rattle.dam_book.specs.declared.order.Side.{Side}
 use Rattle.dam_book.specs.declared.order.Side.TheVariants.{Buy, Sell}
 use Rattle.dam_hour.specs.Best.{signed}
@@ -32,7 +31,7 @@ use Rattle.dam_bound.specs.declared.touch.Touch.{Touch}
 use Rattle.dam_bound.specs.declared.trail.Trail.{Trail}
 use Rattle.dam_bound.specs.Relaxed.{relaxed_welfare}
 use Rattle.dam_bound.specs.Classes.{first_of, over_class, class_hours, class_welfare}
-use Rattle.dam_bound.specs.Day.{IsPosition, IsDay, IsUnder}
+use Rattle.dam_bound.specs.Day.{IsPosition, IsDay}
 use Rattle.dam_bound.specs.Tables.{AreTablesOf, AreTouches, IsTouch, is_touched, touches_at, if_of, net_of_side, least_net, most_net, class_value, IsClassCurve}
 use Rattle.dam_bound.specs.Trail.{slot_count, slot_at, IsDayIn}
 use Rattle.dam_bound.specs.inside.Change.{by, IsChange, greatest_position, greatest_class_value}
@@ -43,12 +42,11 @@ use Rattle.dam_bound.proofs.Changing.{IsClassOf, IsChangedSoFar, IsSized, chosen
 use Rattle.dam_bound.proofs.Changing.{class_within, over_within, class_gain, class_unbalanced, nothing_changed, touches_here, touches_elsewhere}
 use Rattle.dam_bound.proofs.Changing.{touch_changed, all_changed, equal_or}
 use Rattle.dam_bound.proofs.Extending.{same_net}
-use Rattle.dam_bound.proofs.Classing.{class_here, class_elsewhere, class_volume, first_first, first_most}
+use Rattle.dam_bound.proofs.Classing.{class_here, class_elsewhere}
 use Rattle.dam_bound.proofs.Covering.{Laws}
 use Rattle.dam_bound.proofs.Sizes.{value_small}
 use Rattle.dam_blocks.proofs.Magnitudes.{value_within}
 use Rattle.dam_bound.proofs.Levelling.{drop_at}
-use Rattle.dam_bound.proofs.Volumes.{own_volume}
 use Rattle.dam_bound.proofs.Slots.{slot_kept, slot_own, slot_below, slot_within, slot_apart}
 
 -- ---- what all tables tell
@@ -501,12 +499,6 @@ net_decided {problem} {all} {place} {b} {kept} {touch} before accept z next t at
           (net_volume problem.blocks (before ++ accept ∷ []) (touch.at + 1)) t.after_is within.0 within.1),
     )
 
--- what a look-up answers
-abbrev pub Looked : List (List Step) → Position → ℤ → ℤ → Option (Position × ℤ) → Type 0
-Looked periods own net value answer = MatchOption answer (joint_welfare periods (own.net +ℤ net) ≡ None)
-    (λ d. (d.0.net ≡ own.net +ℤ net) × (joint_welfare periods (own.net +ℤ net) ≡ Some d.0.welfare)
-    × (d.1 ≡ (d.0.welfare -ℤ own.welfare) +ℤ value))
-
 -- a class that doesn't balance after the change
 pub looked_none : (problem : ProblemState) (place depth : ℕ) (change : Change) (accept : Bool) (before after : List Bool) (c : ℕ)
     (b : Block) (own : Position) (net : ℤ) → IsChange problem.blocks place change accept depth before after
@@ -563,59 +555,3 @@ unturned problem all place depth change accept kept before after b touches day i
     nothing_changed problem place depth change accept before after b touches (λ c. get_or day.classes c no_position) day.total is at
     (λ c inside none. untouched problem all place b kept touches c are inside none)
     (λ c inside. of.each c no_position inside.inside inside.first) of.total_is
-
--- ---- a block has a touch, since it has a volume
-pub some_touch : (problem : ProblemState) (all : CurvesState) (place : ℕ) (b : Block) (kept : ℕ) (touches : List Touch) (t : ℕ)
-    → AreTouches problem all place b kept touches → slice_get problem.blocks place ≡ Some b → t < length problem.hours
-    → 0 < volume_in b.order.volumes (suc t) → 0 < length touches
-some_touch problem all place b kept touches t are at inside some =
-    let c = first_of problem.blocks t in
-    let first = first_first problem.blocks t in
-    let most = first_most problem.blocks t in
-    let same = class_volume problem.blocks t c place b refl at in
-    let one : suc c ≡ c + 1 = omega arith in
-    let here = same ∙ ap (volume_in b.order.volumes) one in
-    let x : nat_lt c (length problem.hours) ≡ true = grind (arith, nat_tests, inside, most) in
-    let y : (first_of problem.blocks c == c) ≡ true = grind (arith, nat_tests, first) in
-    let z : (volume_in b.order.volumes (c + 1) == 0) ≡ false = grind (arith, nat_tests, here, some) in
-    let count = are.one_each c ∙ touched_one (nat_lt c (length problem.hours)) (first_of problem.blocks c == c)
-    (volume_in b.order.volumes (c + 1) == 0) x y z in
-    let least = count_by-le-length (λ (u : Touch). u.at == c) touches in
-    omega (arith, count, least)
-  where
-    touched_one : (x y z : Bool) → x ≡ true → y ≡ true → z ≡ false → ◌≡◌ {A = ℕ} (cond (x && (y && not z)) 1 0) 1
-    touched_one true true false e f g = refl
-    touched_one true true true e f g = absurd (cc)
-    touched_one true false z e f g = absurd (cc)
-    touched_one false y z e f g = absurd (cc)
-
--- ---- giving up
--- what isn't under the floor is at least as great
-pub not_under : (shown bound : ℤ) (r : Bool) → r ≡ false → IsTrue r ↔ (shown <ℤ bound) → bound ≤ℤ shown
-not_under shown bound r e below =
-    by_lt_z shown bound (λ less. absurd (let yes : r ≡ true = below.1 less in true≢false (sym yes ∙ e))) (λ more. more)
-
--- a total that isn't under the floor is at least what was asked for
-pub asked : (least : ℕ) (total floor bound : ℤ) → bound ≡ floor → IsWithin (last_period * greatest_period_bound) total
-    → ((z : ℤ) → IsWithin (last_period * greatest_period_bound) z → (z <ℤ floor) ↔ (z <ℤ pos least))
-    → bound ≤ℤ total → pos least ≤ℤ total
-asked least total floor bound level within m high =
-    by_lt_z total (pos least) (λ less. absurd (let low = (m total within).1 less in omega (arith, ints, low, level, high))) (λ more. more)
-
--- ---- a block has a volume in some period of the day
-first_pair : (count : ℕ) (pairs : List Pair) → IsVolumes pairs → have_beyond count pairs ≡ false
-    → (t : ℕ) × (t < count) × (0 < volume_in pairs (suc t))
-first_pair count [] are none = absurd (let some = are.nonempty in omega (arith, some))
-first_pair count (p ∷ ps) are none =
-    let increasing = are.increasing in
-    let above : 0 < p.0 = grind (arith, nat_tests, increasing) in
-    let most : p.0 ≤ count = grind (arith, nat_tests, none) in
-    let number : p.0 ≡ suc (p.0 - 1) = omega (arith, above) in
-    let own = own_volume p ps (suc (p.0 - 1)) number in
-    let some = are.ranges.1.at_least in
-    (p.0 - 1, omega (arith, above, most), omega (arith, own, some))
-
-pub some_volume : (count : ℕ) (blocks : List Block) (k : ℕ) (b : Block) → AreBlocks count blocks → slice_get blocks k ≡ Some b
-    → (t : ℕ) × (t < count) × (0 < volume_in b.order.volumes (suc t))
-some_volume count blocks k b are at =
-    let block = block_in count blocks k b are at in first_pair count b.order.volumes block.order.volumes block.in_day

@@ -1,5 +1,5 @@
 -- A touch more, and all of them.
-use Rattle.std.proofs.Common.{◌≡◌, ◌+◌, true, ℤ, length, drop, get_or, slice_set, ap, ◌∙◌, sym, subst, rules, arith}
+use Rattle.std.proofs.Common.{◌≡◌, ◌+◌, ℤ, length, drop, get_or, slice_set, ap, ◌∙◌, sym, subst, rules, arith}
 use Rattle.std.proofs.lemmas.Int.{ints, to_z-of_z}
 use Rattle.std.proofs.lemmas.List.{length-set, drop_all}
 use mir.Syntax.{w64}

@@ -1,11 +1,10 @@
 -- A class more, and all of them.
-use Rattle.std.proofs.Common.{◌≡◌, ℕ, ℤ, ◌+◌, ◌<◌, pos, Bool, Option, List, Some, length, get_or, slice_set, ap, ◌∙◌, sym, subst, refl, rules, arith}
+use Rattle.std.proofs.Common.{ℤ, ◌+◌, Option, Some, length, get_or, ap, ◌∙◌, sym, subst, refl, rules, arith}
 use Rattle.std.proofs.lemmas.Int.{to_z-of_z}
 use Rattle.std.proofs.lemmas.List.{length-set}
 use Rattle.std.specs.Option.{IsSome}
 use mir.Syntax.{w64}
 use mir.Val.{to_z, of_z}
-use Rattle.dam_blocks.specs.Problem.{ProblemState}
 use Rattle.dam_bound.specs.declared.day.Day.{Day}
 use Rattle.dam_bound.specs.Classes.{class_hours}
 use Rattle.dam_bound.specs.Tables.{TablesState, AreTablesOf, least_net, most_net}

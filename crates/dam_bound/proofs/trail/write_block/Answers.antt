@@ -1,12 +1,11 @@
 -- A touch more, and all of them.
-use Rattle.std.proofs.Common.{◌≡◌, ℕ, ℤ, ◌+◌, ◌*◌, ◌<◌, ◌≤◌, ◌+ℤ◌, pos, Bool, [], ◌∷◌, ◌++◌, length, drop, get_or, slice_set, ap, ◌∙◌, sym, refl, rules, arith}
+use Rattle.std.proofs.Common.{◌≡◌, ℤ, ◌+◌, ◌*◌, ◌≤◌, ◌+ℤ◌, pos, Bool, [], ◌∷◌, ◌++◌, drop, get_or, ap, ◌∙◌, sym, refl, rules, arith}
 use Rattle.std.proofs.lemmas.Int.{ints, to_z-of_z}
 use Rattle.std.proofs.lemmas.List.{length-set, drop_all}
 use Rattle.std.proofs.lemmas.Option.{slice_get_within}
 use mir.Syntax.{w32, w64}
 use mir.Val.{to_z, of_z, SFits}
 use Rattle.dam_book.specs.Limits.{last_period}
-use Rattle.dam_blocks.specs.Selection.{net_volume}
 use Rattle.dam_bound.proofs.DayLevels.{one_at}
 use Rattle.dam_bound.specs.declared.day.Change.TheVariants.{Decide}
 use Rattle.dam_bound.specs.inside.Change.{by}

@@ -1,10 +1,10 @@
 -- As many places are written as the problem has periods.
-use Rattle.std.proofs.Common.{◌≡◌, [], ℤ, Some, ap, ◌∙◌, sym, subst, rules, arith}
+use Rattle.std.proofs.Common.{[], ℤ, Some, ap, ◌∙◌, subst, rules, arith}
 use Rattle.std.proofs.lemmas.Int.{to_z-of_z}
 use mir.Syntax.{w64}
 use mir.Val.{to_z, of_z, SFits}
 use Rattle.dam_blocks.specs.Problem.{ProblemState}
-use Rattle.dam_bound.specs.Relaxed.{relaxed_welfare, without_rows}
+use Rattle.dam_bound.specs.Relaxed.{without_rows}
 use Rattle.dam_bound.specs.Trail.{IsDayIn}
 use Rattle.dam_bound.specs.Tables.{TablesState}
 use Rattle.dam_bound.proofs.Slots.{begun}

@@ -1,7 +1,5 @@
 -- The day that is read out is the prefix's.
-use Rattle.std.proofs.Common.{◌≡◌, ℤ, length, ap, ◌∙◌, sym, subst, rules}
-use Rattle.std.proofs.lemmas.Int.{to_z-of_z}
-use mir.Syntax.{w64}
+use Rattle.std.proofs.Common.{length, ap, ◌∙◌, sym, subst, rules}
 use Rattle.dam_blocks.specs.Problem.{ProblemState}
 use Rattle.dam_bound.specs.Relaxed.{without_rows}
 use Rattle.dam_bound.specs.Day.{IsDay}

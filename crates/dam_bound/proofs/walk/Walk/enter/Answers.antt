@@ -1,5 +1,5 @@
 -- The extension is a decision by which no period rises, and the shorter days stand below the block's row.
-use Rattle.std.proofs.Common.{◌≡◌, ◌<◌, Bool, ℤ, Some, List, [], ◌∷◌, ◌++◌, length, ap, ◌∙◌, sym, subst, arith}
+use Rattle.std.proofs.Common.{◌<◌, [], ◌∷◌, ◌++◌, length, ap, ◌∙◌, sym, subst, arith}
 use Rattle.dam_blocks.specs.Problem.{ProblemState}
 use Rattle.dam_bound.specs.Relaxed.{relaxed_welfare, without_rows}
 use Rattle.dam_bound.specs.Trail.{IsDayIn}
