@@ -212,13 +212,13 @@ pub(crate) fn write_block<A: Allocator>(
     ensures room { length trail.new.slots ≡ slot_count }
 {
     for touch in touches_of(tables, place) {
-        let net = trail.slots[touch.from as usize];
-        let next = if accept {
-            net + i64::from(touch.choice.net)
+        let before = trail.slots[touch.from as usize];
+        let after = if accept {
+            before + i64::from(touch.choice.net)
         } else {
-            net
+            before
         };
-        trail.slots[touch.to as usize] = next;
+        trail.slots[touch.to as usize] = after;
     }
 }
 

@@ -39,8 +39,8 @@ bounds-trail-touch g c =
     let few = r.3.few_periods in let blocks = r.3.few_blocks in let many = r.4 in
     let h = from_within few (omega (arith, blocks, many)) t.is in omega (arith, h)
 
-pub overflow_add-next : goal.overflow_add-next
-overflow_add-next g c =
+pub overflow_add-after : goal.overflow_add-after
+overflow_add-after g c =
     let r = c.requires in let j = c.loop-touch.touch-index in
     let block = one_at r.0.blocks c.args.place r.4 in
     let touches = c.touches_of-touch-items.result.now in let touch = get_or touches j no_touch in
@@ -73,7 +73,7 @@ loop-touch-preserved g c =
     let touches = c.touches_of-touch-items.result.now in let touch = get_or touches j no_touch in
     let are = c.touches_of-touch-items.ensures r.0 block.0 r.3 block.1 in
     let t = touch_now r.0 c.args.tables.now.curves c.args.place block.0 c.args.tables.now.kept touches j are c.loop-touch-test.true in
-    let next = to_z w64 c.if-accept.next-bits in
+    let next = to_z w64 c.if-accept.after-bits in
     let high : (c.args.place + 1) * last_period ≤ touch.to = (let to = t.is.to_is in omega (arith, to)) in
     record {
       room = length-set c.loop-touch.trail.slots touch.to next ∙ c.loop-touch.invariant.room;
@@ -94,9 +94,9 @@ loop-touch-preserved g c =
                 (let more = w.from.ensures ∙ narrow touch.choice.net (search rules) in
                 let after = net_decided before c.args.accept slot (slot +ℤ w.from.result) u.is at is.change own
                 (ap (λ (z : ℤ). slot +ℤ z) (more ∙ ap (λ (a : Bool). by Decide a touch.choice.net) (sym w.if-accept.true))) in
-                w.next-is ∙ (added_up slot w.from.result slot_fits (search rules) after.1).1 ∙ after.0)
+                w.after-is ∙ (added_up slot w.from.result slot_fits (search rules) after.1).1 ∙ after.0)
             | else-accept w ↦
-                w.next-is
+                w.after-is
                 ∙ to_z-of_z w64 slot slot_fits
                 ∙ (net_decided before c.args.accept slot slot u.is at is.change own
                 (none_added slot (by Decide c.args.accept touch.choice.net) (ap (λ (a : Bool). by Decide a touch.choice.net) w.if-accept.false))).0
