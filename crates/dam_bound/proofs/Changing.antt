@@ -379,6 +379,29 @@ class_unbalanced problem prefix c net is none =
     (ap (greatest_welfare (n.ss ++ as_steps (suc n.j) left))
     (class_net problem.blocks prefix n.j c n.first ∙ sym is) ∙ n.none))
 
+-- where a prefix puts a class
+some_if : (x y : Option ℤ) (total : ℤ) → (x ≡ None → y ≡ None) → Some total ≡ y → x ≡ Some (worth x)
+some_if (Some w) y total none is = refl
+some_if None y total none is = let no : y ≡ None = none refl in absurd (cc)
+
+abbrev pub standing : ProblemState → List Bool → ℕ → Position
+standing problem prefix c = record {
+  net = net_volume problem.blocks prefix (c + 1);
+  welfare = worth (class_welfare problem (length prefix) c (net_volume problem.blocks prefix (c + 1)));
+}
+
+-- if the prefix has a relaxed welfare, the class has a welfare
+pub stands : (problem : ProblemState) (prefix : List Bool) (c : ℕ) (total : ℤ) → Some total ≡ relaxed_welfare problem prefix
+    → IsPosition problem prefix c (standing problem prefix c)
+stands problem prefix c total is =
+    let one : c + 1 ≡ suc c = omega arith in
+    let net = net_volume problem.blocks prefix (c + 1) in
+    record {
+      net_is = refl;
+      welfare_is = some_if (class_welfare problem (length prefix) c net) (relaxed_welfare problem prefix) total
+          (class_unbalanced problem prefix c net (ap (net_volume problem.blocks prefix) one)) is;
+    }
+
 -- ---- the start, a touch more, and the end
 some_is : (x y : ℤ) → Some x ≡ Some y → x ≡ y
 some_is x y e = cc

@@ -13,6 +13,7 @@ pub mod Changing
 pub mod Slots
 pub mod Walking
 pub mod Losing
+pub mod Reading
 pub mod Volumes
 pub mod Gains
 pub mod Members

@@ -13,7 +13,7 @@ use Rattle.dam_curve.specs.declared.losses.Choice.{Choice}
 use Rattle.dam_curve.specs.declared.losses.Loss.{Loss}
 use Rattle.dam_curve.specs.declared.losses.ExactLoss.{ExactLoss}
 use Rattle.dam_curve.specs.Curve.{joint_welfare, CurvesState}
-use Rattle.dam_curve.specs.Losses.{greatest_loss, IsKept, IsLoss, IsLossAt, IsChoiceAt, welfare_left, welfare_taken}
+use Rattle.dam_curve.specs.Losses.{greatest_loss, IsKept, IsLoss, IsLossAt, welfare_left, welfare_taken}
 use Rattle.dam_blocks.specs.declared.problem.Block.{Block}
 use Rattle.dam_blocks.specs.Problem.{ProblemState}
 use Rattle.dam_blocks.specs.Selection.{net_volume_of, net_volume}
@@ -30,18 +30,11 @@ use Rattle.dam_bound.specs.Tables.{AreTouches, IsTouch, least_net, most_net}
 use Rattle.dam_bound.specs.Trail.{slot_at, IsDayIn, bound_by}
 use Rattle.dam_bound.specs.inside.Change.{by, IsDecision, IsBelow, IsBoundFrom}
 use Rattle.dam_bound.specs.inside.Levels.{greatest_period_bound}
-use Rattle.dam_bound.proofs.Changing.{IsClassOf, IsChangedSoFar, IsSized, chosen, chosen_after, class_part, class_gain, class_falls, class_unbalanced}
+use Rattle.dam_bound.proofs.Changing.{IsClassOf, IsChangedSoFar, IsSized, standing, stands, chosen, chosen_after, class_part, class_gain, class_falls, class_unbalanced}
 use Rattle.dam_bound.proofs.Changing.{all_some, both_some, both_none, nothing_changed, touches_elsewhere, touch_changed, all_changed, total_within, total_at_least}
 use Rattle.dam_bound.proofs.Covering.{Laws}
-use Rattle.dam_bound.proofs.Walking.{Touched, untouched, net_within, moved_within, now_position, looked_none}
+use Rattle.dam_bound.proofs.Walking.{Touched, untouched, net_in_range, now_position, looked_none}
 use Rattle.dam_bound.proofs.Worth.{worth, sum_from}
-
--- ---- where a class stands under a prefix
-abbrev pub stand_of : ProblemState → List Bool → ℕ → Position
-stand_of problem prefix c = record {
-  net = net_volume problem.blocks prefix (c + 1);
-  welfare = worth (class_welfare problem (length prefix) c (net_volume problem.blocks prefix (c + 1)));
-}
 
 some_worth : (x : Option ℤ) (w : ℤ) → x ≡ Some w → x ≡ Some (worth x)
 some_worth (Some v) w e = refl
@@ -50,36 +43,18 @@ some_worth None w e = absurd (cc)
 some_none : (x : Option ℤ) (w : ℤ) → x ≡ None → x ≡ Some w → ⊥
 some_none x w e f = absurd (cc)
 
--- a class that balances stands there
-stands : (problem : ProblemState) (prefix : List Bool) (c : ℕ) (w : ℤ)
-    → class_welfare problem (length prefix) c (net_volume problem.blocks prefix (c + 1)) ≡ Some w
-    → IsPosition problem prefix c (stand_of problem prefix c)
-stands problem prefix c w e = record {
+-- ---- the touches so far
+-- a class that stands somewhere stands where the prefix puts it
+settled : (problem : ProblemState) (prefix : List Bool) (c : ℕ) (own : Position) → IsPosition problem prefix c own
+    → IsPosition problem prefix c (standing problem prefix c)
+settled problem prefix c own is = record {
   net_is = refl;
-  welfare_is = some_worth (class_welfare problem (length prefix) c (net_volume problem.blocks prefix (c + 1))) w e;
+  welfare_is = some_worth (class_welfare problem (length prefix) c (net_volume problem.blocks prefix (c + 1))) own.welfare
+      (ap (class_welfare problem (length prefix) c) (sym is.net_is) ∙ is.welfare_is);
 }
 
-settled : (problem : ProblemState) (prefix : List Bool) (c : ℕ) (own : Position) → IsPosition problem prefix c own
-    → IsPosition problem prefix c (stand_of problem prefix c)
-settled problem prefix c own is =
-    stands problem prefix c own.welfare (ap (class_welfare problem (length prefix) c) (sym is.net_is) ∙ is.welfare_is)
-
--- under a prefix with a relaxed welfare every class balances
-pub balanced : (problem : ProblemState) (prefix : List Bool) (total : ℤ) (c : ℕ) → Some total ≡ relaxed_welfare problem prefix
-    → IsPosition problem prefix c (stand_of problem prefix c)
-balanced problem prefix total c whole =
-    let net = net_volume problem.blocks prefix (c + 1) in
-    let one : c + 1 ≡ suc c = omega arith in
-    elim (class_welfare problem (length prefix) c net)
-    as (λ x. class_welfare problem (length prefix) c net ≡ x → IsPosition problem prefix c (stand_of problem prefix c)) [
-      | Some w ↦ λ e. stands problem prefix c w e
-      | None ↦ λ e. absurd (some_none (relaxed_welfare problem prefix) total
-          (class_unbalanced problem prefix c net (ap (net_volume problem.blocks prefix) one) e) (sym whole))
-    ] refl
-
--- ---- the touches so far
 abbrev pub stand_by : ProblemState → List Bool → List Bool → List Touch → ℕ → Position
-stand_by problem before after rest c = stand_of problem (chosen rest before after c) c
+stand_by problem before after rest c = standing problem (chosen rest before after c) c
 
 -- each class stands where the decisions that count for it put it, and what is left is what all are worth; or it is under
 -- the floor, and so is the relaxed welfare after the decision, if there is one
@@ -102,10 +77,10 @@ pub nothing_lost : {problem : ProblemState} {all : CurvesState} {place kept : �
     → IsLeft problem before (before ++ accept ∷ []) floor touches total
 nothing_lost {problem} {all} {place} {kept} {b} {accept} {touches} {before} floor total is at are whole =
     let after = before ++ accept ∷ [] in
-    let so_far = restood problem before after touches (stand_of problem before) total
-    (nothing_changed problem place (place + 1) Decide accept before after b touches (stand_of problem before) total is.change at
+    let so_far = restood problem before after touches (standing problem before) total
+    (nothing_changed problem place (place + 1) Decide accept before after b touches (standing problem before) total is.change at
     (λ c inside none. untouched problem all place b kept touches c are inside none)
-    (λ c of. balanced problem before total c whole) whole) in
+    (λ c of. stands problem before c total whole) whole) in
     record {
       above = λ l. so_far;
       under = λ l w e.
@@ -166,9 +141,9 @@ counted {problem} {all} {place} {kept} {j} {b} {accept} {touches} {touch} {befor
     let falls = class_falls problem before after c next is.never now in
     let changed = touch_changed problem before after touch rest (stand_by problem before after (touch ∷ rest))
     (stand_by problem before after rest) left (u -ℤ own.welfare) t.is.inside t.past
-    (subst (λ (p : List Bool). IsPosition problem after c (stand_of problem p c)) (sym (chosen_after rest before after c t.past))
+    (subst (λ (p : List Bool). IsPosition problem after c (standing problem p c)) (sym (chosen_after rest before after c t.past))
     (settled problem after c next now))
-    (λ d apart of. ap (λ (n : ℕ). stand_of problem (cond (n == 0) after before) d) (sym (touches_elsewhere touch rest d apart)))
+    (λ d apart of. ap (λ (n : ℕ). standing problem (cond (n == 0) after before) d) (sym (touches_elsewhere touch rest d apart)))
     gain
     (subst (λ (ts : List Touch). IsChangedSoFar problem before after ts (stand_by problem before after ts) left) t.rest_is so_far) in
     let same : left +ℤ (u -ℤ own.welfare) ≡ left -ℤ (own.welfare -ℤ u) = omega (arith, ints) in
@@ -237,32 +212,15 @@ kept_falls k floor left next total w (Some u) is e most near = λ lower. elim (i
   | inr great ↦ (let a = great.0 in let b = great.1 in inr (omega (arith, ints, a, e, most, near), omega (arith, ints, a, b, e)))
 ]
 
--- the net volume of the class that a touch is of, as the slots have it
-pub own_net : {problem : ProblemState} {all : CurvesState} {place kept : ℕ} {b : Block} {touch : Touch} {before : List Bool} {trail : Trail}
-    {total : ℤ} (d : ℤ) → IsTouch problem all place b kept touch → length before ≡ place → IsDayIn problem before trail total
-    → get_or trail.slots touch.from d ≡ net_volume problem.blocks before (touch.at + 1)
-own_net {problem} {all} {place} {kept} {b} {touch} {before} {trail} {total} d t depth is =
-    ap (λ (n : ℕ). get_or trail.slots n d) (t.from_is ∙ ap (slot_at problem.blocks touch.at) (sym depth))
-    ∙ is.nets_are touch.at d t.inside t.first
-
--- it is one that decisions on the earlier blocks can make
-own_within : (problem : ProblemState) (before : List Bool) (place c : ℕ) (net : ℤ) → length before ≡ place
-    → net ≡ net_volume problem.blocks before (c + 1)
-    → (least_net problem.blocks place c ≤ℤ net) × (net ≤ℤ most_net problem.blocks place c)
-own_within problem before place c net depth is =
-    subst (λ (k : ℕ). (least_net problem.blocks k c ≤ℤ net) × (net ≤ℤ most_net problem.blocks k c)) depth
-    (subst (λ (z : ℤ). (least_net problem.blocks (length before) c ≤ℤ z) × (z ≤ℤ most_net problem.blocks (length before) c)) (sym is)
-    (net_within (c + 1) problem.blocks before))
-
 -- where the class stands, with the net volume as it was read
 abbrev pub read_at : ProblemState → List Bool → ℕ → ℤ → Position
-read_at problem before c net = record { net = net; welfare = (stand_of problem before c).welfare }
+read_at problem before c net = record { net = net; welfare = (standing problem before c).welfare }
 
 read_is : (problem : ProblemState) (before : List Bool) (c : ℕ) (net total : ℤ) → net ≡ net_volume problem.blocks before (c + 1)
     → Some total ≡ relaxed_welfare problem before → IsPosition problem before c (read_at problem before c net)
 read_is problem before c net total is whole = record {
   net_is = is;
-  welfare_is = ap (class_welfare problem (length before) c) is ∙ (balanced problem before total c whole).welfare_is;
+  welfare_is = ap (class_welfare problem (length before) c) is ∙ (stands problem before c total whole).welfare_is;
 }
 
 -- its loss stands in the tables
@@ -272,8 +230,9 @@ pub loss_there : {problem : ProblemState} {all : CurvesState} {place kept : ℕ}
     → (n : ℕ) × (pos n ≡ net +ℤ offset)
     × IsLossAt all.losses (class_hours problem place touch.at) (class_hours problem (place + 1) touch.at) touch.choice net n
 loss_there {problem} {all} {place} {kept} {b} {touch} before net offset t many depth is same =
-    let within = own_within problem before place touch.at net depth is in
-    let found = t.losses_are many net within.0 within.1 in
+    let within = net_in_range problem before touch.at place depth in
+    let low = within.0 in let high = within.1 in
+    let found = t.losses_are many net (omega (arith, ints, low, is)) (omega (arith, ints, high, is)) in
     (found.0, found.1 ∙ ap (λ (z : ℤ). net +ℤ z) (sym same), found.2)
 
 pub kept_touch : {problem : ProblemState} {all : CurvesState} {place kept j : ℕ} {b : Block} {accept : Bool} {touches : List Touch}
@@ -328,44 +287,6 @@ exact_falls floor left next w (Some fall) welfare some high e f =
 exact_low : (floor left next : ℤ) (loss : Option ℤ) → pos 0 ≤ℤ floor → IsLowered left loss floor next → left <ℤ floor → next <ℤ floor
 exact_low floor left next None some f low = omega (arith, ints, f, some)
 exact_low floor left next (Some fall) some f low = let same = f.1 low in omega (arith, ints, same, low)
-
--- where the class stands is on the curves of the choice
-pub choice_there : {problem : ProblemState} {all : CurvesState} {place kept : ℕ} {b : Block} {touch : Touch} (before : List Bool) (net whole : ℤ)
-    → ((choice : Bool) → IsDecision problem place choice before) → slice_get problem.blocks place ≡ Some b
-    → IsTouch problem all place b kept touch → Some whole ≡ relaxed_welfare problem before
-    → net ≡ net_volume problem.blocks before (touch.at + 1)
-    → IsChoiceAt all touch.choice (class_hours problem place touch.at) (class_hours problem (place + 1) touch.at) net
-choice_there {problem} {all} {place} {kept} {b} {touch} before net whole is at t relaxed net_is =
-    let c = touch.at in
-    let within = own_within problem before place c net (is true).change.kind.0 net_is in
-    let own = read_at problem before c net in let was = read_is problem before c net whole net_is relaxed in
-    let left = moved_within problem place (place + 1) Decide false before (before ++ false ∷ []) c b own (pos 0) (is false).change at was refl in
-    let taken = moved_within problem place (place + 1) Decide true before (before ++ true ∷ []) c b own touch.choice.net (is true).change at was
-    t.net_is in
-    let a = left.0 in let b = left.1 in
-    record {
-      before_is = record {
-        least = least_net problem.blocks place c;
-        most = most_net problem.blocks place c;
-        curve_is = t.before_is;
-        at_least = within.0;
-        at_most = within.1;
-      };
-      left_is = record {
-        least = least_net problem.blocks (place + 1) c;
-        most = most_net problem.blocks (place + 1) c;
-        curve_is = t.after_is;
-        at_least = omega (arith, ints, a);
-        at_most = omega (arith, ints, b);
-      };
-      taken_is = record {
-        least = least_net problem.blocks (place + 1) c;
-        most = most_net problem.blocks (place + 1) c;
-        curve_is = t.after_is;
-        at_least = taken.0;
-        at_most = taken.1;
-      };
-    }
 
 -- what the class is worth there, as the curve before the choice has it
 pub own_welfare : {problem : ProblemState} {place : ℕ} {accept : Bool} (before : List Bool) (c : ℕ) (net whole : ℤ)
@@ -480,12 +401,12 @@ both_left false rejected accepted x y m n none is = all_lost x m none is
 pub relaxed_within : Laws → (problem : ProblemState) (prefix : List Bool) (total : ℤ) → IsSized problem
     → Some total ≡ relaxed_welfare problem prefix → IsWithin (last_period * greatest_period_bound) total
 relaxed_within laws problem prefix total sized whole =
-    let each = λ (c : ℕ) (of : IsClassOf problem c). balanced problem prefix total c whole in
-    total_within laws problem prefix prefix [] (stand_of problem prefix) total sized
+    let each = λ (c : ℕ) (of : IsClassOf problem c). stands problem prefix c total whole in
+    total_within laws problem prefix prefix [] (standing problem prefix) total sized
     (record {
       each = each;
       sum = some_is total (sum_from (class_part problem prefix) 0 (length problem.hours))
-          (whole ∙ sym (all_some problem prefix (stand_of problem prefix) each));
+          (whole ∙ sym (all_some problem prefix (standing problem prefix) each));
     })
   where
     some_is : (x y : ℤ) → Some x ≡ Some y → x ≡ y

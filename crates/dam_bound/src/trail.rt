@@ -47,9 +47,7 @@ pub(crate) fn write_root(trail: &mut Trail, count: usize)
     ensures nets { (i : ℕ) (d : ℤ) → i < count → slice_index_or trail.new.slots i d ≡ pos 0 }
     ensures room { length trail.new.slots ≡ slot_count }
 {
-    for at in 0..count {
-        trail.slots[at] = 0;
-    }
+    trail.slots[..count].fill(0);
 }
 
 /// The bounds of the two extensions of a prefix by a decision on its next block, in cents per MWh times tenths of a MW:
@@ -262,13 +260,13 @@ pub(crate) fn write_block<A: Allocator>(
     ensures room { length trail.new.slots ≡ slot_count }
 {
     for touch in touches_of(tables, place) {
-        let net = trail.slots[touch.from as usize];
-        let next = if accept {
-            net + i64::from(touch.choice.net)
+        let before = trail.slots[touch.from as usize];
+        let after = if accept {
+            before + i64::from(touch.choice.net)
         } else {
-            net
+            before
         };
-        trail.slots[touch.to as usize] = next;
+        trail.slots[touch.to as usize] = after;
     }
 }
 

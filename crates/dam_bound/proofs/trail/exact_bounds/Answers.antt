@@ -12,9 +12,9 @@ use Rattle.dam_bound.specs.declared.trail.Extensions.{Extensions}
 use Rattle.dam_bound.specs.inside.Change.{IsBoundFrom}
 use Rattle.dam_bound.proofs.Covering.{Laws}
 use Rattle.dam_bound.proofs.DayLevels.{one_at}
-use Rattle.dam_bound.proofs.Losing.{IsLeft, IsLowered, left_by, exact_by, same_left, less, none_left, both_left, nothing_lost, own_net, read_at}
-use Rattle.dam_bound.proofs.Losing.{choice_there, own_welfare, exact_either, exact_size, lowered_either, exact_touch}
-use Rattle.dam_bound.proofs.Walking.{no_touch, touch_now, from_within, sized, block_order, class_value_within}
+use Rattle.dam_bound.proofs.Losing.{IsLeft, IsLowered, left_by, exact_by, same_left, less, none_left, both_left, nothing_lost, read_at}
+use Rattle.dam_bound.proofs.Losing.{own_welfare, exact_either, exact_size, lowered_either, exact_touch}
+use Rattle.dam_bound.proofs.Walking.{no_touch, touch_now, from_within, net_read, choice_at, sized, block_order, class_value_within}
 use Rattle.dam_bound.proofs.trail.exact_bounds.Goals as goal
 
 -- the number as it is passed on
@@ -47,12 +47,12 @@ exact_loss-loss-requires-clause-choice g c =
     let are = c.touches_of-touch-items.ensures r.0 block.0 r.2 block.1 in
     let t = touch_now r.0 c.args.tables.now.curves c.args.place block.0 c.args.tables.now.kept touches j are c.loop-touch-test.true in
     let net = get_or c.args.trail.now.slots touch.from (pos 0) in
-    let net_is = passed net (search rules) ∙ own_net (pos 0) t.is (r.4 true).change.kind.0 r.5 in
+    let net_is = passed net (search rules) ∙ net_read (pos 0) t.is (r.4 true).change.kind.0 r.5 in
     let before = class_hours r.0 c.args.place touch.at in let after = class_hours r.0 (c.args.place + 1) touch.at in (
       before,
       after,
       subst (λ (tables : TablesState). IsChoiceAt tables.curves touch.choice before after (to_z w64 (of_z w64 net))) (sym c.tables.view_is)
-          (choice_there r.1 (to_z w64 (of_z w64 net)) c.args.total r.4 block.1 t.is r.5.total_is net_is),
+          (choice_at {before = r.1} (to_z w64 (of_z w64 net)) t.is block.1 (λ accept. (r.4 accept).change) net_is),
     )
 
 pub exact_loss-loss-requires-clause-value_least : goal.exact_loss-loss-requires-clause-value_least
@@ -85,10 +85,10 @@ lowered-rejected-requires g c =
     let are = c.touches_of-touch-items.ensures r.0 block.0 r.2 block.1 in
     let t = touch_now r.0 c.args.tables.now.curves c.args.place block.0 c.args.tables.now.kept touches j are c.loop-touch-test.true in
     let net = get_or c.args.trail.now.slots touch.from (pos 0) in
-    let net_is = passed net (search rules) ∙ own_net (pos 0) t.is (r.4 true).change.kind.0 r.5 in
+    let net_is = passed net (search rules) ∙ net_read (pos 0) t.is (r.4 true).change.kind.0 r.5 in
     let before = class_hours r.0 c.args.place touch.at in let after = class_hours r.0 (c.args.place + 1) touch.at in
     let there = subst (λ (tables : TablesState). IsChoiceAt tables.curves touch.choice before after (to_z w64 (of_z w64 net)))
-    (sym c.tables.view_is) (choice_there r.1 (to_z w64 (of_z w64 net)) c.args.total r.4 block.1 t.is r.5.total_is net_is) in
+    (sym c.tables.view_is) (choice_at {before = r.1} (to_z w64 (of_z w64 net)) t.is block.1 (λ accept. (r.4 accept).change) net_is) in
     let laws : Laws = record {
       joined = c.joining.ensures.joined;
       parted = c.joining.ensures.parted;
@@ -114,10 +114,10 @@ lowered-accepted-requires g c =
     let are = c.touches_of-touch-items.ensures r.0 block.0 r.2 block.1 in
     let t = touch_now r.0 c.args.tables.now.curves c.args.place block.0 c.args.tables.now.kept touches j are c.loop-touch-test.true in
     let net = get_or c.args.trail.now.slots touch.from (pos 0) in
-    let net_is = passed net (search rules) ∙ own_net (pos 0) t.is (r.4 true).change.kind.0 r.5 in
+    let net_is = passed net (search rules) ∙ net_read (pos 0) t.is (r.4 true).change.kind.0 r.5 in
     let before = class_hours r.0 c.args.place touch.at in let after = class_hours r.0 (c.args.place + 1) touch.at in
     let there = subst (λ (tables : TablesState). IsChoiceAt tables.curves touch.choice before after (to_z w64 (of_z w64 net)))
-    (sym c.tables.view_is) (choice_there r.1 (to_z w64 (of_z w64 net)) c.args.total r.4 block.1 t.is r.5.total_is net_is) in
+    (sym c.tables.view_is) (choice_at {before = r.1} (to_z w64 (of_z w64 net)) t.is block.1 (λ accept. (r.4 accept).change) net_is) in
     let laws : Laws = record {
       joined = c.joining.ensures.joined;
       parted = c.joining.ensures.parted;
@@ -151,10 +151,10 @@ returns-then-accepted-floor g c =
           let t = touch_now problem c.args.tables.now.curves c.args.place b c.args.tables.now.kept touches j
           (c.touches_of-touch-items.ensures problem b are at) c.loop-touch-test.true in
           let slot = get_or c.args.trail.now.slots touch.from (pos 0) in let net = to_z w64 (of_z w64 slot) in
-          let net_is = passed slot (search rules) ∙ own_net (pos 0) t.is (is accept).change.kind.0 of in
+          let net_is = passed slot (search rules) ∙ net_read (pos 0) t.is (is accept).change.kind.0 of in
           let hours = class_hours problem c.args.place touch.at in let rest = class_hours problem (c.args.place + 1) touch.at in
           let there = subst (λ (tables : TablesState). IsChoiceAt tables.curves touch.choice hours rest net) (sym c.tables.view_is)
-          (choice_there before net total is at t.is of.total_is net_is) in
+          (choice_at net t.is at (λ choice. (is choice).change) net_is) in
           let worth = own_welfare before touch.at net total (is accept) of.total_is net_is in
           let w = (read_at problem before touch.at net).welfare in
           exact_touch (exact_by accept loss) net (to_z w64 (of_z w64 c.args.floor))
@@ -185,10 +185,10 @@ loop-touch-preserved g c =
           let t = touch_now problem c.args.tables.now.curves c.args.place b c.args.tables.now.kept touches j
           (c.touches_of-touch-items.ensures problem b are at) c.loop-touch-test.true in
           let slot = get_or c.args.trail.now.slots touch.from (pos 0) in let net = to_z w64 (of_z w64 slot) in
-          let net_is = passed slot (search rules) ∙ own_net (pos 0) t.is (is accept).change.kind.0 of in
+          let net_is = passed slot (search rules) ∙ net_read (pos 0) t.is (is accept).change.kind.0 of in
           let hours = class_hours problem c.args.place touch.at in let rest = class_hours problem (c.args.place + 1) touch.at in
           let there = subst (λ (tables : TablesState). IsChoiceAt tables.curves touch.choice hours rest net) (sym c.tables.view_is)
-          (choice_there before net total is at t.is of.total_is net_is) in
+          (choice_at net t.is at (λ choice. (is choice).change) net_is) in
           let worth = own_welfare before touch.at net total (is accept) of.total_is net_is in
           let w = (read_at problem before touch.at net).welfare in
           exact_touch (exact_by accept loss) net (to_z w64 (of_z w64 c.args.floor))

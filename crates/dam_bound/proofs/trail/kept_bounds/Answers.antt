@@ -11,8 +11,8 @@ use Rattle.dam_bound.specs.declared.trail.Extensions.{Extensions}
 use Rattle.dam_bound.specs.inside.Change.{IsBoundFrom}
 use Rattle.dam_bound.proofs.DayLevels.{one_at}
 use Rattle.dam_bound.proofs.Losing.{IsLeft, left_by, loss_by, same_left, both_off, loss_small, taken_off, less, none_left, both_left}
-use Rattle.dam_bound.proofs.Losing.{nothing_lost, own_net, loss_there, kept_touch}
-use Rattle.dam_bound.proofs.Walking.{no_touch, touch_now, from_within}
+use Rattle.dam_bound.proofs.Losing.{nothing_lost, loss_there, kept_touch}
+use Rattle.dam_bound.proofs.Walking.{no_touch, touch_now, from_within, net_read}
 use Rattle.dam_bound.proofs.trail.kept_bounds.Goals as goal
 
 -- the number as it is passed on
@@ -49,7 +49,7 @@ loss-loss-requires g c =
     let depth = (r.4 true).change.kind.0 in
     let net = get_or c.args.trail.now.slots touch.from (pos 0) in
     let found = loss_there r.1 (to_z w64 (of_z w64 net)) (to_z w64 (of_z w64 touch.offset)) t.is c.requires.kept depth
-    (passed net (search rules) ∙ own_net (pos 0) t.is depth r.5) (passed touch.offset (search rules)) in
+    (passed net (search rules) ∙ net_read (pos 0) t.is depth r.5) (passed touch.offset (search rules)) in
     (found.0, found.1, subst (λ (tables : TablesState). found.0 < length tables.curves.losses) (sym c.tables.view_is) found.2.inside)
 
 pub overflow_sub-rejected : goal.overflow_sub-rejected
@@ -106,7 +106,7 @@ returns-then-accepted-floor g c =
           let floor_is = passed c.args.floor (search rules) in let near = c.requires.near in
           kept_touch loss (to_z w64 (of_z w64 net)) (to_z w64 (of_z w64 touch.offset)) (to_z w64 (of_z w64 c.args.floor))
           (to_z w64 (of_z w64 c.args.total)) (left_by accept (to_z w64 c.loop-touch.rejected-bits) (to_z w64 c.loop-touch.accepted-bits))
-          _ (is accept) at t c.requires.kept of.total_is (passed net (search rules) ∙ own_net (pos 0) t.is (is accept).change.kind.0 of)
+          _ (is accept) at t c.requires.kept of.total_is (passed net (search rules) ∙ net_read (pos 0) t.is (is accept).change.kind.0 of)
           (passed touch.offset (search rules))
           (λ n d e. c.loss-loss.ensures n d e ∙ ap (λ (tables : TablesState). get_or tables.curves.losses n d) c.tables.view_is)
           (off accept) (c.loop-touch.invariant.most accept) (omega (arith, ints, near, total_is, floor_is))
@@ -144,7 +144,7 @@ loop-touch-preserved g c =
           let floor_is = passed c.args.floor (search rules) in let near = c.requires.near in
           kept_touch loss (to_z w64 (of_z w64 net)) (to_z w64 (of_z w64 touch.offset)) (to_z w64 (of_z w64 c.args.floor))
           (to_z w64 (of_z w64 c.args.total)) (left_by accept (to_z w64 c.loop-touch.rejected-bits) (to_z w64 c.loop-touch.accepted-bits))
-          _ (is accept) at t c.requires.kept of.total_is (passed net (search rules) ∙ own_net (pos 0) t.is (is accept).change.kind.0 of)
+          _ (is accept) at t c.requires.kept of.total_is (passed net (search rules) ∙ net_read (pos 0) t.is (is accept).change.kind.0 of)
           (passed touch.offset (search rules))
           (λ n d e. c.loss-loss.ensures n d e ∙ ap (λ (tables : TablesState). get_or tables.curves.losses n d) c.tables.view_is)
           (off accept) (c.loop-touch.invariant.most accept) (omega (arith, ints, near, total_is, floor_is))
