@@ -1,5 +1,5 @@
 -- What is left of the total once a block is decided, class by class.
-use Rattle.std.proofs.Common.{◌≡◌, ◌≢◌, ℕ, zero, suc, ◌+◌, ◌-◌, ◌*◌, ◌^◌, ◌<◌, ◌≤◌, ◌==◌, cond, Bool, true, false, ℤ, pos, neg_ℤ, ◌+ℤ◌, ◌-ℤ◌, ◌≤ℤ◌, ◌<ℤ◌, ◌⊎◌}
+use Rattle.std.proofs.Common.{◌≡◌, ◌≢◌, ℕ, zero, suc, ◌+◌, ◌-◌, ◌*◌, ◌^◌, ◌<◌, ◌≤◌, ◌==◌, cond, Bool, true, false, ℤ, pos, neg_ℤ, ◌+ℤ◌, ◌-ℤ◌, ◌≤ℤ◌, ◌<ℤ◌, ◌⊎◌, ◌↔◌}
 use Rattle.std.proofs.Common.{Option, Some, None, MatchOption, IfSome, List, [], ◌∷◌, ◌++◌, length, take, drop, get_or, inl, inr, ap, ap₂, ◌∙◌, sym, subst, refl, arith}
 use Rattle.std.specs.List.{slice_get}
 use Rattle.std.proofs.lemmas.Int.{ints, by_lt_z, to_z-of_z}
@@ -27,7 +27,7 @@ use Rattle.dam_bound.specs.Relaxed.{relaxed_welfare}
 use Rattle.dam_bound.specs.Classes.{class_hours, class_welfare}
 use Rattle.dam_bound.specs.Day.{IsPosition}
 use Rattle.dam_bound.specs.Tables.{AreTouches, IsTouch, least_net, most_net}
-use Rattle.dam_bound.specs.Trail.{slot_at, IsDayIn, bound_by}
+use Rattle.dam_bound.specs.Trail.{IsBoundOf, bound_by}
 use Rattle.dam_bound.specs.inside.Change.{by, IsDecision, IsBelow, IsBoundFrom}
 use Rattle.dam_bound.specs.inside.Levels.{greatest_period_bound}
 use Rattle.dam_bound.proofs.Changing.{IsClassOf, IsChangedSoFar, IsSized, standing, stands, chosen, chosen_after, class_part, class_gain, class_falls, class_unbalanced}
@@ -411,3 +411,19 @@ relaxed_within laws problem prefix total sized whole =
   where
     some_is : (x y : ℤ) → Some x ≡ Some y → x ≡ y
     some_is x y e = cc
+
+-- ---- by what was asked for
+pub bound_is : (problem : ProblemState) (prefix : List Bool) (least : ℕ) (shown floor : ℤ) (result : Option ℤ) → shown ≡ floor
+    → floor ≤ℤ pos least → IsBoundFrom problem prefix shown result → IsBoundOf problem prefix least result
+bound_is problem prefix least shown floor None same below is = λ w e. (let low = is w e in omega (arith, ints, low, below, same))
+bound_is problem prefix least shown floor (Some left) same below is = is.0
+
+pub asked : Laws → (problem : ProblemState) (prefix : List Bool) (least : ℕ) (shown floor : ℤ) (result : Option ℤ) → IsSized problem
+    → shown ≡ floor → ((z : ℤ) → IsWithin (last_period * greatest_period_bound) z → (z <ℤ floor) ↔ (z <ℤ pos least))
+    → IsBoundFrom problem prefix shown result → IfSome result (λ left. pos least ≤ℤ left)
+asked laws problem prefix least shown floor None sized same level is = tt {0}
+asked laws problem prefix least shown floor (Some left) sized same level is =
+    by_lt_z left (pos least)
+    (λ under. absurd (let low = (level left (relaxed_within laws problem prefix left sized is.0)).1 under in let high = is.1 in
+    omega (arith, ints, low, high, same)))
+    (λ high. high)
