@@ -390,12 +390,13 @@ none_left {problem} {before} {after} {floor} {rest} false result rejected accept
 
 -- and else each is what is left of the total, if it isn't under the floor
 pub both_left : {problem : ProblemState} {before after : List Bool} {floor : ℤ} {rest : List Touch} (accept : Bool)
-    (rejected accepted : ℤ) (x y : Option ℤ) → MatchOption x (rejected <ℤ floor) (λ z. (z ≡ rejected) × (floor ≤ℤ z))
-    → MatchOption y (accepted <ℤ floor) (λ z. (z ≡ accepted) × (floor ≤ℤ z)) → rest ≡ []
+    (rejected accepted : ℤ) (result : Extensions)
+    → MatchOption result.rejected (rejected <ℤ floor) (λ z. (z ≡ rejected) × (floor ≤ℤ z))
+    → MatchOption result.accepted (accepted <ℤ floor) (λ z. (z ≡ accepted) × (floor ≤ℤ z)) → rest ≡ []
     → IsLeft problem before after floor rest (left_by accept rejected accepted)
-    → IsBoundFrom problem after floor (bound_by accept (record { rejected = x; accepted = y }))
-both_left true rejected accepted x y m n none is = all_lost y n none is
-both_left false rejected accepted x y m n none is = all_lost x m none is
+    → IsBoundFrom problem after floor (bound_by accept result)
+both_left true rejected accepted result m n none is = all_lost result.accepted n none is
+both_left false rejected accepted result m n none is = all_lost result.rejected m none is
 
 -- ---- sizes
 pub relaxed_within : Laws → (problem : ProblemState) (prefix : List Bool) (total : ℤ) → IsSized problem

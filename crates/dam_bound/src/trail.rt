@@ -59,13 +59,26 @@ pub struct Extensions {
 }
 
 impl Extensions {
-    /// No bound that reaches what was asked for.
+    /// Neither total, since both are under the floor.
     fn neither() -> Extensions
         ensures { result ≡ record { rejected = None; accepted = None } }
     {
         Extensions {
             rejected: None,
             accepted: None,
+        }
+    }
+
+    /// The totals that aren't under the floor.
+    fn reached(rejected: i64, accepted: i64, floor: i64) -> Extensions
+        ensures rejected { MatchOption result.rejected (rejected <ℤ floor)
+            (λ left. (left ≡ rejected) × (floor ≤ℤ left)) }
+        ensures accepted { MatchOption result.accepted (accepted <ℤ floor)
+            (λ left. (left ≡ accepted) × (floor ≤ℤ left)) }
+    {
+        Extensions {
+            rejected: reached(rejected, floor),
+            accepted: reached(accepted, floor),
         }
     }
 
@@ -157,10 +170,7 @@ fn exact_bounds<A: Allocator>(
             return Extensions::neither();
         }
     }
-    Extensions {
-        rejected: reached(rejected, floor),
-        accepted: reached(accepted, floor),
-    }
+    Extensions::reached(rejected, accepted, floor)
 }
 
 /// The bounds of both extensions of a prefix by the block at the place, from the losses that are kept. `total` is the
@@ -197,10 +207,7 @@ fn kept_bounds<A: Allocator>(
             return Extensions::neither();
         }
     }
-    Extensions {
-        rejected: reached(rejected, floor),
-        accepted: reached(accepted, floor),
-    }
+    Extensions::reached(rejected, accepted, floor)
 }
 
 /// The bounds of both extensions of a prefix by the block at the place, as far as they are at least `least`. `total` is

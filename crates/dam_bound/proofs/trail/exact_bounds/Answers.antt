@@ -8,7 +8,6 @@ use Rattle.dam_curve.specs.Losses.{IsChoiceAt}
 use Rattle.dam_bound.specs.Classes.{class_hours}
 use Rattle.dam_bound.specs.Tables.{TablesState}
 use Rattle.dam_bound.specs.Trail.{bound_by}
-use Rattle.dam_bound.specs.declared.trail.Extensions.{Extensions}
 use Rattle.dam_bound.specs.inside.Change.{IsBoundFrom}
 use Rattle.dam_bound.proofs.Covering.{Laws}
 use Rattle.dam_bound.proofs.DayLevels.{one_at}
@@ -207,8 +206,7 @@ returns g c = record {
       (let block = one_at problem.blocks c.args.place inside in let past = c.loop-touch-test.false in
       let left = c.loop-touch.invariant.left problem before block.0 accept are block.1 is c.args.total
       (sym (passed c.args.total (search rules))) of in
-      let result : Extensions = record { rejected = c.reached.result; accepted = c.reached-2.result } in
-      subst (λ (z : ℤ). IsBoundFrom problem (before ++ accept ∷ []) z (bound_by accept result)) (passed c.args.floor (search rules))
-      (both_left accept _ _ c.reached.result c.reached-2.result c.reached.ensures c.reached-2.ensures
+      subst (λ (z : ℤ). IsBoundFrom problem (before ++ accept ∷ []) z (bound_by accept c.reached.result)) (passed c.args.floor (search rules))
+      (both_left accept _ _ c.reached.result c.reached.ensures.rejected c.reached.ensures.accepted
       (drop_all c.loop-touch.touch-index c.touches_of-touch-items.result.now (omega (arith, past))) left));
 }

@@ -7,7 +7,6 @@ use mir.Val.{to_z, of_z, SFits}
 use Rattle.dam_blocks.specs.Problem.{ProblemState}
 use Rattle.dam_bound.specs.Tables.{TablesState}
 use Rattle.dam_bound.specs.Trail.{bound_by}
-use Rattle.dam_bound.specs.declared.trail.Extensions.{Extensions}
 use Rattle.dam_bound.specs.inside.Change.{IsBoundFrom}
 use Rattle.dam_bound.proofs.DayLevels.{one_at}
 use Rattle.dam_bound.proofs.Losing.{IsLeft, left_by, loss_by, same_left, both_off, loss_small, taken_off, less, none_left, both_left}
@@ -162,8 +161,7 @@ returns g c = record {
       (let block = one_at problem.blocks c.args.place inside in let past = c.loop-touch-test.false in
       let left = c.loop-touch.invariant.left problem before block.0 accept are block.1 is c.args.total
       (sym (passed c.args.total (search rules))) of in
-      let result : Extensions = record { rejected = c.reached.result; accepted = c.reached-2.result } in
-      subst (λ (z : ℤ). IsBoundFrom problem (before ++ accept ∷ []) z (bound_by accept result)) (passed c.args.floor (search rules))
-      (both_left accept _ _ c.reached.result c.reached-2.result c.reached.ensures c.reached-2.ensures
+      subst (λ (z : ℤ). IsBoundFrom problem (before ++ accept ∷ []) z (bound_by accept c.reached.result)) (passed c.args.floor (search rules))
+      (both_left accept _ _ c.reached.result c.reached.ensures.rejected c.reached.ensures.accepted
       (drop_all c.loop-touch.touch-index c.touches_of-touch-items.result.now (omega (arith, past))) left));
 }
