@@ -1,13 +1,13 @@
 -- What is left of the total once a block is decided, class by class.
-use Rattle.std.proofs.Common.{◌≡◌, ◌≢◌, ℕ, zero, suc, ◌+◌, ◌-◌, ◌*◌, ◌^◌, ◌<◌, ◌≤◌, ◌==◌, cond, Bool, true, false, ℤ, pos, neg_ℤ, ◌+ℤ◌, ◌-ℤ◌, ◌≤ℤ◌, ◌<ℤ◌, ◌⊎◌, ◌↔◌}
-use Rattle.std.proofs.Common.{Option, Some, None, MatchOption, IfSome, List, [], ◌∷◌, ◌++◌, length, take, drop, get_or, inl, inr, ap, ap₂, ◌∙◌, sym, subst, refl, arith}
+use Rattle.std.proofs.Common.{◌≡◌, ℕ, ◌+◌, ◌-◌, ◌*◌, ◌^◌, ◌<◌, ◌≤◌, ◌==◌, cond, Bool, true, false, ℤ, pos, neg_ℤ, ◌+ℤ◌, ◌-ℤ◌, ◌≤ℤ◌, ◌<ℤ◌, ◌⊎◌, ◌↔◌}
+use Rattle.std.proofs.Common.{Option, Some, None, MatchOption, IfSome, List, [], ◌∷◌, ◌++◌, length, drop, get_or, inl, inr, ap, ◌∙◌, sym, subst, refl, arith}
 use Rattle.std.specs.List.{slice_get}
 use Rattle.std.proofs.lemmas.Int.{ints, by_lt_z, to_z-of_z}
 use Rattle.std.specs.Int.Signed.{lt_z, lt_z_yes}
 use Rattle.std.proofs.lemmas.Float.{T_from_true}
 use mir.Syntax.{w64}
 use mir.Val.{to_z, of_z, SFits}
-use Rattle.dam_book.specs.Limits.{last_period, most_blocks}
+use Rattle.dam_book.specs.Limits.{last_period}
 use Rattle.dam_hour.specs.declared.step.Step.{Step}
 use Rattle.dam_curve.specs.declared.losses.Choice.{Choice}
 use Rattle.dam_curve.specs.declared.losses.Loss.{Loss}
@@ -16,26 +16,26 @@ use Rattle.dam_curve.specs.Curve.{joint_welfare, CurvesState}
 use Rattle.dam_curve.specs.Losses.{greatest_loss, IsKept, IsLoss, IsLossAt, welfare_left, welfare_taken}
 use Rattle.dam_blocks.specs.declared.problem.Block.{Block}
 use Rattle.dam_blocks.specs.Problem.{ProblemState}
-use Rattle.dam_blocks.specs.Selection.{net_volume_of, net_volume}
+use Rattle.dam_blocks.specs.Selection.{net_volume}
 use Rattle.dam_blocks.specs.Magnitude.{IsWithin}
 use Rattle.dam_bound.specs.declared.day.Change.TheVariants.{Decide}
 use Rattle.dam_bound.specs.declared.day.Position.{Position}
 use Rattle.dam_bound.specs.declared.touch.Touch.{Touch}
-use Rattle.dam_bound.specs.declared.trail.Trail.{Trail}
 use Rattle.dam_bound.specs.declared.trail.Extensions.{Extensions}
 use Rattle.dam_bound.specs.Relaxed.{relaxed_welfare}
 use Rattle.dam_bound.specs.Classes.{class_hours, class_welfare}
 use Rattle.dam_bound.specs.Day.{IsPosition}
-use Rattle.dam_bound.specs.Tables.{AreTouches, IsTouch, least_net, most_net}
+use Rattle.dam_bound.specs.Tables.{AreTouches, IsTouch}
 use Rattle.dam_bound.specs.Trail.{IsBoundOf, bound_by}
 use Rattle.dam_bound.specs.inside.Change.{by, IsDecision, IsBelow, IsBoundFrom}
 use Rattle.dam_bound.specs.inside.Levels.{greatest_period_bound}
-use Rattle.dam_bound.proofs.Changing.{IsClassOf, IsChangedSoFar, IsSized, standing, stands, chosen, chosen_after, class_part, class_gain, class_falls, class_unbalanced}
+use Rattle.dam_bound.proofs.Changing.{IsClassOf, IsChangedSoFar, IsSized, standing, stands, chosen, chosen_after, class_part, class_gain, class_falls}
 use Rattle.dam_bound.proofs.Changing.{all_some, both_some, both_none, nothing_changed, touches_elsewhere, touch_changed, all_changed, total_within, total_at_least}
 use Rattle.dam_bound.proofs.Covering.{Laws}
 use Rattle.dam_bound.proofs.Walking.{Touched, untouched, net_in_range, now_position, looked_none}
 use Rattle.dam_bound.proofs.Worth.{worth, sum_from}
 
+-- ---- the touches so far
 some_worth : (x : Option ℤ) (w : ℤ) → x ≡ Some w → x ≡ Some (worth x)
 some_worth (Some v) w e = refl
 some_worth None w e = absurd (cc)
@@ -43,7 +43,6 @@ some_worth None w e = absurd (cc)
 some_none : (x : Option ℤ) (w : ℤ) → x ≡ None → x ≡ Some w → ⊥
 some_none x w e f = absurd (cc)
 
--- ---- the touches so far
 -- a class that stands somewhere stands where the prefix puts it
 settled : (problem : ProblemState) (prefix : List Bool) (c : ℕ) (own : Position) → IsPosition problem prefix c own
     → IsPosition problem prefix c (standing problem prefix c)
@@ -53,6 +52,7 @@ settled problem prefix c own is = record {
       (ap (class_welfare problem (length prefix) c) (sym is.net_is) ∙ is.welfare_is);
 }
 
+-- where each class stands by the decisions that count for it
 abbrev pub stand_by : ProblemState → List Bool → List Bool → List Touch → ℕ → Position
 stand_by problem before after rest c = standing problem (chosen rest before after c) c
 
@@ -213,12 +213,12 @@ kept_falls k floor left next total w (Some u) is e most near = λ lower. elim (i
 ]
 
 -- where the class stands, with the net volume as it was read
-abbrev pub read_at : ProblemState → List Bool → ℕ → ℤ → Position
-read_at problem before c net = record { net = net; welfare = (standing problem before c).welfare }
+abbrev pub as_read : ProblemState → List Bool → ℕ → ℤ → Position
+as_read problem before c net = record { net = net; welfare = (standing problem before c).welfare }
 
-read_is : (problem : ProblemState) (before : List Bool) (c : ℕ) (net total : ℤ) → net ≡ net_volume problem.blocks before (c + 1)
-    → Some total ≡ relaxed_welfare problem before → IsPosition problem before c (read_at problem before c net)
-read_is problem before c net total is whole = record {
+as_read_is : (problem : ProblemState) (before : List Bool) (c : ℕ) (net total : ℤ) → net ≡ net_volume problem.blocks before (c + 1)
+    → Some total ≡ relaxed_welfare problem before → IsPosition problem before c (as_read problem before c net)
+as_read_is problem before c net total is whole = record {
   net_is = is;
   welfare_is = ap (class_welfare problem (length before) c) is ∙ (stands problem before c total whole).welfare_is;
 }
@@ -246,8 +246,8 @@ pub kept_touch : {problem : ProblemState} {all : CurvesState} {place kept j : �
 kept_touch {problem} {all} {place} {kept} {j} {b} {accept} {touches} {touch} {before} {whole} loss net offset floor total left next
     is at t many relaxed net_is offset_is read e most near left_is =
     let c = touch.at in let depth = is.change.kind.0 in
-    let own = read_at problem before c net in
-    let was = read_is problem before c net whole net_is relaxed in
+    let own = as_read problem before c net in
+    let was = as_read_is problem before c net whole net_is relaxed in
     let there = loss_there before net offset t.is many depth net_is offset_is in
     let lost = subst (IsLoss (class_hours problem place c) (class_hours problem (place + 1) c) touch.choice net)
     (sym (read there.0 loss there.1)) (there.2.loss_is loss) in
@@ -291,24 +291,24 @@ exact_low floor left next (Some fall) some f low = let same = f.1 low in omega (
 -- what the class is worth there, as the curve before the choice has it
 pub own_welfare : {problem : ProblemState} {place : ℕ} {accept : Bool} (before : List Bool) (c : ℕ) (net whole : ℤ)
     → IsDecision problem place accept before → Some whole ≡ relaxed_welfare problem before → net ≡ net_volume problem.blocks before (c + 1)
-    → joint_welfare (class_hours problem place c) net ≡ Some (read_at problem before c net).welfare
+    → joint_welfare (class_hours problem place c) net ≡ Some (as_read problem before c net).welfare
 own_welfare {problem} {place} {accept} before c net whole is relaxed net_is =
-    ap (λ (k : ℕ). class_welfare problem k c net) (sym is.change.kind.0) ∙ (read_is problem before c net whole net_is relaxed).welfare_is
+    ap (λ (k : ℕ). class_welfare problem k c net) (sym is.change.kind.0) ∙ (as_read_is problem before c net whole net_is relaxed).welfare_is
 
 -- a class that balances afterwards leaves no more than a total can be
 pub exact_size : Laws → {problem : ProblemState} {all : CurvesState} {place kept j : ℕ} {b : Block} {accept : Bool} {touches : List Touch}
     {touch : Touch} {before : List Bool} {whole : ℤ} (loss : Option ℤ) (net floor left : ℤ) → IsSized problem
     → IsDecision problem place accept before → slice_get problem.blocks place ≡ Some b → Touched problem all place b kept touches j touch
     → Some whole ≡ relaxed_welfare problem before → net ≡ net_volume problem.blocks before (touch.at + 1)
-    → IsExact loss (read_at problem before touch.at net).welfare
+    → IsExact loss (as_read problem before touch.at net).welfare
     (welfare_by accept (class_hours problem (place + 1) touch.at) touch.choice net)
     → IsLeft problem before (before ++ accept ∷ []) floor (drop j touches) left → floor ≤ℤ left
     → IfSome loss (λ fall. (neg_ℤ (pos (2 ^ 63)) ≤ℤ (left -ℤ fall)) × ((left -ℤ fall) <ℤ pos (2 ^ 63)))
 exact_size laws None net floor left sized is at t relaxed net_is exact left_is high = tt {0}
 exact_size laws {problem} {all} {place} {kept} {j} {b} {accept} {touches} {touch} {before} {whole} (Some fall) net floor left sized is at t
     relaxed net_is exact left_is high =
-    let c = touch.at in let own = read_at problem before c net in let rest = drop (j + 1) touches in
-    let n = counted own left (own.welfare -ℤ fall) is at t (read_is problem before c net whole net_is relaxed) exact (left_is.above high) in
+    let c = touch.at in let own = as_read problem before c net in let rest = drop (j + 1) touches in
+    let n = counted own left (own.welfare -ℤ fall) is at t (as_read_is problem before c net whole net_is relaxed) exact (left_is.above high) in
     let within = total_within laws problem before (before ++ accept ∷ []) rest (stand_by problem before (before ++ accept ∷ []) rest)
     (left -ℤ (own.welfare -ℤ (own.welfare -ℤ fall))) sized n.changed in
     let l = within.at_least in let m = within.at_most in (omega (arith, ints, l), omega (arith, ints, m))
@@ -317,15 +317,15 @@ pub exact_touch : {problem : ProblemState} {all : CurvesState} {place kept j : �
     {touch : Touch} {before : List Bool} {whole : ℤ} (loss : Option ℤ) (net floor left next : ℤ) → IsDecision problem place accept before
     → slice_get problem.blocks place ≡ Some b → Touched problem all place b kept touches j touch
     → Some whole ≡ relaxed_welfare problem before → net ≡ net_volume problem.blocks before (touch.at + 1) → pos 0 ≤ℤ floor
-    → IsExact loss (read_at problem before touch.at net).welfare
+    → IsExact loss (as_read problem before touch.at net).welfare
     (welfare_by accept (class_hours problem (place + 1) touch.at) touch.choice net)
     → IsLowered left loss floor next
     → IsLeft problem before (before ++ accept ∷ []) floor (drop j touches) left
     → IsLeft problem before (before ++ accept ∷ []) floor (drop (j + 1) touches) next
 exact_touch {problem} {all} {place} {kept} {j} {b} {accept} {touches} {touch} {before} {whole} loss net floor left next is at t relaxed net_is
     some exact lowered left_is =
-    let c = touch.at in let own = read_at problem before c net in
-    touch_lost own floor left next is at t (read_is problem before c net whole net_is relaxed)
+    let c = touch.at in let own = as_read problem before c net in
+    touch_lost own floor left next is at t (as_read_is problem before c net whole net_is relaxed)
     (exact_low floor left next loss some lowered)
     (λ more. exact_falls floor left next own.welfare loss
     (welfare_by accept (class_hours problem (place + 1) c) touch.choice net) some more exact lowered) left_is

@@ -213,8 +213,8 @@ fn kept_bounds<A: Allocator>(
 /// The bounds of both extensions of a prefix by the block at the place, as far as they are at least `least`. `total` is
 /// the relaxed welfare of the prefix.
 ///
-/// A class is looked at only until both totals are seen to be under `least`: no decision raises the relaxed welfare of a
-/// period, so a total under `least` stays under it.
+/// The classes are looked at only until both totals are seen to be under `least`: no decision raises the relaxed
+/// welfare of a period, so a total under `least` stays under it.
 pub(crate) fn bounds_of<A: Allocator>(
     tables: &Tables<A>,
     trail: &Trail,

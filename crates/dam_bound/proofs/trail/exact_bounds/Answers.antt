@@ -1,5 +1,5 @@
 -- An exact loss more, and all of them.
-use Rattle.std.proofs.Common.{◌≡◌, ◌+◌, ℤ, pos, [], ◌∷◌, ◌++◌, Bool, true, false, length, drop, get_or, ◌∙◌, sym, subst, rules, arith}
+use Rattle.std.proofs.Common.{◌≡◌, ◌+◌, ℤ, pos, [], ◌∷◌, ◌++◌, true, false, length, get_or, ◌∙◌, sym, subst, rules, arith}
 use Rattle.std.proofs.lemmas.Int.{ints, to_z-of_z}
 use Rattle.std.proofs.lemmas.List.{drop_all}
 use mir.Syntax.{w64}
@@ -11,7 +11,7 @@ use Rattle.dam_bound.specs.Trail.{bound_by}
 use Rattle.dam_bound.specs.inside.Change.{IsBoundFrom}
 use Rattle.dam_bound.proofs.Covering.{Laws}
 use Rattle.dam_bound.proofs.DayLevels.{one_at}
-use Rattle.dam_bound.proofs.Losing.{IsLeft, IsLowered, left_by, exact_by, same_left, less, none_left, both_left, nothing_lost, read_at}
+use Rattle.dam_bound.proofs.Losing.{IsLeft, IsLowered, left_by, exact_by, same_left, less, none_left, both_left, nothing_lost, as_read}
 use Rattle.dam_bound.proofs.Losing.{own_welfare, exact_either, exact_size, lowered_either, exact_touch}
 use Rattle.dam_bound.proofs.Walking.{no_touch, touch_now, from_within, net_read, choice_at, sized, block_order, class_value_within}
 use Rattle.dam_bound.proofs.trail.exact_bounds.Goals as goal
@@ -101,7 +101,7 @@ lowered-rejected-requires g c =
     } in
     exact_size laws {accept = false} c.exact_loss-loss.result.left (to_z w64 (of_z w64 net)) (to_z w64 (of_z w64 c.args.floor))
     (to_z w64 c.loop-touch.rejected-bits) (sized r.2) (r.4 false) block.1 t r.5.total_is net_is
-    (c.exact_loss-loss.ensures.left before after (read_at r.0 r.1 touch.at (to_z w64 (of_z w64 net))).welfare there
+    (c.exact_loss-loss.ensures.left before after (as_read r.0 r.1 touch.at (to_z w64 (of_z w64 net))).welfare there
     (own_welfare r.1 touch.at (to_z w64 (of_z w64 net)) c.args.total (r.4 false) r.5.total_is net_is))
     (c.loop-touch.invariant.left r.0 r.1 block.0 false r.2 block.1 r.4 c.args.total (sym (passed c.args.total (search rules))) r.5)
 
@@ -130,7 +130,7 @@ lowered-accepted-requires g c =
     } in
     exact_size laws {accept = true} c.exact_loss-loss.result.taken (to_z w64 (of_z w64 net)) (to_z w64 (of_z w64 c.args.floor))
     (to_z w64 c.loop-touch.accepted-bits) (sized r.2) (r.4 true) block.1 t r.5.total_is net_is
-    (c.exact_loss-loss.ensures.taken before after (read_at r.0 r.1 touch.at (to_z w64 (of_z w64 net))).welfare there
+    (c.exact_loss-loss.ensures.taken before after (as_read r.0 r.1 touch.at (to_z w64 (of_z w64 net))).welfare there
     (own_welfare r.1 touch.at (to_z w64 (of_z w64 net)) c.args.total (r.4 true) r.5.total_is net_is))
     (c.loop-touch.invariant.left r.0 r.1 block.0 true r.2 block.1 r.4 c.args.total (sym (passed c.args.total (search rules))) r.5)
 
@@ -155,7 +155,7 @@ returns-then-accepted-floor g c =
           let there = subst (λ (tables : TablesState). IsChoiceAt tables.curves touch.choice hours rest net) (sym c.tables.view_is)
           (choice_at net t.is at (λ choice. (is choice).change) net_is) in
           let worth = own_welfare before touch.at net total (is accept) of.total_is net_is in
-          let w = (read_at problem before touch.at net).welfare in
+          let w = (as_read problem before touch.at net).welfare in
           exact_touch (exact_by accept loss) net (to_z w64 (of_z w64 c.args.floor))
           (left_by accept (to_z w64 c.loop-touch.rejected-bits) (to_z w64 c.loop-touch.accepted-bits)) _ (is accept) at t of.total_is net_is
           (omega (arith, ints, floor, floor_is))
@@ -189,7 +189,7 @@ loop-touch-preserved g c =
           let there = subst (λ (tables : TablesState). IsChoiceAt tables.curves touch.choice hours rest net) (sym c.tables.view_is)
           (choice_at net t.is at (λ choice. (is choice).change) net_is) in
           let worth = own_welfare before touch.at net total (is accept) of.total_is net_is in
-          let w = (read_at problem before touch.at net).welfare in
+          let w = (as_read problem before touch.at net).welfare in
           exact_touch (exact_by accept loss) net (to_z w64 (of_z w64 c.args.floor))
           (left_by accept (to_z w64 c.loop-touch.rejected-bits) (to_z w64 c.loop-touch.accepted-bits)) _ (is accept) at t of.total_is net_is
           (omega (arith, ints, floor, floor_is))

@@ -1,15 +1,14 @@
 -- A loss more, and all of them.
-use Rattle.std.proofs.Common.{◌≡◌, ◌+◌, ◌<◌, ◌≤◌, ◌^◌, ◌*◌, ℤ, pos, ◌+ℤ◌, ◌-ℤ◌, ◌<ℤ◌, ◌≤ℤ◌, [], ◌∷◌, ◌++◌, Bool, true, false, length, drop, get_or, ◌∙◌, sym, ap, subst, refl, rules, arith}
+use Rattle.std.proofs.Common.{◌≡◌, ◌<◌, ◌^◌, ℤ, pos, ◌-ℤ◌, [], ◌∷◌, ◌++◌, Bool, true, false, length, get_or, ◌∙◌, sym, ap, subst, rules, arith}
 use Rattle.std.proofs.lemmas.Int.{ints, to_z-of_z}
 use Rattle.std.proofs.lemmas.List.{drop_all}
-use mir.Syntax.{w32, w64}
+use mir.Syntax.{w64}
 use mir.Val.{to_z, of_z, SFits}
-use Rattle.dam_blocks.specs.Problem.{ProblemState}
 use Rattle.dam_bound.specs.Tables.{TablesState}
 use Rattle.dam_bound.specs.Trail.{bound_by}
 use Rattle.dam_bound.specs.inside.Change.{IsBoundFrom}
 use Rattle.dam_bound.proofs.DayLevels.{one_at}
-use Rattle.dam_bound.proofs.Losing.{IsLeft, left_by, loss_by, same_left, both_off, loss_small, taken_off, less, none_left, both_left}
+use Rattle.dam_bound.proofs.Losing.{IsLeft, left_by, same_left, both_off, loss_small, taken_off, less, none_left, both_left}
 use Rattle.dam_bound.proofs.Losing.{nothing_lost, loss_there, kept_touch}
 use Rattle.dam_bound.proofs.Walking.{no_touch, touch_now, from_within, net_read}
 use Rattle.dam_bound.proofs.trail.kept_bounds.Goals as goal

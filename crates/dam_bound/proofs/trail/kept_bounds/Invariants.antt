@@ -1,5 +1,5 @@
 -- What is left of the total for either decision, with the losses of the touches so far.
-use Rattle.std.proofs.Common.{◌≡◌, ◌*◌, ◌<◌, ℤ, pos, ◌+ℤ◌, ◌≤ℤ◌, ◌^◌, [], ◌∷◌, ◌++◌, List, Bool, Some, length, drop}
+use Rattle.std.proofs.Common.{◌≡◌, ◌*◌, ℤ, pos, ◌+ℤ◌, ◌≤ℤ◌, ◌^◌, [], ◌∷◌, ◌++◌, List, Bool, Some, drop}
 use Rattle.std.specs.List.{slice_get}
 use Rattle.dam_blocks.specs.declared.problem.Block.{Block}
 use Rattle.dam_blocks.specs.Problem.{ProblemState}
