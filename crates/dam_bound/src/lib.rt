@@ -6,8 +6,7 @@
 //! let walk = Walk::new(&problem, &tables);
 //! let mut trail = Trail::empty();
 //! let open = walk.begin(&mut trail); // the bound with every block open
-//! let bounds = walk.extensions(&trail, 0, open, 0); // block 0 rejected or accepted, the others open; None if under 0
-//! walk.enter(&mut trail, 0, true); // the day with block 0 accepted
+//! let bound = walk.extend(&mut trail, 0, true, open, 0); // block 0 accepted, the others open; None if under 0
 //!
 //! let relaxed = Relaxed::build(alloc, &problem)?;
 //! let same = relaxed.bound(Selection::none().with(0), 1); // from the definition
@@ -20,9 +19,9 @@
 //! each period.
 //!
 //! A walk down the tree of prefixes keeps the days of those on its way in the slots of a [`Trail`]. It begins
-//! with the day of the prefix that decides nothing (`begin`). `extensions` returns the welfare of both prefixes with
-//! one more decision: only the classes of the last block are looked up, and only until both are seen to be less than
-//! what is asked for. `enter` makes the day of one of them. If a prefix decides every block, `day_at`
+//! with the day of the prefix that decides nothing (`begin`), and makes that of a prefix with one more
+//! decision (`extend`): the same welfare, with only the classes of the last block looked up, and only
+//! until it is seen to be less than what is asked for. If a prefix decides every block, `day_at`
 //! returns the finished day as a [`Day`]: `turn` makes the day with one decision reversed, and `gain` returns the
 //! gain of an accepted block with its accepted descendants. It clears the hours of the problem at the net
 //! volumes of the day, since no table has the price of a period.
