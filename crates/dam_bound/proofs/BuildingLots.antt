@@ -4,7 +4,7 @@ use Rattle.std.proofs.Common.{sym, subst, refl, arith}
 use Rattle.std.specs.List.{slice_get}
 use Rattle.std.specs.Prelude.{IsPermutation}
 use Rattle.std.proofs.lemmas.List.{drop_all, append-nil}
-use Rattle.dam_curve.specs.Curve.{Keeps}
+use Rattle.dam_curve.specs.Losses.{Keeps}
 use Rattle.dam_curve.specs.Curve.{CurvesState}
 use Rattle.dam_curve.specs.declared.curves.Curve.{Curve}
 use Rattle.dam_blocks.specs.declared.problem.Block.{Block}

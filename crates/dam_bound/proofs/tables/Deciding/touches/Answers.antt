@@ -5,7 +5,7 @@ use Rattle.std.proofs.lemmas.Option.{slice_get_read}
 use Rattle.dam_book.specs.Terms.{BlockTerms}
 use Rattle.dam_book.specs.Volumes.{Pair}
 use Rattle.dam_blocks.specs.Selection.{volume_in}
-use Rattle.dam_curve.specs.Curve.{Keeps}
+use Rattle.dam_curve.specs.Losses.{Keeps}
 use Rattle.dam_curve.specs.Curve.{CurvesState}
 use Rattle.dam_bound.specs.declared.touch.Touch.{Touch}
 use Rattle.dam_bound.specs.inside.Building.{PeriodsState, IsDeciding}

@@ -1,6 +1,6 @@
 -- The touches so far.
 use Rattle.std.proofs.Common.{ℕ, drop}
-use Rattle.dam_curve.specs.Curve.{Keeps}
+use Rattle.dam_curve.specs.Losses.{Keeps}
 use Rattle.dam_blocks.specs.declared.problem.Block.{Block}
 use Rattle.dam_blocks.specs.Problem.{ProblemState}
 use Rattle.dam_bound.specs.inside.Building.{IsDeciding}
