@@ -256,7 +256,7 @@ pub record AreEndsOf (problem : ProblemState) (depth c : ℕ) (least most : ℤ)
   pub most_valid : IsNetVolume most
   pub ordered : least ≤ℤ most
 
-net_read : (z : ℤ) → IsNetVolume z → to_z w64 (of_z w64 z) ≡ z
+pub net_read : (z : ℤ) → IsNetVolume z → to_z w64 (of_z w64 z) ≡ z
 net_read z is = let a = is.at_least in let b = is.at_most in to_z-of_z w64 z (omega (arith, ints, a, b))
 
 pub ends_read : (problem : ProblemState) (depth c : ℕ) (d : Range) (periods inside : PeriodsState) → periods ≡ inside
@@ -305,7 +305,7 @@ sold_net Sell volume n m is (inr e) a b = omega (arith, ints, is, e, a)
 sold_net Buy volume n m is (inl e) a b = omega (arith, ints, is, e, b)
 sold_net Buy volume n m is (inr e) a b = e
 
-net_small : (own : Side) (volume : ℕ) → volume ≤ greatest_volume
+pub net_small : (own : Side) (volume : ℕ) → volume ≤ greatest_volume
     → (neg_ℤ (pos greatest_volume) ≤ℤ neg_ℤ (signed own (pos volume))) × (neg_ℤ (signed own (pos volume)) ≤ℤ pos greatest_volume)
 net_small Buy volume l = (omega (arith, ints, l), omega (arith, ints, l))
 net_small Sell volume l = (omega (arith, ints, l), omega (arith, ints, l))
@@ -323,13 +323,13 @@ net_read_twice own volume net near l adds is =
     to_z-of_z w64 near (omega (arith, ints, here, adds, a, b)) ∙ here
 
 -- the volume of the block that is decided last
-own_volume_small : (problem : ProblemState) (all : CurvesState) (kept k t : ℕ) (b : Block) (deciding : DecidingState)
+pub own_volume_small : (problem : ProblemState) (all : CurvesState) (kept k t : ℕ) (b : Block) (deciding : DecidingState)
     → IsDeciding problem all kept k b deciding → volume_in b.order.volumes t ≤ greatest_volume
 own_volume_small problem all kept k t b deciding is =
     volume_small b.order.volumes t
     (block_at (length problem.hours) problem.blocks k b is.periods_are.blocks_are is.block_is).order.volumes.ranges
 
-ends_of_earlier : (problem : ProblemState) (all : CurvesState) (kept k c : ℕ) (b : Block) (deciding : DecidingState)
+pub ends_of_earlier : (problem : ProblemState) (all : CurvesState) (kept k c : ℕ) (b : Block) (deciding : DecidingState)
     → IsDeciding problem all kept k b deciding → AreEnds (least_net problem.blocks k c) (most_net problem.blocks k c)
 ends_of_earlier problem all kept k c b deciding is =
     let inside = slice_get_within problem.blocks k b is.block_is in let few = is.periods_are.few_blocks in
