@@ -23,7 +23,7 @@ use Rattle.dam_bound.specs.Tables.{least_net, most_net, IsClassCurve, class_valu
 use Rattle.dam_bound.specs.inside.Building.{side_net, IsClass, DecidingState, IsDeciding}
 use Rattle.dam_bound.specs.declared.touch.Touch.{Touch}
 use Rattle.dam_bound.proofs.BuildingRanges.{one_of_side, net_small, net_read, own_volume_small}
-use Rattle.dam_bound.proofs.BuildingTouches.{keeps_on, class_curve_stays}
+use Rattle.dam_bound.proofs.BuildingTouches.{keeps_on, class_curve_stays, curves_stay}
 
 -- ---- the net volumes after a block
 -- what it adds lies between what it adds if it buys and if it sells, and so does 0
@@ -125,3 +125,16 @@ touch_made problem old new all kept k b deciding touch d is class some from to a
       after_is = class_curve_stays problem new all (k + 1) touch.at touch.choice.after more after;
       losses_are = losses;
     }
+
+-- with more curves and losses it is still the block that is decided
+pub deciding_stays : (problem : ProblemState) (old new : CurvesState) (kept k : ℕ) (b : Block) (deciding : DecidingState) → Keeps old new
+    → IsDeciding problem old kept k b deciding → IsDeciding problem new kept k b deciding
+deciding_stays problem old new kept k b deciding keeps is = record {
+  block_is = is.block_is;
+  order_is = is.order_is;
+  periods_are = is.periods_are;
+  places_are = is.places_are;
+  ends_are = curves_stay problem old new k deciding.ends keeps is.ends_are;
+  keep_is = is.keep_is;
+  row_is = is.row_is;
+}

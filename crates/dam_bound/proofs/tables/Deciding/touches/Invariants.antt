@@ -10,6 +10,6 @@ use Rattle.dam_bound.proofs.tables.Deciding.touches.Given as goal
 abbrev pub invariant-loop-period : goal.invariant-loop-period
 invariant-loop-period g l = record {
   keeps : Keeps l.fn.curves l.curves;
-  so_far : (problem : ProblemState) (k : ℕ) (b : Block) → IsDeciding problem k b l.self
-      → AreTouchesSoFar problem l.curves k b (drop l.period-index b.order.volumes) l.touches.items;
+  so_far : (problem : ProblemState) (kept k : ℕ) (b : Block) → IsDeciding problem l.fn.curves kept k b l.self
+      → AreTouchesSoFar problem l.curves kept k b (drop l.period-index b.order.volumes) l.touches.items;
 }
