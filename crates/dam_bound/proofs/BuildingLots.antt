@@ -3,7 +3,7 @@ use Rattle.std.proofs.Common.{◌≡◌, ℕ, zero, suc, take, drop, ◌+◌, �
 use Rattle.std.proofs.Common.{sym, subst, refl, arith}
 use Rattle.std.specs.List.{slice_get}
 use Rattle.std.specs.Prelude.{IsPermutation}
-use Rattle.std.proofs.lemmas.Bool.Decides.{nat_tests}
+use Rattle.std.proofs.lemmas.Bool.{leb-false}
 use Rattle.std.proofs.lemmas.List.{drop_all, append-nil}
 use Rattle.dam_book.specs.Limits.{last_period}
 use Rattle.dam_curve.specs.Losses.{Keeps}
@@ -79,8 +79,7 @@ is_decided problem all kept k many b deciding lots at order periods keep count r
       places_are = so_far.places_are;
       ends_are = so_far.ends_are;
       keep_is = λ none.
-          (let test : nat_le kept many ≡ false = sym keep ∙ none in
-          let few : many < kept = grind (arith, nat_tests) in omega (arith, few, count, long));
+          (let few = leb-false kept many (sym keep ∙ none) in omega (arith, few, count, long));
       row_is = row;
     }
 
