@@ -1,5 +1,5 @@
 -- A period more.
-use Rattle.std.proofs.Common.{◌≢◌, ◌<◌, List, length, length-append, slice_index_or, [], ◌∷◌, ap, ◌∙◌, sym, subst, refl, rules, arith}
+use Rattle.std.proofs.Common.{◌≢◌, ◌<◌, length, length-append, slice_index_or, [], ◌∷◌, ap, ◌∙◌, sym, subst, rules, arith}
 use Rattle.dam_curve.specs.Losses.{Keeps}
 use Rattle.dam_curve.specs.declared.curves.Curve.{Curve}
 use Rattle.dam_curve.specs.Curve.{CurvesState}

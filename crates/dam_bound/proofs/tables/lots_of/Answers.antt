@@ -1,5 +1,5 @@
 -- A lot more, and all of them.
-use Rattle.std.proofs.Common.{◌≡◌, ℕ, true, List, length, ap, ◌∙◌, sym, subst, refl, rules, arith}
+use Rattle.std.proofs.Common.{◌≡◌, ℕ, List, length, ap, ◌∙◌, sym, subst, refl, rules, arith}
 use Rattle.std.specs.List.{slice_get}
 use Rattle.std.proofs.lemmas.Option.{slice_get_read, slice_get_within}
 use Rattle.dam_blocks.specs.declared.problem.Block.{Block}

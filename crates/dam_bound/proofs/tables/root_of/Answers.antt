@@ -1,8 +1,8 @@
 -- A class more, and all of them.
-use Rattle.std.proofs.Common.{◌≡◌, ◌<◌, ℤ, Option, neg_ℤ, pos, ◌≤ℤ◌, length, slice_index_or, ap, ◌∙◌, sym, subst, refl, rules, arith}
+use Rattle.std.proofs.Common.{◌≡◌, ◌<◌, ℤ, Option, neg_ℤ, pos, ◌≤ℤ◌, length, slice_index_or, ◌∙◌, sym, subst, refl, rules, arith}
 use Rattle.std.specs.Option.{IsSome}
 use Rattle.std.specs.Prelude.{IfSome}
-use Rattle.std.proofs.lemmas.Int.{ints, to_z-of_z}
+use Rattle.std.proofs.lemmas.Int.{ints}
 use mir.Syntax.{w64}
 use mir.Val.{to_z}
 use Rattle.dam_curve.specs.Curve.{greatest_joint_welfare}

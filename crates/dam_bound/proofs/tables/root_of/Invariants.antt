@@ -1,5 +1,5 @@
 -- The classes so far, and the sum of what they are worth.
-use Rattle.std.proofs.Common.{◌≡◌, ◌≤◌, ◌*◌, length}
+use Rattle.std.proofs.Common.{◌≤◌, ◌*◌, length}
 use Rattle.dam_book.specs.Limits.{last_period}
 use Rattle.dam_curve.specs.Curve.{greatest_joint_welfare}
 use Rattle.dam_blocks.specs.Magnitude.{IsWithin}

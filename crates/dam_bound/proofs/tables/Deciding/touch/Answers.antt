@@ -1,16 +1,15 @@
 -- The choice, its losses, and the touch.
-use Rattle.std.proofs.Common.{◌≡◌, ◌+◌, ◌<◌, ◌≤◌, ℤ, pos, false, ap, ◌∙◌, sym, subst, refl, rules, arith}
+use Rattle.std.proofs.Common.{◌≡◌, ◌+◌, ◌<◌, pos, ap, ◌∙◌, sym, subst, refl, rules, arith}
 use Rattle.std.proofs.lemmas.Int.{ints, to_z-of_z}
-use mir.Syntax.{w32, w64}
+use mir.Syntax.{w64}
 use mir.Val.{to_z, of_z}
 use Rattle.dam_curve.specs.Curve.{CurvesState}
-use Rattle.dam_curve.specs.Losses.{AreLosses, Keeps}
+use Rattle.dam_curve.specs.Losses.{Keeps}
 use Rattle.dam_curve.specs.declared.curves.Curve.{Curve}
-use Rattle.dam_blocks.specs.Selection.{volume_in, net_volume_of}
+use Rattle.dam_blocks.specs.Selection.{volume_in}
 use Rattle.dam_bound.specs.Classes.{class_hours}
-use Rattle.dam_bound.specs.Tables.{least_net, most_net, class_value, IsClassCurve, HasLosses}
+use Rattle.dam_bound.specs.Tables.{least_net, most_net, class_value}
 use Rattle.dam_bound.specs.inside.Building.{IsDeciding}
-use Rattle.dam_bound.specs.declared.touch.Touch.{Touch}
 use Rattle.dam_bound.proofs.BuildingTouches.{keeps_on, keeps_all, class_curve_stays}
 use Rattle.dam_bound.proofs.BuildingRanges.{ends_of_earlier}
 use Rattle.dam_bound.proofs.BuildingChoices.{choice_is, net_added, end_read, losses_kept, touch_made}
