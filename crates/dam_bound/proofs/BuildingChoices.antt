@@ -34,8 +34,10 @@ record IsBetween (own : Side) (volume : ℕ) : Type 0 where
   above : pos 0 ≤ℤ side_net Sell own volume
 
 is_between : (own : Side) (volume : ℕ) → IsBetween own volume
-is_between Buy volume = record { least = omega (arith, ints); most = omega (arith, ints); below = omega (arith, ints); above = omega (arith, ints) }
-is_between Sell volume = record { least = omega (arith, ints); most = omega (arith, ints); below = omega (arith, ints); above = omega (arith, ints) }
+is_between Buy volume =
+    record { least = omega (arith, ints); most = omega (arith, ints); below = omega (arith, ints); above = omega (arith, ints) }
+is_between Sell volume =
+    record { least = omega (arith, ints); most = omega (arith, ints); below = omega (arith, ints); above = omega (arith, ints) }
 
 -- each net volume that the earlier blocks can make lies on the curve before the block and, left or taken, on the one after it
 pub choice_is : (problem : ProblemState) (all : CurvesState) (k c : ℕ) (b : Block) (choice : Choice) (least most : ℤ)

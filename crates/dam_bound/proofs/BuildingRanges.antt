@@ -1,6 +1,7 @@
 -- The net volumes that the decided blocks can make, pair by pair and block by block.
-use Rattle.std.proofs.Common.{◌≡◌, ◌≢◌, ℕ, zero, suc, ◌+◌, ◌*◌, ◌<◌, ◌≤◌, ◌==◌, cond, ℤ, pos, neg_ℤ, ◌+ℤ◌, ◌-ℤ◌, ◌≤ℤ◌, ◌⊎◌, Bool, true, false, Some, List, []}
-use Rattle.std.proofs.Common.{◌∷◌, length, replicate, drop, take, get_or, slice_index_or, slice_set, inl, inr, ap, ◌∙◌, sym, subst, refl, arith}
+use Rattle.std.proofs.Common.{◌≡◌, ◌≢◌, ℕ, zero, suc, ◌+◌, ◌*◌, ◌<◌, ◌≤◌, ◌==◌, cond, ℤ, pos, neg_ℤ, ◌+ℤ◌, ◌-ℤ◌, ◌≤ℤ◌, ◌⊎◌, Bool}
+use Rattle.std.proofs.Common.{true, false, Some, List, [], ◌∷◌, length, replicate, drop, take, get_or, slice_index_or, slice_set, inl, inr}
+use Rattle.std.proofs.Common.{ap, ◌∙◌, sym, subst, refl, arith}
 use Rattle.std.specs.List.{slice_get}
 use Rattle.std.proofs.lemmas.Int.{ints, to_z-of_z}
 use mir.Syntax.{w32, w64}
@@ -315,9 +316,9 @@ pub record IsReadAs (z read : ℤ) : Type 0 where
   pub value : read ≡ z
   pub fits : SFits w64 read
 
-net_read_twice : (own : Side) (volume : ℕ) (net near : ℤ) → volume ≤ greatest_volume → net ≡ neg_ℤ (signed own (pos volume))
+read_twice : (own : Side) (volume : ℕ) (net near : ℤ) → volume ≤ greatest_volume → net ≡ neg_ℤ (signed own (pos volume))
     → near ≡ to_z w32 (of_z w32 net) → to_z w64 (of_z w64 near) ≡ net
-net_read_twice own volume net near l adds is =
+read_twice own volume net near l adds is =
     let small = net_small own volume l in let a = small.0 in let b = small.1 in
     let here = is ∙ to_z-of_z w32 net (omega (arith, ints, adds, a, b)) in
     to_z-of_z w64 near (omega (arith, ints, here, adds, a, b)) ∙ here
@@ -345,7 +346,7 @@ pub least_before : (problem : ProblemState) (all : CurvesState) (kept k c : ℕ)
 least_before problem all kept k c b net near low d deciding periods is same l adds is_near min at_most_net at_most_zero =
     let own = b.order.side in let volume = volume_in b.order.volumes (c + 1) in
     let small = own_volume_small problem all kept k (c + 1) b deciding is in
-    let read = net_read_twice own volume net near small adds is_near in
+    let read = read_twice own volume net near small adds is_near in
     let bought = bought_net own volume net low adds
     (elim (either_min (to_z w64 (of_z w64 near)) (pos 0)) [ inl e ↦ inl (min ∙ e ∙ read) | inr e ↦ inr (min ∙ e) ])
     (omega (arith, ints, at_most_net, read)) at_most_zero in
@@ -369,7 +370,7 @@ pub most_before : (problem : ProblemState) (all : CurvesState) (kept k c : ℕ) 
 most_before problem all kept k c b net near high d deciding periods is same l adds is_near max at_least_net at_least_zero =
     let own = b.order.side in let volume = volume_in b.order.volumes (c + 1) in
     let small = own_volume_small problem all kept k (c + 1) b deciding is in
-    let read = net_read_twice own volume net near small adds is_near in
+    let read = read_twice own volume net near small adds is_near in
     let sold = sold_net own volume net high adds
     (elim (either_max (to_z w64 (of_z w64 near)) (pos 0)) [ inl e ↦ inl (max ∙ e ∙ read) | inr e ↦ inr (max ∙ e) ])
     (omega (arith, ints, at_least_net, read)) at_least_zero in

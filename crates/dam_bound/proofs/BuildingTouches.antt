@@ -1,6 +1,7 @@
 -- The touches of a block, pair by pair, and what stays of those that are there.
 use Rattle.std.proofs.Common.{◌≡◌, ◌≢◌, ℕ, zero, suc, ◌+◌, ◌<◌, ◌≤◌, ◌==◌, ◌&&◌, not, nat_lt, cond, Bool, true, false, ℤ, pos, ◌+ℤ◌, ◌*ℤ◌}
-use Rattle.std.proofs.Common.{negsuc, Some, List, [], ◌∷◌, ◌++◌, length, length-append, length-drop, take, drop, get_or, inl, inr, ap, ap₂, ◌∙◌, sym, subst, refl, arith}
+use Rattle.std.proofs.Common.{negsuc, Some, List, [], ◌∷◌, ◌++◌, length, length-append, length-drop, take, drop, get_or, inl, inr}
+use Rattle.std.proofs.Common.{ap, ap₂, ◌∙◌, sym, subst, refl, arith}
 use Rattle.std.specs.List.{slice_get}
 use Rattle.std.specs.Prelude.{IsPermutation}
 use Rattle.std.proofs.lemmas.Int.{ints}

@@ -73,7 +73,8 @@ loop-at-preserved g c =
           })
       | else-firsts-at w ↦
           record {
-            within = same_within c.loop-at.at (to_z w64 c.loop-at.total-bits) (to_z w64 c.if-firsts-at.total-bits) w.total-is c.loop-at.invariant.within;
+            within = same_within c.loop-at.at (to_z w64 c.loop-at.total-bits) (to_z w64 c.if-firsts-at.total-bits) w.total-is
+                c.loop-at.invariant.within;
             so_far = λ problem firsts curves few.
                 (let number = curves.as_many in
                 let inside : c.loop-at.at < length problem.hours = omega (arith, number, test) in

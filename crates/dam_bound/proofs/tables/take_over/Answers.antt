@@ -35,13 +35,15 @@ loop-touch-preserved c =
 pub returns-clause-places : goal.returns-clause-places
 returns-clause-places c problem all kept k b at few short are before =
     let past = c.loop-touch-test.false in
-    let gone = ap (written (λ (t : Touch). t.to) c.loop-touch.places) (drop_all c.loop-touch.touch-index c.args.touches.now (omega (arith, past))) in
+    let gone = ap (written (λ (t : Touch). t.to) c.loop-touch.places)
+    (drop_all c.loop-touch.touch-index c.args.touches.now (omega (arith, past))) in
     places_after problem all kept k b c.args.touches.now c.args.places.now c.loop-touch.places at few short are
     (sym gone ∙ c.loop-touch.invariant.places) before
 
 pub returns-clause-ends : goal.returns-clause-ends
 returns-clause-ends c problem all kept k b at are before =
     let past = c.loop-touch-test.false in
-    let gone = ap (written (λ (t : Touch). t.choice.after) c.loop-touch.ends) (drop_all c.loop-touch.touch-index c.args.touches.now (omega (arith, past))) in
+    let gone = ap (written (λ (t : Touch). t.choice.after) c.loop-touch.ends)
+    (drop_all c.loop-touch.touch-index c.args.touches.now (omega (arith, past))) in
     curves_after problem all kept k b c.args.touches.now c.args.ends.now c.loop-touch.ends at are
     (sym gone ∙ c.loop-touch.invariant.ends) before

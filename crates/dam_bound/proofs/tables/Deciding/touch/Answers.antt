@@ -74,13 +74,13 @@ returns-clause-touch g c problem kept k b is class volume =
           let choice = choice_is problem c.curve.new.curves k c.args.at b _ _ _ deciding.block_is adds.read least most
           (class_curve_stays problem c.args.curves.now c.curve.new.curves k c.args.at _ c.curve.ensures.kept
           (deciding.ends_are.each c.args.at none class.inside class.first)) after in
-          touch_made problem c.args.curves.now c.curve.new.curves c.if-self.curves kept k b _ _ none deciding class some refl refl adds.read worth refl after
-          c.curve.ensures.kept (subst (Keeps c.curve.new.curves) (sym w.curves-is) w.keep_losses.ensures.kept)
+          touch_made problem c.args.curves.now c.curve.new.curves c.if-self.curves kept k b _ _ none deciding class some refl refl
+          adds.read worth refl after c.curve.ensures.kept (subst (Keeps c.curve.new.curves) (sym w.curves-is) w.keep_losses.ensures.kept)
           (λ late. losses_kept w.keep_losses.new.self.losses c.if-self.curves.losses _ _ _ w.in_ok-offset.offset _ _ _ _ _
           (ap (λ (ls : CurvesState). ls.losses) w.curves-is) (w.offset-is ∙ offset) least most
           (w.in_ok-offset.ensures.losses (class_hours problem k c.args.at) (class_hours problem (k + 1) c.args.at) choice)))
       | else-self w ↦
-          touch_made problem c.args.curves.now c.curve.new.curves c.if-self.curves kept k b _ _ none deciding class some refl refl adds.read worth refl after
-          c.curve.ensures.kept (subst (Keeps c.curve.new.curves) (sym w.curves-is) (keeps_all c.curve.new.curves))
+          touch_made problem c.args.curves.now c.curve.new.curves c.if-self.curves kept k b _ _ none deciding class some refl refl
+          adds.read worth refl after c.curve.ensures.kept (subst (Keeps c.curve.new.curves) (sym w.curves-is) (keeps_all c.curve.new.curves))
           (λ late. let before : k < kept = deciding.keep_is (search rules) in absurd (omega (arith, late, before)))
     ]
