@@ -25,6 +25,7 @@ pub mod BuildingSupplies
 pub mod BuildingRanges
 pub mod BuildingCurves
 pub mod BuildingTouches
+pub mod BuildingChoices
 pub mod BuildingWrites
 pub mod BuildingDay
 pub mod BuildingLots

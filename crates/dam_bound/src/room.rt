@@ -1,8 +1,5 @@
-//! Which tables keep a welfare for each net volume. These are the faster to look up and take the more memory, so they
-//! are those of the last blocks, which a search decides most often.
-
-ghost use Rattle.std.specs.Prelude.{◌≤◌, length};
-ghost use Rattle.dam_book.specs.Limits.{last_period};
+//! Which blocks keep their losses for each net volume. Losses that are kept are the faster to look up and take memory,
+//! so they are those of the last blocks, which a search decides most often.
 
 use dam_blocks::{Block, MOST_PERIODS};
 use dam_book::BlockOrder;
@@ -47,7 +44,7 @@ impl Reach {
         }
     }
 
-    /// How many welfares the tables of a block have at most.
+    /// How many losses the block has at most.
     fn over(&self, order: &BlockOrder) -> u64 {
         let mut count = 0u64;
         for (period, _) in order.volumes().pairs() {
@@ -57,7 +54,7 @@ impl Reach {
     }
 }
 
-/// From which block on the tables keep a welfare for each net volume: as many of the last blocks as there is room for.
+/// From which block on the losses are kept: those of as many of the last blocks as there is room for.
 pub(crate) fn first_with_losses(blocks: &[Block], firsts: &[u32; MOST_PERIODS]) -> usize {
     let mut reach = Reach::of(firsts);
     for block in blocks {

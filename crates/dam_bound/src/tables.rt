@@ -1,7 +1,7 @@
 //! What the walk reads: the welfare of each class of periods at each depth as a curve over the net volume, and each
 //! block in each of its classes.
 
-ghost use Rattle.std.specs.Prelude.{◌≡◌, ◌<◌, ◌≤◌, ◌+◌, pos, neg_ℤ, ◌*ℤ◌, ◌≤ℤ◌, ℕ, ℤ, true, Some, List, [], length, slice_get, IfOk, IsPermutation};
+ghost use Rattle.std.specs.Prelude.{◌≡◌, ◌<◌, ◌≤◌, ◌+◌, pos, neg_ℤ, ◌*ℤ◌, ◌≤ℤ◌, ℕ, ℤ, Some, List, [], length, slice_get, IfOk, IsPermutation};
 ghost use Rattle.dam_book.specs.Limits.{last_period, most_blocks};
 ghost use Rattle.dam_curve.specs.Losses.{Keeps};
 ghost use Rattle.dam_blocks.specs.declared.problem.Block.{Block};
@@ -134,8 +134,8 @@ impl<'a, A: Allocator> Model for Deciding<'a, A> {
 impl<A: Allocator> Deciding<'_, A> {
     /// What the accepted block is worth in all periods of the class that begins at the place.
     fn value(&self, at: usize) -> i64
-        requires { (problem : ProblemState) × (all : CurvesState) × (kept : ℕ) × (k : ℕ) × (b : Block)
-            × IsDeciding problem all kept k b self.now × IsClass problem at }
+        requires { (problem : ProblemState) × (all : CurvesState) × (kept : ℕ) × (k : ℕ)
+            × (b : Block) × IsDeciding problem all kept k b self.now × IsClass problem at }
         ensures value { (problem : ProblemState) (all : CurvesState) (kept k : ℕ) (b : Block)
             → IsDeciding problem all kept k b self.now → IsClass problem at
             → result ≡ class_value problem b.order at }
@@ -147,13 +147,16 @@ impl<A: Allocator> Deciding<'_, A> {
     /// The net volumes, from the least to the most, that decisions on the earlier blocks can make of the class that
     /// begins at the place, in which the accepted block adds this net volume.
     fn range_before(&self, at: usize, net: i32) -> (i64, i64)
-        requires { (problem : ProblemState) × (all : CurvesState) × (kept : ℕ) × (k : ℕ) × (b : Block)
-            × IsDeciding problem all kept k b self.now × IsClass problem at × (net ≡ net_volume_of (at + 1) b.order) }
+        requires { (problem : ProblemState) × (all : CurvesState) × (kept : ℕ) × (k : ℕ)
+            × (b : Block) × IsDeciding problem all kept k b self.now × IsClass problem at
+            × (net ≡ net_volume_of (at + 1) b.order) }
         ensures least { (problem : ProblemState) (all : CurvesState) (kept k : ℕ) (b : Block)
-            → IsDeciding problem all kept k b self.now → IsClass problem at → net ≡ net_volume_of (at + 1) b.order
+            → IsDeciding problem all kept k b self.now → IsClass problem at
+            → net ≡ net_volume_of (at + 1) b.order
             → result.0 ≡ least_net problem.blocks k at }
         ensures most { (problem : ProblemState) (all : CurvesState) (kept k : ℕ) (b : Block)
-            → IsDeciding problem all kept k b self.now → IsClass problem at → net ≡ net_volume_of (at + 1) b.order
+            → IsDeciding problem all kept k b self.now → IsClass problem at
+            → net ≡ net_volume_of (at + 1) b.order
             → result.1 ≡ most_net problem.blocks k at }
     {
         let periods = self.periods;

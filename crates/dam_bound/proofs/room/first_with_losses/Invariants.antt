@@ -1,6 +1,6 @@
 -- One block less in each turn.
 use Rattle.std.proofs.Common.{◌≤◌, length}
-use Rattle.dam_bound.proofs.room.first_with_values.Given as goal
+use Rattle.dam_bound.proofs.room.first_with_losses.Given as goal
 
 abbrev pub invariant-loop-place : goal.invariant-loop-place
 invariant-loop-place l = l.place ≤ length l.blocks

@@ -1,5 +1,7 @@
 -- The tables, made block by block.
-use Rattle.std.proofs.Common.{List, length, ◌∙◌, sym, subst, arith}
+use Rattle.std.proofs.Common.{ℤ, Some, List, length, ap, ◌∙◌, sym, subst, rules, arith}
+use Rattle.std.proofs.lemmas.Int.{to_z-of_z}
+use mir.Syntax.{w64}
 use Rattle.dam_curve.specs.Curve.{CurvesState}
 use Rattle.dam_blocks.specs.declared.problem.Block.{Block}
 use Rattle.dam_blocks.specs.Problem.{ProblemState}
@@ -53,10 +55,11 @@ returns g c =
       firsts_are = after.firsts_are;
       ends_are = subst (AreCurves problem _ (length problem.blocks)) (sym all)
           (subst (λ (ls : CurvesState). AreCurves problem ls (length problem.blocks) c.lots_of.new.ends) (sym c.curves-2.view_is) ends);
-      lots_are = subst (λ (ls : CurvesState). AreLots problem ls (length problem.blocks) c.in_ok-lots.lots.items) (sym c.curves-2.view_is)
-          (c.in_ok-lots.ensures.lots problem blocks are curves places);
+      lots_are = subst (λ (ls : CurvesState). AreLots problem ls c.first_with_losses-kept.result (length problem.blocks)
+          c.in_ok-lots.lots.items) (sym c.curves-2.view_is) (c.in_ok-lots.ensures.lots problem blocks are curves places);
       places_are = c.in_ok-lots.ensures.places problem blocks are curves places;
-      root_is = c.root_of-root.ensures problem seen.firsts_are
+      root_is = ap (λ (z : ℤ). Some z) (to_z-of_z w64 c.root_of-root.result (search rules))
+          ∙ c.root_of-root.ensures problem seen.firsts_are
           (subst (AreCurves problem c.first_curves.new.curves 0) (sym c.deref.ensures.value) first) are.few_periods;
       families_are = subst (λ (bs : List Block). AreFamilies bs c.in_ok-families_of.field-0.items) (sym blocks) c.in_ok-families_of.ensures;
     }
