@@ -375,8 +375,34 @@ fn lots_of<A: Allocator, B: Allocator, C: Allocator + Copy>(
 }
 
 impl<A: Allocator + Copy> Tables<A> {
-    /// The tables of a problem. The error is out of memory.
+    /// The tables of a problem, which keep no losses: a walk takes each from the curves. They are made quickly, for a
+    /// short walk. The error is out of memory.
     pub fn of<B: Allocator>(alloc: A, problem: &Problem<B>) -> Result<Tables<A>, AllocError>
+        ensures { IfOk result (AreTablesOf (without_rows problem.now)) }
+    {
+        Tables::made(alloc, problem, problem.block_count())
+    }
+
+    /// The tables of a problem, which keep the losses of as many of the last blocks as there is room for, in some MiB.
+    /// They are for a long walk. The error is out of memory.
+    pub fn with_losses<B: Allocator>(
+        alloc: A,
+        problem: &Problem<B>,
+    ) -> Result<Tables<A>, AllocError>
+        ensures { IfOk result (AreTablesOf (without_rows problem.now)) }
+    {
+        let periods = usize::from(problem.periods().get());
+        let firsts = firsts_of(problem.blocks(), periods);
+        Tables::made(alloc, problem, first_with_losses(problem.blocks(), &firsts))
+    }
+
+    /// The tables of a problem, which keep the losses from the block at the place `kept` on. The error is out of
+    /// memory.
+    fn made<B: Allocator>(
+        alloc: A,
+        problem: &Problem<B>,
+        kept: usize,
+    ) -> Result<Tables<A>, AllocError>
         ensures { IfOk result (AreTablesOf (without_rows problem.now)) }
     {
         let blocks = problem.blocks();
@@ -386,7 +412,6 @@ impl<A: Allocator + Copy> Tables<A> {
         let mut ends = first_curves(alloc, &periods, &mut curves, &mut sum)?;
         let root = root_of(&curves, &periods.firsts, &ends);
         let mut places = first_places();
-        let kept = first_with_losses(blocks, &periods.firsts);
         let lots = lots_of(
             alloc,
             &mut periods,

@@ -4,7 +4,7 @@ use Rattle.std.proofs.Common.{FitsSigned, to_z, of_z, w32, w64, List, [], ◌∷
 use Rattle.std.specs.List.{slice_range}
 use Rattle.std.proofs.lemmas.Int.{ints}
 use Rattle.std.proofs.lemmas.Bool.{cases_lt}
-use Rattle.std.proofs.lemmas.List.{take_all, drop_at, length-take-le, take-append-drop, take-append-le, drop-append-le, get_or_append_left}
+use Rattle.std.proofs.lemmas.List.{take_all, drop_at, length-take-le, take-append-le, drop-append-le}
 use Rattle.dam_book.specs.Limits.{last_period}
 use Rattle.dam_hour.specs.declared.step.Step.{Step}
 use Rattle.dam_hour.specs.Limits.{greatest_price}
@@ -13,7 +13,6 @@ use Rattle.dam_curve.specs.declared.curves.Curve.{Curve}
 use Rattle.dam_curve.specs.Curve.{joint_welfare, line_at, end_of, AreLines, bottom_of, IsOutside, greatest_line_surplus, IsCurve, lines_at}
 use Rattle.dam_curve.specs.Curve.{IsSmallLine, CurvesState, IsCurveAt}
 use Rattle.dam_curve.specs.Losses.{Keeps}
-use Rattle.dam_curve.specs.declared.losses.Loss.{Loss}
 use Rattle.dam_curve.proofs.ListsOfLines.{bottom_at, small_at}
 use Rattle.dam_curve.proofs.PeriodLines.{times_small}
 use Rattle.dam_curve.proofs.Adding.{line_here, place_from, stands_from, end_at, outside_from}
@@ -46,12 +45,12 @@ range_kept xs ys n m o l =
     ap (take (m - n)) (drop-append-le n xs ys (omega (arith, o, l)))
     ∙ take-append-le (m - n) (drop n xs) ys (let long = length-drop n xs in omega (arith, long, o, l))
 
-curve_kept : (old : CurvesState) (ls : List Line) (vs : List Loss) (curve : Curve) (ps : List (List Step)) (least most : ℤ)
-    → IsCurveAt old curve ps least most → IsCurveAt (record { lines = old.lines ++ ls; losses = vs }) curve ps least most
-curve_kept old ls vs curve ps least most is =
-    let same : lines_at (old.lines ++ ls) curve ≡ lines_at old.lines curve =
-    range_kept old.lines ls curve.first (curve.first + curve.count) (omega arith) is.within in
-    let long = length-append old.lines ls in
+curve_kept : (old new : CurvesState) (ls : List Line) → new.lines ≡ old.lines ++ ls → (curve : Curve) (ps : List (List Step)) (least most : ℤ)
+    → IsCurveAt old curve ps least most → IsCurveAt new curve ps least most
+curve_kept old new ls lines curve ps least most is =
+    let same : lines_at new.lines curve ≡ lines_at old.lines curve = ap (λ (ws : List Line). lines_at ws curve) lines
+    ∙ range_kept old.lines ls curve.first (curve.first + curve.count) (omega arith) is.within in
+    let long = ap length lines ∙ length-append old.lines ls in
     let within = is.within in
     record {
       within = omega (arith, long, within);
@@ -63,12 +62,7 @@ curve_kept old ls vs curve ps least most is =
 
 pub keeps_more : (old new : CurvesState) (ls : List Line) → new.lines ≡ old.lines ++ ls
     → take (length old.losses) new.losses ≡ old.losses → Keeps old new
-keeps_more old new ls lines losses = record {
-  curves = λ curve ps least most is.
-      subst (λ (ws : List Line). IsCurveAt (record { lines = ws; losses = new.losses }) curve ps least most) (sym lines)
-      (curve_kept old ls new.losses curve ps least most is);
-  losses = losses;
-}
+keeps_more old new ls lines losses = record { curves = curve_kept old new ls lines; losses = losses }
 
 count_is : (lines : List Line) (curve : Curve) → curve.first + curve.count ≤ length lines → length (lines_at lines curve) ≡ curve.count
 count_is lines curve l =
@@ -76,7 +70,7 @@ count_is lines curve l =
     let part = length-take-le (curve.first + curve.count - curve.first) (drop curve.first lines) (omega (arith, long, l)) in
     omega (arith, part)
 
-no_line : (ls : List Line) (net : ℤ) → length ls ≡ 0 → IsOutside ls net
+pub no_line : (ls : List Line) (net : ℤ) → length ls ≡ 0 → IsOutside ls net
 no_line [] net e = tt
 no_line (line ∷ ls) net e = absurd (omega (arith, e))
 

@@ -12,6 +12,7 @@ use crate::incumbent::{Incumbent, Private};
 use crate::laws;
 use crate::piece::search_piece;
 use crate::space::kept;
+use crate::trial::tables_for;
 use dam_blocks::{Best, Problem};
 use dam_bound::{Tables, Walk};
 use std::alloc::Global;
@@ -71,8 +72,9 @@ pub fn search_alone(alloc: Global, problem: &Problem, nodes: u32) -> Result<Best
     ensures whole { (piece : ℕ) → ¬ (IsErrOf result (SearchFault.Collected piece)) }
 {
     let tables = Tables::of(alloc, problem)?;
+    let first = first_selection(problem, &Walk::new(problem, &tables));
+    let tables = tables_for(alloc, problem, tables, first.welfare)?;
     let walk = &Walk::new(problem, &tables);
-    let first = first_selection(problem, walk);
     let mut incumbent = Private::new();
     incumbent.offer(first.welfare);
     let answer = search_piece(problem, walk, 0, 0, nodes, &mut incumbent);

@@ -1,11 +1,11 @@
-ghost use Rattle.std.specs.Prelude.{◌≡◌, ◌⊎◌, ◌+◌, ◌-◌, ◌^◌, ◌<◌, ◌≤◌, max, ℤ, pos, ◌<ℤ◌, ◌≤ℤ◌, true, false, Some, None};
+ghost use Rattle.std.specs.Prelude.{◌≡◌, ◌⊎◌, ◌+◌, ◌-◌, ◌^◌, ◌<◌, ◌≤◌, max, ℕ, ℤ, pos, ◌<ℤ◌, ◌≤ℤ◌, true, false, Some, None};
 ghost use Rattle.std.specs.Prelude.{List, Option, [], ◌∷◌, ◌++◌, length, IsTrue, ◌↔◌, MatchBool, IfSome, IfNone};
 ghost use Rattle.dam_blocks.specs.Selection.{choice, padded, IsAdmissible};
 ghost use Rattle.dam_blocks.specs.Eligible.{ArePrices, HasNoLoss};
 ghost use Rattle.dam_bound.specs.Relaxed.{without_rows};
-ghost use Rattle.dam_bound.specs.Trail.{IsDayIn, KeepsDays};
+ghost use Rattle.dam_bound.specs.Trail.{IsDayIn, KeepsDays, IsBoundOf};
 ghost use Rattle.dam_search.specs.Piece.{IsFind, IsMatched, Rises, welfare_found, IsSound, IsSpent};
-ghost use Rattle.dam_search.specs.inside.Walk.{IsBoundIn, IsExtended, Finds, Covers, IsGoing, IsWalked};
+ghost use Rattle.dam_search.specs.inside.Walk.{IsBoundIn, Finds, Covers, IsGoing, IsWalked};
 
 use crate::answer::PieceAnswer;
 use crate::incumbent::Incumbent;
@@ -80,6 +80,22 @@ impl<A: Allocator, B: Allocator> SearchSpace<'_, A, B> {
     {
         let day = self.walk.day_at(trail, total);
         prefix.has_loss(self.walk, &day)
+    }
+
+    /// Makes the day of the extension of a prefix by a decision on its next block, if `total` is the bound of the
+    /// extension; there is none if it has no bound, or one that needn't be known.
+    #[inline(always)]
+    fn enter(&self, prefix: &Prefix, accept: bool, trail: &mut Trail, total: Option<i64>)
+        requires depth { length prefix.now < length self.now.walk.now.blocks }
+        requires day { (before : ℤ) × IsDayIn self.now.walk.now prefix.now trail.old before }
+        ensures stands { (before : ℤ) (least : ℕ) → IsDayIn self.now.walk.now prefix.now trail.old before
+            → IsBoundOf self.now.walk.now (prefix.now ++ accept ∷ []) least total
+            → IsBoundIn self.now.walk.now (prefix.now ++ accept ∷ []) least trail.new total }
+        ensures kept { KeepsDays self.now.walk.now (length prefix.now) trail.old trail.new }
+    {
+        if total.is_some() {
+            self.walk.enter(trail, prefix.depth(), accept);
+        }
     }
 
     /// Takes the selection of a prefix that decides every block and that the links and the groups admit,
@@ -181,10 +197,26 @@ impl<A: Allocator, B: Allocator> SearchSpace<'_, A, B> {
         let next = self
             .walk
             .extensions(trail, prefix.depth(), bound, found.read);
-        if !self.decide(nodes, &prefix, accept, trail, next.by(accept), incumbent, found) {
+        if !self.decide(
+            nodes,
+            &prefix,
+            accept,
+            trail,
+            next.by(accept),
+            incumbent,
+            found,
+        ) {
             return false;
         }
-        self.decide(nodes, &prefix, !accept, trail, next.by(!accept), incumbent, found)
+        self.decide(
+            nodes,
+            &prefix,
+            !accept,
+            trail,
+            next.by(!accept),
+            incumbent,
+            found,
+        )
     }
 
     /// Explores the extension of a prefix by this decision on the next block, as `explore` does.
@@ -204,7 +236,7 @@ impl<A: Allocator, B: Allocator> SearchSpace<'_, A, B> {
     ) -> bool
         requires depth { length prefix.now < length self.now.problem.now.blocks }
         requires day { (total : ℤ) × IsDayIn self.now.walk.now prefix.now trail.old total }
-        requires extension { IsExtended self.now.walk.now prefix.now accept found.old.read total }
+        requires bound { IsBoundOf self.now.walk.now (prefix.now ++ accept ∷ []) found.old.read total }
         requires admissible { IsAdmissible self.now.problem.now.blocks (padded prefix.now) }
         requires going { IsGoing self.now.problem.now nodes
             (I.greatest_read incumbent.old) (I.greatest_offer incumbent.old) found.old }
@@ -220,9 +252,7 @@ impl<A: Allocator, B: Allocator> SearchSpace<'_, A, B> {
         if accept && !extended.is_still_admissible(self.problem) {
             return true;
         }
-        if total.is_some() {
-            self.walk.enter(trail, prefix.depth(), accept);
-        }
+        self.enter(prefix, accept, trail, total);
         self.explore(nodes, extended, trail, total, incumbent, found)
     }
 }

@@ -148,7 +148,7 @@ impl Prefix {
         let mut total = walk.begin(trail);
         for place in 0..self.depth {
             let accept = self.taken.has(place);
-            let Some(next) = walk.extensions(trail, place, total, 0).of(accept) else {
+            let Some(next) = walk.extensions(trail, place, total, 0).by(accept) else {
                 return None;
             };
             walk.enter(trail, place, accept);

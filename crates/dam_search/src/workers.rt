@@ -14,6 +14,7 @@ use crate::fault::SearchFault;
 use crate::first::first_selection;
 use crate::incumbent::Incumbent;
 use crate::shared::Shared;
+use crate::trial::tables_for;
 use crate::turnstile::Turnstile;
 use crate::words::{ClosedWords, close, new_words};
 use crate::worker::work;
@@ -220,6 +221,8 @@ pub fn search<R: Threads + Sync, T: Turnstile + Sync>(
     ensures whole { (piece : ℕ) → ¬ (IsErrOf result (SearchFault.Collected piece)) }
 {
     let tables = Tables::of(alloc, problem)?;
+    let first = first_selection(problem, &Walk::new(problem, &tables)).welfare;
+    let tables = tables_for(alloc, problem, tables, first)?;
     let walk = Walk::new(problem, &tables);
     let task = Task {
         alloc,
@@ -228,7 +231,7 @@ pub fn search<R: Threads + Sync, T: Turnstile + Sync>(
         depth: plan.depth(problem.block_count()),
         nodes: plan.nodes(),
         workers: plan.workers(),
-        first: first_selection(problem, &walk).welfare,
+        first,
     };
     let explored = explore_all(rt, &task, turnstile)?;
     collected(problem, task.depth, task.nodes, &explored.answers)

@@ -10,7 +10,7 @@ use Rattle.dam_bound.specs.Tables.{AreCurves, AreLots}
 use Rattle.dam_bound.specs.inside.Building.{AreDecided}
 use Rattle.dam_bound.specs.inside.Families.{AreFamilies}
 use Rattle.dam_bound.proofs.BuildingLots.{whole}
-use Rattle.dam_bound.proofs.tables.Tables.of.Goals as goal
+use Rattle.dam_bound.proofs.tables.Tables.made.Goals as goal
 
 pub first_curves-requires : goal.first_curves-requires
 first_curves-requires g c = (without_rows c.args.problem.now, c.in_ok-periods.ensures)

@@ -1,0 +1,35 @@
+//! A trial before the search, which tells whether it is long enough for the losses to pay.
+
+ghost use Rattle.std.specs.Prelude.{IfOk};
+ghost use Rattle.dam_bound.specs.Relaxed.{without_rows};
+ghost use Rattle.dam_bound.specs.Tables.{AreTablesOf};
+
+use crate::incumbent::{Incumbent, Private};
+use crate::piece::search_piece;
+use dam_blocks::Problem;
+use dam_bound::{Tables, Walk};
+use std::alloc::{AllocError, Global};
+
+/// How many nodes a trial visits at most. Without the losses a node of a hard book takes some hundred nanoseconds
+/// more, and to compute them takes some milliseconds: as long as about so many nodes.
+const TRIAL_NODES: u32 = 16_384;
+
+/// The tables of a problem for a search with this welfare offered before it: these, which keep no losses, if it is
+/// done after some thousand nodes, and otherwise others that do. What the trial finds isn't used. The error is out of memory.
+pub(crate) fn tables_for(
+    alloc: Global,
+    problem: &Problem,
+    tables: Tables,
+    first: u64,
+) -> Result<Tables, AllocError>
+    requires { AreTablesOf (without_rows problem.now) tables }
+    ensures { IfOk result (AreTablesOf (without_rows problem.now)) }
+{
+    let mut incumbent = Private::new();
+    incumbent.offer(first);
+    let walk = &Walk::new(problem, &tables);
+    if search_piece(problem, walk, 0, 0, TRIAL_NODES, &mut incumbent).done {
+        return Ok(tables);
+    }
+    Tables::with_losses(alloc, problem)
+}
