@@ -55,7 +55,7 @@ returns g c =
       firsts_are = after.firsts_are;
       ends_are = subst (AreCurves problem _ (length problem.blocks)) (sym all)
           (subst (λ (ls : CurvesState). AreCurves problem ls (length problem.blocks) c.lots_of.new.ends) (sym c.curves-2.view_is) ends);
-      lots_are = subst (λ (ls : CurvesState). AreLots problem ls c.first_with_losses-kept.result (length problem.blocks)
+      lots_are = subst (λ (ls : CurvesState). AreLots problem ls c.args.kept (length problem.blocks)
           c.in_ok-lots.lots.items) (sym c.curves-2.view_is) (c.in_ok-lots.ensures.lots problem blocks are curves places);
       places_are = c.in_ok-lots.ensures.places problem blocks are curves places;
       root_is = ap (λ (z : ℤ). Some z) (to_z-of_z w64 c.root_of-root.result (search rules))
