@@ -59,7 +59,7 @@ pub struct Extensions {
 }
 
 impl Extensions {
-    /// Neither total, since both are under the floor.
+    /// No bounds, since both totals are under the floor.
     fn neither() -> Extensions
         ensures { result ≡ record { rejected = None; accepted = None } }
     {
@@ -69,7 +69,7 @@ impl Extensions {
         }
     }
 
-    /// The totals that aren't under the floor.
+    /// The totals as bounds, each if it isn't under the floor.
     fn reached(rejected: i64, accepted: i64, floor: i64) -> Extensions
         ensures rejected { MatchOption result.rejected (rejected <ℤ floor)
             (λ left. (left ≡ rejected) × (floor ≤ℤ left)) }
@@ -135,7 +135,7 @@ fn lowered(total: i64, loss: Option<i64>, floor: i64) -> i64
 }
 
 /// The bounds of both extensions of a prefix by the block at the place, from the curves. `total` is the relaxed welfare
-/// of the prefix, and the floor that of the incumbent.
+/// of the prefix. A bound under the floor is of no use.
 #[inline(never)]
 fn exact_bounds<A: Allocator>(
     tables: &Tables<A>,
