@@ -98,6 +98,8 @@ def page(name, text, clone, room):
     shown.write_text(f"#!/bin/sh\nexec cat {name}.help\n", encoding="utf-8")
     shown.chmod(0o755)
     # in a section that help2man writes too, this comes first
+    if name == "dam":
+        sections["VERSION"] = [f".PP\nThis is version {clone.version}, which\n.B dam\\-audit \\-\\-version\nprints: dam itself takes no such word."]
     blocks = [f"[{title}]\n" + "\n".join(parts) for title, parts in sections.items() if parts]
     more.write_text("\n\n".join([*blocks, "[SEE ALSO]\n" + see_also(name)]) + "\n", encoding="utf-8")
     line = ["help2man", "--no-info", "--section=1", f"--version-string={clone.version}", f"--name={words}", f"--include={more.name}"]
@@ -112,7 +114,7 @@ def see_also(name):
     of = next(other for other in sorted(COMMANDS, reverse=True) if name == other or name.removeprefix(f"{other}-") in COMMANDS[other])
     others = sorted({*COMMANDS, *(f"{of}-{word}" for word in COMMANDS[of])} - {name})
     listed = ",\n".join(f".BR {other} (1)" for other in others).replace(" (1),", " (1),")
-    return f"{listed}\n.PP\nThe manual is in /usr/share/doc/dam/, and begins with README.md."
+    return f"{listed}\n.PP\nThe manual begins with README.md in share/doc/dam/, below /usr or the folder of the archive."
 
 
 def pages(bin_folder, clone, room):
