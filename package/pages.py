@@ -99,7 +99,7 @@ def page(name, text, clone, room):
     shown.chmod(0o755)
     # in a section that help2man writes too, this comes first
     if name == "dam":
-        sections["VERSION"] = [f".PP\nThis is version {clone.version}, which\n.B dam\\-audit \\-\\-version\nprints: dam itself takes no such word."]
+        sections["VERSION"] = [f".PP\nThis is version {clone.version}.\n.B dam\\-audit \\-\\-version\nprints it; dam itself has no such option."]
     blocks = [f"[{title}]\n" + "\n".join(parts) for title, parts in sections.items() if parts]
     more.write_text("\n\n".join([*blocks, "[SEE ALSO]\n" + see_also(name)]) + "\n", encoding="utf-8")
     line = ["help2man", "--no-info", "--section=1", f"--version-string={clone.version}", f"--name={words}", f"--include={more.name}"]
