@@ -15,6 +15,8 @@ COMMANDS = {"dam": ("replay", "clear", "day"), **{f"dam-{tool}": () for tool in 
 HEADS = re.compile(r"(examples|statuses)\b[^:\n]*:", re.IGNORECASE)
 # How the help names a list of arguments or options, and help2man the section of it.
 LISTS = {"positional arguments:": "*Arguments*", "options:": "Options:", "commands:": "*Commands*"}
+# The program doesn't know its version.
+VERSION = ".PP\nThis is version {}.\n.B dam\\-audit \\-\\-version\nprints it; dam itself has no such option."
 
 
 def help_of(bin_folder, words):
@@ -97,9 +99,9 @@ def page(name, text, clone, room):
     shown, more = room / name, room / f"{name}.more"
     shown.write_text(f"#!/bin/sh\nexec cat {name}.help\n", encoding="utf-8")
     shown.chmod(0o755)
-    # in a section that help2man writes too, this comes first
     if name == "dam":
-        sections["VERSION"] = [f".PP\nThis is version {clone.version}.\n.B dam\\-audit \\-\\-version\nprints it; dam itself has no such option."]
+        sections["VERSION"] = [VERSION.format(clone.version)]
+    # in a section that help2man writes too, this comes first
     blocks = [f"[{title}]\n" + "\n".join(parts) for title, parts in sections.items() if parts]
     more.write_text("\n\n".join([*blocks, "[SEE ALSO]\n" + see_also(name)]) + "\n", encoding="utf-8")
     line = ["help2man", "--no-info", "--section=1", f"--version-string={clone.version}", f"--name={words}", f"--include={more.name}"]
