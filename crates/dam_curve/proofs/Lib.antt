@@ -1,7 +1,6 @@
 -- The lemmas that several functions need.
 pub mod Parts
 pub mod Supplying
-pub mod Valuing
 pub mod Clearing
 pub mod Removing
 pub mod PeriodLines
