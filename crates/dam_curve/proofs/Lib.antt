@@ -8,3 +8,5 @@ pub mod ListsOfLines
 pub mod Adding
 pub mod JointWelfare
 pub mod LookingUp
+pub mod Reading
+pub mod Losing

@@ -70,7 +70,7 @@ count_is lines curve l =
     let part = length-take-le (curve.first + curve.count - curve.first) (drop curve.first lines) (omega (arith, long, l)) in
     omega (arith, part)
 
-no_line : (ls : List Line) (net : ℤ) → length ls ≡ 0 → IsOutside ls net
+pub no_line : (ls : List Line) (net : ℤ) → length ls ≡ 0 → IsOutside ls net
 no_line [] net e = tt
 no_line (line ∷ ls) net e = absurd (omega (arith, e))
 

@@ -1,12 +1,14 @@
 //! What either side of a choice loses at each net volume.
 
-ghost use Rattle.std.specs.Prelude.{◌≡◌, ◌<◌, ◌+◌, ◌^◌, ℕ, ℤ, pos, neg_ℤ, ◌+ℤ◌, ◌-ℤ◌, ◌≤ℤ◌, Option, Some, None, List, length, slice_index_or, take, IfOk, IfSome, MatchOption};
+ghost use Rattle.std.specs.Prelude.{◌≡◌, ◌<◌, ◌≤◌, ◌+◌, ◌^◌, ℕ, ℤ, pos, neg_ℤ, ◌+ℤ◌, ◌-ℤ◌, ◌≤ℤ◌, Option, Some, None, List, length, slice_index_or, take, IfOk, OnOk, IfSome, MatchOption};
 ghost use Rattle.dam_hour.specs.declared.step.Step.{Step};
-ghost use Rattle.dam_curve.specs.Curve.{IsCurve, joint_welfare, lines_at};
-ghost use Rattle.dam_curve.specs.Losses.{IsKept, IsLoss, AreLosses, IsChoice, IsChoiceAt, Keeps, welfare_left, welfare_taken};
+ghost use Rattle.dam_curve.specs.Curve.{joint_welfare, lines_at, greatest_joint_welfare};
+ghost use Rattle.dam_curve.specs.Losses.{IsKept, IsLoss, IsLossAt, AreLosses, IsChoice, IsChoiceAt, Keeps, welfare_left, welfare_taken};
+ghost use Rattle.dam_curve.specs.inside.Reading.{IsOnLines, AreReadAt};
 
 use crate::curves::{Curve, Curves, value_in};
 use crate::line::Line;
+use dam_hour::laws;
 use std::alloc::{AllocError, Allocator};
 use std::marker::Model;
 
@@ -83,13 +85,15 @@ impl<'a> Reader<'a> {
 
     /// The joint welfare at the net volume; `None` exactly if some period doesn't balance.
     fn welfare(&mut self, net: i64) -> Option<i64>
-        requires { (periods : List (List Step)) × (least : ℤ) × (most : ℤ)
-            × IsCurve periods least most self.old × (least ≤ℤ net) × (net ≤ℤ most) }
-        ensures value { (periods : List (List Step)) (least most : ℤ)
-            → IsCurve periods least most self.old → least ≤ℤ net → net ≤ℤ most
+        requires { (periods : List (List Step)) × IsOnLines self.old periods net }
+        ensures value { (periods : List (List Step)) → IsOnLines self.old periods net
             → result ≡ joint_welfare periods net }
+        ensures at_least { IfSome result (λ w. neg_ℤ (pos greatest_joint_welfare) ≤ℤ w) }
+        ensures at_most { IfSome result (λ w. w ≤ℤ pos greatest_joint_welfare) }
         ensures kept { self.new ≡ self.old }
     {
+        laws::welfare();
+        laws::magnitude();
         let lines = self.lines;
         if lines.is_empty()
             || net > i64::from(lines[0].most)
@@ -113,7 +117,18 @@ struct Readers<'a> {
 
 impl Readers<'_> {
     /// The loss of the choice at the net volume.
-    fn loss(&mut self, choice: &Choice, net: i64) -> Loss {
+    fn loss(&mut self, choice: &Choice, net: i64) -> Loss
+        requires choice { (before : List (List Step)) × (after : List (List Step))
+            × AreReadAt self.old.before self.old.left self.old.taken choice.now before after net }
+        requires value_least { neg_ℤ (pos (2 ^ 62)) ≤ℤ choice.now.value }
+        requires value_most { choice.now.value ≤ℤ pos (2 ^ 62) }
+        ensures value { (before after : List (List Step))
+            → AreReadAt self.old.before self.old.left self.old.taken choice.now before after net
+            → IsLoss before after choice.now net result }
+        ensures before { self.new.before ≡ self.old.before }
+        ensures left { self.new.left ≡ self.old.left }
+        ensures taken { self.new.taken ≡ self.old.taken }
+    {
         let before = self.before.welfare(net);
         let left = self.left.welfare(net);
         let taken = match self.taken.welfare(net + i64::from(choice.net)) {
@@ -136,6 +151,41 @@ fn lines_of(lines: &[Line], curve: Curve) -> &[Line]
     &lines[first..first + curve.count as usize]
 }
 
+/// Writes the losses of a choice between the curves of these lines, one for each net volume from the least to the most.
+/// The error is out of memory; what was written before stays.
+fn write_losses<A: Allocator>(
+    losses: &mut Vec<Loss, A>,
+    before: &[Line],
+    after: &[Line],
+    choice: &Choice,
+    least: i64,
+    most: i64,
+) -> Result<(), AllocError>
+    requires choice { (earlier : List (List Step)) × (later : List (List Step))
+        × ((net : ℤ) → least ≤ℤ net → net ≤ℤ most
+        → AreReadAt before.now after.now after.now choice.now earlier later net) }
+    requires value_least { neg_ℤ (pos (2 ^ 62)) ≤ℤ choice.now.value }
+    requires value_most { choice.now.value ≤ℤ pos (2 ^ 62) }
+    ensures losses { (earlier later : List (List Step)) (net : ℤ) (place : ℕ)
+        → least ≤ℤ net → net ≤ℤ most
+        → AreReadAt before.now after.now after.now choice.now earlier later net
+        → pos place +ℤ least ≡ pos (length losses.old.items) +ℤ net
+        → OnOk result (IsLossAt losses.new.items earlier later choice.now net place) }
+    ensures kept { take (length losses.old.items) losses.new.items ≡ losses.old.items }
+{
+    let mut readers = Readers {
+        before: Reader::new(before),
+        left: Reader::new(after),
+        taken: Reader::new(after),
+    };
+    let mut net = least;
+    while net <= most {
+        losses.push(readers.loss(choice, net))?;
+        net += 1;
+    }
+    Ok(())
+}
+
 impl<A: Allocator> Curves<A> {
     /// Keeps the loss of a choice at each net volume from the least to the most, and returns the offset from a net
     /// volume to the place of its loss. The error is out of memory.
@@ -154,17 +204,9 @@ impl<A: Allocator> Curves<A> {
         }
         let first = self.losses.len() as i64;
         let lines = self.lines.as_slice();
+        let before = lines_of(lines, choice.before);
         let after = lines_of(lines, choice.after);
-        let mut readers = Readers {
-            before: Reader::new(lines_of(lines, choice.before)),
-            left: Reader::new(after),
-            taken: Reader::new(after),
-        };
-        let mut net = least;
-        while net <= most {
-            self.losses.push(readers.loss(choice, net))?;
-            net += 1;
-        }
+        write_losses(&mut self.losses, before, after, choice, least, most)?;
         Ok(first - least)
     }
 
