@@ -1,9 +1,10 @@
 -- The losses of a choice, net volume by net volume, after those of others.
-use Rattle.std.proofs.Common.{◌≡◌, ℕ, ◌+◌, ◌<◌, ℤ, pos, ◌+ℤ◌, ◌≤ℤ◌, ◌<ℤ◌, List, [], ◌∷◌, ◌++◌, length, length-append, take, get_or, inl, inr, ap, ◌∙◌, sym, subst, arith}
+use Rattle.std.proofs.Common.{◌≡◌, ℕ, ◌+◌, ◌<◌, ℤ, pos, ◌+ℤ◌, ◌≤ℤ◌, ◌<ℤ◌, List, [], ◌∷◌, ◌++◌, length, length-append, take, get_or, FitsSigned, to_z, of_z, w64, inl, inr, ap, ◌∙◌, sym, subst, arith}
 use Rattle.std.proofs.lemmas.Int.{ints}
 use Rattle.std.proofs.lemmas.Bool.{cases_lt}
 use Rattle.std.proofs.lemmas.List.{take-append-le, get_or_append_left, get_or_push}
 use Rattle.dam_hour.specs.declared.step.Step.{Step}
+use Rattle.dam_hour.specs.Execution.{IsNetVolume}
 use Rattle.dam_curve.specs.declared.line.Line.{Line}
 use Rattle.dam_curve.specs.declared.losses.Choice.{Choice}
 use Rattle.dam_curve.specs.declared.losses.Loss.{Loss}
@@ -53,3 +54,20 @@ loss_more earlier later choice old losses least net next loss is step so_far =
             (is before after (subst (AreReadAt earlier later later choice before after) (sym same) read))))
       ];
     }
+
+-- ---- the next net volume in the numbers of the machine
+pub after_fits : (most wide : ℤ) → IsNetVolume most → wide ≡ most → FitsSigned w64 (wide +ℤ pos 1)
+after_fits most wide is same = let low = is.at_least in let high = is.at_most in omega (arith, ints, low, high, same)
+
+pub next_is : (net most : ℤ) → IsNetVolume most → FitsSigned w64 net → net ≤ℤ most → to_z w64 (of_z w64 (net +ℤ pos 1)) ≡ net +ℤ pos 1
+next_is net most is fits l = let high = is.at_most in omega (arith, ints, fits, high, l)
+
+-- ---- the loss by readers that have these lines
+pub read_by : (a b c x y : List Line) (choice : Choice) (net : ℤ) (loss : Loss) → a ≡ x → b ≡ y → c ≡ y
+    → ((before after : List (List Step)) → AreReadAt a b c choice before after net → IsLoss before after choice net loss)
+    → (before after : List (List Step)) → AreReadAt x y y choice before after net → IsLoss before after choice net loss
+read_by a b c x y choice net loss e f h is before after read =
+    is before after
+    (subst (λ (ls : List Line). AreReadAt ls b c choice before after net) (sym e)
+    (subst (λ (ls : List Line). AreReadAt x ls c choice before after net) (sym f)
+    (subst (λ (ls : List Line). AreReadAt x y ls choice before after net) (sym h) read)))
