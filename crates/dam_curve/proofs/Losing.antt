@@ -1,5 +1,5 @@
 -- The losses of a choice, net volume by net volume, after those of others.
-use Rattle.std.proofs.Common.{◌≡◌, ℕ, ◌+◌, ◌<◌, ℤ, pos, ◌+ℤ◌, ◌≤ℤ◌, ◌<ℤ◌, List, [], ◌∷◌, ◌++◌, length, length-append, take, get_or, FitsSigned, to_z, of_z, w64, inl, inr, ap, ◌∙◌, sym, subst, arith}
+use Rattle.std.proofs.Common.{◌≡◌, ℕ, ◌+◌, ◌<◌, ℤ, pos, ◌+ℤ◌, ◌-ℤ◌, ◌≤ℤ◌, ◌<ℤ◌, nat_abs, List, [], ◌∷◌, ◌++◌, length, length-append, take, get_or, FitsSigned, to_z, of_z, w64, inl, inr, ap, ◌∙◌, sym, subst, arith}
 use Rattle.std.proofs.lemmas.Int.{ints}
 use Rattle.std.proofs.lemmas.Bool.{cases_lt}
 use Rattle.std.proofs.lemmas.List.{take-append-le, get_or_append_left, get_or_push}
@@ -71,3 +71,23 @@ read_by a b c x y choice net loss e f h is before after read =
     (subst (λ (ls : List Line). AreReadAt ls b c choice before after net) (sym e)
     (subst (λ (ls : List Line). AreReadAt x ls c choice before after net) (sym f)
     (subst (λ (ls : List Line). AreReadAt x y ls choice before after net) (sym h) read)))
+
+-- ---- from a net volume to the place of its loss
+pub record IsOffset (first : ℕ) (least wide start : ℤ) : Type 0 where
+  pub fits : FitsSigned w64 (start -ℤ wide)
+  pub offset_is : to_z w64 (of_z w64 (start -ℤ wide)) ≡ pos first -ℤ least
+
+pub offset_of : (first : ℕ) (least wide start : ℤ) → first < 4294967296 → IsNetVolume least → wide ≡ least → start ≡ pos first
+    → IsOffset first least wide start
+offset_of first least wide start few is same e =
+    let low = is.at_least in let high = is.at_most in
+    record {
+      fits = omega (arith, ints, few, low, high, same, e);
+      offset_is = omega (arith, ints, few, low, high, same, e);
+    }
+
+-- the place of a net volume from the least on
+pub place_of_net : (first : ℕ) (least net offset : ℤ) → least ≤ℤ net → offset ≡ pos first -ℤ least
+    → (place : ℕ) × (pos place ≡ net +ℤ offset) × (pos place +ℤ least ≡ pos first +ℤ net)
+place_of_net first least net offset low e =
+    (nat_abs (net +ℤ offset), omega (arith, ints, low, e), omega (arith, ints, low, e))

@@ -1,12 +1,14 @@
 -- The lines of a curve at a net volume, and the welfare that is read from them.
-use Rattle.std.proofs.Common.{◌≡◌, ℕ, ◌-◌, ◌<◌, ℤ, pos, neg_ℤ, ◌≤ℤ◌, ◌<ℤ◌, ◌+ℤ◌, Option, Some, None, List, [], ◌∷◌, length, get_or, to_z, of_z, w32, w64, ap, ◌∙◌, sym, subst, inl, inr, arith}
+use Rattle.std.proofs.Common.{◌≡◌, ℕ, ◌-◌, ◌<◌, ℤ, pos, neg_ℤ, ◌≤ℤ◌, ◌<ℤ◌, ◌+ℤ◌, Option, Some, None, List, [], ◌∷◌, length, get_or, to_z, of_z, w32, w64, ap, ◌∙◌, sym, subst, inl, inr, refl, arith}
 use Rattle.std.proofs.lemmas.Int.{ints}
 use Rattle.dam_hour.specs.declared.step.Step.{Step}
 use Rattle.dam_hour.specs.Execution.{IsNetVolume}
 use Rattle.dam_curve.specs.declared.line.Line.{Line}
-use Rattle.dam_curve.specs.Curve.{both, joint_welfare, end_of, bottom_of, IsOutside, greatest_joint_welfare}
-use Rattle.dam_curve.specs.Losses.{IsKept}
-use Rattle.dam_curve.specs.inside.Reading.{IsOnLines}
+use Rattle.dam_curve.specs.declared.curves.Curve.{Curve}
+use Rattle.dam_curve.specs.declared.losses.Choice.{Choice}
+use Rattle.dam_curve.specs.Curve.{both, joint_welfare, end_of, bottom_of, IsOutside, IsCurve, CurvesState, lines_at, greatest_joint_welfare}
+use Rattle.dam_curve.specs.Losses.{IsKept, IsOnCurve, IsChoiceAt}
+use Rattle.dam_curve.specs.inside.Reading.{IsOnLines, AreReadAt}
 use Rattle.dam_curve.proofs.ListsOfLines.{bottom_at}
 use Rattle.dam_curve.proofs.Adding.{end_at, outside_from}
 use Rattle.dam_curve.proofs.JointWelfare.{SizeLaws, joint_small}
@@ -79,3 +81,27 @@ value_added value welfare low high low2 high2 =
     let own : to_z w64 (of_z w64 value) ≡ value = omega (arith, ints, low, high) in
     let read : to_z w64 (of_z w64 welfare) ≡ welfare = omega (arith, ints, low2, high2) in
     omega (arith, ints, low, high, low2, high2, own, read)
+
+-- ---- the lines of a choice's curves
+on_lines : (curves : CurvesState) (curve : Curve) (ls : List Line) (ps : List (List Step)) (net : ℤ) → ls ≡ lines_at curves.lines curve
+    → IsOnCurve curves curve ps net → IsOnLines ls ps net
+on_lines curves curve ls ps net e on = record {
+  least = on.least;
+  most = on.most;
+  curve_is = subst (IsCurve ps on.least on.most) (sym e) on.curve_is.is_curve;
+  at_least = on.at_least;
+  at_most = on.at_most;
+}
+
+pub net_on_curve : (curves : CurvesState) (curve : Curve) (ps : List (List Step)) (net : ℤ) → IsOnCurve curves curve ps net → IsNetVolume net
+net_on_curve curves curve ps net on =
+    net_volume (lines_at curves.lines curve) ps net (on_lines curves curve (lines_at curves.lines curve) ps net refl on)
+
+pub lines_read : (curves : CurvesState) (choice : Choice) (earlier later : List Line) (before after : List (List Step)) (net : ℤ)
+    → earlier ≡ lines_at curves.lines choice.before → later ≡ lines_at curves.lines choice.after
+    → IsChoiceAt curves choice before after net → AreReadAt earlier later later choice before after net
+lines_read curves choice earlier later before after net e f at = record {
+  before_is = on_lines curves choice.before earlier before net e at.before_is;
+  left_is = on_lines curves choice.after later after net f at.left_is;
+  taken_is = on_lines curves choice.after later after (net +ℤ choice.net) f at.taken_is;
+}

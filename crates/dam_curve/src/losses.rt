@@ -6,7 +6,7 @@ ghost use Rattle.dam_curve.specs.Curve.{joint_welfare, lines_at, greatest_joint_
 ghost use Rattle.dam_curve.specs.Losses.{IsKept, IsLoss, IsLossAt, AreLosses, IsChoice, IsChoiceAt, Keeps, welfare_left, welfare_taken};
 ghost use Rattle.dam_curve.specs.inside.Reading.{IsOnLines, AreReadAt};
 
-use crate::curves::{Curve, Curves, value_in};
+use crate::curves::{Curve, Curves, narrow, value_in};
 use crate::line::Line;
 use dam_hour::laws;
 use std::alloc::{AllocError, Allocator};
@@ -202,7 +202,7 @@ impl<A: Allocator> Curves<A> {
         if most < least {
             return Ok(0);
         }
-        let first = self.losses.len() as i64;
+        let first = i64::from(narrow(self.losses.len())?);
         let lines = self.lines.as_slice();
         let before = lines_of(lines, choice.before);
         let after = lines_of(lines, choice.after);
