@@ -10,3 +10,4 @@ pub mod JointWelfare
 pub mod LookingUp
 pub mod Reading
 pub mod Losing
+pub mod ExactLosses
