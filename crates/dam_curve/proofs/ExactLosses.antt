@@ -1,9 +1,9 @@
 -- The loss between two welfares, in the numbers of the machine.
-use Rattle.std.proofs.Common.{◌≡◌, ℤ, pos, neg_ℤ, ◌+ℤ◌, ◌-ℤ◌, ◌≤ℤ◌, Option, Some, None, MatchOption, List, to_z, of_z, w32, w64, ap, ◌∙◌, sym, subst, arith}
+use Rattle.std.proofs.Common.{◌≡◌, ℤ, pos, neg_ℤ, ◌+ℤ◌, ◌-ℤ◌, ◌≤ℤ◌, Option, Some, None, MatchOption, List, to_z, of_z, w64, ap, ◌∙◌, sym, subst, arith}
 use Rattle.std.proofs.lemmas.Int.{ints}
 use Rattle.dam_hour.specs.declared.step.Step.{Step}
 use Rattle.dam_curve.specs.declared.curves.Curve.{Curve}
-use Rattle.dam_curve.specs.Curve.{both, joint_welfare, CurvesState, IsCurveAt, greatest_joint_welfare}
+use Rattle.dam_curve.specs.Curve.{both, joint_welfare, CurvesState, IsCurveAt}
 use Rattle.dam_curve.specs.Losses.{IsOnCurve}
 use Rattle.dam_curve.proofs.Reading.{IsSmallWelfare, value_added}
 

@@ -4,7 +4,7 @@ use Rattle.std.proofs.Common.{FitsSigned, to_z, of_z, w32, w64, List, [], ◌∷
 use Rattle.std.specs.List.{slice_range}
 use Rattle.std.proofs.lemmas.Int.{ints}
 use Rattle.std.proofs.lemmas.Bool.{cases_lt}
-use Rattle.std.proofs.lemmas.List.{take_all, drop_at, length-take-le, take-append-drop, take-append-le, drop-append-le, get_or_append_left}
+use Rattle.std.proofs.lemmas.List.{take_all, drop_at, length-take-le, take-append-le, drop-append-le}
 use Rattle.dam_book.specs.Limits.{last_period}
 use Rattle.dam_hour.specs.declared.step.Step.{Step}
 use Rattle.dam_hour.specs.Limits.{greatest_price}

@@ -1,5 +1,5 @@
 -- The lines of a curve at a net volume, and the welfare that is read from them.
-use Rattle.std.proofs.Common.{◌≡◌, ℕ, ◌-◌, ◌<◌, ℤ, pos, neg_ℤ, ◌≤ℤ◌, ◌<ℤ◌, ◌+ℤ◌, Option, Some, None, List, [], ◌∷◌, length, get_or, to_z, of_z, w32, w64, ap, ◌∙◌, sym, subst, inl, inr, refl, arith}
+use Rattle.std.proofs.Common.{◌≡◌, ℕ, ◌-◌, ◌<◌, ℤ, pos, neg_ℤ, ◌≤ℤ◌, ◌<ℤ◌, ◌+ℤ◌, Option, Some, None, List, length, get_or, to_z, of_z, w32, w64, ap, ◌∙◌, sym, subst, inl, inr, refl, arith}
 use Rattle.std.proofs.lemmas.Int.{ints}
 use Rattle.dam_hour.specs.declared.step.Step.{Step}
 use Rattle.dam_hour.specs.Execution.{IsNetVolume}

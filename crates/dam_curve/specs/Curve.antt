@@ -1,6 +1,6 @@
 -- The greatest welfare of periods as a function of the net volume, by straight lines.
 use Rattle.std.specs.Prelude.{◌≡◌, ◌⊎◌, ℕ, ◌+◌, ◌*◌, ◌<◌, ◌≤◌, ℤ, pos, neg_ℤ, ◌+ℤ◌, ◌*ℤ◌, ◌≤ℤ◌, ◌<ℤ◌, Option, Some, None}
-use Rattle.std.specs.Prelude.{List, [], ◌∷◌, length, slice_range, slice_index_or}
+use Rattle.std.specs.Prelude.{List, [], ◌∷◌, length, slice_range}
 use Rattle.dam_book.specs.Limits.{last_period, greatest_volume}
 use Rattle.dam_hour.specs.Execution.{IsHour, IsNetVolume}
 use Rattle.dam_hour.specs.Best.{greatest_welfare}

@@ -1,8 +1,7 @@
 -- The net volume of each turn has a welfare on each curve, and its loss is written after the others.
-use Rattle.std.proofs.Common.{◌≡◌, ◌+◌, ℤ, pos, ◌+ℤ◌, ◌≤ℤ◌, List, length, ◌++◌, ◌∷◌, [], ◌∙◌, sym, subst, to_z, of_z, w64, rules, arith}
+use Rattle.std.proofs.Common.{◌≡◌, pos, ◌+ℤ◌, List, ◌++◌, ◌∷◌, [], ◌∙◌, sym, subst, to_z, of_z, w64, rules, arith}
 use Rattle.std.proofs.lemmas.Int.{ints}
 use borrow.Author.Gap.{past_up_to, read_sfits}
-use Rattle.dam_hour.specs.declared.step.Step.{Step}
 use Rattle.dam_curve.specs.declared.losses.Loss.{Loss}
 use Rattle.dam_curve.proofs.Reading.{net_volume}
 use Rattle.dam_curve.proofs.Losing.{AreLossesSoFar, loss_more, after_fits, next_is, read_by}
@@ -31,14 +30,14 @@ loop-net-preserved g c =
       left = c.loss.ensures.left ∙ c.loop-net.invariant.left;
       taken = c.loss.ensures.taken ∙ c.loop-net.invariant.taken;
       so_far = subst (λ (xs : List Loss). AreLossesSoFar c.args.before.now c.args.after.now c.args.choice.now c.args.losses.now.items xs
-      (to_z w64 (of_z w64 c.args.least)) (to_z w64 (of_z w64 (to_z w64 c.loop-net.net-bits +ℤ pos 1)))) (sym pushed)
-      (loss_more c.args.before.now c.args.after.now c.args.choice.now c.args.losses.now.items c.loop-net.losses.items
-      (to_z w64 (of_z w64 c.args.least)) (to_z w64 c.loop-net.net-bits) _ c.loss.result
-      (read_by c.loop-net.readers.before c.loop-net.readers.left c.loop-net.readers.taken c.args.before.now c.args.after.now c.args.choice.now
-      (to_z w64 c.loop-net.net-bits) c.loss.result c.loop-net.invariant.earlier c.loop-net.invariant.left c.loop-net.invariant.taken
-      c.loss.ensures.value)
-      (next_is (to_z w64 c.loop-net.net-bits) (to_z w64 c.loop-net.net-bits) here (read_sfits w64 c.loop-net.net-bits) (omega (arith, ints)))
-      c.loop-net.invariant.so_far);
+          (to_z w64 (of_z w64 c.args.least)) (to_z w64 (of_z w64 (to_z w64 c.loop-net.net-bits +ℤ pos 1)))) (sym pushed)
+          (loss_more c.args.before.now c.args.after.now c.args.choice.now c.args.losses.now.items c.loop-net.losses.items
+          (to_z w64 (of_z w64 c.args.least)) (to_z w64 c.loop-net.net-bits) _ c.loss.result
+          (read_by c.loop-net.readers.before c.loop-net.readers.left c.loop-net.readers.taken c.args.before.now c.args.after.now c.args.choice.now
+          (to_z w64 c.loop-net.net-bits) c.loss.result c.loop-net.invariant.earlier c.loop-net.invariant.left c.loop-net.invariant.taken
+          c.loss.ensures.value)
+          (next_is (to_z w64 c.loop-net.net-bits) (to_z w64 c.loop-net.net-bits) here (read_sfits w64 c.loop-net.net-bits) (omega (arith, ints)))
+          c.loop-net.invariant.so_far);
     }
 
 pub returns-clause-losses : goal.returns-clause-losses

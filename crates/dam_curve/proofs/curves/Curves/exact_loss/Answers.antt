@@ -1,5 +1,5 @@
 -- Each welfare is the joint welfare there, so that the difference of two is the loss.
-use Rattle.std.proofs.Common.{◌≡◌, ℤ, ◌+ℤ◌, to_z, of_z, w64, rules, arith}
+use Rattle.std.proofs.Common.{◌≡◌, ◌+ℤ◌, to_z, of_z, w64, rules, arith}
 use Rattle.std.proofs.lemmas.Int.{ints}
 use Rattle.dam_curve.proofs.Reading.{IsSmallWelfare, net_on_curve, net_moved}
 use Rattle.dam_curve.proofs.ExactLosses.{read_on_curve, none_and_some, same_welfare, left_lost, left_none, taken_lost, taken_none}
@@ -37,7 +37,7 @@ returns-in-Some-welfare-2-clause-left g c before after w at is =
     let small : IsSmallWelfare c.in-Some.before = record { at_least = c.in-Some.ensures.at_least; at_most = c.in-Some.ensures.at_most } in
     elim c.match-welfare-2.branch [
       | in-Some-welfare v ↦ left_lost c.welfare-2.result c.match-welfare-2.left _ w c.in-Some.before v.in-Some-welfare.after v.left-is same small
-        (record { at_least = v.in-Some-welfare.ensures.at_least; at_most = v.in-Some-welfare.ensures.at_most }) v.in-Some-welfare.is later
+          (record { at_least = v.in-Some-welfare.ensures.at_least; at_most = v.in-Some-welfare.ensures.at_most }) v.in-Some-welfare.is later
       | in-None v ↦ left_none c.welfare-2.result c.match-welfare-2.left _ w v.left-is v.in-None.is later
     ]
 
@@ -66,7 +66,7 @@ returns-in-None-welfare-clause-left g c before after w at is =
     let small : IsSmallWelfare c.in-Some.before = record { at_least = c.in-Some.ensures.at_least; at_most = c.in-Some.ensures.at_most } in
     elim c.match-welfare-2.branch [
       | in-Some-welfare v ↦ left_lost c.welfare-2.result c.match-welfare-2.left _ w c.in-Some.before v.in-Some-welfare.after v.left-is same small
-        (record { at_least = v.in-Some-welfare.ensures.at_least; at_most = v.in-Some-welfare.ensures.at_most }) v.in-Some-welfare.is later
+          (record { at_least = v.in-Some-welfare.ensures.at_least; at_most = v.in-Some-welfare.ensures.at_most }) v.in-Some-welfare.is later
       | in-None v ↦ left_none c.welfare-2.result c.match-welfare-2.left _ w v.left-is v.in-None.is later
     ]
 

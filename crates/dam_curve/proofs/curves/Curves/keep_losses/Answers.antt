@@ -1,7 +1,6 @@
 -- The losses that are written are those of the choice, and what stood there stays.
-use Rattle.std.proofs.Common.{◌≡◌, ◌+◌, ◌-◌, ◌<◌, ℕ, ℤ, pos, ◌+ℤ◌, ◌-ℤ◌, ◌≤ℤ◌, List, [], length, take, ◌∙◌, sym, subst, FitsSigned, to_z, of_z, w64, rules, arith}
+use Rattle.std.proofs.Common.{◌≡◌, ◌<◌, pos, List, [], length, take, subst, to_z, of_z, w64, rules, arith}
 use Rattle.std.proofs.lemmas.Int.{ints}
-use Rattle.dam_hour.specs.declared.step.Step.{Step}
 use Rattle.dam_curve.specs.declared.losses.Loss.{Loss}
 use Rattle.dam_curve.specs.Curve.{lines_at}
 use Rattle.dam_curve.proofs.LookingUp.{keeps_more}

@@ -1,7 +1,7 @@
 -- The value of the line is the joint welfare; and it is small.
-use Rattle.std.proofs.Common.{◌≡◌, ℤ, pos, Some, List, ap, ◌∙◌, inl, inr, refl, sym, subst, to_z, of_z, w64, rules, arith}
+use Rattle.std.proofs.Common.{◌≡◌, ℤ, Some, ap, ◌∙◌, inl, inr, sym, to_z, of_z, w64, rules, arith}
 use Rattle.std.proofs.lemmas.Int.{ints}
-use Rattle.dam_curve.specs.Curve.{IsCurveAt, joint_welfare, lines_at}
+use Rattle.dam_curve.specs.Curve.{joint_welfare}
 use Rattle.dam_curve.proofs.LookingUp.{none_there}
 use Rattle.dam_curve.proofs.JointWelfare.{SizeLaws, joint_small}
 use Rattle.dam_curve.proofs.curves.Curves.welfare.Goals.{then-net-from-via-then-net-from, then-net-from-via-else-net-from+then-net-from-2}

@@ -1,6 +1,5 @@
 -- Beyond the lines there is no welfare; else the value of the line is the joint welfare, and it is small.
-use Rattle.std.proofs.Common.{◌≡◌, ℤ, pos, Some, List, ap, ◌∙◌, sym, subst, to_z, of_z, w64, rules, arith}
-use Rattle.std.proofs.lemmas.Int.{ints}
+use Rattle.std.proofs.Common.{◌≡◌, ℤ, pos, Some, List, ap, ◌∙◌, sym, subst, to_z, of_z, w64, rules}
 use Rattle.dam_curve.specs.declared.line.Line.{Line}
 use Rattle.dam_curve.specs.Curve.{joint_welfare, IsCurve}
 use Rattle.dam_curve.specs.inside.Reading.{IsOnLines}

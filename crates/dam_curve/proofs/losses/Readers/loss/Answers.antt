@@ -1,6 +1,5 @@
 -- Each welfare that is read is the joint welfare there, and what is kept is the loss between two of them.
-use Rattle.std.proofs.Common.{◌≡◌, ℤ, Some, List, ap, ◌∙◌, ◌+ℤ◌, sym, subst, to_z, of_z, w32, w64, rules, arith}
-use Rattle.std.proofs.lemmas.Int.{ints}
+use Rattle.std.proofs.Common.{◌≡◌, ◌+ℤ◌, sym, subst, to_z, of_z, w64, rules}
 use Rattle.dam_curve.specs.Losses.{welfare_taken}
 use Rattle.dam_curve.specs.inside.Reading.{IsOnLines}
 use Rattle.dam_curve.proofs.Reading.{read_at, kept_between, some_taken, none_taken, net_volume, net_moved, value_added}
