@@ -46,7 +46,8 @@ loss_more earlier later choice old losses least net next loss is step so_far =
       long = omega (arith, ints, long, more, step);
       kept = take-append-le (length old) losses (loss ∷ []) (omega (arith, ints, long, low)) ∙ so_far.kept;
       each = λ before after at place from to read e. elim (cases_lt place (length losses)) [
-        | inl less ↦ loss_stays losses (loss ∷ []) before after choice at place (so_far.each before after at place from (omega (arith, ints, less, long, e)) read e)
+        | inl less ↦ loss_stays losses (loss ∷ []) before after choice at place
+            (so_far.each before after at place from (omega (arith, ints, less, long, e)) read e)
         | inr more ↦
             (let same : net ≡ at = omega (arith, ints, more, long, e, step, to) in
             loss_pushed losses loss before after choice at place (omega (arith, ints, long, e, same))

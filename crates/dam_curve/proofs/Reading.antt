@@ -44,15 +44,16 @@ small_on_lines laws ls ps net w on is =
     record { at_least = omega (arith, ints, small.0, few); at_most = omega (arith, ints, small.1, few) }
 
 -- ---- what is read, and what is kept of it
-pub read_at : (ls : List Line) (ps : List (List Step)) (at net : ℤ) (r : Option ℤ) → at ≡ net → (IsOnLines ls ps at → r ≡ joint_welfare ps at)
-    → IsOnLines ls ps net → r ≡ joint_welfare ps net
+pub read_at : (ls : List Line) (ps : List (List Step)) (at net : ℤ) (r : Option ℤ) → at ≡ net
+    → (IsOnLines ls ps at → r ≡ joint_welfare ps at) → IsOnLines ls ps net → r ≡ joint_welfare ps net
 read_at ls ps at net r same read on = subst (λ (z : ℤ). IsOnLines ls ps z → r ≡ joint_welfare ps z) same read on
 
-pub kept_between : (kept : ℕ) (x y p q : Option ℤ) (w : ℤ) → x ≡ p → y ≡ q → ((z : ℤ) → x ≡ Some z → IsKept kept z y) → p ≡ Some w → IsKept kept w q
+pub kept_between : (kept : ℕ) (x y p q : Option ℤ) (w : ℤ) → x ≡ p → y ≡ q
+    → ((z : ℤ) → x ≡ Some z → IsKept kept z y) → p ≡ Some w → IsKept kept w q
 kept_between kept x y p q w e f is e2 = subst (IsKept kept w) f (is w (e ∙ e2))
 
-pub some_taken : (value welfare sum : ℤ) (read taken p : Option ℤ) → taken ≡ Some sum → sum ≡ value +ℤ welfare → read ≡ Some welfare → read ≡ p
-    → taken ≡ both (Some value) p
+pub some_taken : (value welfare sum : ℤ) (read taken p : Option ℤ) → taken ≡ Some sum → sum ≡ value +ℤ welfare → read ≡ Some welfare
+    → read ≡ p → taken ≡ both (Some value) p
 some_taken value welfare sum read taken p t s r e = t ∙ ap (λ (z : ℤ). Some z) s ∙ ap (both (Some value)) (sym r ∙ e)
 
 pub none_taken : (value : ℤ) (read taken p : Option ℤ) → taken ≡ None → read ≡ None → read ≡ p → taken ≡ both (Some value) p
@@ -93,7 +94,8 @@ on_lines curves curve ls ps net e on = record {
   at_most = on.at_most;
 }
 
-pub net_on_curve : (curves : CurvesState) (curve : Curve) (ps : List (List Step)) (net : ℤ) → IsOnCurve curves curve ps net → IsNetVolume net
+pub net_on_curve : (curves : CurvesState) (curve : Curve) (ps : List (List Step)) (net : ℤ)
+    → IsOnCurve curves curve ps net → IsNetVolume net
 net_on_curve curves curve ps net on =
     net_volume (lines_at curves.lines curve) ps net (on_lines curves curve (lines_at curves.lines curve) ps net refl on)
 

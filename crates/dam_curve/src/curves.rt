@@ -145,7 +145,8 @@ impl<A: Allocator> Curves<A> {
     /// Adds a curve whose lines are looked for. The error is out of memory, and no curve is then added.
     pub fn add<B: Allocator>(&mut self, sum: &Sum<B>) -> Result<Curve, AllocError>
         ensures added { (periods : List (List Step)) (least most : ℤ)
-            → IsCurve periods least most sum.now → IfOk result (λ curve. IsCurveAt self.new curve periods least most) }
+            → IsCurve periods least most sum.now
+            → IfOk result (λ curve. IsCurveAt self.new curve periods least most) }
         ensures kept { Keeps self.old self.new }
         ensures err { OnErr result (self.new ≡ self.old) }
     {
@@ -229,7 +230,8 @@ impl<A: Allocator> Curves<A> {
         requires bottom { curve.bottom ≤ℤ net }
         requires top { net ≤ℤ curve.top }
         ensures { (periods : List (List Step)) (least most : ℤ)
-            → IsCurveAt self.now curve periods least most → Some result ≡ joint_welfare periods net }
+            → IsCurveAt self.now curve periods least most
+            → Some result ≡ joint_welfare periods net }
     {
         let first = curve.first as usize;
         let lines = &self.lines[first..first + curve.count as usize];

@@ -196,7 +196,8 @@ impl<A: Allocator> Curves<A> {
         requires value_most { choice.now.value ≤ℤ pos (2 ^ 62) }
         ensures losses { (before after : List (List Step))
             → IsChoice self.old choice.now before after least most
-            → IfOk result (λ offset. AreLosses self.new.losses before after choice.now offset least most) }
+            → IfOk result
+            (λ offset. AreLosses self.new.losses before after choice.now offset least most) }
         ensures kept { Keeps self.old self.new }
     {
         if most < least {

@@ -13,31 +13,32 @@ loop-net-smaller g c =
     let least : to_z w64 (of_z w64 c.args.least) ≡ c.args.least = search rules in
     let low = c.loop-net.invariant.so_far.at_least in
     let test = c.loop-net-test.true in
-    let last = net_volume _ _ _ (c.requires.choice.2 c.args.most (omega (arith, ints, low, least, test, most)) (omega (arith, ints))).left_is in
+    let at = c.requires.choice.2 c.args.most (omega (arith, ints, low, least, test, most)) (omega (arith, ints)) in
     past_up_to w64 (to_z w64 c.loop-net.net-bits) (to_z w64 (of_z w64 c.args.most)) test (read_sfits w64 c.loop-net.net-bits)
-    (after_fits c.args.most _ last most)
+    (after_fits c.args.most _ (net_volume _ _ _ at.left_is) most)
 
 pub loop-net-preserved : goal.loop-net-preserved
 loop-net-preserved g c =
+    let choice = c.args.choice.now in let net = to_z w64 c.loop-net.net-bits in let readers = c.loop-net.readers in
+    let invariant = c.loop-net.invariant in
     let most : to_z w64 (of_z w64 c.args.most) ≡ c.args.most = search rules in
     let least : to_z w64 (of_z w64 c.args.least) ≡ c.args.least = search rules in
-    let low = c.loop-net.invariant.so_far.at_least in
+    let low = invariant.so_far.at_least in
     let test = c.loop-net-test.true in
-    let here = net_volume _ _ _ (c.requires.choice.2 (to_z w64 c.loop-net.net-bits) (omega (arith, ints, low, least)) (omega (arith, ints, test, most))).left_is in
+    let at = c.requires.choice.2 net (omega (arith, ints, low, least)) (omega (arith, ints, test, most)) in
     let pushed : c.push.new.self.items ≡ c.loop-net.losses.items ++ c.loss.result ∷ [] = search rules in
+    let step = next_is net net (net_volume _ _ _ at.left_is) (read_sfits w64 c.loop-net.net-bits) (omega (arith, ints)) in
     record {
-      earlier = c.loss.ensures.before ∙ c.loop-net.invariant.earlier;
-      left = c.loss.ensures.left ∙ c.loop-net.invariant.left;
-      taken = c.loss.ensures.taken ∙ c.loop-net.invariant.taken;
-      so_far = subst (λ (xs : List Loss). AreLossesSoFar c.args.before.now c.args.after.now c.args.choice.now c.args.losses.now.items xs
-          (to_z w64 (of_z w64 c.args.least)) (to_z w64 (of_z w64 (to_z w64 c.loop-net.net-bits +ℤ pos 1)))) (sym pushed)
-          (loss_more c.args.before.now c.args.after.now c.args.choice.now c.args.losses.now.items c.loop-net.losses.items
-          (to_z w64 (of_z w64 c.args.least)) (to_z w64 c.loop-net.net-bits) _ c.loss.result
-          (read_by c.loop-net.readers.before c.loop-net.readers.left c.loop-net.readers.taken c.args.before.now c.args.after.now c.args.choice.now
-          (to_z w64 c.loop-net.net-bits) c.loss.result c.loop-net.invariant.earlier c.loop-net.invariant.left c.loop-net.invariant.taken
-          c.loss.ensures.value)
-          (next_is (to_z w64 c.loop-net.net-bits) (to_z w64 c.loop-net.net-bits) here (read_sfits w64 c.loop-net.net-bits) (omega (arith, ints)))
-          c.loop-net.invariant.so_far);
+      earlier = c.loss.ensures.before ∙ invariant.earlier;
+      left = c.loss.ensures.left ∙ invariant.left;
+      taken = c.loss.ensures.taken ∙ invariant.taken;
+      so_far = subst (λ (xs : List Loss). AreLossesSoFar c.args.before.now c.args.after.now choice c.args.losses.now.items xs
+          (to_z w64 (of_z w64 c.args.least)) (to_z w64 (of_z w64 (net +ℤ pos 1)))) (sym pushed)
+          (loss_more c.args.before.now c.args.after.now choice c.args.losses.now.items c.loop-net.losses.items
+          (to_z w64 (of_z w64 c.args.least)) net (to_z w64 (of_z w64 (net +ℤ pos 1))) c.loss.result
+          (read_by readers.before readers.left readers.taken c.args.before.now c.args.after.now choice net c.loss.result invariant.earlier
+          invariant.left invariant.taken c.loss.ensures.value)
+          step invariant.so_far);
     }
 
 pub returns-clause-losses : goal.returns-clause-losses
@@ -45,5 +46,5 @@ returns-clause-losses g c before after net place low high read e =
     let most : to_z w64 (of_z w64 c.args.most) ≡ c.args.most = search rules in
     let least : to_z w64 (of_z w64 c.args.least) ≡ c.args.least = search rules in
     let end = c.loop-net-test.false in
-    c.loop-net.invariant.so_far.each before after net place (omega (arith, ints, low, least)) (omega (arith, ints, end, most, high)) read
-    (omega (arith, ints, e, least))
+    c.loop-net.invariant.so_far.each before after net place (omega (arith, ints, low, least))
+    (omega (arith, ints, end, most, high)) read (omega (arith, ints, e, least))
