@@ -5,7 +5,7 @@ ghost use Rattle.dam_book.specs.Limits.{last_period, most_blocks};
 ghost use Rattle.dam_book.specs.declared.order.Side.TheVariants.{Buy, Sell};
 ghost use Rattle.dam_hour.specs.Limits.{greatest_net};
 ghost use Rattle.dam_curve.specs.Supply.{IsSupplyOf};
-ghost use Rattle.dam_curve.specs.Curve.{Keeps};
+ghost use Rattle.dam_curve.specs.Losses.{Keeps};
 ghost use Rattle.dam_hour.specs.declared.step.Step.{Step};
 ghost use Rattle.dam_blocks.specs.declared.problem.Block.{Block};
 ghost use Rattle.dam_blocks.specs.Problem.{ProblemState, AreBlocks};

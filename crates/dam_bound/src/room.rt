@@ -58,10 +58,7 @@ impl Reach {
 }
 
 /// From which block on the tables keep a welfare for each net volume: as many of the last blocks as there is room for.
-pub(crate) fn first_with_losses(
-    blocks: &[Block],
-    firsts: &[u32; MOST_PERIODS],
-) -> usize {
+pub(crate) fn first_with_losses(blocks: &[Block], firsts: &[u32; MOST_PERIODS]) -> usize {
     let mut reach = Reach::of(firsts);
     for block in blocks {
         reach.widen(&block.order);

@@ -1,18 +1,17 @@
 //! What the walk reads: the welfare of each class of periods at each depth as a curve over the net volume, and each
 //! block in each of its classes.
 
-ghost use Rattle.std.specs.Prelude.{◌≡◌, ◌<◌, ◌≤◌, ◌+◌, pos, neg_ℤ, ◌*ℤ◌, ◌≤ℤ◌, ℕ, ℤ, true, Some, List, [], length, map, slice_get, IfOk, IsPermutation};
+ghost use Rattle.std.specs.Prelude.{◌≡◌, ◌<◌, ◌≤◌, ◌+◌, pos, neg_ℤ, ◌*ℤ◌, ◌≤ℤ◌, ℕ, ℤ, true, Some, List, [], length, slice_get, IfOk, IsPermutation};
 ghost use Rattle.dam_book.specs.Limits.{last_period, most_blocks};
-ghost use Rattle.dam_curve.specs.Curve.{Keeps};
+ghost use Rattle.dam_curve.specs.Losses.{Keeps};
 ghost use Rattle.dam_blocks.specs.declared.problem.Block.{Block};
 ghost use Rattle.dam_blocks.specs.Problem.{ProblemState};
-ghost use Rattle.dam_bound.specs.Day.{IsDay};
-ghost use Rattle.dam_bound.specs.Relaxed.{without_rows};
-ghost use Rattle.dam_bound.specs.Tables.{AreCurves, class_value, IsTouch, AreTouches, AreLots, AreFirsts, ArePlaces, AreTablesOf, rejected};
+ghost use Rattle.dam_bound.specs.Relaxed.{relaxed_welfare, without_rows};
+ghost use Rattle.dam_bound.specs.Tables.{least_net, most_net, AreCurves, class_value, IsTouch, AreTouches, AreLots, AreFirsts, ArePlaces, AreTablesOf};
 ghost use Rattle.dam_bound.specs.inside.Change.{greatest_class_value};
 ghost use Rattle.dam_bound.specs.inside.Building.{IsClass, AreDecided, IsDeciding};
 ghost use Rattle.dam_curve.specs.Curve.{CurvesState};
-ghost use Rattle.dam_blocks.specs.Selection.{volume_in};
+ghost use Rattle.dam_blocks.specs.Selection.{volume_in, net_volume_of};
 ghost use Rattle.dam_hour.specs.Best.{signed};
 ghost use Rattle.dam_hour.specs.Limits.{greatest_value};
 ghost use Rattle.dam_blocks.specs.Magnitude.{IsWithin};
@@ -21,7 +20,7 @@ use crate::classes::firsts_of;
 use crate::families::families_of;
 use crate::periods::Periods;
 use crate::room::first_with_losses;
-use crate::touch::Touch;
+use crate::touch::{Lot, Touch};
 use dam_blocks::{Block, MOST_PERIODS, Problem, Selection, value_of};
 use dam_book::{BlockOrder, Period, Qty, Side};
 use dam_curve::{Choice, Curve, Curves, Sum};
@@ -41,7 +40,7 @@ pub struct Tables<A: Allocator = Global> {
     pub(crate) firsts: [u32; MOST_PERIODS],
     /// For each class the curve with every block decided, at the place of its first period.
     pub(crate) ends: Vec<Curve, A>,
-    pub(crate) lots: Vec<Vec<Touch, A>, A>,
+    pub(crate) lots: Vec<Lot<A>, A>,
     /// From which block on the losses are kept.
     pub(crate) kept: usize,
     /// The slot in which each class stands with every block decided.
@@ -62,6 +61,7 @@ impl<A: Allocator> Model for Tables<A> {
       curves = t.curves;
       firsts = t.firsts;
       ends = t.ends.items;
+      kept = t.kept;
       lots = t.lots.items;
       places = t.places;
       root = t.root;
@@ -125,24 +125,44 @@ impl<'a, A: Allocator> Model for Deciding<'a, A> {
       periods = d.periods.now;
       order = d.order.now;
       places = d.places.now;
+      ends = d.ends.now;
       row = d.row;
+      keep = d.with_losses;
     } };
 }
 
 impl<A: Allocator> Deciding<'_, A> {
     /// What the accepted block is worth in all periods of the class that begins at the place.
     fn value(&self, at: usize) -> i64
-        requires { (problem : ProblemState) × (k : ℕ) × (b : Block)
-            × IsDeciding problem k b self.now × IsClass problem at }
-        ensures value { (problem : ProblemState) (k : ℕ) (b : Block)
-            → IsDeciding problem k b self.now → IsClass problem at
+        requires { (problem : ProblemState) × (all : CurvesState) × (kept : ℕ) × (k : ℕ) × (b : Block)
+            × IsDeciding problem all kept k b self.now × IsClass problem at }
+        ensures value { (problem : ProblemState) (all : CurvesState) (kept k : ℕ) (b : Block)
+            → IsDeciding problem all kept k b self.now → IsClass problem at
             → result ≡ class_value problem b.order at }
         ensures size { IsWithin greatest_class_value result }
     {
         times(value_of(self.order, Period::at(at)), self.periods.size(at))
     }
 
-    /// The accepted block in the class that begins at the place.
+    /// The net volumes, from the least to the most, that decisions on the earlier blocks can make of the class that
+    /// begins at the place, in which the accepted block adds this net volume.
+    fn range_before(&self, at: usize, net: i32) -> (i64, i64)
+        requires { (problem : ProblemState) × (all : CurvesState) × (kept : ℕ) × (k : ℕ) × (b : Block)
+            × IsDeciding problem all kept k b self.now × IsClass problem at × (net ≡ net_volume_of (at + 1) b.order) }
+        ensures least { (problem : ProblemState) (all : CurvesState) (kept k : ℕ) (b : Block)
+            → IsDeciding problem all kept k b self.now → IsClass problem at → net ≡ net_volume_of (at + 1) b.order
+            → result.0 ≡ least_net problem.blocks k at }
+        ensures most { (problem : ProblemState) (all : CurvesState) (kept k : ℕ) (b : Block)
+            → IsDeciding problem all kept k b self.now → IsClass problem at → net ≡ net_volume_of (at + 1) b.order
+            → result.1 ≡ most_net problem.blocks k at }
+    {
+        let periods = self.periods;
+        let range = periods.ranges[at];
+        let net = i64::from(net);
+        (range.least - net.min(0), range.most - net.max(0))
+    }
+
+    /// What a decision on the block makes of the class that begins at the place.
     fn touch<B: Allocator, C: Allocator>(
         &self,
         curves: &mut Curves<B>,
@@ -150,12 +170,13 @@ impl<A: Allocator> Deciding<'_, A> {
         at: usize,
         qty: Qty,
     ) -> Result<Touch, AllocError>
-        requires { (problem : ProblemState) × (k : ℕ) × (b : Block)
-            × IsDeciding problem k b self.now × IsClass problem at × (volume_in b.order.volumes (at + 1) ≡ qty) }
-        ensures touch { (problem : ProblemState) (k : ℕ) (b : Block)
-            → IsDeciding problem k b self.now → IsClass problem at
+        requires { (problem : ProblemState) × (kept : ℕ) × (k : ℕ) × (b : Block)
+            × IsDeciding problem curves.old kept k b self.now × IsClass problem at
+            × (volume_in b.order.volumes (at + 1) ≡ qty) }
+        ensures touch { (problem : ProblemState) (kept k : ℕ) (b : Block)
+            → IsDeciding problem curves.old kept k b self.now → IsClass problem at
             → volume_in b.order.volumes (at + 1) ≡ qty
-            → IfOk result (IsTouch problem curves.new k b true) }
+            → IfOk result (IsTouch problem curves.new k b kept) }
         ensures at { IfOk result (λ touch. touch.at ≡ at) }
         ensures kept { Keeps curves.old curves.new }
     {
@@ -168,8 +189,8 @@ impl<A: Allocator> Deciding<'_, A> {
             value,
         };
         let offset = if self.with_losses {
-            let range = self.periods.ranges[at];
-            curves.keep_losses(choice, range.least, range.most)?
+            let (least, most) = self.range_before(at, choice.net);
+            curves.keep_losses(&choice, least, most)?
         } else {
             0
         };
@@ -183,18 +204,18 @@ impl<A: Allocator> Deciding<'_, A> {
         })
     }
 
-    /// The accepted block in each of its classes, in the order of its periods.
+    /// What a decision on the block makes of each of its classes, in the order of its periods.
     fn touches<B: Allocator, C: Allocator, D: Allocator>(
         &self,
         alloc: D,
         curves: &mut Curves<B>,
         sum: &mut Sum<C>,
     ) -> Result<Vec<Touch, D>, AllocError>
-        requires { (problem : ProblemState) × (k : ℕ) × (b : Block)
-            × IsDeciding problem k b self.now }
-        ensures touches { (problem : ProblemState) (k : ℕ) (b : Block)
-            → IsDeciding problem k b self.now
-            → IfOk result (λ touches. AreTouches problem curves.new k b true touches.items) }
+        requires { (problem : ProblemState) × (kept : ℕ) × (k : ℕ) × (b : Block)
+            × IsDeciding problem curves.old kept k b self.now }
+        ensures touches { (problem : ProblemState) (kept k : ℕ) (b : Block)
+            → IsDeciding problem curves.old kept k b self.now
+            → IfOk result (λ touches. AreTouches problem curves.new k b kept touches.items) }
         ensures kept { Keeps curves.old curves.new }
     {
         let periods = self.periods;
@@ -210,30 +231,30 @@ impl<A: Allocator> Deciding<'_, A> {
     }
 }
 
-/// The touches with what may be lost or gained most at the front.
-fn by_stake<A: Allocator>(touches: Vec<Touch, A>) -> Vec<Touch, A>
-    ensures { IsPermutation touches.items result.items }
+/// The lot with what may be lost or gained most at the front.
+fn by_stake<A: Allocator>(touches: Vec<Touch, A>) -> Lot<A>
+    ensures { IsPermutation touches.items result }
 {
     let mut touches = touches;
     touches.sort_unstable_by_key(|touch| !touch.stake.saturating_abs());
-    touches
+    Lot { touches }
 }
 
 /// Puts the block's own slots and curves in the place of those that its classes have before it.
 fn take_over(places: &mut [u32; MOST_PERIODS], ends: &mut [Curve], touches: &[Touch])
-    requires { (problem : ProblemState) × (all : CurvesState) × (k : ℕ) × (b : Block)
+    requires { (problem : ProblemState) × (all : CurvesState) × (kept : ℕ) × (k : ℕ) × (b : Block)
         × (slice_get problem.blocks k ≡ Some b) × (k < most_blocks)
         × (length problem.hours ≤ last_period)
-        × AreTouches problem all k b true touches.now
+        × AreTouches problem all k b kept touches.now
         × (length ends.old ≡ length problem.hours) × (length places.old ≡ last_period) }
-    ensures places { (problem : ProblemState) (all : CurvesState) (k : ℕ) (b : Block)
+    ensures places { (problem : ProblemState) (all : CurvesState) (kept k : ℕ) (b : Block)
         → slice_get problem.blocks k ≡ Some b → k < most_blocks
         → length problem.hours ≤ last_period
-        → AreTouches problem all k b true touches.now
+        → AreTouches problem all k b kept touches.now
         → ArePlaces problem k places.old → ArePlaces problem (k + 1) places.new }
-    ensures ends { (problem : ProblemState) (all : CurvesState) (k : ℕ) (b : Block)
+    ensures ends { (problem : ProblemState) (all : CurvesState) (kept k : ℕ) (b : Block)
         → slice_get problem.blocks k ≡ Some b
-        → AreTouches problem all k b true touches.now
+        → AreTouches problem all k b kept touches.now
         → AreCurves problem all k ends.old → AreCurves problem all (k + 1) ends.new }
     ensures many { length ends.new ≡ length ends.old }
 {
@@ -275,7 +296,7 @@ fn root_of<A: Allocator>(curves: &Curves<A>, firsts: &[u32], ends: &[Curve]) -> 
         × AreCurves problem curves.now 0 ends.now × (length problem.hours ≤ last_period) }
     ensures { (problem : ProblemState) → AreFirsts problem firsts.now
         → AreCurves problem curves.now 0 ends.now → length problem.hours ≤ last_period
-        → IsDay problem [] result }
+        → Some result ≡ relaxed_welfare problem [] }
 {
     laws::balance();
     laws::welfare();
@@ -309,14 +330,14 @@ fn lots_of<A: Allocator, B: Allocator, C: Allocator + Copy>(
     ends: &mut [Curve],
     blocks: &[Block],
     kept: usize,
-) -> Result<Vec<Vec<Touch, C>, C>, AllocError>
+) -> Result<Vec<Lot<C>, C>, AllocError>
     requires { (problem : ProblemState) × (problem.blocks ≡ blocks.now)
         × AreDecided problem 0 periods.old × AreCurves problem curves.old 0 ends.old
         × ArePlaces problem 0 places.old }
     ensures lots { (problem : ProblemState) → problem.blocks ≡ blocks.now
         → AreDecided problem 0 periods.old → AreCurves problem curves.old 0 ends.old
         → ArePlaces problem 0 places.old
-        → IfOk result (λ lots. AreLots problem curves.new (length problem.blocks) lots.items) }
+        → IfOk result (λ lots. AreLots problem curves.new kept (length problem.blocks) lots.items) }
     ensures ends { (problem : ProblemState) → problem.blocks ≡ blocks.now
         → AreDecided problem 0 periods.old → AreCurves problem curves.old 0 ends.old
         → ArePlaces problem 0 places.old

@@ -1,14 +1,15 @@
-//! The days of a walk, in slots that are neither copied nor undone.
+//! The days of a walk, in slots that are neither copied nor undone, and the bounds of the prefixes that extend them.
 
-ghost use Rattle.std.specs.Prelude.{◌≡◌, ◌*◌, ◌+◌, ◌<◌, ◌≤◌, ℕ, ℤ, pos, ◌^◌, ◌<ℤ◌, ◌≤ℤ◌, ◌↔◌, List, Bool, length, slice_index_or, IsTrue, IfSome, MatchOption};
+ghost use Rattle.std.specs.Prelude.{◌≡◌, ◌*◌, ◌+◌, ◌-◌, ◌<◌, ◌≤◌, ℕ, ℤ, pos, ◌+ℤ◌, ◌-ℤ◌, ◌^◌, ◌<ℤ◌, ◌≤ℤ◌, ◌↔◌, [], ◌∷◌, ◌++◌, List, Bool, Option, Some, length, slice_index_or, IsTrue, IfSome, MatchOption};
 ghost use Rattle.dam_book.specs.Limits.{last_period};
 ghost use Rattle.dam_blocks.specs.Problem.{ProblemState};
 ghost use Rattle.dam_blocks.specs.Magnitude.{IsWithin};
+ghost use Rattle.dam_bound.specs.Day.{IsDay};
+ghost use Rattle.dam_bound.specs.Relaxed.{relaxed_welfare};
 ghost use Rattle.dam_bound.specs.inside.Levels.{greatest_period_bound};
-ghost use Rattle.dam_bound.specs.Trail.{slot_count, IsDayIn};
-ghost use Rattle.dam_bound.specs.inside.Change.{IsChange, IsGivenUp};
-ghost use Rattle.dam_bound.specs.declared.day.Change.TheVariants.{Decide};
-ghost use Rattle.dam_bound.specs.declared.day.Position.{Position};
+ghost use Rattle.dam_bound.specs.Trail.{slot_count, IsDayIn, IsBoundOf, bound_by};
+ghost use Rattle.dam_curve.specs.Losses.{greatest_loss};
+ghost use Rattle.dam_bound.specs.inside.Change.{IsDecision};
 ghost use Rattle.dam_bound.specs.Tables.{AreTablesOf};
 
 use crate::day::{Day, Position};
@@ -36,25 +37,23 @@ impl Trail {
     pub fn empty() -> Trail
         ensures { length result.slots ≡ slot_count }
     {
-        Trail {
-            slots: [0; SLOTS],
-        }
+        Trail { slots: [0; SLOTS] }
     }
 }
 
-/// Writes the net volumes of the root.
-pub(crate) fn write_root(trail: &mut Trail, count: usize) {
+/// Writes the net volumes of the root, on a day of `count` periods.
+pub(crate) fn write_root(trail: &mut Trail, count: usize)
+    requires { count ≤ last_period }
+    ensures nets { (i : ℕ) (d : ℤ) → i < count → slice_index_or trail.new.slots i d ≡ pos 0 }
+    ensures room { length trail.new.slots ≡ slot_count }
+{
     for at in 0..count {
         trail.slots[at] = 0;
     }
 }
 
-/// The least total that isn't under what is asked for.
-fn floor_of(least: u64) -> i64 {
-    i64::try_from(least).unwrap_or(i64::MAX)
-}
-
-/// The relaxed welfares of the two extensions of a prefix by a decision on its next block.
+/// The bounds of the two extensions of a prefix by a decision on its next block, in cents per MWh times tenths of a MW:
+/// the relaxed welfare of each; `None` if it has none, or one that is less than was asked for.
 #[derive(Clone, Copy)]
 pub struct Extensions {
     pub rejected: Option<i64>,
@@ -62,14 +61,44 @@ pub struct Extensions {
 }
 
 impl Extensions {
-    /// Of the extension by this decision.
+    /// The bound of the extension by this decision.
     #[inline(always)]
-    pub fn of(&self, accept: bool) -> Option<i64> {
+    pub fn by(&self, accept: bool) -> Option<i64>
+        ensures { result ≡ bound_by accept self.now }
+    {
         if accept { self.accepted } else { self.rejected }
     }
 }
 
-/// What is left of a total. One that is under the floor is of no use, and stays under it.
+/// The least total that isn't under what is asked for.
+fn floor_of(least: u64) -> i64
+    ensures floor { (total : ℤ) → IsWithin (last_period * greatest_period_bound) total
+        → (total <ℤ result) ↔ (total <ℤ pos least) }
+    ensures at_least { pos 0 ≤ℤ result }
+    ensures at_most { result <ℤ pos (2 ^ 63) }
+{
+    i64::try_from(least).unwrap_or(i64::MAX)
+}
+
+/// The total, if it isn't under the floor.
+fn reached(total: i64, floor: i64) -> Option<i64>
+    ensures { MatchOption result (total <ℤ floor) (λ left. (left ≡ total) × (floor ≤ℤ left)) }
+{
+    if total < floor {
+        return None;
+    }
+    Some(total)
+}
+
+/// Whether the greatest loss that is kept brings the total under the floor.
+fn is_near(total: i64, floor: i64) -> bool
+    requires { pos 0 ≤ℤ floor }
+    ensures { IsTrue result ↔ ((total -ℤ pos greatest_loss) <ℤ floor) }
+{
+    total - i64::from(u32::MAX) < floor
+}
+
+/// What is left of a total after a loss. A total under the floor is of no use, and stays under it.
 fn lowered(total: i64, loss: Option<i64>, floor: i64) -> i64 {
     match loss {
         Some(loss) if total >= floor => total - loss,
@@ -78,22 +107,10 @@ fn lowered(total: i64, loss: Option<i64>, floor: i64) -> i64 {
     }
 }
 
-/// The total, if it isn't under the floor.
-fn reached(total: i64, floor: i64) -> Option<i64> {
-    if total < floor {
-        return None;
-    }
-    Some(total)
-}
-
-/// Whether a loss of 32 bits brings the total under the floor.
-fn is_near(total: i64, floor: i64) -> bool {
-    total - floor < i64::from(u32::MAX)
-}
-
-/// The relaxed welfares of both extensions, from the curves.
+/// The bounds of both extensions of a prefix by the block at the place, from the curves. `total` is the relaxed welfare
+/// of the prefix, and the floor that of the incumbent.
 #[inline(never)]
-fn both_looked_up<A: Allocator>(
+fn exact_bounds<A: Allocator>(
     tables: &Tables<A>,
     trail: &Trail,
     place: usize,
@@ -104,9 +121,9 @@ fn both_looked_up<A: Allocator>(
     let mut accepted = total;
     for touch in touches_of(tables, place) {
         let net = trail.slots[touch.from as usize];
-        let (left, taken) = tables.curves.losses(&touch.choice, net);
-        rejected = lowered(rejected, left, floor);
-        accepted = lowered(accepted, taken, floor);
+        let loss = tables.curves.exact_loss(&touch.choice, net);
+        rejected = lowered(rejected, loss.left, floor);
+        accepted = lowered(accepted, loss.taken, floor);
         if rejected < floor && accepted < floor {
             break;
         }
@@ -117,18 +134,16 @@ fn both_looked_up<A: Allocator>(
     }
 }
 
-/// The relaxed welfares of both extensions.
-pub(crate) fn both_extensions<A: Allocator>(
+/// The bounds of both extensions of a prefix by the block at the place, from the losses that are kept. `total` is the
+/// relaxed welfare of the prefix; it is so near the floor that the greatest loss that is kept brings it under.
+#[inline(always)]
+fn kept_bounds<A: Allocator>(
     tables: &Tables<A>,
     trail: &Trail,
     place: usize,
     total: i64,
-    least: u64,
+    floor: i64,
 ) -> Extensions {
-    let floor = floor_of(least);
-    if place < tables.kept || !is_near(total, floor) {
-        return both_looked_up(tables, trail, place, total, floor);
-    }
     let mut rejected = total;
     let mut accepted = total;
     for touch in touches_of(tables, place) {
@@ -146,16 +161,77 @@ pub(crate) fn both_extensions<A: Allocator>(
     }
 }
 
-/// Writes the net volumes of the extension.
-pub(crate) fn write_block<A: Allocator>(tables: &Tables<A>, trail: &mut Trail, place: usize, accept: bool) {
+/// The bounds of both extensions of a prefix by the block at the place, as far as they are at least `least`. `total` is
+/// the relaxed welfare of the prefix.
+///
+/// A class is looked at only until both totals are seen to be under `least`: no decision raises the relaxed welfare of a
+/// period, so a total under `least` stays under it.
+pub(crate) fn bounds_of<A: Allocator>(
+    tables: &Tables<A>,
+    trail: &Trail,
+    place: usize,
+    total: i64,
+    least: u64,
+) -> Extensions
+    requires { (problem : ProblemState) × (before : List Bool)
+        × AreTablesOf problem tables.now × (place < length problem.blocks)
+        × ((accept : Bool) → IsDecision problem place accept before)
+        × IsDayIn problem before trail.now total }
+    ensures bounds { (problem : ProblemState) (before : List Bool) (accept : Bool)
+        → AreTablesOf problem tables.now → place < length problem.blocks
+        → ((choice : Bool) → IsDecision problem place choice before)
+        → IsDayIn problem before trail.now total
+        → IsBoundOf problem (before ++ accept ∷ []) least (bound_by accept result) }
+    ensures reached { (accept : Bool) → IfSome (bound_by accept result) (λ left. pos least ≤ℤ left) }
+{
+    let floor = floor_of(least);
+    if place < tables.kept || !is_near(total, floor) {
+        return exact_bounds(tables, trail, place, total, floor);
+    }
+    kept_bounds(tables, trail, place, total, floor)
+}
+
+/// Writes the net volumes of the extension of a prefix by the decision on the block at the place to the block's row of
+/// slots. The slots below stay as they are.
+pub(crate) fn write_block<A: Allocator>(
+    tables: &Tables<A>,
+    trail: &mut Trail,
+    place: usize,
+    accept: bool,
+)
+    requires { (problem : ProblemState) × (before : List Bool) × (total : ℤ)
+        × AreTablesOf problem tables.now × (place < length problem.blocks)
+        × IsDecision problem place accept before
+        × IsDayIn problem before trail.old total }
+    ensures day { (problem : ProblemState) (before : List Bool) (total left : ℤ)
+        → AreTablesOf problem tables.now → place < length problem.blocks
+        → IsDecision problem place accept before
+        → IsDayIn problem before trail.old total
+        → Some left ≡ relaxed_welfare problem (before ++ accept ∷ [])
+        → IsDayIn problem (before ++ accept ∷ []) trail.new left }
+    ensures below { (i : ℕ) (d : ℤ) → i < (place + 1) * last_period
+        → slice_index_or trail.new.slots i d ≡ slice_index_or trail.old.slots i d }
+    ensures room { length trail.new.slots ≡ slot_count }
+{
     for touch in touches_of(tables, place) {
         let net = trail.slots[touch.from as usize];
-        trail.slots[touch.to as usize] = if accept { net + i64::from(touch.choice.net) } else { net };
+        let next = if accept {
+            net + i64::from(touch.choice.net)
+        } else {
+            net
+        };
+        trail.slots[touch.to as usize] = next;
     }
 }
 
-/// The day that stands in the slots.
-pub(crate) fn day_of<A: Allocator>(tables: &Tables<A>, trail: &Trail, total: i64) -> Day {
+/// The day of a prefix that decides every block, whose relaxed welfare this is: where each class stands.
+pub(crate) fn day_of<A: Allocator>(tables: &Tables<A>, trail: &Trail, total: i64) -> Day
+    requires { (problem : ProblemState) × (prefix : List Bool) × AreTablesOf problem tables.now
+        × (length prefix ≡ length problem.blocks) × IsDayIn problem prefix trail.now total }
+    ensures { (problem : ProblemState) (prefix : List Bool) → AreTablesOf problem tables.now
+        → length prefix ≡ length problem.blocks → IsDayIn problem prefix trail.now total
+        → IsDay problem prefix result }
+{
     let mut day = Day::empty();
     for at in 0..tables.count {
         if tables.firsts[at] as usize == at {

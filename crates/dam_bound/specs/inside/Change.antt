@@ -1,5 +1,5 @@
 -- What becomes of a day if one block is decided, or decided the other way.
-use Rattle.std.specs.Prelude.{◌≡◌, ◌⊎◌, ℕ, ◌+◌, ◌*◌, Bool, true, false, ℤ, pos, neg_ℤ, ◌+ℤ◌, ◌≤ℤ◌, Some, None, List, ◌++◌, length, drop}
+use Rattle.std.specs.Prelude.{◌≡◌, ◌⊎◌, ℕ, ◌+◌, ◌*◌, Bool, true, false, ℤ, pos, neg_ℤ, ◌+ℤ◌, ◌≤ℤ◌, Some, None, List, [], ◌∷◌, ◌++◌, length, drop}
 use Rattle.std.specs.Prelude.{slice_get}
 use Rattle.dam_book.specs.Limits.{last_period, most_blocks}
 use Rattle.dam_hour.specs.Limits.{greatest_value}
@@ -45,10 +45,10 @@ NeverRises blocks before after = (t : ℕ) (ss : List Step) (w : ℤ)
     → period_welfare blocks after t (ss ++ as_steps t (drop (length after) blocks)) ≡ Some w
     → (r : ℤ) × (period_welfare blocks before t (ss ++ as_steps t (drop (length before) blocks)) ≡ Some r) × (w ≤ℤ r)
 
--- some period doesn't balance; or the relaxed welfare is under what is asked for, provided that no period's rises
-abbrev pub IsGivenUp : ProblemState → ℕ → List Bool → List Bool → Type 0
-IsGivenUp problem least before after = (relaxed_welfare problem after ≡ None)
-    ⊎ (NeverRises problem.blocks before after → IsUnder problem after least)
+-- the decision on the block at the place, after those on all earlier ones: no period's relaxed welfare rises by it
+pub record IsDecision (problem : ProblemState) (place : ℕ) (accept : Bool) (before : List Bool) : Type 0 where
+  pub change : IsChange problem.blocks place Decide accept (place + 1) before (before ++ accept ∷ [])
+  pub never : NeverRises problem.blocks before (before ++ accept ∷ [])
 
 -- the size of a class's welfare, apart from what the accepted blocks are worth; of what a block is worth in a class; and of
 -- what a change of the block makes of the total
