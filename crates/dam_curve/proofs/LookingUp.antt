@@ -95,21 +95,6 @@ pub record IsWithin (ls : List Line) (net : ℤ) : Type 0 where
   pub first : (d : Line) → net ≤ℤ (get_or ls 0 d).most
   pub last : (d : Line) → (get_or ls (length ls - 1) d).most ≤ℤ net
 
-pub within_curve : (curves : CurvesState) (curve : Curve) (ps : List (List Step)) (least most net : ℤ) → IsCurveAt curves curve ps least most
-    → curve.bottom ≤ℤ net → net ≤ℤ curve.top → IsWithin (lines_at curves.lines curve) net
-within_curve curves curve ps least most net is low high = elim (cases_lt 0 curve.count) [
-  | inl some ↦
-      (let ends = is.ends some in let long = count_is curves.lines curve is.within in let ls = lines_at curves.lines curve in
-      let any : 0 < length ls = omega (arith, some, long) in
-      record {
-        some = any;
-        first = λ d. (let top = end_at ls d any in let own = ends.1 in omega (arith, ints, top, own, high));
-        last = λ d.
-            (let bottom = bottom_at ls (length ls - 1) d (omega (arith, any)) in let own = ends.0 in omega (arith, ints, bottom, own, low));
-      })
-  | inr none ↦ (let apart = is.none (omega (arith, none)) in absurd (omega (arith, ints, apart, low, high)))
-]
-
 pub within_lines : (ls : List Line) (net at : ℤ) → at ≡ net → 0 < length ls → bottom_of ls ≤ℤ net → net ≤ℤ end_of ls (pos 0) → IsWithin ls at
 within_lines ls net at same some low high = record {
   some = some;

@@ -11,7 +11,7 @@ use Rattle.dam_curve.specs.declared.losses.Loss.{Loss}
 use Rattle.dam_curve.specs.Losses.{IsLoss, IsLossAt}
 use Rattle.dam_curve.specs.inside.Reading.{AreReadAt}
 
-loss_stays : (xs ys : List Loss) (before after : List (List Step)) (choice : Choice) (net : ℤ) (place : ℕ)
+pub loss_stays : (xs ys : List Loss) (before after : List (List Step)) (choice : Choice) (net : ℤ) (place : ℕ)
     → IsLossAt xs before after choice net place → IsLossAt (xs ++ ys) before after choice net place
 loss_stays xs ys before after choice net place is = record {
   inside = (let long = length-append xs ys in let l = is.inside in omega (arith, long, l));
