@@ -1,5 +1,5 @@
 -- What becomes of a day if one block is decided, or decided the other way.
-use Rattle.std.specs.Prelude.{◌≡◌, ◌⊎◌, ℕ, ◌+◌, ◌*◌, Bool, true, false, ℤ, pos, neg_ℤ, ◌+ℤ◌, ◌≤ℤ◌, ◌<ℤ◌, Option, Some, MatchOption, List, [], ◌∷◌, ◌++◌, length, drop}
+use Rattle.std.specs.Prelude.{◌≡◌, ℕ, ◌+◌, ◌*◌, Bool, true, false, ℤ, pos, neg_ℤ, ◌+ℤ◌, ◌≤ℤ◌, ◌<ℤ◌, Option, Some, MatchOption, List, [], ◌∷◌, ◌++◌, length, drop}
 use Rattle.std.specs.Prelude.{slice_get}
 use Rattle.dam_book.specs.Limits.{last_period, most_blocks}
 use Rattle.dam_hour.specs.Limits.{greatest_value}
@@ -10,7 +10,6 @@ use Rattle.dam_blocks.specs.Problem.{ProblemState}
 use Rattle.dam_blocks.specs.Selection.{volume_in, net_volume_of, value_of, net_volume, block_value}
 use Rattle.dam_blocks.specs.Eligible.{period_welfare}
 use Rattle.dam_bound.specs.Relaxed.{as_steps, relaxed_welfare}
-use Rattle.dam_bound.specs.Day.{IsUnder}
 use Rattle.dam_bound.specs.inside.Levels.{greatest_period_bound}
 use Rattle.dam_bound.specs.declared.day.Change.{Change}
 use Rattle.dam_bound.specs.declared.day.Change.TheVariants.{Decide, Turn}
