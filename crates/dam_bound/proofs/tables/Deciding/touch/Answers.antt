@@ -35,9 +35,9 @@ keep_losses-requires-clause-choice g c =
       class_hours problem k c.args.at,
       class_hours problem (k + 1) c.args.at,
       choice_is problem c.curve.new.curves k c.args.at b _ _ _ deciding.block_is adds.read least most
-      (class_curve_stays problem c.args.curves.now c.curve.new.curves k c.args.at _ c.curve.ensures.kept
-      (deciding.ends_are.each c.args.at none class.inside class.first))
-      (c.in_ok-after.ensures.curve problem (k + 1) deciding.periods_are class),
+          (class_curve_stays problem c.args.curves.now c.curve.new.curves k c.args.at _ c.curve.ensures.kept
+          (deciding.ends_are.each c.args.at none class.inside class.first))
+          (c.in_ok-after.ensures.curve problem (k + 1) deciding.periods_are class),
     )
 
 pub returns-in_err-offset-clause-kept : goal.returns-in_err-offset-clause-kept
