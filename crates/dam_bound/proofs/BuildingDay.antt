@@ -1,13 +1,12 @@
 -- The curves and the welfare with no block decided.
 use Rattle.std.proofs.Common.{◌≡◌, ◌≢◌, ℕ, zero, suc, ◌+◌, ◌-◌, ◌*◌, ◌<◌, ◌==◌, cond, Bool, true, false, ℤ, pos, ◌+ℤ◌, Option}
-use Rattle.std.proofs.Common.{Some, List, [], ◌∷◌, ◌++◌, length, length-append, get_or, slice_set, inl, inr, ap, ap₂, ◌∙◌, sym, subst, refl, arith}
+use Rattle.std.proofs.Common.{Some, List, [], ◌∷◌, ◌++◌, length, length-append, get_or, inl, inr, ap, ap₂, ◌∙◌, sym, subst, refl, arith}
 use Rattle.std.specs.List.{slice_get}
 use Rattle.std.specs.Option.{option_map}
 use Rattle.std.proofs.lemmas.Int.{ints}
 use Rattle.std.proofs.lemmas.Bool.{cases_lt}
-use Rattle.std.proofs.lemmas.List.{length-set, get_or-set_same, get_or-set_other, get_or_append_left, get_or_push}
+use Rattle.std.proofs.lemmas.List.{get_or_append_left, get_or_push}
 use Rattle.std.proofs.lemmas.Option.{get_or_from_slice_get}
-use Rattle.dam_book.specs.Limits.{last_period}
 use Rattle.dam_book.specs.Terms.{BlockTerms}
 use Rattle.dam_hour.specs.Best.{greatest_welfare}
 use Rattle.dam_hour.specs.Execution.{IsBalanced, IsWithinOffers}

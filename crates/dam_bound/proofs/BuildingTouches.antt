@@ -32,7 +32,6 @@ use Rattle.dam_bound.specs.declared.touch.Touch.{Touch}
 use Rattle.dam_bound.proofs.DayLevels.{of_pushed}
 use Rattle.dam_bound.proofs.Classing.{class_volume, same_class}
 use Rattle.dam_bound.proofs.BuildingPairs.{IsNextPair, block_at}
-use Rattle.dam_bound.proofs.BuildingSupplies.{some_same}
 
 -- ---- what is there stays
 pub keeps_all : (all : CurvesState) → Keeps all all

@@ -1,5 +1,5 @@
 -- What the walk reads: the curve of each class at each depth, and what each block is in each of its classes.
-use Rattle.std.specs.Prelude.{◌≡◌, ℕ, ◌+◌, ◌*◌, ◌<◌, ◌≤◌, ◌==◌, ◌&&◌, not, nat_lt, if◌then◌else◌, Bool, true, false, ℤ, pos, ◌+ℤ◌, Option, Some, List, [], ◌∷◌, length}
+use Rattle.std.specs.Prelude.{◌≡◌, ℕ, ◌+◌, ◌*◌, ◌<◌, ◌≤◌, ◌==◌, ◌&&◌, not, nat_lt, if◌then◌else◌, Bool, ℤ, pos, ◌+ℤ◌, Option, Some, List, [], ◌∷◌, length}
 use Rattle.std.specs.Prelude.{take, slice_get, slice_index_or, count_by}
 use Rattle.dam_book.specs.Limits.{last_period, most_hourly, most_blocks}
 use Rattle.dam_book.specs.Terms.{BlockTerms}
