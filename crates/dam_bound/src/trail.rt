@@ -277,8 +277,8 @@ pub(crate) fn write_block<A: Allocator>(
     }
 }
 
-/// The day of a prefix that decides every block, whose relaxed welfare this is: where each class stands. Each class has a
-/// welfare there, since the prefix has a relaxed welfare.
+/// The day of a prefix that decides every block, whose relaxed welfare this is: where each class stands. Each class has
+/// a welfare there, since the prefix has a relaxed welfare.
 pub(crate) fn day_of<A: Allocator>(tables: &Tables<A>, trail: &Trail, total: i64) -> Day
     requires { (problem : ProblemState) × (prefix : List Bool) × AreTablesOf problem tables.now
         × (length prefix ≡ length problem.blocks) × IsDayIn problem prefix trail.now total }

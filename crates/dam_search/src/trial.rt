@@ -12,7 +12,7 @@ use std::alloc::{AllocError, Global};
 
 /// How many nodes a trial visits at most. Without the losses a node of a hard book takes some hundred nanoseconds
 /// more, and to compute them takes some milliseconds: as long as about so many nodes.
-const TRIAL_NODES: u32 = 16_384;
+const TRIAL_NODES: u32 = 65_536;
 
 /// The tables of a problem for a search with this welfare offered before it: these, which keep no losses, if it is
 /// done after some thousand nodes, and otherwise others that do. What the trial finds isn't used. The error is out of memory.
