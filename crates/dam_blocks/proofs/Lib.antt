@@ -37,3 +37,4 @@ pub mod Outcomes
 pub mod Executed
 pub mod ChangedBooks
 pub mod ReorderedBooks
+pub mod OtherOrder
