@@ -10,12 +10,13 @@ use dam_blocks::Problem;
 use dam_bound::{Tables, Walk};
 use std::alloc::{AllocError, Global};
 
-/// How many nodes a trial visits at most. Without the losses a node of a hard book takes some hundred nanoseconds
-/// more, and to compute them takes some milliseconds: as long as about so many nodes.
+/// How many nodes a trial visits at most. To compute the losses takes some milliseconds, in which a walk without them
+/// visits about so many nodes.
 const TRIAL_NODES: u32 = 65_536;
 
-/// The tables of a problem for a search with this welfare offered before it: these, which keep no losses, if it is
-/// done after some thousand nodes, and otherwise others that do. What the trial finds isn't used. The error is out of memory.
+/// The tables of a problem for a search, if this welfare is offered before it: the given ones, which keep no losses, if
+/// a walk of a limited number of nodes is then done, and otherwise tables that keep the losses. What the walk finds isn't
+/// used. The error is out of memory.
 pub(crate) fn tables_for(
     alloc: Global,
     problem: &Problem,
