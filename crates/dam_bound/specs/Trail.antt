@@ -42,7 +42,7 @@ KeepsDays problem depth before after = (prefix : List Bool) (total : ℤ) → le
 abbrev pub IsBoundOf : ProblemState → List Bool → ℕ → Option ℤ → Type 0
 IsBoundOf problem prefix least total = MatchOption total (IsUnder problem prefix least) (λ w. Some w ≡ relaxed_welfare problem prefix)
 
--- of the bounds of two extensions the one by this decision
+-- the bound of the extension by this decision
 abbrev pub bound_by : Bool → Extensions → Option ℤ
 bound_by true both = both.accepted
 bound_by false both = both.rejected

@@ -7,7 +7,7 @@
 //! let mut trail = Trail::empty();
 //! let open = walk.begin(&mut trail); // the bound with every block open
 //! let bounds = walk.extensions(&trail, 0, open, 0); // block 0 accepted or rejected, the others open
-//! if let Some(accepted) = bounds.accepted { // None if under 0
+//! if let Some(accepted) = bounds.accepted { // None if it has no bound, or one under 0
 //!     walk.enter(&mut trail, 0, true); // from here on with block 0 accepted
 //! }
 //!
@@ -20,13 +20,13 @@
 //! accepted blocks are worth, as straight lines (`dam_curve`): one with no block decided, and one for each block
 //! with a volume there. It is proved to be the definition's welfare, which [`Relaxed::bound`] finds by clearing
 //! each period. The tables before and after a block give its losses in a class: by how much the welfare falls at a net
-//! volume if the block is rejected, and if it is accepted. The last blocks keep their losses for each net volume that
-//! the earlier ones can make, which is the faster to look up.
+//! volume if the block is rejected, and if it is accepted. In tables for a long search (`with_losses`) the last blocks
+//! keep their losses for each net volume that the earlier ones can make, and one look-up then finds both.
 //!
 //! A walk down the tree of prefixes keeps the days of those on its way, the net volume of each class, in the slots of
 //! a [`Trail`]. It begins with the day of the prefix that decides nothing (`begin`). The losses of the next block, one
 //! pair for each of its classes, give the bounds of both prefixes with a decision more (`extensions`). They are looked
-//! up only until both bounds are seen to be less than the caller asks for. The day of one of them is then made (`enter`).
+//! up only until both bounds are seen to be less than the caller asks for. The day of one is then made (`enter`).
 //! If a prefix decides every block, `day_at` returns the finished day as a [`Day`]: `turn` makes the day with one
 //! decision reversed, and `gain` returns the gain of an accepted block with its accepted descendants. It clears the
 //! hours of the problem at the net volumes of the day, since no table has the price of a period.

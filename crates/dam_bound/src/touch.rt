@@ -2,10 +2,10 @@ use dam_curve::Choice;
 use std::alloc::Allocator;
 use std::marker::Model;
 
-/// What a decision on a block makes of a class of periods.
+/// The effect of a decision on a block in a class of periods.
 #[derive(Clone, Copy)]
 pub(crate) struct Touch {
-    /// What is added to a net volume to find the place of its loss, if the losses are kept.
+    /// Added to a net volume, it gives the place of the loss, if the losses are kept.
     pub(crate) offset: i64,
     /// The class: the place of its first period.
     pub(crate) at: u32,
@@ -17,12 +17,12 @@ pub(crate) struct Touch {
     /// ones undecided, and with the later ones alone, without what accepted blocks are worth. The value is what the
     /// block is worth in all of the class's periods.
     pub(crate) choice: Choice,
-    /// What is lost, or below 0 gained, by accepting the block, at about the prices at a net volume of 0.
+    /// The loss by accepting the block at about the prices at a net volume of 0; below 0 if it is a gain.
     pub(crate) stake: i64,
 }
 
-/// A block: what a decision on it makes of each of its classes. What may be lost or gained most comes first, so that
-/// a bound that is too low is given up soon.
+/// A block: the effect of a decision on each of its classes. The greatest stakes come first, so that a bound that is
+/// too low is given up soon.
 #[derive(Drop)]
 pub(crate) struct Lot<A: Allocator> {
     pub(crate) touches: Vec<Touch, A>,

@@ -15,7 +15,7 @@ use std::marker::Model;
 /// How many hints a curve has for each of its lines, at most, besides one for the whole curve.
 const HINTS: usize = 8;
 
-/// The hints of a curve. A wrong hint only costs time; that values are right is promised (`IsCurveAt`).
+/// The hints of a curve. A wrong hint only costs time (`place_of`).
 #[derive(Clone, Copy)]
 pub(crate) struct Hints {
     /// Where they begin.
@@ -56,7 +56,8 @@ impl<A: Allocator> Model for Curves<A> {
     ghost view = { λ c. record { lines = c.lines.items; losses = c.losses.items } };
 }
 
-/// The number in 32 bits. If it doesn't fit, there is no memory for that many lines, hints or losses.
+/// The number in 32 bits. If it doesn't fit, there are more lines, hints or losses than can be kept, which is reported as
+/// out of memory.
 pub(crate) fn narrow(number: usize) -> Result<u32, AllocError>
     ensures { IfOk result (λ narrow. narrow ≡ number) }
 {
@@ -142,7 +143,7 @@ impl<A: Allocator + Copy> Curves<A> {
 }
 
 impl<A: Allocator> Curves<A> {
-    /// Adds a curve whose lines are looked for. The error is out of memory, and no curve is then added.
+    /// Adds the curve of the sum. The error is out of memory, and no curve is then added.
     pub fn add<B: Allocator>(&mut self, sum: &Sum<B>) -> Result<Curve, AllocError>
         ensures added { (periods : List (List Step)) (least most : ℤ)
             → IsCurve periods least most sum.now

@@ -1,4 +1,4 @@
-//! What either side of a choice loses at each net volume.
+//! The losses of each side of a choice at each net volume.
 
 ghost use Rattle.std.specs.Prelude.{◌≡◌, ◌<◌, ◌≤◌, ◌+◌, ◌^◌, ℕ, ℤ, pos, neg_ℤ, ◌+ℤ◌, ◌-ℤ◌, ◌≤ℤ◌, Option, Some, None, List, length, slice_index_or, take, IfOk, OnOk, IfSome, MatchOption};
 ghost use Rattle.dam_hour.specs.declared.step.Step.{Step};
@@ -12,20 +12,22 @@ use dam_hour::laws;
 use std::alloc::{AllocError, Allocator};
 use std::marker::Model;
 
-/// A choice between taking and leaving. To take it adds a net volume and a value; to leave it adds nothing. The
-/// periods before it are those of one curve, and the periods after it, taken or left, those of another.
+/// A choice between taking and leaving. To take it adds a net volume and a value; to leave it adds nothing.
 #[derive(Clone, Copy)]
 pub struct Choice {
-    /// What taking adds to the net volume, in tenths of a MW.
+    /// Added to the net volume if the choice is taken, in tenths of a MW.
     pub net: i32,
-    /// What taking adds to the welfare, in cents per MWh times tenths of a MW.
+    /// Added to the welfare if the choice is taken, in cents per MWh times tenths of a MW.
     pub value: i64,
+    /// The curve while the choice is open.
     pub before: Curve,
+    /// The curve once it is taken or left.
     pub after: Curve,
 }
 
 /// By how much a choice lowers the welfare at a net volume, in cents per MWh times tenths of a MW. The greatest number
-/// of 32 bits stands for every loss from it on, and for 'no welfare afterwards'.
+/// of 32 bits stands for every loss from it on, and for 'no welfare afterwards'. If the welfare rises, or if there is
+/// none while the choice is open, nothing is promised.
 #[derive(Clone, Copy)]
 pub struct Loss {
     /// If it is left.
@@ -34,7 +36,8 @@ pub struct Loss {
     pub taken: u32,
 }
 
-/// The exact losses of a choice at a net volume; `None` if some period doesn't balance afterwards.
+/// The exact losses of a choice at a net volume at which there is a welfare while it is open, in cents per MWh times
+/// tenths of a MW; `None` if some period doesn't balance afterwards.
 #[derive(Clone, Copy)]
 pub struct ExactLoss {
     /// If it is left.
@@ -152,7 +155,7 @@ fn lines_of(lines: &[Line], curve: Curve) -> &[Line]
 }
 
 /// Writes the losses of a choice between the curves of these lines, one for each net volume from the least to the most.
-/// The error is out of memory; what was written before stays.
+/// The error is out of memory. The losses that stood there before the call stay.
 fn write_losses<A: Allocator>(
     losses: &mut Vec<Loss, A>,
     before: &[Line],
@@ -188,7 +191,7 @@ fn write_losses<A: Allocator>(
 
 impl<A: Allocator> Curves<A> {
     /// Keeps the loss of a choice at each net volume from the least to the most, and returns the offset from a net
-    /// volume to the place of its loss. The error is out of memory.
+    /// volume to the place of its loss. The error is out of memory. Takes 8 bytes for each.
     pub fn keep_losses(&mut self, choice: &Choice, least: i64, most: i64) -> Result<i64, AllocError>
         requires choice { (before : List (List Step)) × (after : List (List Step))
             × IsChoice self.old choice.now before after least most }

@@ -264,7 +264,7 @@ impl<A: Allocator, B: Allocator> SearchSpace<'_, A, B> {
 /// `depth` - 1 - i is 0. A node is a prefix that extends the piece's. If the links and the groups admit
 /// it, it is visited when its bound is compared with what was read, or, if it decides every block, when
 /// its welfare is looked at; otherwise it is passed over without a visit. No node is visited twice, and
-/// the answer isn't `done` if it takes more than `nodes` nodes. The search takes no memory but 40 kB of
+/// the answer isn't `done` if it takes more than `nodes` nodes. The search takes no memory but 20 kB of
 /// the stack, for the days of the walk.
 pub fn search_piece<A: Allocator, B: Allocator, R: Bounds<B>, I: Incumbent>(
     problem: &Problem<A>,
