@@ -15,6 +15,8 @@ COMMANDS = {"dam": ("replay", "clear", "day"), **{f"dam-{tool}": () for tool in 
 HEADS = re.compile(r"(examples|statuses)\b[^:\n]*:", re.IGNORECASE)
 # How the help names a list of arguments or options, and help2man the section of it.
 LISTS = {"positional arguments:": "*Arguments*", "options:": "Options:", "commands:": "*Commands*"}
+# The program doesn't know its version.
+VERSION = ".PP\nThis is version {}.\n.B dam\\-audit \\-\\-version\nprints it; dam itself has no such option."
 
 
 def help_of(bin_folder, words):
@@ -97,6 +99,8 @@ def page(name, text, clone, room):
     shown, more = room / name, room / f"{name}.more"
     shown.write_text(f"#!/bin/sh\nexec cat {name}.help\n", encoding="utf-8")
     shown.chmod(0o755)
+    if name == "dam":
+        sections["VERSION"] = [VERSION.format(clone.version)]
     # in a section that help2man writes too, this comes first
     blocks = [f"[{title}]\n" + "\n".join(parts) for title, parts in sections.items() if parts]
     more.write_text("\n\n".join([*blocks, "[SEE ALSO]\n" + see_also(name)]) + "\n", encoding="utf-8")
@@ -112,7 +116,7 @@ def see_also(name):
     of = next(other for other in sorted(COMMANDS, reverse=True) if name == other or name.removeprefix(f"{other}-") in COMMANDS[other])
     others = sorted({*COMMANDS, *(f"{of}-{word}" for word in COMMANDS[of])} - {name})
     listed = ",\n".join(f".BR {other} (1)" for other in others).replace(" (1),", " (1),")
-    return f"{listed}\n.PP\nThe manual is in /usr/share/doc/dam/, and begins with README.md."
+    return f"{listed}\n.PP\nThe manual begins with README.md in share/doc/dam/, below /usr or the folder of the archive."
 
 
 def pages(bin_folder, clone, room):

@@ -2,6 +2,7 @@
 
 import json
 import os
+import re
 import subprocess
 from pathlib import Path
 
@@ -29,8 +30,14 @@ TAKEN = {
     f"{DOC}/examples/caller.c": "tests/library/caller.c",
     **{f"{DOC}/{name}": name for name in ("README.md", "CHANGELOG.md", "LICENSE-APACHE", "LICENSE-MIT")},
 }
-LINKS = {f"{LIBRARY}/libdam.so": "libdam.so.1", **{f"bin/dam-{tool}": f"../{PYTHON}/{tool}" for tool in TOOLS}}
+LINKS = {
+    f"{LIBRARY}/libdam.so": "libdam.so.1",
+    f"{DOC}/library/dam.h": "../../../../include/dam.h",
+    **{f"bin/dam-{tool}": f"../{PYTHON}/{tool}" for tool in TOOLS},
+}
 PROGRAMS = ("bin/dam", *(f"{PYTHON}/{tool}" for tool in TOOLS))
+# A link of a page to another file.
+LINK = re.compile(r"\[([^\]]*)\]\(([^)#:\s]+)(?:#[^)\s]*)?\)")
 
 
 def taken(clone):
@@ -41,9 +48,18 @@ def taken(clone):
         ("tools/lib", f"{PYTHON}/lib"),
         ("docs", f"{DOC}/docs", ".md", ".svg"),
         ("examples", f"{DOC}/examples", ".csv"),
+        ("bench/measured", f"{DOC}/bench/measured", ".csv"),
+        ("crates", f"{DOC}/crates", "/README.md", "/NOTES.md"),
     ):
         found.update({f"{target}/{os.path.relpath(name, folder)}": name for name in clone.below(folder, *endings)})
     return found
+
+
+def page(data, target, held):
+    """A page, with the words alone of each link to a file that the package doesn't have."""
+    here = os.path.dirname(target)
+    kept = lambda link: link[0] if os.path.normpath(f"{here}/{link[2]}") in held else link[1]
+    return LINK.sub(kept, data.decode()).encode()
 
 
 def write(path, data, mode=0o644):
@@ -65,13 +81,17 @@ def compressed(data):
 
 def make(clone, folder, totals):
     """Makes the files of the package in a folder. `totals` are those of the check, or None."""
-    for target, name in taken(clone).items():
-        write(folder / target, (made_of.TOP / name).read_bytes(), 0o755 if target in PROGRAMS else 0o644)
+    files = taken(clone)
+    held = {*files, *LINKS}
+    for target, name in files.items():
+        data = (made_of.TOP / name).read_bytes()
+        write(folder / target, page(data, target, held) if name.endswith(".md") else data, 0o755 if target in PROGRAMS else 0o644)
     for tool in TOOLS:
         write(folder / PYTHON / tool, script(tool), 0o755)
     with_version = (made_of.TOP / HERE / "dam.pc").read_text(encoding="utf-8").replace("VERSION", clone.version)
     write(folder / LIBRARY / "pkgconfig" / "dam.pc", with_version.encode())
     for name, target in LINKS.items():
+        (folder / name).parent.mkdir(parents=True, exist_ok=True)
         (folder / name).symlink_to(target)
     room = folder.parent / "pages"
     room.mkdir()

@@ -1,45 +1,44 @@
-//! The bound of a prefix, as the sum of what the classes of periods add to it.
+//! The bound of a prefix: the relaxed welfare with no block decided, less what each decision loses.
 //!
 //! Two periods are in one class if every block has the same volume in both, or none in either. Then their net volumes are equal under
-//! every prefix, so one look-up by that number gives what all periods of the class add. There is a table for each class before any
-//! decision, and one for each block that has a volume there, since its decision changes the stacks. Those of the last blocks keep a value
-//! for each net volume. A decision that goes by the prices of all these periods is free, and needs no look-up.
+//! every prefix, so one look-up by that number gives what all periods of the class lose. There is a table of the welfare for each class
+//! before any decision, and one for each block that has a volume there, since its decision changes the stacks; and for each of the last
+//! blocks the losses by either decision at each net volume, side by side.
 //!
-//! The states of the classes are in slots, one for each table. A decision writes the slots of its own block and reads those of earlier
+//! The net volumes of the classes are in slots, one for each table. A decision writes the slots of its own block and reads those of earlier
 //! ones, so nothing is copied and nothing undone.
 
 use std::collections::HashMap;
 
-use crate::problem::{Block, Problem, Side, Step, among};
-use crate::room::first_with_values;
+use crate::losses::{Choice, Loss};
+use crate::problem::{Block, Problem, Step, among};
+use crate::room::first_with_losses;
 use crate::supply::{Nets, Supply, height};
 use crate::table::Table;
 
-/// A class under a prefix: its net volume, and the relaxed welfare of its periods.
-#[derive(Clone, Copy, Default)]
-pub struct State {
-    net: i32,
-    value: i64,
-}
-
 /// A block in a class of periods.
 struct Touch {
+    /// What is added to a net volume to find the place of its loss, if the losses are kept.
+    offset: i64,
     class: u32,
-    /// The slots of the class before and after the block is decided.
+    /// The slots of the class before and after the block is decided, which are also the places of the tables.
     from: u32,
     to: u32,
-    /// What the net volume gains if the block is accepted, and what the block then adds to the welfare by itself.
-    change: i32,
-    worth: i64,
-    /// Up to this net volume a sell is accepted, and a buy rejected, at no loss.
-    free_up_to: i32,
-    /// From this net volume a sell is rejected, and a buy accepted, at no loss.
-    free_from: i32,
+    choice: Choice,
 }
 
-impl Touch {
-    fn is_free(&self, net: i32, is_served: bool) -> bool {
-        if is_served { net <= self.free_up_to } else { net >= self.free_from }
+/// The bounds of the extensions of a prefix by either decision; under the least one asked for they may be any that are.
+pub struct Totals {
+    rejected: i64,
+    accepted: i64,
+}
+
+impl Totals {
+    /// The bound of the extension by this decision, if it is at least the one asked for.
+    #[inline(always)]
+    pub fn by(&self, accept: bool, least: i64) -> Option<i64> {
+        let total = if accept { self.accepted } else { self.rejected };
+        (total >= least).then_some(total)
     }
 }
 
@@ -73,27 +72,19 @@ impl Class {
         self.volume(block) * self.heights.iter().map(apart).sum::<i64>()
     }
 
-    /// Decides a block, of which the state goes to a slot.
+    /// Decides a block, of which the net volume goes to a slot.
     fn decide(&mut self, class: u32, block: &Block, to: u32) -> Touch {
-        let (volume, own) = (self.volume(block), height(block.price));
+        let volume = self.volume(block);
         let (change, from) = (block.change(volume), self.slot);
         self.slot = to;
         self.reached = self.reached.widened(change);
         self.supplies.iter_mut().for_each(|supply| supply.remove(block.step(volume)));
-        let around: Vec<(i64, i64)> = self.supplies.iter().map(|supply| supply.around(own)).collect();
-        Touch {
-            class,
-            from,
-            to,
-            change: change as i32,
-            worth: -change * own * self.periods.len() as i64,
-            free_up_to: around.iter().map(|nets| nets.0).min().expect("a period") as i32,
-            free_from: around.iter().map(|nets| nets.1).max().expect("a period") as i32,
-        }
+        let worth = -change * height(block.price) * self.periods.len() as i64;
+        Touch { offset: 0, class, from, to, choice: Choice { before: from as usize, after: to as usize, change: change as i32, worth } }
     }
 
-    fn table(&self, with_values: bool) -> Table {
-        Table::of(&self.supplies, self.reached, with_values)
+    fn table(&self) -> Table {
+        Table::of(&self.supplies, self.reached)
     }
 }
 
@@ -125,6 +116,9 @@ pub struct Bounds<'a> {
     /// Of each block its classes, those first in which a decision may cost most.
     touches: Vec<Vec<Touch>>,
     tables: Vec<Table>,
+    losses: Vec<Loss>,
+    /// The first block whose losses are kept.
+    kept: usize,
     /// The relaxed welfare with no block decided.
     pub total: i64,
 }
@@ -133,58 +127,79 @@ impl Bounds<'_> {
     pub fn of(problem: &Problem) -> Bounds<'_> {
         let periods = periods_by_class(problem);
         let mut classes: Vec<Class> = periods.into_iter().enumerate().map(|(at, own)| Class::of(problem, own, at as u32)).collect();
-        let mut tables: Vec<Table> = classes.iter().map(|class| class.table(false)).collect();
+        let mut tables: Vec<Table> = classes.iter().map(Class::table).collect();
         let total = tables.iter().map(|table| table.welfare(0).expect("nothing accepted balances")).sum();
-        let valued = first_with_values(problem, &classes);
-        let mut touches = Vec::new();
+        let kept = first_with_losses(problem, &classes);
+        let (mut touches, mut losses) = (Vec::new(), Vec::new());
         for (place, block) in problem.blocks.iter().enumerate() {
             let mut order: Vec<usize> = (0..classes.len()).filter(|at| classes[*at].volume(block) > 0).collect();
             order.sort_by_key(|at| -classes[*at].stake(block));
             let mut own = Vec::new();
             for at in order {
-                own.push(classes[at].decide(at as u32, block, tables.len() as u32));
-                tables.push(classes[at].table(place >= valued));
+                let nets = classes[at].reached;
+                let mut touch = classes[at].decide(at as u32, block, tables.len() as u32);
+                tables.push(classes[at].table());
+                if place >= kept {
+                    touch.offset = losses.len() as i64 - nets.least;
+                    losses.extend(touch.choice.losses(&tables, nets.least as i32, nets.greatest as i32));
+                }
+                own.push(touch);
             }
             touches.push(own);
         }
-        Bounds { problem, classes, touches, tables, total }
+        Bounds { problem, classes, touches, tables, losses, kept, total }
     }
 
-    /// Slots for the states of a walk, with those before any decision.
-    pub fn slots(&self) -> Vec<State> {
-        let mut slots = vec![State::default(); self.tables.len()];
-        for (slot, table) in slots.iter_mut().zip(&self.tables).take(self.classes.len()) {
-            slot.value = table.welfare(0).expect("nothing accepted balances");
-        }
-        slots
+    /// Slots for the net volumes of a walk, with those before any decision.
+    pub fn slots(&self) -> Vec<i32> {
+        vec![0; self.tables.len()]
     }
 
-    /// Decides one more block. Returns the total then, or None if a period doesn't balance or the total is under `least`.
+    /// The bounds of both extensions of a prefix by the next block, from the losses; or from the tables, if the losses aren't kept or the
+    /// total is so far above the least one that the greatest loss doesn't bring it under.
     #[inline(always)]
-    pub fn extend(&self, slots: &mut [State], place: usize, accept: bool, total: i64, least: i64) -> Option<i64> {
-        let is_served = accept == (self.problem.blocks[place].side == Side::Sell);
-        let mut total = total;
-        for touch in &self.touches[place] {
-            let own = slots[touch.from as usize];
-            let (net, worth) = if accept { (own.net + touch.change, touch.worth) } else { (own.net, 0) };
-            let value = if touch.is_free(net, is_served) {
-                own.value - worth
-            } else {
-                let value = self.tables[touch.to as usize].welfare(net)?;
-                total += value + worth - own.value;
-                if total < least {
-                    return None;
-                }
-                value
-            };
-            slots[touch.to as usize] = State { net, value };
+    pub fn both(&self, slots: &[i32], place: usize, total: i64, least: i64) -> Totals {
+        if place < self.kept || total - least >= i64::from(u32::MAX) {
+            return self.exact(slots, place, total, least);
         }
-        Some(total)
+        let mut totals = Totals { rejected: total, accepted: total };
+        for touch in &self.touches[place] {
+            let loss = self.losses[(touch.offset + i64::from(slots[touch.from as usize])) as usize];
+            totals.rejected -= i64::from(loss.rejected);
+            totals.accepted -= i64::from(loss.accepted);
+            if totals.rejected < least && totals.accepted < least {
+                break;
+            }
+        }
+        totals
+    }
+
+    #[inline(never)]
+    fn exact(&self, slots: &[i32], place: usize, total: i64, least: i64) -> Totals {
+        let mut totals = Totals { rejected: total, accepted: total };
+        for touch in &self.touches[place] {
+            let (rejected, accepted) = touch.choice.exact(&self.tables, slots[touch.from as usize]);
+            totals.rejected = rejected.map_or(least - 1, |loss| totals.rejected - loss).min(totals.rejected);
+            totals.accepted = accepted.map_or(least - 1, |loss| totals.accepted - loss).min(totals.accepted);
+            if totals.rejected < least && totals.accepted < least {
+                break;
+            }
+        }
+        totals
+    }
+
+    /// Writes the net volumes after a decision.
+    #[inline(always)]
+    pub fn enter(&self, slots: &mut [i32], place: usize, accept: bool) {
+        for touch in &self.touches[place] {
+            let net = slots[touch.from as usize];
+            slots[touch.to as usize] = if accept { net + touch.choice.change } else { net };
+        }
     }
 
     /// The net volumes of the classes in the slots of a walk, with every block decided.
-    pub fn nets_in(&self, slots: &[State]) -> Vec<i32> {
-        self.classes.iter().map(|class| slots[class.slot as usize].net).collect()
+    pub fn nets_in(&self, slots: &[i32]) -> Vec<i32> {
+        self.classes.iter().map(|class| slots[class.slot as usize]).collect()
     }
 
     /// Those of a selection.
@@ -197,14 +212,14 @@ impl Bounds<'_> {
     /// Makes the net volumes of a selection those with the decision on one block turned.
     pub fn turn(&self, nets: &mut [i32], place: usize, accept: bool) {
         for touch in &self.touches[place] {
-            nets[touch.class as usize] += if accept { touch.change } else { -touch.change };
+            nets[touch.class as usize] += if accept { touch.choice.change } else { -touch.choice.change };
         }
     }
 
     /// The welfare of a selection with these net volumes; None if a period doesn't balance.
     pub fn welfare(&self, accepted: u32, nets: &[i32]) -> Option<i64> {
         let hourly: Option<i64> = self.classes.iter().zip(nets).map(|(class, net)| self.tables[class.slot as usize].welfare(*net)).sum();
-        let worth: i64 = among(accepted).flat_map(|place| &self.touches[place]).map(|touch| touch.worth).sum();
+        let worth: i64 = among(accepted).flat_map(|place| &self.touches[place]).map(|touch| touch.choice.worth).sum();
         Some(hourly? + worth)
     }
 

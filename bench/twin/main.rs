@@ -3,10 +3,11 @@
 //! and on standard error lines with what was timed and the nanoseconds that it took. It reads the journals that `make_family.py` and
 //! `make_blocks.py` print, which have only submits that are accepted.
 //!
-//! The bound of a prefix is a sum of look-ups in tables, one for each class of periods. Workers draw the pieces from one shared word and
+//! The bound of a prefix is that of the prefix before it less a look-up in a table for each class of periods. Workers draw the pieces from one shared word and
 //! prune by another, the greatest welfare that any of them has found. So one worker visits them in turn, with one incumbent for all.
 
 mod classes;
+mod losses;
 mod problem;
 mod room;
 mod supply;

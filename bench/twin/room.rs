@@ -1,13 +1,13 @@
-//! Which tables keep a value for each net volume. They are the faster to look up and take the more memory, so they are those of the last
+//! From which block on the losses at each net volume are kept. They are quick to look up and take memory, so they are those of the last
 //! blocks, which a search decides most often.
 
 use crate::classes::Class;
 use crate::problem::Problem;
 
-/// How many values are kept for each period of the day, at most: as many as `dam` keeps.
-const VALUES_EACH: i64 = 5_000;
+/// How many losses of 8 bytes are kept at most: as many as `dam` keeps.
+const MOST_LOSSES: i64 = 750_000;
 
-/// How many values the tables of each block have, at most: one for each net volume to which the decisions so far can lead.
+/// How many losses each block has: one for each class that it touches and each net volume to which the decisions before it can lead.
 fn counts(problem: &Problem, classes: &[Class]) -> Vec<i64> {
     let mut reached = vec![1; classes.len()];
     let mut counts = Vec::new();
@@ -15,17 +15,17 @@ fn counts(problem: &Problem, classes: &[Class]) -> Vec<i64> {
         let mut count = 0;
         for (class, nets) in classes.iter().zip(&mut reached) {
             let volume = class.volume(block);
-            *nets += volume;
             count += if volume > 0 { *nets } else { 0 };
+            *nets += volume;
         }
         counts.push(count);
     }
     counts
 }
 
-/// From which block on the tables keep a value for each net volume: as many of the last blocks as there is room for.
-pub fn first_with_values(problem: &Problem, classes: &[Class]) -> usize {
-    let mut room = VALUES_EACH * problem.hours.len() as i64;
+/// The first block whose losses are kept: as many of the last blocks have them as there is room for.
+pub fn first_with_losses(problem: &Problem, classes: &[Class]) -> usize {
+    let mut room = MOST_LOSSES;
     let fits = |count: &i64| {
         room -= count;
         room >= 0

@@ -111,15 +111,6 @@ impl Supply {
         (begin..end).map(|at| (self.net(self.rows[at].before), self.rows[at].height - self.rows[at - 1].height))
     }
 
-    /// The greatest net volume at which all units below this height are taken, and the least at which none above it is.
-    pub fn around(&self, height: i64) -> (i64, i64) {
-        let before = |at: usize| self.rows[at].before;
-        let orders = &self.rows[..self.rows.len() - 1];
-        let below = before(orders.partition_point(|row| row.height < height));
-        let up_to = before(orders.partition_point(|row| row.height <= height));
-        (self.net(below), self.net(up_to))
-    }
-
     /// The price at a net volume that balances: that between the ends of the supporting prices.
     pub fn price(&self, net: i64) -> i64 {
         let units = self.net(net);

@@ -1,4 +1,4 @@
-//! The relaxed welfare of the periods of a class, as a function of their net volume: rows between which it is linear, or a value for each.
+//! The relaxed welfare of the periods of a class, as a function of their net volume: rows between which it is linear.
 
 use crate::supply::{Nets, Supply};
 
@@ -20,55 +20,57 @@ impl Row {
     }
 }
 
-/// How the welfare at a net volume is found.
-enum Lookup {
-    /// By one load: the welfare at each net volume, from the least one on.
-    Values(Vec<i64>),
-    /// Among rows by rising net volume, and a last one that is above all.
-    Rows {
-        rows: Vec<Row>,
-        /// A row at or below each net volume: the first for as many as 2 to the power of `shift`, and so on.
-        hints: Vec<u16>,
-        shift: u32,
-    },
-}
-
 pub struct Table {
     /// The net volumes of the table; outside of them no execution balances, or no selection leads there.
     least: i32,
     greatest: i32,
-    lookup: Lookup,
+    /// By rising net volume, and a last one that is above all.
+    rows: Vec<Row>,
+    /// A row at or below each net volume: the first for as many as 2 to the power of `shift`, and so on.
+    hints: Vec<u16>,
+    shift: u32,
 }
 
 impl Table {
     /// The sum of the welfare in these periods, by those of the net volumes at which each of them balances.
-    pub fn of(supplies: &[Supply], reached: Nets, with_values: bool) -> Table {
+    pub fn of(supplies: &[Supply], reached: Nets) -> Table {
         let nets = supplies.iter().fold(reached, |nets, supply| nets.both(supply.nets()));
         if nets.least > nets.greatest {
-            return Table { least: 0, greatest: -1, lookup: Lookup::Values(Vec::new()) };
+            return Table { least: 0, greatest: -1, rows: Vec::new(), hints: Vec::new(), shift: 0 };
         }
         let rows = rows(supplies, nets);
-        let lookup = if with_values { Lookup::Values(values(&rows, nets)) } else { hinted(rows, nets) };
-        Table { least: nets.least as i32, greatest: nets.greatest as i32, lookup }
+        let (mut shift, count) = (0, rows.len() as i64 - 1);
+        while (nets.greatest - nets.least) >> shift > HINTS * count {
+            shift += 1;
+        }
+        let hints = hints(&rows, nets, shift);
+        Table { least: nets.least as i32, greatest: nets.greatest as i32, rows, hints, shift }
     }
 
     /// The welfare at a net volume; None if it isn't one of the table.
-    #[inline(always)]
     pub fn welfare(&self, net: i32) -> Option<i64> {
         if net < self.least || net > self.greatest {
             return None;
         }
-        let above = (net - self.least) as usize;
-        match &self.lookup {
-            Lookup::Values(values) => Some(values[above]),
-            Lookup::Rows { rows, hints, shift } => {
-                let mut at = usize::from(hints[above >> shift]);
-                while rows[at + 1].net <= net {
-                    at += 1;
-                }
-                Some(rows[at].welfare(net))
-            }
+        let mut at = usize::from(self.hints[(net - self.least) as usize >> self.shift]);
+        while self.rows[at + 1].net <= net {
+            at += 1;
         }
+        Some(self.rows[at].welfare(net))
+    }
+
+    /// The welfare at each net volume between two; None at those that the table doesn't have.
+    pub fn each(&self, least: i32, greatest: i32) -> impl Iterator<Item = Option<i64>> {
+        let mut at = 0;
+        (least..=greatest).map(move |net| {
+            if net < self.least || net > self.greatest {
+                return None;
+            }
+            while self.rows[at + 1].net <= net {
+                at += 1;
+            }
+            Some(self.rows[at].welfare(net))
+        })
     }
 }
 
@@ -88,23 +90,6 @@ fn rows(supplies: &[Supply], nets: Nets) -> Vec<Row> {
     rows.push(Row { net: net as i32, slope: slope as i32, value });
     rows.push(Row { net: i32::MAX, slope: 0, value: 0 });
     rows
-}
-
-/// The welfare at each net volume.
-fn values(rows: &[Row], nets: Nets) -> Vec<i64> {
-    let end = nets.greatest as i32 + 1;
-    let between = |pair: &[Row]| (pair[0].net..pair[1].net.min(end)).map(|net| pair[0].welfare(net)).collect::<Vec<_>>();
-    rows.windows(2).flat_map(between).collect()
-}
-
-/// The rows with their hints.
-fn hinted(rows: Vec<Row>, nets: Nets) -> Lookup {
-    let (mut shift, count) = (0, rows.len() as i64 - 1);
-    while (nets.greatest - nets.least) >> shift > HINTS * count {
-        shift += 1;
-    }
-    let hints = hints(&rows, nets, shift);
-    Lookup::Rows { rows, hints, shift }
 }
 
 fn hints(rows: &[Row], nets: Nets, shift: u32) -> Vec<u16> {

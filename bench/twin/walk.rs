@@ -3,7 +3,7 @@
 use std::sync::atomic::{AtomicI64, AtomicU32, Ordering};
 use std::thread;
 
-use crate::classes::{Bounds, State};
+use crate::classes::Bounds;
 
 #[derive(Clone, Copy)]
 pub struct Best {
@@ -68,7 +68,7 @@ struct Shared {
 struct Walk<'a> {
     bounds: &'a Bounds<'a>,
     shared: &'a Shared,
-    slots: Vec<State>,
+    slots: Vec<i32>,
     /// The best of the present piece.
     best: Option<Best>,
     visited: u64,
@@ -87,14 +87,15 @@ impl Walk<'_> {
         }
         // if no completion has more than the greatest, only the order of ties counts, in which 'accepted' comes first
         let first = total == self.greatest();
+        let totals = self.bounds.both(&self.slots, depth, total, self.greatest());
         for accept in [first, !first] {
             if accept && !self.bounds.problem.admits(accepted, depth) {
                 continue;
             }
             let next = if accept { accepted | 1 << depth } else { accepted };
             self.visited += 1;
-            let least = self.greatest();
-            if let Some(total) = self.bounds.extend(&mut self.slots, depth, accept, total, least) {
+            if let Some(total) = totals.by(accept, self.greatest()) {
+                self.bounds.enter(&mut self.slots, depth, accept);
                 self.explore(total, next, depth + 1);
             }
         }
@@ -119,7 +120,8 @@ impl Walk<'_> {
         self.visited += 1;
         let mut total = self.bounds.total;
         for place in 0..depth {
-            total = self.bounds.extend(&mut self.slots, place, decided(place), total, 0)?;
+            total = self.bounds.both(&self.slots, place, total, 0).by(decided(place), 0)?;
+            self.bounds.enter(&mut self.slots, place, decided(place));
         }
         if depth == self.bounds.problem.blocks.len() || total >= self.greatest() {
             self.explore(total, accepted, depth);

@@ -27,14 +27,15 @@ class Program:
 
     def __init__(self, path, seconds=SECONDS):
         self.path, self.seconds = path, seconds
+        self.environment = dict(os.environb)  # which `os.environ` would encode for each run
 
     def printed(self, words, data):
         """What it prints for an input. Its streams are files in memory: pipes would have to be served while it runs, which takes longer
         than most runs."""
         with in_memory(data) as stdin, in_memory() as stdout, in_memory() as stderr:
-            ran = subprocess.Popen([self.path, *words], stdin=stdin, stdout=stdout, stderr=stderr, close_fds=False)
+            ran = subprocess.Popen([self.path, *words], stdin=stdin, stdout=stdout, stderr=stderr, close_fds=False, env=self.environment)
             try:
-                wait_for(ran, self.seconds)
+                wait_for(ran.pid, self.seconds)
             finally:
                 status = ran.poll()
                 if status is None:
@@ -62,13 +63,13 @@ def contents(file):
     return file.read()
 
 
-def wait_for(ran, seconds):
-    """Waits until a process has ended, for at most this number of seconds."""
-    process = os.pidfd_open(ran.pid)
+def wait_for(pid, seconds):
+    """Waits until a process has ended, for at most this number of seconds: whether it has."""
+    process = os.pidfd_open(pid)
     try:
         poll = select.poll()
         poll.register(process, select.POLLIN)
-        poll.poll(seconds * 1_000)
+        return bool(poll.poll(seconds * 1_000))
     finally:
         os.close(process)
 

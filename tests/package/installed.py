@@ -8,12 +8,15 @@ import subprocess
 import tempfile
 from pathlib import Path
 
+from lib.version import VERSION
+
 TOP = Path(__file__).resolve().parents[2]
 CASE = TOP / "tests/cases/clear-merit-order"
 SUNNY = "/usr/share/doc/dam/examples/sunny-day.csv"
 DAY = "/srv/day"  # in the system: the files of the day
-# What Debian's own tools keep there isn't the package's.
-KEPT = ("proc", "dev", "sys", "run", "tmp", "var/cache", "var/log", "var/lib/apt", "var/lib/dpkg/status-old", "var/lib/dpkg/triggers")
+# These files, and what Debian's own tools keep, aren't the package's.
+OF_DEBIAN = ("proc", "dev", "sys", "run", "tmp", "var/cache", "var/log", "var/lib/apt", "var/lib/dpkg/status-old", "var/lib/dpkg/triggers")
+KEPT = (DAY.removeprefix("/"), *OF_DEBIAN)
 OF_THE_REPORT = "python3-jinja2, python3-matplotlib"
 FOREIGN = "rt rattle cc gcc clang git"
 IN_PYTHON = """
@@ -43,7 +46,7 @@ class System:
         return self.run("sh", "-c", f"mkdir -p {DAY} && cd {DAY} && {line}")
 
     def files(self):
-        """The paths of all files, but for those that Debian's tools keep."""
+        """The paths of all files, but for those of the day and those that Debian's tools keep."""
         found = set()
         for at, folders, names in os.walk(self.root):
             inside = os.path.relpath(at, self.root)
@@ -97,12 +100,17 @@ def day(counts, system):
     check("dam-table", f"dam-table --rows blocks {SUNNY} results.txt", lambda out: out.count(b"\n") == 13 and b"COAL,UNIT-7" in out)
     check("dam-report", f"dam-report {SUNNY} results.txt -o day.html && cat day.html", lambda out: b"</html>" in out and b"<svg" in out)
     check("dam-whatif", f"dam-whatif limit --participant COAL --order UNIT-7 {SUNNY}", lambda out: b"COAL UNIT-7 sells" in out)
-    check("man dam", "man dam", lambda out: b"dam clear [OPTIONS] < JOURNAL" in out)
+    check("man dam", "man dam", lambda out: b"dam clear [OPTIONS] < JOURNAL" in out and b"dam-audit --version prints it" in b" ".join(out.split()))
+    check("the version", "! dam --version 2> refused && dam-audit --version", lambda out: out == f"dam-audit {VERSION}\n".encode())
     check("man dam-audit", "man dam-audit", lambda out: b"dam-audit --best examples/auction-day.csv" in out)
     library = "/usr/lib/x86_64-linux-gnu/libdam.so.1"
     wanted = ["library", "package", library, int(results.split(b"welfare,")[1].split()[0]), []]
     check("import dam_tools", f"python3 -c '{IN_PYTHON}' {SUNNY}", lambda out: json.loads(out) == wanted)
     check("dpkg --verify", "dpkg --verify dam", lambda out: not out)
+    page = "/usr/share/doc/dam/README.md"
+    # the status doesn't tell
+    check("dpkg --verify of a changed file", f"cp -p {page} kept && echo >> {page} && dpkg --verify dam && cp -p kept {page}",
+          lambda out: out.split() == [b"??5??????", page.encode()])
 
 
 def in_c(counts, system, caller):

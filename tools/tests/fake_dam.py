@@ -41,36 +41,41 @@ def lower(data):
     return results.results_text(problem, frozenset(), selection.outcome(problem, frozenset())).encode()
 
 
-def limited(answer, data, more):
-    """The answer under the limit on nodes of the command line. A search here visits a node for each order, and some more."""
-    limit = int(sys.argv[sys.argv.index("--nodes") + 1])
+def limited(answer, words, data, more):
+    """The answer under the limit on nodes of a command line. A search here visits a node for each order, and some more."""
+    limit = int(words[words.index("--nodes") + 1])
     if answer.status or limit >= data.count(b"\nsubmit,") + more:
         return answer
     return Printed(3, b"", f"unfinished: piece 0 after {limit} nodes\n".encode())
 
 
-def main():
-    command, data = sys.argv[1], sys.stdin.buffer.read()
+def answered(command, words, data, defect):
+    """The answer to a command with its options."""
     answer = day(data) if command == "day" else compare.wanted(command, data)
-    defect = os.environ.get("DAM_DEFECT")
     if defect == "late" and data:
         time.sleep(60)
     if defect == "price" and b"period,1,175000" in answer.stdout:
         answer = answer._replace(stdout=answer.stdout.replace(b"period,1,175000", b"period,1,175001"))
     if defect == "lower" and command == "clear" and answer.status == 0:
         answer = answer._replace(stdout=lower(data))
-    if defect == "plan" and sys.argv[2:] == ["--workers", "8", "--cut", "8"]:
+    if defect == "plan" and words == ["--workers", "8", "--cut", "8"]:
         answer = answer._replace(stdout=answer.stdout.replace(b"welfare,", b"welfare,1", 1))
-    if "--nodes" in sys.argv:
-        answer = limited(answer, data, 3 if defect == "nodes" else 2)
+    if "--nodes" in words:
+        answer = limited(answer, words, data, 3 if defect == "nodes" else 2)
     if defect == "status" and answer.status:
         answer = answer._replace(status=answer.status + 1)
     if defect == "order" and b"results\n" in answer.stdout:
         first, *rest = answer.stdout.split(b"\n", 3)
         answer = answer._replace(stdout=b"\n".join([first, *rest[1::-1], *rest[2:]]))
+    return answer
+
+
+def main():
+    answer = answered(sys.argv[1], sys.argv[2:], sys.stdin.buffer.read(), os.environ.get("DAM_DEFECT"))
     sys.stdout.buffer.write(answer.stdout)
     sys.stderr.buffer.write(answer.stderr)
     sys.exit(answer.status)
 
 
-main()
+if __name__ == "__main__":
+    main()

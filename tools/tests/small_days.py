@@ -9,15 +9,21 @@ import days
 from lib import selection
 
 
-def small_problems(count):
-    """Random days of at most six blocks, each with its eligible selections from the best one down."""
+def drawn():
     for number in itertools.count():
         day = problem(days.text(random.Random(f"few blocks {number}"), 6).replace(b"close,,,,,,,,\n", b"") + b"close,,,,,,,,\n")
-        if 0 < len(day.blocks) <= 6 and count > 0:
-            count -= 1
+        if 0 < len(day.blocks) <= 6:
             yield day, ranked(day)
-        if count == 0:
-            return
+
+
+# Those that a test has asked for, and the others.
+FOUND, MORE = [], drawn()
+
+
+def small_problems(count):
+    """Random days of at most six blocks, each with its eligible selections from the best one down. Every test has the same ones."""
+    FOUND.extend(itertools.islice(MORE, max(count - len(FOUND), 0)))
+    return FOUND[:count]
 
 
 def ranked(day):

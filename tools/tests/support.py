@@ -2,6 +2,8 @@
 
 import importlib.machinery
 import importlib.util
+import os
+import runpy
 import signal
 import subprocess
 import sys
@@ -12,8 +14,10 @@ TOP = Path(__file__).resolve().parents[2]
 TOOLS = TOP / "tools"
 sys.path[:0] = [str(TOOLS), str(TOP / "tests" / "fuzz")]
 
+import compare
 from lib import book, command, journal, results, selection
 
+SECONDS = 300  # that a run may take
 AUCTION = TOP / "tests" / "cases" / "clear" / "auction-day.csv"
 QUARTERS = AUCTION.with_name("quarter-hour-day.csv")
 # A journal with orders in periods 8 and 9 alone.
@@ -77,10 +81,60 @@ def journal_of(*lines):
     return "".join(f"{line}\n" for line in ["day,24,,,,,,,", *lines, "close,,,,,,,,"]).encode()
 
 
-def tool(name, *words, data=b"", python=(sys.executable,)):
-    """A run of a tool: its status, output and errors."""
-    ran = subprocess.run([*python, TOOLS / name, *map(str, words)], input=data, capture_output=True)
+def tool(name, *words, data=b"", python=None):
+    """A run of a tool: its status, output and errors. If no Python is named, it runs in a copy of this process, which has loaded already
+    what a new Python would load each time. But HiGHS has threads, and a copy of a process that has used it would wait for them."""
+    words = list(map(str, words))
+    if python is None and "highs" not in words:
+        load(name)
+        return copied(str(TOOLS / name), words, data)
+    ran = subprocess.run([*(python or [sys.executable]), TOOLS / name, *words], input=data, capture_output=True)
     return ran.returncode, ran.stdout, ran.stderr.decode()
+
+
+def load(name):
+    """Loads the packages that a tool needs, for all runs of it."""
+    if name in ("plot", "report") and command.has("matplotlib") and command.has("jinja2"):
+        importlib.import_module("lib.page")
+
+
+def copied(path, words, data=b""):
+    """A run of a script in a copy of this process."""
+    with compare.in_memory(data) as stdin, compare.in_memory() as stdout, compare.in_memory() as stderr:
+        child = os.fork()
+        if child == 0:
+            run_in_copy(path, words, [stdin, stdout, stderr])
+        is_late = not compare.wait_for(child, SECONDS)
+        if is_late:
+            os.kill(child, signal.SIGKILL)
+        status = os.waitstatus_to_exitcode(os.waitpid(child, 0)[1])
+        assert not is_late, f"{path} {words}: no end after {SECONDS} seconds"
+        return status, compare.contents(stdout), compare.contents(stderr).decode()
+
+
+def run_in_copy(path, words, files):
+    """Runs a script in this process, with these files as its streams, and ends the process as Python does."""
+    status = 1
+    try:
+        for number, file in enumerate(files):
+            os.dup2(file.fileno(), number)
+        sys.stdin, sys.stdout, sys.stderr = (open(number, mode, closefd=False) for number, mode in enumerate("rww"))
+        sys.stderr.reconfigure(errors="backslashreplace", line_buffering=True)
+        sys.argv = [path, *words]
+        runpy.run_path(path, run_name="__main__")
+        status = 0
+    except SystemExit as end:
+        status = end.code if isinstance(end.code, int) else int(end.code is not None)
+        if end.code is not None and not isinstance(end.code, int):
+            print(end.code, file=sys.stderr)
+    except BaseException as fault:
+        sys.excepthook(type(fault), fault, fault.__traceback__)
+    finally:
+        try:
+            sys.stdout.flush()
+        except (OSError, ValueError):
+            status = 120
+        os._exit(status)
 
 
 def audit(data, text, *words):

@@ -8,19 +8,53 @@ import sys
 import tempfile
 import unittest
 from pathlib import Path
+from unittest import mock
 
 import support
+
+import compare
+import fake_dam
 from lib import command, rules
 from profiles import Profiles, hours_of
 
 
-def fake_program(folder, name, setting=""):
-    """A program in a folder that answers by the tools' reading of the rules, with a setting of its environment."""
+def fake_program(folder, name):
+    """A program in a folder that answers by the tools' reading of the rules."""
     program = Path(folder, name)
     fake = support.TOOLS / "tests" / "fake_dam.py"
-    program.write_text(f'#!/bin/sh\n{setting} PYTHONPATH="{fake.parent}" exec "{sys.executable}" "{fake}" "$@"\n')
+    program.write_text(f'#!/bin/sh\nPYTHONPATH="{fake.parent}" exec "{sys.executable}" "{fake}" "$@"\n')
     program.chmod(0o755)
     return program
+
+
+class Called:
+    """The same program, called in the process of the fuzzer. What follows the last point of its file's name is its defect."""
+
+    def __init__(self, path, seconds=compare.SECONDS):
+        self.defect = Path(path).suffix.removeprefix(".")
+
+    def printed(self, words, data):
+        return fake_dam.answered(words[0], words[1:], data, self.defect)
+
+    def takes(self, words):
+        return True
+
+
+def called(script, folder, *words, defect=""):
+    """A run of a fuzzer with such a program: its status and output."""
+    program = Path(folder, f"dam.{defect}")
+    program.touch()
+    with mock.patch.object(compare, "Program", Called):
+        status, out, err = support.copied(str(support.TOP / "tests" / "fuzz" / script), [str(program), *map(str, words)])
+    return status, out.decode() + err
+
+
+def other_programs(folder, *defects):
+    """Programs to compare with."""
+    for defect in defects:
+        path = Path(folder, f"other.{defect}")
+        path.touch()
+        yield path
 
 
 class OfBlocks(unittest.TestCase):
@@ -50,16 +84,23 @@ class OfBlocks(unittest.TestCase):
 
 
 class Fuzz(unittest.TestCase):
-    def fuzz(self, *words, defect=""):
-        """A run of the fuzzer: its status and output, and the cases that it kept, as their inputs."""
+    def fuzz(self, *words, defect="", apart=False):
+        """A run of the fuzzer: its status and output, and the cases that it kept, as their inputs. The program answers in processes of
+        its own, if it is apart."""
         with tempfile.TemporaryDirectory() as folder:
-            program, found = fake_program(folder, "dam"), Path(folder, "found")
-            run = [sys.executable, support.TOP / "tests" / "fuzz" / "run", program, "--keep", found, "--tries", "60", *words]
-            ran = subprocess.run(run, capture_output=True, text=True, env={**os.environ, "DAM_DEFECT": defect})
+            found = Path(folder, "found")
+            words = ["--keep", found, "--tries", "60", *words]
+            if apart:
+                run = [sys.executable, support.TOP / "tests" / "fuzz" / "run", fake_program(folder, "dam"), *words]
+                ran = subprocess.run(run, capture_output=True, text=True, env={**os.environ, "DAM_DEFECT": defect})
+                status, out = ran.returncode, ran.stdout + ran.stderr
+            else:
+                status, out = called("run", folder, *words, defect=defect)
             kept = [path.read_bytes() for path in sorted(found.glob("*.csv"))] if found.is_dir() else []
-            return ran.returncode, ran.stdout + ran.stderr, kept
+            return status, out, kept
 
     def test_a_program_that_is_right(self):
+        self.assertEqual(self.fuzz("--count", "12", apart=True), (0, "12 passed, 0 failed\n", []))
         self.assertEqual(self.fuzz("--count", "12"), (0, "12 passed, 0 failed\n", []))
         self.assertEqual(self.fuzz("--count", "12", "--commands", "day"), (0, "12 passed, 0 failed\n", []))
 
@@ -76,8 +117,9 @@ class Fuzz(unittest.TestCase):
         self.assertEqual((status, "clear --workers 8 --cut 8: stdout differs" in out), (1, True), out)
 
     def test_a_wrong_status_is_found(self):
-        status, out, kept = self.fuzz("--count", "4", "--seed", "b", "--commands", "replay", defect="status")
-        self.assertEqual((status, "status differs" in out, b"" in kept), (1, True, True), out)
+        for apart in (True, False):
+            status, out, kept = self.fuzz("--count", "4", "--seed", "b", "--commands", "replay", defect="status", apart=apart)
+            self.assertEqual((status, "status differs" in out, b"" in kept), (1, True, True), out)
 
     def test_a_day_in_another_order_is_found(self):
         status, out, _ = self.fuzz("--count", "3", "--seed", "d", "--commands", "day", defect="order")
@@ -86,7 +128,7 @@ class Fuzz(unittest.TestCase):
     def test_a_program_is_compared_with_another(self):
         words = ["--count", "6", "--seed", "a", "--commands", "clear"]
         with tempfile.TemporaryDirectory() as folder:
-            same, wrong = fake_program(folder, "same"), fake_program(folder, "wrong", "DAM_DEFECT=price")
+            same, wrong = other_programs(folder, "", "price")
             self.assertEqual(self.fuzz(*words, "--like", str(same)), (0, "6 passed, 0 failed\n", []))
             status, out, kept = self.fuzz(*words, "--like", str(wrong))
         self.assertEqual((status, "stdout differs" in out, b"" in kept), (1, True, False), out)
@@ -100,7 +142,7 @@ class Fuzz(unittest.TestCase):
     def test_the_nodes_of_two_programs_are_compared(self):
         words = ["--count", "3", "--profiles", "--nodes", "--commands", "clear", "--tries", "3"]
         with tempfile.TemporaryDirectory() as folder:
-            same, more = fake_program(folder, "same"), fake_program(folder, "more", "DAM_DEFECT=nodes")
+            same, more = other_programs(folder, "", "nodes")
             self.assertEqual(self.fuzz(*words, "--like", str(same)), (0, "3 passed, 0 failed\n", []))
             status, out, _ = self.fuzz(*words, "--like", str(more))
         self.assertEqual(status, 1)
@@ -110,7 +152,7 @@ class Fuzz(unittest.TestCase):
 
     def test_a_program_that_takes_too_long_is_ended_and_its_input_kept(self):
         words = ["--count", "1", "--wait", "1", "--seed", "check", "--commands", "replay"]
-        status, out, kept = self.fuzz(*words, defect="late")
+        status, out, kept = self.fuzz(*words, defect="late", apart=True)
         self.assertEqual((status, "no answer in time" in out, len(kept)), (1, True, 1), out)
         self.assertEqual(out.splitlines()[-1], "0 passed, 1 failed")
 
@@ -120,9 +162,7 @@ class Doctored(unittest.TestCase):
 
     def doctored(self, *words, defect=""):
         with tempfile.TemporaryDirectory() as folder:
-            run = [sys.executable, support.TOP / "tests" / "fuzz" / "doctored.py", fake_program(folder, "dam"), *words]
-            ran = subprocess.run(run, capture_output=True, text=True, env={**os.environ, "DAM_DEFECT": defect})
-            return ran.returncode, ran.stdout + ran.stderr
+            return called("doctored.py", folder, *words, defect=defect)
 
     def test_a_program_that_is_right(self):
         status, out = self.doctored("--count", "12")
@@ -153,9 +193,7 @@ class Doctored(unittest.TestCase):
 class Selections(unittest.TestCase):
     def selections(self, *words, defect=""):
         with tempfile.TemporaryDirectory() as folder:
-            run = [sys.executable, support.TOP / "tests" / "fuzz" / "selections.py", fake_program(folder, "dam"), *words]
-            ran = subprocess.run(run, capture_output=True, text=True, env={**os.environ, "DAM_DEFECT": defect})
-            return ran.returncode, ran.stdout + ran.stderr
+            return called("selections.py", folder, *words, defect=defect)
 
     def test_a_program_that_is_right(self):
         status, out = self.selections("--blocks", "7", "--count", "10")

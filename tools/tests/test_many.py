@@ -148,10 +148,10 @@ class Many(unittest.TestCase):
 
     def test_bad_calls(self):
         with self.assertRaisesRegex(ValueError, "jobs should be 1 or more"):
-            list(dam_tools.clear_many([AUCTION], 0))
+            list(dam_tools.clear_many([AUCTION], 0, program="/nowhere/dam"))
         (fault,) = dam_tools.clear_many([AUCTION], program="/nowhere/dam")
         self.assertEqual((str(fault), fault.status), ("/nowhere/dam can't be run: No such file or directory", None))
-        self.assertEqual(list(dam_tools.clear_many([])), [])
+        self.assertEqual(list(dam_tools.clear_many([], program="/nowhere/dam")), [])
         for one in ("day.csv", Path("day.csv"), b"day,24,,,,,,,\n", dam_tools.read_journal(AUCTION)):
             with self.assertRaisesRegex(TypeError, "^journals should be several"):
                 dam_tools.clear_many(one)

@@ -11,11 +11,10 @@ from pathlib import Path
 from support import AUCTION, TOP, book, cases, journal, printed, selection, tool
 
 from lib import best
+from shared.pages import links, prose
 
 CRATES = sorted(path for path in (TOP / "crates").iterdir() if (path / "src").is_dir())
 PAGES = [TOP / "README.md", TOP / "CHANGELOG.md", *sorted((TOP / "docs").glob("*.md")), *sorted((TOP / "crates").glob("*/*.md"))]
-LINK = re.compile(r"\]\(([^)#\s]*)(?:#([^)\s]*))?\)")
-FENCE = re.compile(r"^```.*?^```$", re.MULTILINE | re.DOTALL)
 MOST = 200  # characters of a cell
 WIDEST = 140  # columns of a line that isn't of a table
 # What the house rule of English has other words for, apart from the table of that rule.
@@ -26,6 +25,7 @@ MOST_BYTES = {
     "ARCHITECTURE.md": 7_500,
     "ASSURANCE.md": 23_000,
     "DECISIONS.md": 20_000,
+    "OPERATING.md": 6_000,
     "READING.md": 4_500,
     "TESTED.md": 14_000,
     "THEOREM.md": 10_000,
@@ -47,25 +47,12 @@ SOURCES = {
 EXAMPLE = re.compile(r"^```text\n(day,24\nwelfare.*?)^```$", re.MULTILINE | re.DOTALL)
 
 
-def prose(page):
-    return FENCE.sub("", page.read_text())
-
-
-def anchors(page):
-    """The names of a page's headings in links."""
-    heads = re.findall(r"^#+ (.*)$", prose(page), re.MULTILINE)
-    return {re.sub(r"[^\w\- ]", "", head.lower()).replace(" ", "-") for head in heads}
-
-
 class Pages(unittest.TestCase):
     def test_links_lead_to_a_file_and_a_heading(self):
         for page in PAGES:
-            for path, anchor in LINK.findall(prose(page)):
-                with self.subTest(page=page.name, link=f"{path}#{anchor}"):
-                    target = (page.parent / path).resolve() if path else page
-                    self.assertTrue(target.exists(), "no such file")
-                    if anchor:
-                        self.assertIn(anchor, anchors(target))
+            for link, wrong in links(page):
+                with self.subTest(page=page.name, link=link):
+                    self.assertIsNone(wrong)
 
     def test_cells_of_tables_are_short(self):
         for page in PAGES:

@@ -4,6 +4,7 @@ pub mod Families
 pub mod WelfareAtLeastZero
 pub mod Descending
 pub mod Magnitudes
+pub mod Products
 pub mod Ranks
 pub mod Choices
 pub mod PricesUnique
@@ -37,3 +38,4 @@ pub mod Outcomes
 pub mod Executed
 pub mod ChangedBooks
 pub mod ReorderedBooks
+pub mod OtherOrder

@@ -35,7 +35,7 @@ price_times (negsuc n) x is h =
     mul-le-mul {n₁ = suc n} {m₁ = x} {n₂ = nat_abs lowest_price} {m₂ = greatest_volume} (omega (arith, ints, limit)) h in
     (omega (arith, ints, m), omega (arith, ints, m))
 
-signed_within : (side : Side) (z : ℤ) (n : ℕ) → neg_ℤ (pos n) ≤ℤ z → z ≤ℤ pos n
+pub signed_within : (side : Side) (z : ℤ) (n : ℕ) → neg_ℤ (pos n) ≤ℤ z → z ≤ℤ pos n
     → (neg_ℤ (pos n) ≤ℤ signed side z) × (signed side z ≤ℤ pos n)
 signed_within Buy z n l h = (l, h)
 signed_within Sell z n l h = (omega (arith, ints, l, h), omega (arith, ints, l, h))

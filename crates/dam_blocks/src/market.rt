@@ -1,10 +1,10 @@
 //! What the auction promises to those who trade in it, each promise the contract of a function that does
 //! nothing but cite the laws that it rests on.
 
-ghost use Rattle.std.specs.Prelude.{◌≡◌, ℕ, ◌+◌, ℤ, pos, ◌+ℤ◌, ◌*ℤ◌, ◌≤ℤ◌, ◌⊎◌, Bool, true, false, Some, List, ◌∷◌, ◌++◌, length, slice_get, IsPermutation};
+ghost use Rattle.std.specs.Prelude.{◌≡◌, ℕ, ◌+◌, ℤ, pos, ◌+ℤ◌, ◌*ℤ◌, ◌≤ℤ◌, ◌⊎◌, Bool, true, false, Some, List, [], ◌∷◌, ◌++◌, length, slice_get, IsPermutation};
 ghost use Rattle.dam_book.specs.Limits.{most_blocks};
 ghost use Rattle.dam_book.specs.Terms.{BlockTerms};
-ghost use Rattle.dam_book.specs.Book.{Key, Row, BookState, IsBook};
+ghost use Rattle.dam_book.specs.Book.{Key, Row, BookState, are_linked, IsBook};
 ghost use Rattle.dam_book.specs.declared.order.Order.TheVariants.{Block as BlockOrder};
 ghost use Rattle.dam_book.specs.declared.order.Side.TheVariants.{Buy, Sell};
 ghost use Rattle.dam_hour.specs.declared.step.Step.{Step};
@@ -47,6 +47,13 @@ pub fn a_changed_book_is_a_changed_problem()
     ensures blocks { (book other : BookState) → IsPermutation book.rows other.rows
         → (problem_of other).hours ≡ (problem_of book).hours
         → HasBlocksReordered (problem_of book) (problem_of other) }
+{}
+
+/// A book whose rows stand in another order, each parent still before its children, keeps what every book
+/// keeps.
+pub fn a_reordered_book_is_a_book()
+    ensures book { (book other : BookState) → IsBook book → IsPermutation book.rows other.rows
+        → other.periods ≡ book.periods → are_linked [] other.rows ≡ true → IsBook other }
 {}
 
 /// An eligible selection, such as the result, has prices and best executions, and only these.

@@ -1,19 +1,18 @@
--- The curves and the day with no block decided.
+-- The curves and the welfare with no block decided.
 use Rattle.std.proofs.Common.{◌≡◌, ◌≢◌, ℕ, zero, suc, ◌+◌, ◌-◌, ◌*◌, ◌<◌, ◌==◌, cond, Bool, true, false, ℤ, pos, ◌+ℤ◌, Option}
-use Rattle.std.proofs.Common.{Some, List, [], ◌∷◌, ◌++◌, length, length-append, get_or, slice_set, inl, inr, ap, ap₂, ◌∙◌, sym, subst, refl, arith}
+use Rattle.std.proofs.Common.{Some, List, [], ◌∷◌, ◌++◌, length, length-append, get_or, inl, inr, ap, ap₂, ◌∙◌, sym, subst, refl, arith}
 use Rattle.std.specs.List.{slice_get}
 use Rattle.std.specs.Option.{option_map}
 use Rattle.std.proofs.lemmas.Int.{ints}
 use Rattle.std.proofs.lemmas.Bool.{cases_lt}
-use Rattle.std.proofs.lemmas.List.{length-set, get_or-set_same, get_or-set_other, get_or_append_left, get_or_push}
+use Rattle.std.proofs.lemmas.List.{get_or_append_left, get_or_push}
 use Rattle.std.proofs.lemmas.Option.{get_or_from_slice_get}
-use Rattle.dam_book.specs.Limits.{last_period}
 use Rattle.dam_book.specs.Terms.{BlockTerms}
 use Rattle.dam_hour.specs.Best.{greatest_welfare}
 use Rattle.dam_hour.specs.Execution.{IsBalanced, IsWithinOffers}
 use Rattle.dam_hour.specs.declared.step.Step.{Step}
-use Rattle.dam_curve.specs.declared.curves.Lookup.TheVariants.{Hints}
-use Rattle.dam_curve.specs.Curve.{both, joint_welfare, greatest_joint_welfare, Keeps}
+use Rattle.dam_curve.specs.Curve.{both, joint_welfare, greatest_joint_welfare}
+use Rattle.dam_curve.specs.Losses.{Keeps}
 use Rattle.dam_curve.specs.Curve.{CurvesState}
 use Rattle.dam_curve.specs.declared.curves.Curve.{Curve}
 use Rattle.dam_blocks.specs.declared.problem.Block.{Block}
@@ -22,11 +21,8 @@ use Rattle.dam_blocks.specs.Selection.{over_accepted, net_volume_of, value_of, b
 use Rattle.dam_blocks.specs.Eligible.{added, period_welfare, welfare_from}
 use Rattle.dam_blocks.specs.Magnitude.{IsWithin}
 use Rattle.dam_bound.specs.Classes.{first_of, members, over_class, class_welfare}
-use Rattle.dam_bound.specs.Day.{IsPosition, IsDay}
-use Rattle.dam_bound.specs.Relaxed.{relaxed_hours}
+use Rattle.dam_bound.specs.Relaxed.{relaxed_hours, relaxed_welfare}
 use Rattle.dam_bound.specs.Tables.{IsClassCurve}
-use Rattle.dam_bound.specs.declared.day.Day.{Day}
-use Rattle.dam_bound.specs.declared.day.Position.{Position}
 use Rattle.dam_bound.proofs.Worth.{worth, sum_from}
 use Rattle.dam_bound.proofs.Classing.{first_first, class_elsewhere, over_classes}
 use Rattle.dam_bound.proofs.BuildingCurves.{relaxed_long}
@@ -150,107 +146,52 @@ sum_last f t (suc n) =
     let next = ap f (let e : t + suc n ≡ suc t + n = omega arith in e) in
     omega (arith, ints, rest, next)
 
--- ---- the day, class by class
-pub record IsRootSoFar (problem : ProblemState) (at : ℕ) (classes : List Position) (total : ℤ) : Type 0 where
-  pub each : (c : ℕ) (d : Position) → c < at → first_of problem.blocks c ≡ c → IsPosition problem [] c (get_or classes c d)
-  pub total_is : total ≡ sum_from (class_worth problem) 0 at
+-- ---- the welfare, class by class
+abbrev pub IsTotalSoFar : ProblemState → ℕ → ℤ → Type 0
+IsTotalSoFar problem at total = total ≡ sum_from (class_worth problem) 0 at
 
-pub root_kept : (problem : ProblemState) (at : ℕ) (classes : List Position) (total : ℤ) → first_of problem.blocks at ≢ at
-    → IsRootSoFar problem at classes total → IsRootSoFar problem (at + 1) classes total
-root_kept problem at classes total apart so_far =
+pub total_kept : (problem : ProblemState) (at : ℕ) (total total' : ℤ) → total' ≡ total → first_of problem.blocks at ≢ at
+    → IsTotalSoFar problem at total → IsTotalSoFar problem (at + 1) total'
+total_kept problem at total total' same apart so_far =
     let next = ap (sum_from (class_worth problem) 0) (let e : at + 1 ≡ suc at = omega arith in e) in
     let last = sum_last (class_worth problem) 0 at in
     let place = ap (class_worth problem) (let e : 0 + at ≡ at = omega arith in e) in
     let none : class_worth problem at ≡ pos 0 = no_member (own_worth problem) problem.blocks at 0 (length problem.hours) apart in
-    let total_is = so_far.total_is in
-    record {
-      each = λ c d l first. elim (cases_lt c at) [
-        | inl less ↦ so_far.each c d less first
-        | inr more ↦
-            (let here : c ≡ at = omega (arith, l, more) in
-            absurd (apart (subst (λ (n : ℕ). first_of problem.blocks n ≡ n) here first)))
-      ];
-      total_is = omega (arith, ints, next, last, place, none, total_is);
-    }
+    omega (arith, ints, next, last, place, none, same, so_far)
 
-pub root_more : Zero → (problem : ProblemState) (at : ℕ) (classes : List Position) (w total total' : ℤ) → at < length classes
-    → Some w ≡ class_welfare problem 0 at (pos 0) → total' ≡ total +ℤ w
-    → IsRootSoFar problem at classes total
-    → IsRootSoFar problem (at + 1) (slice_set classes at (record { net = pos 0; welfare = w })) total'
-root_more law problem at classes w total total' inside is sum so_far =
-    let own : Position = record { net = pos 0; welfare = w } in
+pub total_more : Zero → (problem : ProblemState) (at : ℕ) (w total total' : ℤ) → Some w ≡ class_welfare problem 0 at (pos 0)
+    → total' ≡ total +ℤ w → IsTotalSoFar problem at total → IsTotalSoFar problem (at + 1) total'
+total_more law problem at w total total' is sum so_far =
     let next = ap (sum_from (class_worth problem) 0) (let e : at + 1 ≡ suc at = omega arith in e) in
     let last = sum_last (class_worth problem) 0 at in
     let place = ap (class_worth problem) (let e : 0 + at ≡ at = omega arith in e) in
     let same = some_is w (class_worth problem at) (is ∙ class_zero law problem at) in
-    let total_is = so_far.total_is in
-    record {
-      each = λ c d l first. elim (cases_lt c at) [
-        | inl less ↦
-            subst (IsPosition problem [] c) (sym (get_or-set_other classes at c own d (omega (arith, less)))) (so_far.each c d less first)
-        | inr more ↦
-            (let here : c ≡ at = omega (arith, l, more) in
-            subst (IsPosition problem [] c)
-            (sym (ap (λ (n : ℕ). get_or (slice_set classes at own) n d) here ∙ get_or-set_same classes at own d inside))
-            (record {
-              net_is = sym (nothing_over (net_volume_of (c + 1)) problem.blocks);
-              welfare_is = ap (λ (n : ℕ). class_welfare problem 0 n (pos 0)) here ∙ sym is;
-            }))
-      ];
-      total_is = omega (arith, ints, next, last, place, same, total_is, sum);
-    }
+    omega (arith, ints, next, last, place, same, sum, so_far)
   where
     some_is : (x y : ℤ) → Some x ≡ Some y → x ≡ y
     some_is x y e = cc
 
-pub root_ended : Zero → (problem : ProblemState) (at : ℕ) (day : Day) → length problem.hours ≡ at → length day.classes ≡ last_period
-    → IsRootSoFar problem at day.classes day.total → IsDay problem [] day
-root_ended law problem at day all long so_far = record {
-  long = long;
-  each = λ c d l first. so_far.each c d (omega (arith, l, all)) first;
-  total_is =
-      ap (λ (z : ℤ). Some z) (so_far.total_is ∙ ap (sum_from (class_worth problem) 0) (sym all)
-      ∙ over_classes (own_worth problem) problem.blocks 0 (length problem.hours) (length problem.hours) (omega arith))
-      ∙ sym (welfare_zero (own_worth problem) problem.blocks 0 (relaxed_hours problem.blocks 1 problem.hours) (own_are law problem)
-      ∙ ap (λ (n : ℕ). Some (sum_from (own_worth problem) (suc 0) n)) (relaxed_long problem.blocks 1 problem.hours));
-}
+pub total_ended : Zero → (problem : ProblemState) (at : ℕ) (total : ℤ) → length problem.hours ≡ at → IsTotalSoFar problem at total
+    → Some total ≡ relaxed_welfare problem []
+total_ended law problem at total all so_far =
+    ap (λ (z : ℤ). Some z) (so_far ∙ ap (sum_from (class_worth problem) 0) (sym all)
+    ∙ over_classes (own_worth problem) problem.blocks 0 (length problem.hours) (length problem.hours) (omega arith))
+    ∙ sym (welfare_zero (own_worth problem) problem.blocks 0 (relaxed_hours problem.blocks 1 problem.hours) (own_are law problem)
+    ∙ ap (λ (n : ℕ). Some (sum_from (own_worth problem) (suc 0) n)) (relaxed_long problem.blocks 1 problem.hours))
 
 -- the curve of nothing
 abbrev pub no_line : Curve
-no_line = record { first = 0; count = 0; bottom = pos 0; top = pos 0; lookup = Hints (record { first = 0; shift = 0 }) }
+no_line = record { first = 0; count = 0; bottom = pos 0; top = pos 0; hints = record { first = 0; shift = 0 } }
 
--- a class more, as the code has it
-pub root_step : Zero → (problem : ProblemState) (at : ℕ) (root root' : Day) (w w' total' : ℤ)
-    → root' ≡ record { classes = slice_set root.classes at (record { net = pos 0; welfare = w' }); total = total' }
-    → w' ≡ w → total' ≡ root.total +ℤ w → at < length root.classes → Some w ≡ class_welfare problem 0 at (pos 0)
-    → IsRootSoFar problem at root.classes root.total → IsRootSoFar problem (at + 1) root'.classes root'.total
-root_step law problem at root root' w w' total' same is sum inside welfare so_far =
-    subst (λ (day : Day). IsRootSoFar problem (at + 1) day.classes day.total) (sym same)
-    (subst (λ (z : ℤ). IsRootSoFar problem (at + 1) (slice_set root.classes at (record { net = pos 0; welfare = z })) total') (sym is)
-    (root_more law problem at root.classes w root.total total' inside welfare sum so_far))
-
-pub root_long : (at : ℕ) (root root' : Day) (own : Position) (total' : ℤ)
-    → root' ≡ record { classes = slice_set root.classes at own; total = total' } → length root'.classes ≡ length root.classes
-root_long at root root' own total' same = ap (λ (day : Day). length day.classes) same ∙ length-set root.classes at own
-
-pub root_within : (at : ℕ) (root root' : Day) (own : Position) (w total' : ℤ)
-    → root' ≡ record { classes = slice_set root.classes at own; total = total' } → total' ≡ root.total +ℤ w
-    → IsWithin greatest_joint_welfare w
-    → IsWithin (at * greatest_joint_welfare) root.total → IsWithin ((at + 1) * greatest_joint_welfare) root'.total
-root_within at root root' own w total' same sum small within =
-    let total = ap (λ (day : Day). day.total) same in
+-- how large the sum is
+pub total_within : (at : ℕ) (total total' w : ℤ) → total' ≡ total +ℤ w → IsWithin greatest_joint_welfare w
+    → IsWithin (at * greatest_joint_welfare) total → IsWithin ((at + 1) * greatest_joint_welfare) total'
+total_within at total total' w sum small within =
     let a = small.at_least in let b = small.at_most in let c = within.at_least in let d = within.at_most in
-    record { at_least = omega (arith, ints, total, sum, a, c); at_most = omega (arith, ints, total, sum, b, d) }
+    record { at_least = omega (arith, ints, sum, a, c); at_most = omega (arith, ints, sum, b, d) }
 
--- a day that is what it was
-pub root_same : (problem : ProblemState) (at : ℕ) (root root' : Day) → root' ≡ root → first_of problem.blocks at ≢ at
-    → IsRootSoFar problem at root.classes root.total → IsRootSoFar problem (at + 1) root'.classes root'.total
-root_same problem at root root' same apart so_far =
-    subst (λ (day : Day). IsRootSoFar problem (at + 1) day.classes day.total) (sym same)
-    (root_kept problem at root.classes root.total apart so_far)
-
-pub same_within : (at : ℕ) (root root' : Day) → root' ≡ root → IsWithin (at * greatest_joint_welfare) root.total
-    → IsWithin ((at + 1) * greatest_joint_welfare) root'.total
-same_within at root root' same within =
-    let total = ap (λ (day : Day). day.total) same in let c = within.at_least in let d = within.at_most in
-    record { at_least = omega (arith, ints, total, c); at_most = omega (arith, ints, total, d) }
+pub same_within : (at : ℕ) (total total' : ℤ) → total' ≡ total → IsWithin (at * greatest_joint_welfare) total
+    → IsWithin ((at + 1) * greatest_joint_welfare) total'
+same_within at total total' same within =
+    let c = within.at_least in let d = within.at_most in
+    record { at_least = omega (arith, ints, same, c); at_most = omega (arith, ints, same, d) }

@@ -1,10 +1,13 @@
 -- The net volumes that the decided blocks can make, pair by pair and block by block.
-use Rattle.std.proofs.Common.{◌≡◌, ◌≢◌, ℕ, zero, suc, ◌+◌, ◌*◌, ◌<◌, ◌≤◌, ◌==◌, cond, ℤ, pos, neg_ℤ, ◌+ℤ◌, ◌≤ℤ◌, true, false, Some, List, []}
-use Rattle.std.proofs.Common.{◌∷◌, length, replicate, drop, take, get_or, slice_index_or, slice_set, inl, inr, ap, ◌∙◌, sym, subst, refl, arith}
+use Rattle.std.proofs.Common.{◌≡◌, ◌≢◌, ℕ, zero, suc, ◌+◌, ◌*◌, ◌<◌, ◌≤◌, ◌==◌, cond, ℤ, pos, neg_ℤ, ◌+ℤ◌, ◌-ℤ◌, ◌≤ℤ◌, ◌⊎◌, Bool}
+use Rattle.std.proofs.Common.{true, false, Some, List, [], ◌∷◌, length, replicate, drop, take, get_or, slice_index_or, slice_set, inl, inr}
+use Rattle.std.proofs.Common.{ap, ◌∙◌, sym, subst, refl, arith}
 use Rattle.std.specs.List.{slice_get}
 use Rattle.std.proofs.lemmas.Int.{ints, to_z-of_z}
-use mir.Syntax.{w64}
-use mir.Val.{to_z, of_z}
+use mir.Syntax.{w32, w64}
+use mir.Val.{to_z, of_z, SFits}
+use Rattle.std.specs.Int.{int_min, int_max}
+use Rattle.std.specs.Prelude.{int_lt}
 use Rattle.std.proofs.lemmas.Bool.{cases_lt}
 use Rattle.std.proofs.lemmas.List.{length-set, length-replicate, get_or-set_same, get_or-set_other, drop_all}
 use Rattle.std.proofs.lemmas.Option.{slice_get_within}
@@ -12,15 +15,17 @@ use Rattle.dam_book.specs.Limits.{last_period, greatest_volume, most_blocks}
 use Rattle.dam_book.specs.Volumes.{Pair, ArePairs}
 use Rattle.dam_book.specs.declared.order.Side.{Side}
 use Rattle.dam_book.specs.declared.order.Side.TheVariants.{Buy, Sell}
+use Rattle.dam_hour.specs.Best.{signed}
 use Rattle.dam_hour.specs.Execution.{IsNetVolume}
+use Rattle.dam_curve.specs.Curve.{CurvesState}
 use Rattle.dam_hour.specs.Limits.{greatest_net}
 use Rattle.dam_blocks.specs.declared.problem.Block.{Block}
 use Rattle.dam_blocks.specs.Problem.{ProblemState, AreBlocks}
 use Rattle.dam_blocks.specs.Selection.{volume_in, net_volume_of}
 use Rattle.dam_bound.specs.Tables.{if_of, net_of_side, least_net, most_net}
-use Rattle.dam_bound.specs.inside.Building.{side_net, AreRanges, PeriodsState, AreDecided}
+use Rattle.dam_bound.specs.inside.Building.{side_net, AreRanges, PeriodsState, AreDecided, DecidingState, IsDeciding}
 use Rattle.dam_bound.specs.declared.periods.Range.{Range}
-use Rattle.dam_bound.proofs.BuildingPairs.{IsNextPair}
+use Rattle.dam_bound.proofs.BuildingPairs.{IsNextPair, block_at}
 
 -- ---- what one side's blocks add to the net volume
 pub side_none : (side own : Side) → side_net side own 0 ≡ pos 0
@@ -252,7 +257,7 @@ pub record AreEndsOf (problem : ProblemState) (depth c : ℕ) (least most : ℤ)
   pub most_valid : IsNetVolume most
   pub ordered : least ≤ℤ most
 
-net_read : (z : ℤ) → IsNetVolume z → to_z w64 (of_z w64 z) ≡ z
+pub net_read : (z : ℤ) → IsNetVolume z → to_z w64 (of_z w64 z) ≡ z
 net_read z is = let a = is.at_least in let b = is.at_most in to_z-of_z w64 z (omega (arith, ints, a, b))
 
 pub ends_read : (problem : ProblemState) (depth c : ℕ) (d : Range) (periods inside : PeriodsState) → periods ≡ inside
@@ -277,3 +282,104 @@ ends_read problem depth c d periods inside same are l =
       most_valid = subst IsNetVolume (sym high_read) high;
       ordered = omega (arith, ints, low_read, least, high_read, most, below, above);
     }
+
+-- ---- the ends before a block, from those after it
+-- the lesser of two numbers is one of them, and so is the greater
+either_min : (x y : ℤ) → (int_min x y ≡ x) ⊎ (int_min x y ≡ y)
+either_min x y = elim (int_lt y x) as (λ (t : Bool). (cond t y x ≡ x) ⊎ (cond t y x ≡ y)) [ true ↦ inr refl | false ↦ inl refl ]
+
+either_max : (x y : ℤ) → (int_max x y ≡ x) ⊎ (int_max x y ≡ y)
+either_max x y = elim (int_lt y x) as (λ (t : Bool). (cond t x y ≡ x) ⊎ (cond t x y ≡ y)) [ true ↦ inl refl | false ↦ inr refl ]
+
+-- what a block adds to the net volume is below 0 if it buys, and above 0 if it sells
+bought_net : (own : Side) (volume : ℕ) (n m : ℤ) → n ≡ neg_ℤ (signed own (pos volume)) → (m ≡ n) ⊎ (m ≡ pos 0) → m ≤ℤ n → m ≤ℤ pos 0
+    → m ≡ side_net Buy own volume
+bought_net Buy volume n m is (inl e) a b = omega (arith, ints, is, e)
+bought_net Buy volume n m is (inr e) a b = omega (arith, ints, is, e, a)
+bought_net Sell volume n m is (inl e) a b = omega (arith, ints, is, e, b)
+bought_net Sell volume n m is (inr e) a b = e
+
+sold_net : (own : Side) (volume : ℕ) (n m : ℤ) → n ≡ neg_ℤ (signed own (pos volume)) → (m ≡ n) ⊎ (m ≡ pos 0) → n ≤ℤ m → pos 0 ≤ℤ m
+    → m ≡ side_net Sell own volume
+sold_net Sell volume n m is (inl e) a b = omega (arith, ints, is, e)
+sold_net Sell volume n m is (inr e) a b = omega (arith, ints, is, e, a)
+sold_net Buy volume n m is (inl e) a b = omega (arith, ints, is, e, b)
+sold_net Buy volume n m is (inr e) a b = e
+
+pub net_small : (own : Side) (volume : ℕ) → volume ≤ greatest_volume
+    → (neg_ℤ (pos greatest_volume) ≤ℤ neg_ℤ (signed own (pos volume))) × (neg_ℤ (signed own (pos volume)) ≤ℤ pos greatest_volume)
+net_small Buy volume l = (omega (arith, ints, l), omega (arith, ints, l))
+net_small Sell volume l = (omega (arith, ints, l), omega (arith, ints, l))
+
+-- a number that is read as the code has it
+pub record IsReadAs (z read : ℤ) : Type 0 where
+  pub value : read ≡ z
+  pub fits : SFits w64 read
+
+read_twice : (own : Side) (volume : ℕ) (net near : ℤ) → volume ≤ greatest_volume → net ≡ neg_ℤ (signed own (pos volume))
+    → near ≡ to_z w32 (of_z w32 net) → to_z w64 (of_z w64 near) ≡ net
+read_twice own volume net near l adds is =
+    let small = net_small own volume l in let a = small.0 in let b = small.1 in
+    let here = is ∙ to_z-of_z w32 net (omega (arith, ints, adds, a, b)) in
+    to_z-of_z w64 near (omega (arith, ints, here, adds, a, b)) ∙ here
+
+-- the volume of the block that is decided last
+pub own_volume_small : (problem : ProblemState) (all : CurvesState) (kept k t : ℕ) (b : Block) (deciding : DecidingState)
+    → IsDeciding problem all kept k b deciding → volume_in b.order.volumes t ≤ greatest_volume
+own_volume_small problem all kept k t b deciding is =
+    volume_small b.order.volumes t
+    (block_at (length problem.hours) problem.blocks k b is.periods_are.blocks_are is.block_is).order.volumes.ranges
+
+pub ends_of_earlier : (problem : ProblemState) (all : CurvesState) (kept k c : ℕ) (b : Block) (deciding : DecidingState)
+    → IsDeciding problem all kept k b deciding → AreEnds (least_net problem.blocks k c) (most_net problem.blocks k c)
+ends_of_earlier problem all kept k c b deciding is =
+    let inside = slice_get_within problem.blocks k b is.block_is in let few = is.periods_are.few_blocks in
+    are_ends (length problem.hours) k c problem.blocks is.periods_are.blocks_are (omega (arith, inside, few))
+
+-- the least net volume before the block
+pub least_before : (problem : ProblemState) (all : CurvesState) (kept k c : ℕ) (b : Block) (net near low : ℤ) (d : Range)
+    (deciding : DecidingState) (periods : PeriodsState) → IsDeciding problem all kept k b deciding → deciding.periods ≡ periods
+    → c < length problem.hours → net ≡ net_volume_of (c + 1) b.order → near ≡ to_z w32 (of_z w32 net)
+    → low ≡ int_min (to_z w64 (of_z w64 near)) (pos 0) → low ≤ℤ to_z w64 (of_z w64 near) → low ≤ℤ pos 0
+    → IsReadAs (least_net problem.blocks k c)
+    (to_z w64 (of_z w64 (slice_index_or periods.ranges c d).least) -ℤ to_z w64 (of_z w64 low))
+least_before problem all kept k c b net near low d deciding periods is same l adds is_near min at_most_net at_most_zero =
+    let own = b.order.side in let volume = volume_in b.order.volumes (c + 1) in
+    let small = own_volume_small problem all kept k (c + 1) b deciding is in
+    let read = read_twice own volume net near small adds is_near in
+    let bought = bought_net own volume net low adds
+    (elim (either_min (to_z w64 (of_z w64 near)) (pos 0)) [ inl e ↦ inl (min ∙ e ∙ read) | inr e ↦ inr (min ∙ e) ])
+    (omega (arith, ints, at_most_net, read)) at_most_zero in
+    let own_small = buy_small own volume small in let a = own_small.0 in let e = own_small.1 in
+    let low_read = to_z-of_z w64 low (omega (arith, ints, bought, a, e)) in
+    let after = (ends_read problem (k + 1) c d deciding.periods periods same is.periods_are l).least_is in
+    let one = one_of_side Buy (c + 1) problem.blocks k b is.block_is in
+    let ends = ends_of_earlier problem all kept k c b deciding is in
+    let p = ends.least_is.at_least in let q = ends.least_is.at_most in
+    let value : to_z w64 (of_z w64 (slice_index_or periods.ranges c d).least) -ℤ to_z w64 (of_z w64 low) ≡ least_net problem.blocks k c =
+    omega (arith, ints, after, one, low_read, bought) in
+    record { value = value; fits = subst (SFits w64) (sym value) (omega (arith, ints, p, q)) }
+
+-- and the greatest
+pub most_before : (problem : ProblemState) (all : CurvesState) (kept k c : ℕ) (b : Block) (net near high : ℤ) (d : Range)
+    (deciding : DecidingState) (periods : PeriodsState) → IsDeciding problem all kept k b deciding → deciding.periods ≡ periods
+    → c < length problem.hours → net ≡ net_volume_of (c + 1) b.order → near ≡ to_z w32 (of_z w32 net)
+    → high ≡ int_max (to_z w64 (of_z w64 near)) (pos 0) → to_z w64 (of_z w64 near) ≤ℤ high → pos 0 ≤ℤ high
+    → IsReadAs (most_net problem.blocks k c)
+    (to_z w64 (of_z w64 (slice_index_or periods.ranges c d).most) -ℤ to_z w64 (of_z w64 high))
+most_before problem all kept k c b net near high d deciding periods is same l adds is_near max at_least_net at_least_zero =
+    let own = b.order.side in let volume = volume_in b.order.volumes (c + 1) in
+    let small = own_volume_small problem all kept k (c + 1) b deciding is in
+    let read = read_twice own volume net near small adds is_near in
+    let sold = sold_net own volume net high adds
+    (elim (either_max (to_z w64 (of_z w64 near)) (pos 0)) [ inl e ↦ inl (max ∙ e ∙ read) | inr e ↦ inr (max ∙ e) ])
+    (omega (arith, ints, at_least_net, read)) at_least_zero in
+    let own_small = sell_small own volume small in let a = own_small.0 in let e = own_small.1 in
+    let high_read = to_z-of_z w64 high (omega (arith, ints, sold, a, e)) in
+    let after = (ends_read problem (k + 1) c d deciding.periods periods same is.periods_are l).most_is in
+    let one = one_of_side Sell (c + 1) problem.blocks k b is.block_is in
+    let ends = ends_of_earlier problem all kept k c b deciding is in
+    let p = ends.most_is.at_least in let q = ends.most_is.at_most in
+    let value : to_z w64 (of_z w64 (slice_index_or periods.ranges c d).most) -ℤ to_z w64 (of_z w64 high) ≡ most_net problem.blocks k c =
+    omega (arith, ints, after, one, high_read, sold) in
+    record { value = value; fits = subst (SFits w64) (sym value) (omega (arith, ints, p, q)) }

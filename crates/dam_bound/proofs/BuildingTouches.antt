@@ -1,43 +1,59 @@
 -- The touches of a block, pair by pair, and what stays of those that are there.
 use Rattle.std.proofs.Common.{◌≡◌, ◌≢◌, ℕ, zero, suc, ◌+◌, ◌<◌, ◌≤◌, ◌==◌, ◌&&◌, not, nat_lt, cond, Bool, true, false, ℤ, pos, ◌+ℤ◌, ◌*ℤ◌}
-use Rattle.std.proofs.Common.{negsuc, Some, List, [], ◌∷◌, ◌++◌, length, drop, get_or, map, inl, inr, ap, ap₂, ◌∙◌, sym, subst, refl, arith}
+use Rattle.std.proofs.Common.{negsuc, Some, List, [], ◌∷◌, ◌++◌, length, length-append, length-drop, take, drop, get_or, inl, inr}
+use Rattle.std.proofs.Common.{ap, ap₂, ◌∙◌, sym, subst, refl, arith}
 use Rattle.std.specs.List.{slice_get}
 use Rattle.std.specs.Prelude.{IsPermutation}
 use Rattle.std.proofs.lemmas.Int.{ints}
 use Rattle.std.proofs.lemmas.Bool.{cases_lt}
 use Rattle.std.proofs.lemmas.Bool.Decides.{nat_tests}
-use Rattle.std.proofs.lemmas.List.{drop_all}
+use Rattle.std.proofs.lemmas.List.{drop_all, length-take, take-take, get_or-take}
 use Rattle.std.proofs.lemmas.List.Sums.{sum_by-cons, sum_by_push}
-use Rattle.std.proofs.lemmas.List.Sorted.{sum_by-IsPermutation, All-permutation}
+use Rattle.std.proofs.lemmas.List.Sorted.{sum_by-IsPermutation, All-permutation, length_permutation}
 use Rattle.std.proofs.lemmas.Option.{slice_get_within, slice_get-get_or, get_or_from_slice_get}
 use Rattle.std.proofs.Math.Nat.{mul-suc}
+use Rattle.std.proofs.Math.Seq.{take-length}
 use Rattle.dam_book.specs.Terms.{BlockTerms}
 use Rattle.dam_book.specs.Volumes.{Pair}
 use Rattle.dam_hour.specs.Best.{signed}
 use Rattle.dam_hour.specs.declared.step.Step.{Step}
-use Rattle.dam_curve.specs.Curve.{bottom_of, end_of, IsCurve, IsCurveAt, Keeps}
 use Rattle.dam_curve.specs.Curve.{CurvesState}
+use Rattle.dam_curve.specs.Losses.{IsLoss, IsLossAt, Keeps}
+use Rattle.dam_curve.specs.declared.losses.Choice.{Choice}
+use Rattle.dam_curve.specs.declared.losses.Loss.{Loss}
 use Rattle.dam_curve.specs.declared.curves.Curve.{Curve}
 use Rattle.dam_blocks.specs.declared.problem.Block.{Block}
-use Rattle.dam_blocks.specs.Problem.{ProblemState}
+use Rattle.dam_blocks.specs.Problem.{ProblemState, AreBlocks}
 use Rattle.dam_blocks.specs.Selection.{volume_in, value_of}
 use Rattle.dam_bound.specs.Classes.{first_of, over_class}
-use Rattle.dam_bound.specs.Tables.{IsClassCurve, AreCurves, class_value, IsTouch, touches_at, AreTouches, rejected, LotState}
-use Rattle.dam_bound.specs.Tables.{AreLots}
+use Rattle.dam_bound.specs.Tables.{IsClassCurve, AreCurves, class_value, HasLosses, IsTouch, touches_at, AreTouches, AreLots}
 use Rattle.dam_bound.specs.inside.Building.{class_size}
 use Rattle.dam_bound.specs.declared.touch.Touch.{Touch}
 use Rattle.dam_bound.proofs.DayLevels.{of_pushed}
 use Rattle.dam_bound.proofs.Classing.{class_volume, same_class}
-use Rattle.dam_bound.proofs.BuildingPairs.{IsNextPair}
-use Rattle.dam_bound.proofs.BuildingSupplies.{some_same}
+use Rattle.dam_bound.proofs.BuildingPairs.{IsNextPair, block_at}
 
 -- ---- what is there stays
+pub keeps_all : (all : CurvesState) → Keeps all all
+keeps_all all = record { curves = λ curve periods least most is. is; losses = take-length all.losses }
+
+-- the losses that were there are the first ones
+losses_more : (xs ys : List Loss) → take (length xs) ys ≡ xs → length xs ≤ length ys
+losses_more xs ys same = let a = ap length same in let b = length-take (length xs) ys in omega (arith, a, b)
+
+losses_on : (xs ys zs : List Loss) → take (length xs) ys ≡ xs → take (length ys) zs ≡ ys → take (length xs) zs ≡ xs
+losses_on xs ys zs f g =
+    sym (take-take (length xs) (length ys) zs (losses_more xs ys f)) ∙ ap (take (length xs)) g ∙ f
+
 pub keeps_on : (one two all : CurvesState) → Keeps one two → Keeps two all → Keeps one all
-keeps_on one two all f g curve periods least most is = g curve periods least most (f curve periods least most is)
+keeps_on one two all f g = record {
+  curves = λ curve periods least most is. g.curves curve periods least most (f.curves curve periods least most is);
+  losses = losses_on one.losses two.losses all.losses f.losses g.losses;
+}
 
 pub class_curve_stays : (problem : ProblemState) (old new : CurvesState) (depth c : ℕ) (curve : Curve) → Keeps old new
     → IsClassCurve problem old depth c curve → IsClassCurve problem new depth c curve
-class_curve_stays problem old new depth c curve keeps is = keeps curve _ _ _ is
+class_curve_stays problem old new depth c curve keeps is = keeps.curves curve _ _ _ is
 
 pub curves_stay : (problem : ProblemState) (old new : CurvesState) (depth : ℕ) (curves : List Curve) → Keeps old new
     → AreCurves problem old depth curves → AreCurves problem new depth curves
@@ -46,9 +62,26 @@ curves_stay problem old new depth curves keeps are = record {
   each = λ c d l first. class_curve_stays problem old new depth c (get_or curves c d) keeps (are.each c d l first);
 }
 
-pub touch_stays : (problem : ProblemState) (old new : CurvesState) (k : ℕ) (b : Block) (accept : Bool) (touch : Touch) → Keeps old new
-    → IsTouch problem old k b accept touch → IsTouch problem new k b accept touch
-touch_stays problem old new k b accept touch keeps is = record {
+-- a loss that is there is still at its place
+loss_stays : (xs ys : List Loss) (before after : List (List Step)) (choice : Choice) (net : ℤ) (place : ℕ)
+    → take (length xs) ys ≡ xs → IsLossAt xs before after choice net place → IsLossAt ys before after choice net place
+loss_stays xs ys before after choice net place same is =
+    let more = losses_more xs ys same in let inside = is.inside in
+    record {
+      inside = omega (arith, more, inside);
+      loss_is = λ d. subst (IsLoss before after choice net)
+          (sym (ap (λ (zs : List Loss). get_or zs place d) same) ∙ get_or-take (length xs) ys place d inside) (is.loss_is d);
+    }
+
+pub losses_stay : (problem : ProblemState) (old new : CurvesState) (k : ℕ) (touch : Touch) → Keeps old new
+    → HasLosses problem old k touch → HasLosses problem new k touch
+losses_stay problem old new k touch keeps are net low high =
+    let there = are net low high in
+    (there.0, there.1, loss_stays old.losses new.losses _ _ touch.choice net there.0 keeps.losses there.2)
+
+pub touch_stays : (problem : ProblemState) (old new : CurvesState) (k : ℕ) (b : Block) (kept : ℕ) (touch : Touch) → Keeps old new
+    → IsTouch problem old k b kept touch → IsTouch problem new k b kept touch
+touch_stays problem old new k b kept touch keeps is = record {
   inside = is.inside;
   first = is.first;
   some = is.some;
@@ -56,26 +89,24 @@ touch_stays problem old new k b accept touch keeps is = record {
   to_is = is.to_is;
   net_is = is.net_is;
   value_is = is.value_is;
-  curve_is = class_curve_stays problem old new (k + 1) touch.at touch.curve keeps is.curve_is;
+  before_is = class_curve_stays problem old new k touch.at touch.choice.before keeps is.before_is;
+  after_is = class_curve_stays problem old new (k + 1) touch.at touch.choice.after keeps is.after_is;
+  losses_are = λ late. losses_stay problem old new k touch keeps (is.losses_are late);
 }
 
-pub touches_stay : (problem : ProblemState) (old new : CurvesState) (k : ℕ) (b : Block) (accept : Bool) (touches : List Touch)
-    → Keeps old new → AreTouches problem old k b accept touches → AreTouches problem new k b accept touches
-touches_stay problem old new k b accept touches keeps are = record {
+pub touches_stay : (problem : ProblemState) (old new : CurvesState) (k : ℕ) (b : Block) (kept : ℕ) (touches : List Touch)
+    → Keeps old new → AreTouches problem old k b kept touches → AreTouches problem new k b kept touches
+touches_stay problem old new k b kept touches keeps are = record {
+  few = are.few;
   one_each = are.one_each;
-  each = λ j touch at. touch_stays problem old new k b accept touch keeps (are.each j touch at);
+  each = λ j touch at. touch_stays problem old new k b kept touch keeps (are.each j touch at);
 }
 
-pub lots_stay : (problem : ProblemState) (old new : CurvesState) (count : ℕ) (lots : List LotState) → Keeps old new
-    → AreLots problem old count lots → AreLots problem new count lots
-lots_stay problem old new count lots keeps are = record {
+pub lots_stay : (problem : ProblemState) (old new : CurvesState) (kept count : ℕ) (lots : List (List Touch)) → Keeps old new
+    → AreLots problem old kept count lots → AreLots problem new kept count lots
+lots_stay problem old new kept count lots keeps are = record {
   as_many = are.as_many;
-  each = λ k b lot at there.
-      (let is = are.each k b lot at there in
-      record {
-        accepted = touches_stay problem old new k b true lot.accepted keeps is.accepted;
-        rejected = touches_stay problem old new k b false lot.rejected keeps is.rejected;
-      });
+  each = λ k b touches at there. touches_stay problem old new k b kept touches keeps (are.each k b touches at there);
 }
 
 -- ---- whether a class is touched, by the volume there
@@ -127,26 +158,32 @@ at_last : (c : ℕ) (touches : List Touch) (touch : Touch)
 at_last c touches touch = sum_by_push (λ (t : Touch). cond (t.at == c) 1 0) touches touch
 
 -- ---- the touches so far
-pub record AreTouchesSoFar (problem : ProblemState) (all : CurvesState) (k : ℕ) (b : Block) (left : List Pair) (touches : List Touch)
-    : Type 0 where
+pub record AreTouchesSoFar (problem : ProblemState) (all : CurvesState) (kept k : ℕ) (b : Block) (left : List Pair)
+    (touches : List Touch) : Type 0 where
+  pub few : length touches + length left ≤ length b.order.volumes
   pub one_each : (c : ℕ) → touches_at c touches + cond (touched problem c (volume_in left (c + 1))) 1 0
       ≡ cond (touched problem c (volume_in b.order.volumes (c + 1))) 1 0
-  pub each : (j : ℕ) (touch : Touch) → slice_get touches j ≡ Some touch → IsTouch problem all k b true touch
+  pub each : (j : ℕ) (touch : Touch) → slice_get touches j ≡ Some touch → IsTouch problem all k b kept touch
 
-pub no_touch : (problem : ProblemState) (all : CurvesState) (k : ℕ) (b : Block) → AreTouchesSoFar problem all k b b.order.volumes []
-no_touch problem all k b = record {
+pub no_touch : (problem : ProblemState) (all : CurvesState) (kept k : ℕ) (b : Block)
+    → AreTouchesSoFar problem all kept k b b.order.volumes []
+no_touch problem all kept k b = record {
+  few = omega arith;
   one_each = λ c. (let own : ℕ = cond (touched problem c (volume_in b.order.volumes (c + 1))) 1 0 in
       let none : 0 + own ≡ own = omega arith in none);
   each = λ j touch e. absurd (cc);
 }
 
-pub touch_more : (problem : ProblemState) (old new : CurvesState) (k j place : ℕ) (b : Block) (p : Pair) (touches touches' : List Touch)
-    (touch : Touch) → Keeps old new → IsNextPair (length problem.hours) b.order.volumes j p → p.0 ≡ place + 1 → touch.at ≡ place
-    → IsTouch problem new k b true touch → touches' ≡ touches ++ touch ∷ []
-    → AreTouchesSoFar problem old k b (drop j b.order.volumes) touches
-    → AreTouchesSoFar problem new k b (drop (j + 1) b.order.volumes) touches'
-touch_more problem old new k j place b p touches touches' touch keeps next number here is same so_far =
-    subst (AreTouchesSoFar problem new k b (drop (j + 1) b.order.volumes)) (sym same) (record {
+pub touch_more : (problem : ProblemState) (old new : CurvesState) (kept k j place : ℕ) (b : Block) (p : Pair)
+    (touches touches' : List Touch) (touch : Touch)
+    → Keeps old new → IsNextPair (length problem.hours) b.order.volumes j p → j < length b.order.volumes → p.0 ≡ place + 1 → touch.at ≡ place
+    → IsTouch problem new k b kept touch → touches' ≡ touches ++ touch ∷ []
+    → AreTouchesSoFar problem old kept k b (drop j b.order.volumes) touches
+    → AreTouchesSoFar problem new kept k b (drop (j + 1) b.order.volumes) touches'
+touch_more problem old new kept k j place b p touches touches' touch keeps next inside number here is same so_far =
+    subst (AreTouchesSoFar problem new kept k b (drop (j + 1) b.order.volumes)) (sym same) (record {
+      few = (let few = so_far.few in let left = length-drop j b.order.volumes in let rest = length-drop (j + 1) b.order.volumes in
+          let long = length-append touches (touch ∷ []) in omega (arith, few, left, rest, long, inside));
       one_each = λ c. elim (cases_lt c place) [
         | inl less ↦ other c (omega (arith, less)) (omega (arith, less, number))
         | inr more ↦ elim (cases_lt place c) [
@@ -155,8 +192,8 @@ touch_more problem old new k j place b p touches touches' touch keeps next numbe
         ]
       ];
       each = λ i other_touch f. elim (of_pushed touches touch i other_touch f) [
-        | inl old_one ↦ touch_stays problem old new k b true other_touch keeps (so_far.each i other_touch old_one)
-        | inr new_one ↦ subst (λ (x : Touch). IsTouch problem new k b true x) new_one.1 is
+        | inl old_one ↦ touch_stays problem old new k b kept other_touch keeps (so_far.each i other_touch old_one)
+        | inr new_one ↦ subst (λ (x : Touch). IsTouch problem new k b kept x) new_one.1 is
       ];
     })
   where
@@ -191,11 +228,13 @@ touch_more problem old new k j place b p touches touches' touch keeps next numbe
         let before = so_far.one_each c in
         omega (arith, last, one, was, gone, before)
 
-pub touch_same : (problem : ProblemState) (all : CurvesState) (k j place : ℕ) (b : Block) (p : Pair) (touches : List Touch)
+pub touch_same : (problem : ProblemState) (all : CurvesState) (kept k j place : ℕ) (b : Block) (p : Pair) (touches : List Touch)
     → IsNextPair (length problem.hours) b.order.volumes j p → p.0 ≡ place + 1 → first_of problem.blocks place ≢ place
-    → AreTouchesSoFar problem all k b (drop j b.order.volumes) touches
-    → AreTouchesSoFar problem all k b (drop (j + 1) b.order.volumes) touches
-touch_same problem all k j place b p touches next number later so_far = record {
+    → AreTouchesSoFar problem all kept k b (drop j b.order.volumes) touches
+    → AreTouchesSoFar problem all kept k b (drop (j + 1) b.order.volumes) touches
+touch_same problem all kept k j place b p touches next number later so_far = record {
+  few = (let few = so_far.few in let left = length-drop j b.order.volumes in let rest = length-drop (j + 1) b.order.volumes in
+      omega (arith, few, left, rest));
   one_each = λ c. elim (cases_lt c place) [
     | inl less ↦ other c (omega (arith, less, number))
     | inr more ↦ elim (cases_lt place c) [
@@ -222,9 +261,12 @@ touch_same problem all k j place b p touches next number later so_far = record {
         let before = so_far.one_each c in
         omega (arith, was, gone, before)
 
-pub all_touched : (problem : ProblemState) (all : CurvesState) (k j : ℕ) (b : Block) (touches : List Touch) → length b.order.volumes ≤ j
-    → AreTouchesSoFar problem all k b (drop j b.order.volumes) touches → AreTouches problem all k b true touches
-all_touched problem all k j b touches past so_far = record {
+pub all_touched : (problem : ProblemState) (all : CurvesState) (kept k j : ℕ) (b : Block) (touches : List Touch)
+    → slice_get problem.blocks k ≡ Some b → AreBlocks (length problem.hours) problem.blocks → length b.order.volumes ≤ j
+    → AreTouchesSoFar problem all kept k b (drop j b.order.volumes) touches → AreTouches problem all k b kept touches
+all_touched problem all kept k j b touches at are past so_far = record {
+  few = (let few = so_far.few in let fits = (block_at (length problem.hours) problem.blocks k b are at).order.volumes.fits in
+      omega (arith, few, fits));
   one_each = λ c.
       (let none = ap (λ (v : List Pair). volume_in v (c + 1)) (drop_all j b.order.volumes past) in
       let gone = ap {B = ℕ} (λ (t : Bool). cond t 1 0) (touched_none problem c (volume_in (drop j b.order.volumes) (c + 1)) none) in
@@ -272,51 +314,17 @@ worth_in_all problem k c t b o z x y at same number is worth size =
     (worth ∙ ap (λ (n : ℕ). value_of n o) number ∙ ap (λ (p : BlockTerms). value_of (c + 1) p) (sym same)) size
     ∙ sym (class_worth problem k c b at)
 
--- ---- the rejected ones, and in any order
-rejected_is : (problem : ProblemState) (all : CurvesState) (k : ℕ) (b : Block) (touch : Touch) → IsTouch problem all k b true touch
-    → IsTouch problem all k b false (rejected touch)
-rejected_is problem all k b touch is = record {
-  inside = is.inside;
-  first = is.first;
-  some = is.some;
-  from_is = is.from_is;
-  to_is = is.to_is;
-  net_is = refl;
-  value_is = refl;
-  curve_is = is.curve_is;
-}
-
-rejected_at : (c : ℕ) (touches : List Touch) → touches_at c (map rejected touches) ≡ touches_at c touches
-rejected_at c [] = refl
-rejected_at c (touch ∷ touches) =
-    at_first c (rejected touch) (map rejected touches) ∙ ap {B = ℕ} (λ (n : ℕ). cond (touch.at == c) 1 0 + n) (rejected_at c touches)
-    ∙ sym (at_first c touch touches)
-
-rejected_each : (problem : ProblemState) (all : CurvesState) (k : ℕ) (b : Block) (touches : List Touch)
-    → ((j : ℕ) (touch : Touch) → slice_get touches j ≡ Some touch → IsTouch problem all k b true touch)
-    → (j : ℕ) (touch : Touch) → slice_get (map rejected touches) j ≡ Some touch → IsTouch problem all k b false touch
-rejected_each problem all k b [] each j touch at = absurd (cc)
-rejected_each problem all k b (x ∷ touches) each zero touch at =
-    subst (IsTouch problem all k b false) (some_same (rejected x) touch at) (rejected_is problem all k b x (each zero x refl))
-rejected_each problem all k b (x ∷ touches) each (suc j) touch at =
-    rejected_each problem all k b touches (λ i t e. each (suc i) t e) j touch at
-
-pub rejected_are : (problem : ProblemState) (all : CurvesState) (k : ℕ) (b : Block) (touches others : List Touch)
-    → others ≡ map rejected touches → AreTouches problem all k b true touches → AreTouches problem all k b false others
-rejected_are problem all k b touches others same are =
-    subst (AreTouches problem all k b false) (sym same) (record {
-      one_each = λ c. rejected_at c touches ∙ are.one_each c;
-      each = rejected_each problem all k b touches are.each;
-    })
-
-pub in_any_order : (problem : ProblemState) (all : CurvesState) (k : ℕ) (b : Block) (accept : Bool) (touches others : List Touch)
-    → IsPermutation touches others → AreTouches problem all k b accept touches → AreTouches problem all k b accept others
-in_any_order problem all k b accept touches others same are =
-    let each = All-permutation (λ (x : Touch). IsTouch problem all k b accept x) touches others same
+-- ---- in any order
+pub in_any_order : (problem : ProblemState) (all : CurvesState) (k : ℕ) (b : Block) (kept : ℕ) (touches others : List Touch)
+    → IsPermutation touches others → AreTouches problem all k b kept touches → AreTouches problem all k b kept others
+in_any_order problem all k b kept touches others same are =
+    let each = All-permutation (λ (x : Touch). IsTouch problem all k b kept x) touches others same
     (λ j d inside. are.each j (get_or touches j d) (slice_get-get_or touches j d inside)) in
+    let few = are.few in let long = length_permutation touches others same in
     record {
+      few = omega (arith, few, long);
       one_each = λ c. sum_by-IsPermutation (λ (t : Touch). cond (t.at == c) 1 0) touches others same ∙ are.one_each c;
       each = λ j touch at.
-          subst (λ (x : Touch). IsTouch problem all k b accept x) (get_or_from_slice_get others j touch touch at)
+          subst (λ (x : Touch). IsTouch problem all k b kept x) (get_or_from_slice_get others j touch touch at)
           (each j touch (slice_get_within others j touch at));
     }

@@ -9,7 +9,6 @@ use Rattle.std.proofs.lemmas.List.{length-set, get_or-set_same, get_or-set_other
 use Rattle.dam_book.specs.Limits.{last_period, most_blocks}
 use Rattle.dam_book.specs.declared.order.Side.TheVariants.{Buy, Sell}
 use Rattle.dam_hour.specs.declared.step.Step.{Step}
-use Rattle.dam_curve.specs.declared.curves.Lookup.TheVariants.{Hints}
 use Rattle.dam_curve.specs.Curve.{IsCurveAt}
 use Rattle.dam_curve.specs.Curve.{CurvesState}
 use Rattle.dam_curve.specs.declared.curves.Curve.{Curve}
@@ -28,15 +27,17 @@ use Rattle.dam_bound.proofs.BuildingSupplies.{same_steps}
 use Rattle.dam_bound.proofs.BuildingRanges.{side_none, one_of_side}
 use Rattle.dam_bound.proofs.BuildingTouches.{touched_some, touched_none, at_first}
 
--- the touch of nothing
+-- the curve of nothing, and the touch of nothing
+abbrev no_curve : Curve
+no_curve = record { first = 0; count = 0; bottom = pos 0; top = pos 0; hints = record { first = 0; shift = 0 } }
+
 abbrev pub blank : Touch
 blank = record {
+  offset = pos 0;
   at = 0;
   from = 0;
   to = 0;
-  net = pos 0;
-  value = pos 0;
-  curve = record { first = 0; count = 0; bottom = pos 0; top = pos 0; lookup = Hints (record { first = 0; shift = 0 }) };
+  choice = record { net = pos 0; value = pos 0; before = no_curve; after = no_curve };
   stake = pos 0;
 }
 
@@ -123,29 +124,29 @@ volume_cases : {X : Type 0} (n : ℕ) → (n ≡ 0 → X) → (0 < n → X) → 
 volume_cases zero f g = f refl
 volume_cases (suc n) f g = g (omega arith)
 
-count_none : (problem : ProblemState) (all : CurvesState) (k c : ℕ) (b : Block) (touches : List Touch)
-    → AreTouches problem all k b true touches → volume_in b.order.volumes (c + 1) ≡ 0 → touches_at c touches ≡ 0
-count_none problem all k c b touches are none =
+count_none : (problem : ProblemState) (all : CurvesState) (kept k c : ℕ) (b : Block) (touches : List Touch)
+    → AreTouches problem all k b kept touches → volume_in b.order.volumes (c + 1) ≡ 0 → touches_at c touches ≡ 0
+count_none problem all kept k c b touches are none =
     are.one_each c ∙ ap {B = ℕ} (λ (t : Bool). cond t 1 0) (touched_none problem c (volume_in b.order.volumes (c + 1)) none)
 
-count_one : (problem : ProblemState) (all : CurvesState) (k c : ℕ) (b : Block) (touches : List Touch)
-    → AreTouches problem all k b true touches → c < length problem.hours → first_of problem.blocks c ≡ c
+count_one : (problem : ProblemState) (all : CurvesState) (kept k c : ℕ) (b : Block) (touches : List Touch)
+    → AreTouches problem all k b kept touches → c < length problem.hours → first_of problem.blocks c ≡ c
     → 0 < volume_in b.order.volumes (c + 1) → touches_at c touches ≡ 1
-count_one problem all k c b touches are l first some =
+count_one problem all kept k c b touches are l first some =
     are.one_each c ∙ ap {B = ℕ} (λ (t : Bool). cond t 1 0) (touched_some problem c (volume_in b.order.volumes (c + 1)) l first some)
 
-pub places_after : (problem : ProblemState) (all : CurvesState) (k : ℕ) (b : Block) (touches : List Touch) (places places' : List ℕ)
+pub places_after : (problem : ProblemState) (all : CurvesState) (kept k : ℕ) (b : Block) (touches : List Touch) (places places' : List ℕ)
     → slice_get problem.blocks k ≡ Some b → k < most_blocks → length problem.hours ≤ last_period
-    → AreTouches problem all k b true touches → places' ≡ written (λ t. t.to) places touches
+    → AreTouches problem all k b kept touches → places' ≡ written (λ t. t.to) places touches
     → ArePlaces problem k places → ArePlaces problem (k + 1) places'
-places_after problem all k b touches places places' at few short are same before =
+places_after problem all kept k b touches places places' at few short are same before =
     let long = before.long in
     subst (ArePlaces problem (k + 1)) (sym same) (record {
       long = written_long (λ (t : Touch). t.to) places touches ∙ before.long;
       each = λ c d l first. volume_cases (volume_in b.order.volumes (c + 1))
-          (λ none. written_other (λ (t : Touch). t.to) places touches c d (count_none problem all k c b touches are none)
+          (λ none. written_other (λ (t : Touch). t.to) places touches c d (count_none problem all kept k c b touches are none)
           ∙ before.each c d l first ∙ sym (slot_kept problem.blocks c k b at none))
-          (λ some. (let one = count_one problem all k c b touches are l first some in
+          (λ some. (let one = count_one problem all kept k c b touches are l first some in
           written_own (λ (n : ℕ). n ≡ slot_at problem.blocks c (k + 1)) (λ (t : Touch). t.to) places touches c d
           (omega (arith, l, short, long)) (omega (arith, one))
           (λ j touch there here. (are.each j touch there).to_is ∙ ap (λ (n : ℕ). (k + 1) * last_period + n) here
@@ -198,20 +199,20 @@ curve_after problem all k c b curve at none is =
     (subst (λ (hs : List (List Step)). IsCurveAt all curve hs (least_net problem.blocks k c) (most_net problem.blocks k c))
     (hours_kept problem k c b at none) is))
 
-pub curves_after : (problem : ProblemState) (all : CurvesState) (k : ℕ) (b : Block) (touches : List Touch) (ends ends' : List Curve)
-    → slice_get problem.blocks k ≡ Some b → AreTouches problem all k b true touches
-    → ends' ≡ written (λ t. t.curve) ends touches → AreCurves problem all k ends → AreCurves problem all (k + 1) ends'
-curves_after problem all k b touches ends ends' at are same before =
+pub curves_after : (problem : ProblemState) (all : CurvesState) (kept k : ℕ) (b : Block) (touches : List Touch) (ends ends' : List Curve)
+    → slice_get problem.blocks k ≡ Some b → AreTouches problem all k b kept touches
+    → ends' ≡ written (λ t. t.choice.after) ends touches → AreCurves problem all k ends → AreCurves problem all (k + 1) ends'
+curves_after problem all kept k b touches ends ends' at are same before =
     let long = before.as_many in
     subst (AreCurves problem all (k + 1)) (sym same) (record {
-      as_many = written_long (λ (t : Touch). t.curve) ends touches ∙ before.as_many;
+      as_many = written_long (λ (t : Touch). t.choice.after) ends touches ∙ before.as_many;
       each = λ c d l first. volume_cases (volume_in b.order.volumes (c + 1))
           (λ none. subst (IsClassCurve problem all (k + 1) c)
-          (sym (written_other (λ (t : Touch). t.curve) ends touches c d (count_none problem all k c b touches are none)))
+          (sym (written_other (λ (t : Touch). t.choice.after) ends touches c d (count_none problem all kept k c b touches are none)))
           (curve_after problem all k c b (get_or ends c d) at none (before.each c d l first)))
-          (λ some. (let one = count_one problem all k c b touches are l first some in
-          written_own (IsClassCurve problem all (k + 1) c) (λ (t : Touch). t.curve) ends touches c d (omega (arith, l, long))
+          (λ some. (let one = count_one problem all kept k c b touches are l first some in
+          written_own (IsClassCurve problem all (k + 1) c) (λ (t : Touch). t.choice.after) ends touches c d (omega (arith, l, long))
           (omega (arith, one))
-          (λ j touch there here. subst (λ (n : ℕ). IsClassCurve problem all (k + 1) n touch.curve) here
-          (are.each j touch there).curve_is)));
+          (λ j touch there here. subst (λ (n : ℕ). IsClassCurve problem all (k + 1) n touch.choice.after) here
+          (are.each j touch there).after_is)));
     })

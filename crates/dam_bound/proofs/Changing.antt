@@ -37,12 +37,12 @@ use Rattle.dam_bound.proofs.Ranges.{period_size}
 use Rattle.dam_bound.proofs.Worth.{worth, part, part_some, sum_from, same_sum, sum_set, sum_is_welfare, sum_at_least, no_welfare}
 
 -- ---- the welfares of a class's periods
-both_some : (x y : Option ℤ) (w : ℤ) → both x y ≡ Some w → (u : ℤ) × (v : ℤ) × (x ≡ Some u) × (y ≡ Some v) × (u +ℤ v ≡ w)
+pub both_some : (x y : Option ℤ) (w : ℤ) → both x y ≡ Some w → (u : ℤ) × (v : ℤ) × (x ≡ Some u) × (y ≡ Some v) × (u +ℤ v ≡ w)
 both_some (Some x) (Some y) w e = (x, y, refl, refl, cc)
 both_some None y w e = absurd (cc)
 both_some (Some x) None w e = absurd (cc)
 
-both_none : (x y : Option ℤ) (u : ℤ) → both x y ≡ None → x ≡ Some u → y ≡ None
+pub both_none : (x y : Option ℤ) (u : ℤ) → both x y ≡ None → x ≡ Some u → y ≡ None
 both_none (Some x) None u e f = refl
 both_none (Some x) (Some y) u e f = absurd (cc)
 both_none None y u e f = absurd (cc)
@@ -315,7 +315,7 @@ chosen rest before after c = cond (touches_at c rest == 0) after before
 abbrev pub class_by : ProblemState → List Bool → List Bool → List Touch → ℕ → ℤ
 class_by problem before after rest c = class_part problem (chosen rest before after c) c
 
-chosen_after : (rest : List Touch) (before after : List Bool) (c : ℕ) → touches_at c rest ≡ 0 → chosen rest before after c ≡ after
+pub chosen_after : (rest : List Touch) (before after : List Bool) (c : ℕ) → touches_at c rest ≡ 0 → chosen rest before after c ≡ after
 chosen_after rest before after c e =
     let none : (touches_at c rest == 0) ≡ true = grind (arith, nat_tests) in ap (λ (t : Bool). cond t after before) none
 
@@ -378,6 +378,29 @@ class_unbalanced problem prefix c net is none =
     (ap (option_map (λ (w : ℤ). w +ℤ block_value problem.blocks prefix (suc n.j)))
     (ap (greatest_welfare (n.ss ++ as_steps (suc n.j) left))
     (class_net problem.blocks prefix n.j c n.first ∙ sym is) ∙ n.none))
+
+-- where a prefix puts a class
+some_if : (x y : Option ℤ) (total : ℤ) → (x ≡ None → y ≡ None) → Some total ≡ y → x ≡ Some (worth x)
+some_if (Some w) y total none is = refl
+some_if None y total none is = let no : y ≡ None = none refl in absurd (cc)
+
+abbrev pub standing : ProblemState → List Bool → ℕ → Position
+standing problem prefix c = record {
+  net = net_volume problem.blocks prefix (c + 1);
+  welfare = worth (class_welfare problem (length prefix) c (net_volume problem.blocks prefix (c + 1)));
+}
+
+-- if the prefix has a relaxed welfare, the class has a welfare
+pub stands : (problem : ProblemState) (prefix : List Bool) (c : ℕ) (total : ℤ) → Some total ≡ relaxed_welfare problem prefix
+    → IsPosition problem prefix c (standing problem prefix c)
+stands problem prefix c total is =
+    let one : c + 1 ≡ suc c = omega arith in
+    let net = net_volume problem.blocks prefix (c + 1) in
+    record {
+      net_is = refl;
+      welfare_is = some_if (class_welfare problem (length prefix) c net) (relaxed_welfare problem prefix) total
+          (class_unbalanced problem prefix c net (ap (net_volume problem.blocks prefix) one)) is;
+    }
 
 -- ---- the start, a touch more, and the end
 some_is : (x y : ℤ) → Some x ≡ Some y → x ≡ y
@@ -603,6 +626,19 @@ falls_in problem before after i ss u never at e =
     let was = part_some problem.blocks problem.hours before i (suc i) ss more.0 at (omega arith) (sym more.1) in
     let most = more.2 in
     omega (arith, ints, now, was, most)
+
+-- what a class is worth after the change, if it balances, and before it if no period rises
+pub class_falls : (problem : ProblemState) (before after : List Bool) (c : ℕ) (next : Position) → NeverRises problem.blocks before after
+    → IsPosition problem after c next → class_part problem after c ≤ℤ class_part problem before c
+class_falls problem before after c next never is =
+    over_at_most (part problem.blocks problem.hours after) (part problem.blocks problem.hours before) problem.blocks c 0 (length problem.hours)
+    (λ k l m first.
+    (let hour = one_at problem.hours k (omega (arith, m)) in
+    let one : c + 1 ≡ suc c = omega arith in
+    let great = member_some problem.blocks (drop (length after) problem.blocks) c 0 next.net problem.hours next.welfare k k hour.0
+    is.welfare_is hour.1 (omega arith) first in
+    falls_in problem before after k hour.0 (great.0 +ℤ block_value problem.blocks after (suc k)) never hour.1
+    (sym (period_is problem after c k hour.0 next.net great.0 (is.net_is ∙ ap (net_volume problem.blocks after) one) first great.1))))
 
 -- every period has a welfare if they have one all in all
 every_some : (blocks left : List Block) (prefix : List Bool) (t : ℕ) (hours : List (List Step)) (w : ℤ) (i : ℕ) (ss : List Step)

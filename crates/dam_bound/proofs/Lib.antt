@@ -12,6 +12,8 @@ pub mod Classing
 pub mod Changing
 pub mod Slots
 pub mod Walking
+pub mod Losing
+pub mod Reading
 pub mod Volumes
 pub mod Gains
 pub mod Members
@@ -23,6 +25,7 @@ pub mod BuildingSupplies
 pub mod BuildingRanges
 pub mod BuildingCurves
 pub mod BuildingTouches
+pub mod BuildingChoices
 pub mod BuildingWrites
 pub mod BuildingDay
 pub mod BuildingLots

@@ -1,20 +1,19 @@
 -- Where a class stands among the slots, and the days in them.
-use Rattle.std.proofs.Common.{◌≡◌, ◌≢◌, ℕ, zero, suc, ◌+◌, ◌*◌, ◌<◌, ◌≤◌, ◌==◌, cond, ℤ, Bool, true, false, Option, Some, None, List, []}
-use Rattle.std.proofs.Common.{length, get_or, slice_set, inl, inr, ap, ◌∙◌, sym, subst, refl, arith}
+use Rattle.std.proofs.Common.{◌≡◌, ◌≢◌, ℕ, zero, suc, ◌+◌, ◌*◌, ◌<◌, ◌≤◌, ◌==◌, cond, ℤ, pos, Bool, true, false, Option, Some, None, List, []}
+use Rattle.std.proofs.Common.{length, get_or, ap, ◌∙◌, sym, subst, refl, arith}
 use Rattle.std.specs.List.{slice_get}
-use Rattle.std.proofs.lemmas.Bool.{cases_lt}
-use Rattle.std.proofs.lemmas.List.{get_or_default, length-set, get_or-set_same, get_or-set_other}
 use Rattle.std.proofs.lemmas.Bool.Decides.{nat_tests}
 use Rattle.dam_book.specs.Limits.{last_period, most_blocks}
 use Rattle.dam_blocks.specs.declared.problem.Block.{Block}
 use Rattle.dam_blocks.specs.Problem.{ProblemState}
-use Rattle.dam_blocks.specs.Selection.{volume_in}
+use Rattle.dam_blocks.specs.Selection.{volume_in, net_volume_of}
 use Rattle.dam_bound.specs.declared.day.Day.{Day}
 use Rattle.dam_bound.specs.declared.day.Position.{Position}
 use Rattle.dam_bound.specs.declared.trail.Trail.{Trail}
 use Rattle.dam_bound.specs.Day.{IsPosition, IsDay}
 use Rattle.dam_bound.specs.Trail.{slot_count, slot_after, slot_at, IsDayIn, KeepsDays}
-use Rattle.dam_bound.specs.Tables.{ArePlaces}
+use Rattle.dam_bound.specs.Relaxed.{relaxed_welfare}
+use Rattle.dam_bound.proofs.Standing.{over_accepted-nil}
 
 -- ---- where a class stands
 after_none : (b : Block) (i k before : ℕ) → volume_in b.order.volumes (i + 1) ≡ 0 → slot_after (Some b) i k before ≡ before
@@ -97,67 +96,25 @@ copied problem prefix count from to few same total long is = record {
 
 -- what stands below a block's row is there for each prefix that doesn't decide it
 pub keeps_days : (problem : ProblemState) (depth : ℕ) (before after : Trail) → length problem.hours ≤ last_period
-    → ((i : ℕ) (d : Position) → i < (depth + 1) * last_period → get_or after.slots i d ≡ get_or before.slots i d)
+    → ((i : ℕ) (d : ℤ) → i < (depth + 1) * last_period → get_or after.slots i d ≡ get_or before.slots i d)
     → length after.slots ≡ slot_count → KeepsDays problem depth before after
 keeps_days problem depth before after few below room prefix total l is = record {
   room = room;
-  day = is.day;
-  day_is = is.day_is;
   total_is = is.total_is;
-  stands = λ c d inside first.
+  nets_are = λ c d inside first.
       (let h = slot_below problem.blocks c (length prefix) (omega (arith, inside, few)) in
-      is.stands c d inside first ∙ sym (below (slot_at problem.blocks c (length prefix)) d (omega (arith, h, l))));
+      below (slot_at problem.blocks c (length prefix)) d (omega (arith, h, l)) ∙ is.nets_are c d inside first);
 }
 
 -- the day with no block decided
-pub begun : (problem : ProblemState) (root : Day) (trail : Trail) (count : ℕ) → length problem.hours ≤ count → IsDay problem [] root
-    → ((i : ℕ) (d : Position) → i < count → get_or trail.slots i d ≡ get_or root.classes i d)
-    → length trail.slots ≡ slot_count → IsDayIn problem [] trail root.total
-begun problem root trail count few is same room = record {
+pub begun : (problem : ProblemState) (trail : Trail) (total : ℤ) (count : ℕ) → length problem.hours ≤ count
+    → Some total ≡ relaxed_welfare problem [] → ((i : ℕ) (d : ℤ) → i < count → get_or trail.slots i d ≡ pos 0)
+    → length trail.slots ≡ slot_count → IsDayIn problem [] trail total
+begun problem trail total count few is none room = record {
   room = room;
-  day = root;
-  day_is = is;
-  total_is = refl;
-  stands = λ c d inside first.
-      sym (same c d (omega (arith, inside, few)))
-      ∙ ap (λ (n : ℕ). get_or trail.slots n d) (sym (slot_first problem.blocks c));
-}
-
--- the day with every block decided
-pub day_there : (problem : ProblemState) (prefix : List Bool) (trail : Trail) (total : ℤ) (day : Day) (places : List ℕ) (count : ℕ)
-    → length problem.hours ≤ count → length prefix ≡ length problem.blocks
-    → ArePlaces problem (length problem.blocks) places
-    → ((i : ℕ) (d : Position) → i < count → get_or day.classes i d ≡ get_or trail.slots (get_or places i 0) d)
-    → day.total ≡ total → length day.classes ≡ last_period
-    → IsDayIn problem prefix trail total → IsDay problem prefix day
-day_there problem prefix trail total day places count many all are same sum long is = record {
-  long = long;
-  each = λ c d inside first.
-      subst (λ (own : Position). IsPosition problem prefix c own)
-      (is.stands c d inside first
-      ∙ ap (λ (n : ℕ). get_or trail.slots n d) (ap (slot_at problem.blocks c) all ∙ sym (are.each c 0 inside first))
-      ∙ sym (same c d (omega (arith, inside, many))))
-      (is.day_is.each c d inside first);
-  total_is = ap Some (sum ∙ sym is.total_is) ∙ is.day_is.total_is;
-}
-
--- ---- the day that is read out
-pub record AreReadSoFar (count : ℕ) (places : List ℕ) (slots classes : List Position) : Type 0 where
-  pub long : length classes ≡ last_period
-  pub each : (i : ℕ) (d : Position) → i < count → get_or classes i d ≡ get_or slots (get_or places i 0) d
-
-pub read_more : (at : ℕ) (places : List ℕ) (slots classes : List Position) (e : Position) → at < last_period
-    → get_or places at 0 < length slots → AreReadSoFar at places slots classes
-    → AreReadSoFar (at + 1) places slots (slice_set classes at (get_or slots (get_or places at 0) e))
-read_more at places slots classes e inside there so_far = record {
-  long = length-set classes at (get_or slots (get_or places at 0) e) ∙ so_far.long;
-  each = λ i d l. elim (cases_lt i at) [
-    | inl less ↦ get_or-set_other classes at i (get_or slots (get_or places at 0) e) d (omega (arith, less)) ∙ so_far.each i d less
-    | inr more ↦
-        (let same : i ≡ at = omega (arith, l, more) in let long = so_far.long in
-        ap (λ (n : ℕ). get_or (slice_set classes at (get_or slots (get_or places at 0) e)) n d) same
-        ∙ get_or-set_same classes at (get_or slots (get_or places at 0) e) d (omega (arith, inside, long))
-        ∙ get_or_default slots (get_or places at 0) e d there
-        ∙ ap (λ (n : ℕ). get_or slots (get_or places n 0) d) (sym same))
-  ];
+  total_is = is;
+  nets_are = λ c d inside first.
+      ap (λ (n : ℕ). get_or trail.slots n d) (slot_first problem.blocks c)
+      ∙ none c d (omega (arith, inside, few))
+      ∙ sym (over_accepted-nil (net_volume_of (c + 1)) problem.blocks);
 }

@@ -13,7 +13,7 @@ use Rattle.dam_blocks.specs.declared.problem.Block.{Block}
 use Rattle.dam_blocks.specs.Selection.{over_accepted, volume_in, net_volume_of, value_of, net_volume, block_value}
 use Rattle.dam_bound.specs.Relaxed.{step_of, as_steps}
 
-over_accepted-nil : (f : BlockTerms → ℤ) (bs : List Block) → over_accepted f bs [] ≡ pos 0
+pub over_accepted-nil : (f : BlockTerms → ℤ) (bs : List Block) → over_accepted f bs [] ≡ pos 0
 over_accepted-nil f [] = refl
 over_accepted-nil f (b ∷ bs) = refl
 

@@ -1,24 +1,25 @@
--- A decision in the slots, and a decision turned round on a day, touch by touch.
-use Rattle.std.proofs.Common.{◌≡◌, ◌≢◌, ℕ, zero, suc, ◌+◌, ◌-◌, ◌*◌, ◌<◌, ◌≤◌, ◌==◌, ◌&&◌, not, nat_lt, cond, ℤ, pos, neg_ℤ, ◌+ℤ◌, ◌-ℤ◌, ◌≤ℤ◌, ◌<ℤ◌, ◌↔◌, IsTrue, Bool, true, false, true≢false, Option}
-use Rattle.std.proofs.Common.{Some, None, MatchOption, List, [], ◌∷◌, length, take, drop, get_or, slice_set, inl, inr, ap, ap₂, ◌∙◌, sym, subst, refl, arith}
+-- A decision in the slots, and one turned round on a day, touch by touch.
+use Rattle.std.proofs.Common.{◌≡◌, ◌≢◌, ℕ, zero, suc, ◌+◌, ◌*◌, ◌<◌, ◌≤◌, ◌==◌, ◌&&◌, not, nat_lt, cond, ℤ, pos, neg_ℤ, ◌+ℤ◌, ◌-ℤ◌, ◌≤ℤ◌, Bool, true, false}
+use Rattle.std.proofs.Common.{Some, None, List, [], ◌∷◌, ◌++◌, length, take, drop, get_or, slice_set, inl, inr, ap, ap₂, ◌∙◌, sym, subst, refl, arith}
 use Rattle.std.specs.List.{slice_get}
-use Rattle.std.proofs.lemmas.Int.{ints, by_lt_z}
+use Rattle.std.proofs.lemmas.Int.{ints}
 use Rattle.std.proofs.lemmas.Bool.{cases_lt}
 use Rattle.std.proofs.lemmas.Bool.Decides.{nat_tests}
 use Rattle.std.proofs.lemmas.List.{get_or_default, get_or-set_same, get_or-set_other}
-use Rattle.std.proofs.lemmas.List.Sums.{sum_by-take-drop, count_by-le-length}
+use Rattle.std.proofs.lemmas.List.Sums.{sum_by-take-drop}
 use Rattle.std.proofs.lemmas.Option.{slice_get-get_or}
+use mir.Syntax.{w64}
+use mir.Val.{SFits}
 use Rattle.dam_book.specs.Limits.{last_period, most_blocks}
 use Rattle.dam_book.specs.Terms.{BlockTerms, IsBlockOrder}
-use Rattle.dam_book.specs.Volumes.{Pair, IsVolumes, have_beyond}
 use Rattle.dam_book.specs.declared.order.Side.{Side}
 use Rattle.dam_book.specs.declared.order.Side.TheVariants.{Buy, Sell}
 use Rattle.dam_hour.specs.Best.{signed}
 use Rattle.dam_hour.specs.Limits.{greatest_value}
 use Rattle.dam_hour.specs.declared.step.Step.{Step}
-use Rattle.dam_curve.specs.declared.curves.Lookup.TheVariants.{Hints}
 use Rattle.dam_curve.specs.Curve.{joint_welfare, IsCurveAt}
 use Rattle.dam_curve.specs.declared.curves.Curve.{Curve}
+use Rattle.dam_curve.specs.Losses.{IsOnCurve, IsChoiceAt}
 use Rattle.dam_curve.specs.Curve.{CurvesState}
 use Rattle.dam_blocks.specs.declared.problem.Block.{Block}
 use Rattle.dam_blocks.specs.Problem.{ProblemState, AreBlocks, IsBlock}
@@ -30,22 +31,22 @@ use Rattle.dam_bound.specs.declared.touch.Touch.{Touch}
 use Rattle.dam_bound.specs.declared.trail.Trail.{Trail}
 use Rattle.dam_bound.specs.Relaxed.{relaxed_welfare}
 use Rattle.dam_bound.specs.Classes.{first_of, over_class, class_hours, class_welfare}
-use Rattle.dam_bound.specs.Day.{IsPosition, IsDay, IsUnder}
+use Rattle.dam_bound.specs.Day.{IsPosition, IsDay}
 use Rattle.dam_bound.specs.Tables.{AreTablesOf, AreTouches, IsTouch, is_touched, touches_at, if_of, net_of_side, least_net, most_net, class_value, IsClassCurve}
 use Rattle.dam_bound.specs.Trail.{slot_count, slot_at, IsDayIn}
-use Rattle.dam_bound.specs.inside.Change.{by, IsChange, NeverRises, IsGivenUp, greatest_position, greatest_class_value}
+use Rattle.dam_bound.specs.inside.Change.{by, IsChange, greatest_position, greatest_class_value}
 use Rattle.dam_bound.specs.inside.Levels.{greatest_period_bound}
 use Rattle.dam_bound.specs.declared.day.Change.{Change}
 use Rattle.dam_bound.specs.declared.day.Change.TheVariants.{Decide, Turn}
-use Rattle.dam_bound.proofs.Changing.{IsClassOf, IsChangedSoFar, IsSized, chosen_before, position_part}
+use Rattle.dam_bound.proofs.Changing.{IsClassOf, IsChangedSoFar, IsSized, chosen, chosen_before, chosen_after, position_part}
 use Rattle.dam_bound.proofs.Changing.{class_within, over_within, class_gain, class_unbalanced, nothing_changed, touches_here, touches_elsewhere}
 use Rattle.dam_bound.proofs.Changing.{touch_changed, all_changed, equal_or}
-use Rattle.dam_bound.proofs.Classing.{class_here, class_elsewhere, class_volume, first_first, first_most}
+use Rattle.dam_bound.proofs.Extending.{same_net}
+use Rattle.dam_bound.proofs.Classing.{class_here, class_elsewhere}
 use Rattle.dam_bound.proofs.Covering.{Laws}
 use Rattle.dam_bound.proofs.Sizes.{value_small}
 use Rattle.dam_blocks.proofs.Magnitudes.{value_within}
 use Rattle.dam_bound.proofs.Levelling.{drop_at}
-use Rattle.dam_bound.proofs.Volumes.{own_volume}
 use Rattle.dam_bound.proofs.Slots.{slot_kept, slot_own, slot_below, slot_within, slot_apart}
 
 -- ---- what all tables tell
@@ -115,6 +116,14 @@ moved_within problem place depth change accept before after c b own net is at wa
     subst (λ (k : ℕ). (least_net problem.blocks k c ≤ℤ (own.net +ℤ net)) × ((own.net +ℤ net) ≤ℤ most_net problem.blocks k c)) is.long
     (subst (λ (z : ℤ). (least_net problem.blocks (length after) c ≤ℤ z) × (z ≤ℤ most_net problem.blocks (length after) c)) (sym same) within)
 
+-- the net volume of as many decisions is one of those that these can make
+pub net_in_range : (problem : ProblemState) (prefix : List Bool) (c depth : ℕ) → length prefix ≡ depth
+    → (least_net problem.blocks depth c ≤ℤ net_volume problem.blocks prefix (c + 1))
+    × (net_volume problem.blocks prefix (c + 1) ≤ℤ most_net problem.blocks depth c)
+net_in_range problem prefix c depth is =
+    subst (λ (k : ℕ). (least_net problem.blocks k c ≤ℤ net_volume problem.blocks prefix (c + 1))
+    × (net_volume problem.blocks prefix (c + 1) ≤ℤ most_net problem.blocks k c)) is (net_within (c + 1) problem.blocks prefix)
+
 -- ---- sizes
 -- a number for each period of the class is no more than one for each period
 over_most : (blocks : List Block) (c i n most : ℕ) (z : ℤ) → z ≡ pos most → over_class (λ t. z) blocks c i n ≤ℤ pos (n * most)
@@ -176,16 +185,16 @@ at_most_one : (t : Bool) → cond t 1 0 ≤ 1
 at_most_one true = omega arith
 at_most_one false = omega arith
 
-pub record Touched (problem : ProblemState) (all : CurvesState) (place : ℕ) (b : Block) (accept : Bool) (touches : List Touch) (j : ℕ)
+pub record Touched (problem : ProblemState) (all : CurvesState) (place : ℕ) (b : Block) (kept : ℕ) (touches : List Touch) (j : ℕ)
     (touch : Touch) : Type 0 where
   pub rest_is : drop j touches ≡ touch ∷ drop (j + 1) touches
-  pub is : IsTouch problem all place b accept touch
+  pub is : IsTouch problem all place b kept touch
   pub past : touches_at touch.at (drop (j + 1) touches) ≡ 0
 
-pub touched : (problem : ProblemState) (all : CurvesState) (place : ℕ) (b : Block) (accept : Bool) (touches : List Touch) (j : ℕ)
-    (touch : Touch) → AreTouches problem all place b accept touches → slice_get touches j ≡ Some touch
-    → Touched problem all place b accept touches j touch
-touched problem all place b accept touches j touch are at =
+pub touched : (problem : ProblemState) (all : CurvesState) (place : ℕ) (b : Block) (kept : ℕ) (touches : List Touch) (j : ℕ)
+    (touch : Touch) → AreTouches problem all place b kept touches → slice_get touches j ≡ Some touch
+    → Touched problem all place b kept touches j touch
+touched problem all place b kept touches j touch are at =
     let rest = drop_at touches j touch at in
     let here = ap (touches_at touch.at) rest ∙ touches_here touch (drop (j + 1) touches) in
     let all = touches_left touch.at j touches in
@@ -200,10 +209,10 @@ all_of true true false e f g = absurd (omega (arith, e))
 all_of true false z e f g = absurd (cc)
 all_of false y z e f g = absurd (cc)
 
-pub untouched : (problem : ProblemState) (all : CurvesState) (place : ℕ) (b : Block) (accept : Bool) (touches : List Touch) (c : ℕ)
-    → AreTouches problem all place b accept touches → IsClassOf problem c → touches_at c touches ≡ 0
+pub untouched : (problem : ProblemState) (all : CurvesState) (place : ℕ) (b : Block) (kept : ℕ) (touches : List Touch) (c : ℕ)
+    → AreTouches problem all place b kept touches → IsClassOf problem c → touches_at c touches ≡ 0
     → volume_in b.order.volumes (suc c) ≡ 0
-untouched problem all place b accept touches c are of none =
+untouched problem all place b kept touches c are of none =
     let inside = of.inside in let first = of.first in
     let x : nat_lt c (length problem.hours) ≡ true = grind (arith, nat_tests) in
     let y : (first_of problem.blocks c == c) ≡ true = grind (arith, nat_tests) in
@@ -213,72 +222,86 @@ untouched problem all place b accept touches c are of none =
     let one : suc c ≡ c + 1 = omega arith in
     ap (volume_in b.order.volumes) one ∙ zero
 
--- ---- in the slots
+-- ---- on a day
 abbrev pub no_position : Position
 no_position = record { net = pos 0; welfare = pos 0 }
 
--- where a class stands: in the block's own row once its touch is done, or if it has none
-abbrev pub in_slots : List Block → ℕ → List Position → List Touch → ℕ → Position
-in_slots blocks place slots rest c = get_or slots (cond (touches_at c rest == 0) (slot_at blocks c (place + 1)) (slot_at blocks c place)) no_position
+-- ---- in the slots
+-- the net volume of a class: it is in the block's own row once its touch is done, or if it has none
+abbrev pub in_slots : List Block → ℕ → List ℤ → List Touch → ℕ → ℤ
+in_slots blocks place slots rest c = get_or slots (cond (touches_at c rest == 0) (slot_at blocks c (place + 1)) (slot_at blocks c place)) (pos 0)
 
 -- the slot of a class that is still to be touched, and of one that isn't
-slot_still : (blocks : List Block) (place : ℕ) (slots : List Position) (rest : List Touch) (c : ℕ) → 0 < touches_at c rest
-    → in_slots blocks place slots rest c ≡ get_or slots (slot_at blocks c place) no_position
+slot_still : (blocks : List Block) (place : ℕ) (slots : List ℤ) (rest : List Touch) (c : ℕ) → 0 < touches_at c rest
+    → in_slots blocks place slots rest c ≡ get_or slots (slot_at blocks c place) (pos 0)
 slot_still blocks place slots rest c some =
     let no : (touches_at c rest == 0) ≡ false = grind (arith, nat_tests) in
-    ap (λ (t : Bool). get_or slots (cond t (slot_at blocks c (place + 1)) (slot_at blocks c place)) no_position) no
+    ap (λ (t : Bool). get_or slots (cond t (slot_at blocks c (place + 1)) (slot_at blocks c place)) (pos 0)) no
 
-slot_done : (blocks : List Block) (place : ℕ) (slots : List Position) (rest : List Touch) (c : ℕ) → touches_at c rest ≡ 0
-    → in_slots blocks place slots rest c ≡ get_or slots (slot_at blocks c (place + 1)) no_position
+slot_done : (blocks : List Block) (place : ℕ) (slots : List ℤ) (rest : List Touch) (c : ℕ) → touches_at c rest ≡ 0
+    → in_slots blocks place slots rest c ≡ get_or slots (slot_at blocks c (place + 1)) (pos 0)
 slot_done blocks place slots rest c none =
     let yes : (touches_at c rest == 0) ≡ true = grind (arith, nat_tests) in
-    ap (λ (t : Bool). get_or slots (cond t (slot_at blocks c (place + 1)) (slot_at blocks c place)) no_position) yes
+    ap (λ (t : Bool). get_or slots (cond t (slot_at blocks c (place + 1)) (slot_at blocks c place)) (pos 0)) yes
 
--- with no touch done all classes stand where the prefix's day has them
-pub first_slots : {problem : ProblemState} {all : CurvesState} {place : ℕ} {b : Block} {accept : Bool} {touches : List Touch}
-    {before : List Bool} {trail : Trail} {total : ℤ} → AreTouches problem all place b accept touches
-    → slice_get problem.blocks place ≡ Some b → length before ≡ place → (is : IsDayIn problem before trail total)
-    → (c : ℕ) → IsClassOf problem c → IsPosition problem before c (in_slots problem.blocks place trail.slots touches c)
-first_slots {problem} {all} {place} {b} {accept} {touches} {before} {trail} {total} are at depth is c of =
-    let own = is.day_is.each c no_position of.inside of.first in
-    let stands = is.stands c no_position of.inside of.first
-    ∙ ap (λ (n : ℕ). get_or trail.slots (slot_at problem.blocks c n) no_position) depth in
+-- each class has the net volume of the decisions that count for it
+abbrev pub AreNetsSoFar : ProblemState → ℕ → List Bool → List Bool → List ℤ → List Touch → Type 0
+AreNetsSoFar problem place before after slots rest = (c : ℕ) → IsClassOf problem c
+    → in_slots problem.blocks place slots rest c ≡ net_volume problem.blocks (chosen rest before after c) (c + 1)
+
+-- with no touch done all classes have those of the prefix
+pub first_nets : {problem : ProblemState} {all : CurvesState} {place depth : ℕ} {b : Block} {kept : ℕ} {touches : List Touch} {accept : Bool}
+    {before after : List Bool} {trail : Trail} {total : ℤ} → AreTouches problem all place b kept touches
+    → slice_get problem.blocks place ≡ Some b → IsChange problem.blocks place Decide accept depth before after
+    → IsDayIn problem before trail total → AreNetsSoFar problem place before after trail.slots touches
+first_nets {problem} {all} {place} {depth} {b} {kept} {touches} {accept} {before} {after} {trail} {total} are at change is c of =
+    let own = ap (λ (n : ℕ). get_or trail.slots (slot_at problem.blocks c n) (pos 0)) (sym change.kind.0)
+    ∙ is.nets_are c (pos 0) of.inside of.first in
     elim (cases_lt 0 (touches_at c touches)) [
-      | inl some ↦ subst (λ (p : Position). IsPosition problem before c p)
-          (stands ∙ sym (slot_still problem.blocks place trail.slots touches c some)) own
+      | inl some ↦
+          slot_still problem.blocks place trail.slots touches c some
+          ∙ own
+          ∙ ap (λ (p : List Bool). net_volume problem.blocks p (c + 1)) (sym (chosen_before touches before after c some))
       | inr none ↦
           (let zero : touches_at c touches ≡ 0 = omega (arith, none) in
           let one : suc c ≡ c + 1 = omega arith in
-          let kept = slot_kept problem.blocks c place b at
-          (ap (volume_in b.order.volumes) (sym one) ∙ untouched problem all place b accept touches c are of zero) in
-          subst (λ (p : Position). IsPosition problem before c p)
-          (stands ∙ ap (λ (n : ℕ). get_or trail.slots n no_position) (sym kept)
-          ∙ sym (slot_done problem.blocks place trail.slots touches c zero)) own)
+          let empty = ap (volume_in b.order.volumes) (sym one) ∙ untouched problem all place b kept touches c are of zero in
+          slot_done problem.blocks place trail.slots touches c zero
+          ∙ ap (λ (n : ℕ). get_or trail.slots n (pos 0)) (slot_kept problem.blocks c place b at empty)
+          ∙ own
+          ∙ sym (same_net problem.blocks place depth Decide accept before after (c + 1) b change at empty)
+          ∙ ap (λ (p : List Bool). net_volume problem.blocks p (c + 1)) (sym (chosen_after touches before after c zero)))
     ]
 
--- the slot that a touch reads
-pub own_slot : {problem : ProblemState} {all : CurvesState} {place j : ℕ} {b : Block} {accept : Bool} {touches : List Touch} {touch : Touch}
-    {before after : List Bool} {total : ℤ} (slots : List Position) (d : Position) → Touched problem all place b accept touches j touch
-    → touch.from < length slots
-    → IsChangedSoFar problem before after (drop j touches) (in_slots problem.blocks place slots (drop j touches)) total
-    → IsPosition problem before touch.at (get_or slots touch.from d)
-own_slot {problem} {all} {place} {j} {b} {accept} {touches} {touch} {before} {after} {total} slots d t inside so_far =
+-- the slot that a touch reads, of the prefix's day
+pub net_read : {problem : ProblemState} {all : CurvesState} {place : ℕ} {b : Block} {kept : ℕ} {touch : Touch} {before : List Bool}
+    {trail : Trail} {total : ℤ} (d : ℤ) → IsTouch problem all place b kept touch → length before ≡ place → IsDayIn problem before trail total
+    → get_or trail.slots touch.from d ≡ net_volume problem.blocks before (touch.at + 1)
+net_read {problem} {all} {place} {b} {kept} {touch} {before} {trail} {total} d t depth is =
+    ap (λ (n : ℕ). get_or trail.slots n d) (t.from_is ∙ ap (slot_at problem.blocks touch.at) (sym depth))
+    ∙ is.nets_are touch.at d t.inside t.first
+
+-- and the one that it reads when the touches before it are done
+pub own_net : {problem : ProblemState} {all : CurvesState} {place j : ℕ} {b : Block} {kept : ℕ} {touches : List Touch} {touch : Touch}
+    (before after : List Bool) (slots : List ℤ) (d : ℤ) → Touched problem all place b kept touches j touch → touch.from < length slots
+    → AreNetsSoFar problem place before after slots (drop j touches)
+    → get_or slots touch.from d ≡ net_volume problem.blocks before (touch.at + 1)
+own_net {problem} {all} {place} {j} {b} {kept} {touches} {touch} before after slots d t inside so_far =
     let here = ap (touches_at touch.at) t.rest_is ∙ touches_here touch (drop (j + 1) touches) in
     let some : 0 < touches_at touch.at (drop j touches) = omega (arith, here) in
-    subst (λ (p : Position). IsPosition problem before touch.at p)
-    (slot_still problem.blocks place slots (drop j touches) touch.at some
-    ∙ ap (λ (n : ℕ). get_or slots n no_position) (sym t.is.from_is) ∙ get_or_default slots touch.from no_position d inside)
-    (subst (λ (p : List Bool). IsPosition problem p touch.at (in_slots problem.blocks place slots (drop j touches) touch.at))
-    (chosen_before (drop j touches) before after touch.at some)
-    (so_far.each touch.at (record { inside = t.is.inside; first = t.is.first })))
+    get_or_default slots touch.from d (pos 0) inside
+    ∙ ap (λ (n : ℕ). get_or slots n (pos 0)) t.is.from_is
+    ∙ sym (slot_still problem.blocks place slots (drop j touches) touch.at some)
+    ∙ so_far touch.at (record { inside = t.is.inside; first = t.is.first })
+    ∙ ap (λ (p : List Bool). net_volume problem.blocks p (touch.at + 1)) (chosen_before (drop j touches) before after touch.at some)
 
--- one touch more leaves the other classes where they stand
-pub other_slot : {problem : ProblemState} {all : CurvesState} {place j : ℕ} {b : Block} {accept : Bool} {touches : List Touch} {touch : Touch}
-    (slots : List Position) (next : Position) (c : ℕ) → Touched problem all place b accept touches j touch → slice_get problem.blocks place ≡ Some b
+-- one touch more leaves the other classes as they are
+other_net : {problem : ProblemState} {all : CurvesState} {place j : ℕ} {b : Block} {kept : ℕ} {touches : List Touch} {touch : Touch}
+    (slots : List ℤ) (next : ℤ) (c : ℕ) → Touched problem all place b kept touches j touch → slice_get problem.blocks place ≡ Some b
     → length problem.hours ≤ last_period → c ≢ touch.at → c < length problem.hours
     → in_slots problem.blocks place (slice_set slots touch.to next) (drop (j + 1) touches) c
     ≡ in_slots problem.blocks place slots (touch ∷ drop (j + 1) touches) c
-other_slot {problem} {all} {place} {j} {b} {accept} {touches} {touch} slots next c t at few apart inside =
+other_net {problem} {all} {place} {j} {b} {kept} {touches} {touch} slots next c t at few apart inside =
     let same = touches_elsewhere touch (drop (j + 1) touches) c apart in
     let to = t.is.to_is in
     let low = slot_below problem.blocks c place (omega (arith, inside, few)) in
@@ -286,134 +309,110 @@ other_slot {problem} {all} {place} {j} {b} {accept} {touches} {touch} slots next
     elim (cases_lt 0 (touches_at c (drop (j + 1) touches))) [
       | inl some ↦
           slot_still problem.blocks place (slice_set slots touch.to next) (drop (j + 1) touches) c some
-          ∙ get_or-set_other slots touch.to (slot_at problem.blocks c place) next no_position (omega (arith, low, to))
+          ∙ get_or-set_other slots touch.to (slot_at problem.blocks c place) next (pos 0) (omega (arith, low, to))
           ∙ sym (slot_still problem.blocks place slots (touch ∷ drop (j + 1) touches) c (omega (arith, same, some)))
       | inr none ↦
           slot_done problem.blocks place (slice_set slots touch.to next) (drop (j + 1) touches) c (omega (arith, none))
-          ∙ get_or-set_other slots touch.to (slot_at problem.blocks c (place + 1)) next no_position (omega (arith, clear, to))
+          ∙ get_or-set_other slots touch.to (slot_at problem.blocks c (place + 1)) next (pos 0) (omega (arith, clear, to))
           ∙ sym (slot_done problem.blocks place slots (touch ∷ drop (j + 1) touches) c (omega (arith, same, none)))
     ]
 
 -- and puts its own where it was written
-pub next_slot : {problem : ProblemState} {all : CurvesState} {place j : ℕ} {b : Block} {accept : Bool} {touches : List Touch} {touch : Touch}
-    (slots : List Position) (next : Position) → Touched problem all place b accept touches j touch → slice_get problem.blocks place ≡ Some b
+next_net : {problem : ProblemState} {all : CurvesState} {place j : ℕ} {b : Block} {kept : ℕ} {touches : List Touch} {touch : Touch}
+    (slots : List ℤ) (next : ℤ) → Touched problem all place b kept touches j touch → slice_get problem.blocks place ≡ Some b
     → touch.to < length slots
     → in_slots problem.blocks place (slice_set slots touch.to next) (drop (j + 1) touches) touch.at ≡ next
-next_slot {problem} {all} {place} {j} {b} {accept} {touches} {touch} slots next t at inside =
+next_net {problem} {all} {place} {j} {b} {kept} {touches} {touch} slots next t at inside =
     slot_done problem.blocks place (slice_set slots touch.to next) (drop (j + 1) touches) touch.at t.past
-    ∙ ap (λ (n : ℕ). get_or (slice_set slots touch.to next) n no_position)
+    ∙ ap (λ (n : ℕ). get_or (slice_set slots touch.to next) n (pos 0))
     (slot_own problem.blocks touch.at place b at t.is.some ∙ sym t.is.to_is)
-    ∙ get_or-set_same slots touch.to next no_position inside
+    ∙ get_or-set_same slots touch.to next (pos 0) inside
+
+-- a touch more
+pub more_nets : {problem : ProblemState} {all : CurvesState} {place j : ℕ} {b : Block} {kept : ℕ} {touches : List Touch} {touch : Touch}
+    (before after : List Bool) (slots : List ℤ) (next : ℤ) → Touched problem all place b kept touches j touch
+    → slice_get problem.blocks place ≡ Some b → length problem.hours ≤ last_period → touch.to < length slots
+    → next ≡ net_volume problem.blocks after (touch.at + 1) → AreNetsSoFar problem place before after slots (drop j touches)
+    → AreNetsSoFar problem place before after (slice_set slots touch.to next) (drop (j + 1) touches)
+more_nets {problem} {all} {place} {j} {b} {kept} {touches} {touch} before after slots next t at few inside is so_far c of =
+    elim (equal_or c touch.at) [
+      | inl own ↦
+          ap (in_slots problem.blocks place (slice_set slots touch.to next) (drop (j + 1) touches)) own
+          ∙ next_net slots next t at inside
+          ∙ is
+          ∙ ap (λ (n : ℕ). net_volume problem.blocks after (n + 1)) (sym own)
+          ∙ ap (λ (p : List Bool). net_volume problem.blocks p (c + 1))
+          (sym (chosen_after (drop (j + 1) touches) before after c (ap (λ (n : ℕ). touches_at n (drop (j + 1) touches)) own ∙ t.past)))
+      | inr apart ↦
+          other_net slots next c t at few apart of.inside
+          ∙ ap (λ (ts : List Touch). in_slots problem.blocks place slots ts c) (sym t.rest_is)
+          ∙ so_far c of
+          ∙ ap (λ (ts : List Touch). net_volume problem.blocks (chosen ts before after c) (c + 1)) t.rest_is
+          ∙ ap (λ (n : ℕ). net_volume problem.blocks (cond (n == 0) after before) (c + 1)) (touches_elsewhere touch (drop (j + 1) touches) c apart)
+    ]
+
+-- all touches
+pub all_nets : (problem : ProblemState) (place : ℕ) (before after : List Bool) (rest : List Touch) (trail : Trail) (left : ℤ)
+    → length trail.slots ≡ slot_count → length after ≡ place + 1 → rest ≡ [] → length problem.hours ≤ last_period → place < most_blocks
+    → Some left ≡ relaxed_welfare problem after → AreNetsSoFar problem place before after trail.slots rest → IsDayIn problem after trail left
+all_nets problem place before after rest trail left room depth none few many total so_far = record {
+  room = room;
+  total_is = total;
+  nets_are = λ c d inside first.
+      (let h = slot_within problem.blocks c (length after) (omega (arith, inside, few)) (omega (arith, depth, many)) in
+      get_or_default trail.slots (slot_at problem.blocks c (length after)) d (pos 0) (omega (arith, h, room))
+      ∙ ap (λ (n : ℕ). get_or trail.slots (slot_at problem.blocks c n) (pos 0)) depth
+      ∙ sym (slot_done problem.blocks place trail.slots rest c (ap (touches_at c) none))
+      ∙ so_far c (record { inside = inside; first = first })
+      ∙ ap (λ (p : List Bool). net_volume problem.blocks p (c + 1)) (chosen_after rest before after c (ap (touches_at c) none)));
+}
 
 -- both slots of a touch are there
-pub from_within : {problem : ProblemState} {all : CurvesState} {place : ℕ} {b : Block} {accept : Bool} {touch : Touch}
-    → length problem.hours ≤ last_period → place < most_blocks → IsTouch problem all place b accept touch → touch.from < slot_count
-from_within {problem} {all} {place} {b} {accept} {touch} few many t =
+pub from_within : {problem : ProblemState} {all : CurvesState} {place : ℕ} {b : Block} {kept : ℕ} {touch : Touch}
+    → length problem.hours ≤ last_period → place < most_blocks → IsTouch problem all place b kept touch → touch.from < slot_count
+from_within {problem} {all} {place} {b} {kept} {touch} few many t =
     let inside = t.inside in let from = t.from_is in
     let low = slot_below problem.blocks touch.at place (omega (arith, inside, few)) in
     omega (arith, low, many, from)
 
-pub to_within : {problem : ProblemState} {all : CurvesState} {place : ℕ} {b : Block} {accept : Bool} {touch : Touch}
-    → length problem.hours ≤ last_period → place < most_blocks → IsTouch problem all place b accept touch → touch.to < slot_count
-to_within {problem} {all} {place} {b} {accept} {touch} few many t =
+pub to_within : {problem : ProblemState} {all : CurvesState} {place : ℕ} {b : Block} {kept : ℕ} {touch : Touch}
+    → length problem.hours ≤ last_period → place < most_blocks → IsTouch problem all place b kept touch → touch.to < slot_count
+to_within {problem} {all} {place} {b} {kept} {touch} few many t =
     let inside = t.inside in let to = t.to_is in omega (arith, inside, few, many, to)
 
 -- one touch more leaves what is below the block's row
-pub below_more : (place to i : ℕ) (slots : List Position) (next d : Position) → (place + 1) * last_period ≤ to → i < (place + 1) * last_period
+pub below_more : (place to i : ℕ) (slots : List ℤ) (next d : ℤ) → (place + 1) * last_period ≤ to → i < (place + 1) * last_period
     → get_or (slice_set slots to next) i d ≡ get_or slots i d
 below_more place to i slots next d high low = get_or-set_other slots to i next d (omega (arith, high, low))
 
--- the positions of so many classes, as the slots have them with that many blocks decided
-classes_of : List Block → ℕ → List Position → ℕ → ℕ → List Position
-classes_of blocks depth slots i zero = []
-classes_of blocks depth slots i (suc n) = get_or slots (slot_at blocks i depth) no_position ∷ classes_of blocks depth slots (suc i) n
-
-classes_long : (blocks : List Block) (depth : ℕ) (slots : List Position) (i n : ℕ) → length (classes_of blocks depth slots i n) ≡ n
-unfolding classes_of
-classes_long blocks depth slots i zero = refl
-classes_long blocks depth slots i (suc n) = ap suc (classes_long blocks depth slots (suc i) n)
-
-classes_read : (blocks : List Block) (depth : ℕ) (slots : List Position) (i n c : ℕ) (d : Position) → c < n
-    → get_or (classes_of blocks depth slots i n) c d ≡ get_or slots (slot_at blocks (i + c) depth) no_position
-unfolding classes_of
-classes_read blocks depth slots i zero c d l = absurd (omega (arith, l))
-classes_read blocks depth slots i (suc n) zero d l =
-    let same : i ≡ i + zero = omega arith in ap (λ (k : ℕ). get_or slots (slot_at blocks k depth) no_position) same
-classes_read blocks depth slots i (suc n) (suc c) d l =
-    let same : suc i + c ≡ i + suc c = omega arith in
-    classes_read blocks depth slots (suc i) n c d (omega (arith, l))
-    ∙ ap (λ (k : ℕ). get_or slots (slot_at blocks k depth) no_position) same
-
--- all touches
-pub all_decided : (problem : ProblemState) (place : ℕ) (before after : List Bool) (rest : List Touch) (trail : Trail) (total : ℤ)
-    → length trail.slots ≡ slot_count → length after ≡ place + 1 → rest ≡ [] → length problem.hours ≤ last_period → place < most_blocks
-    → IsChangedSoFar problem before after rest (in_slots problem.blocks place trail.slots rest) total → IsDayIn problem after trail total
-all_decided problem place before after rest trail total room depth none few many so_far =
-    let all = all_changed problem before after rest (in_slots problem.blocks place trail.slots rest) total none so_far in
-    let day : Day = record { classes = classes_of problem.blocks (place + 1) trail.slots 0 last_period; total = total } in
-    let long = classes_long problem.blocks (place + 1) trail.slots 0 last_period in
-    let reads = λ (c : ℕ) (d : Position) (l : c < length problem.hours).
-    classes_read problem.blocks (place + 1) trail.slots 0 last_period c d (omega (arith, l, few))
-    ∙ (let same : 0 + c ≡ c = omega arith in ap (λ (k : ℕ). get_or trail.slots (slot_at problem.blocks k (place + 1)) no_position) same) in
-    record {
-      room = room;
-      day = day;
-      day_is = record {
-        long = long;
-        each = λ c d inside first.
-            subst (λ (p : Position). IsPosition problem after c p)
-            (slot_done problem.blocks place trail.slots rest c (ap (touches_at c) none) ∙ sym (reads c d inside))
-            (all.0 c (record { inside = inside; first = first }));
-        total_is = all.1;
-      };
-      total_is = refl;
-      stands = λ c d inside first.
-          reads c d inside
-          ∙ ap (λ (n : ℕ). get_or trail.slots (slot_at problem.blocks c n) no_position) (sym depth)
-          ∙ get_or_default trail.slots (slot_at problem.blocks c (length after)) no_position d
-          (let h = slot_within problem.blocks c (length after) (omega (arith, inside, few)) (omega (arith, depth, many)) in omega (arith, h, room));
-    }
-
--- ---- the decision on the next block
-pub some_none : (x : Option ℤ) (w : ℤ) → x ≡ None → x ≡ Some w → ⊥
-some_none x w e f = absurd (cc)
-
-pub extended : (result : Option ℤ) (p q : ProblemState) (least : ℕ) (before after : List Bool) (trail : Trail) → p ≡ q
-    → NeverRises p.blocks before after
-    → MatchOption result (IsGivenUp p least before after) (IsDayIn p after trail)
-    → MatchOption result (IsUnder q after least) (IsDayIn q after trail)
-extended (Some total) p q least before after trail e never m = subst (λ (r : ProblemState). IsDayIn r after trail total) e m
-extended None p q least before after trail e never m = subst (λ (r : ProblemState). IsUnder r after least) e (elim m [
-  | inl none ↦ (λ w is. absurd (some_none (relaxed_welfare p after) w none is))
-  | inr under ↦ under never
-])
-
 -- ---- what is looked up at a touch
+abbrev no_curve : Curve
+no_curve = record { first = 0; count = 0; bottom = pos 0; top = pos 0; hints = record { first = 0; shift = 0 } }
+
 abbrev pub no_touch : Touch
 no_touch = record {
+  offset = pos 0;
   at = 0;
   from = 0;
   to = 0;
-  net = pos 0;
-  value = pos 0;
-  curve = record { first = 0; count = 0; bottom = pos 0; top = pos 0; lookup = Hints (record { first = 0; shift = 0 }) };
+  choice = record { net = pos 0; value = pos 0; before = no_curve; after = no_curve };
   stake = pos 0;
 }
 
 -- the touch that the loop is at
-pub touch_now : (problem : ProblemState) (all : CurvesState) (place : ℕ) (b : Block) (accept : Bool) (touches : List Touch) (j : ℕ)
-    → AreTouches problem all place b accept touches → j < length touches
-    → Touched problem all place b accept touches j (get_or touches j no_touch)
-touch_now problem all place b accept touches j are inside =
-    touched problem all place b accept touches j (get_or touches j no_touch) are (slice_get-get_or touches j no_touch inside)
+pub touch_now : (problem : ProblemState) (all : CurvesState) (place : ℕ) (b : Block) (kept : ℕ) (touches : List Touch) (j : ℕ)
+    → AreTouches problem all place b kept touches → j < length touches
+    → Touched problem all place b kept touches j (get_or touches j no_touch)
+touch_now problem all place b kept touches j are inside =
+    touched problem all place b kept touches j (get_or touches j no_touch) are (slice_get-get_or touches j no_touch inside)
 
 -- where its class stands on a day
-pub own_class : {problem : ProblemState} {all : CurvesState} {place j : ℕ} {b : Block} {accept : Bool} {touches : List Touch} {touch : Touch}
-    {before after : List Bool} {total : ℤ} (classes : List Position) (d : Position) → Touched problem all place b accept touches j touch
+pub own_class : {problem : ProblemState} {all : CurvesState} {place j : ℕ} {b : Block} {kept : ℕ} {touches : List Touch} {touch : Touch}
+    {before after : List Bool} {total : ℤ} (classes : List Position) (d : Position) → Touched problem all place b kept touches j touch
     → touch.at < length classes
     → IsChangedSoFar problem before after (drop j touches) (λ c. get_or classes c no_position) total
     → IsPosition problem before touch.at (get_or classes touch.at d)
-own_class {problem} {all} {place} {j} {b} {accept} {touches} {touch} {before} {after} {total} classes d t inside so_far =
+own_class {problem} {all} {place} {j} {b} {kept} {touches} {touch} {before} {after} {total} classes d t inside so_far =
     let here = ap (touches_at touch.at) t.rest_is ∙ touches_here touch (drop (j + 1) touches) in
     let some : 0 < touches_at touch.at (drop j touches) = omega (arith, here) in
     subst (λ (p : Position). IsPosition problem before touch.at p) (get_or_default classes touch.at no_position d inside)
@@ -432,11 +431,73 @@ on_curve problem all place depth change accept before after c b own net curve is
     let within = moved_within problem place depth change accept before after c b own net is at was e in
     (class_hours problem depth c, least_net problem.blocks depth c, most_net problem.blocks depth c, found, within.0, within.1)
 
--- what a look-up answers
-abbrev pub Looked : List (List Step) → Position → ℤ → ℤ → Option (Position × ℤ) → Type 0
-Looked periods own net value answer = MatchOption answer (joint_welfare periods (own.net +ℤ net) ≡ None)
-    (λ d. (d.0.net ≡ own.net +ℤ net) × (joint_welfare periods (own.net +ℤ net) ≡ Some d.0.welfare)
-    × (d.1 ≡ (d.0.welfare -ℤ own.welfare) +ℤ value))
+-- the choice at the net volume before a decision: its curves have the net volume that either decision leads to
+on_curve_by : (problem : ProblemState) (all : CurvesState) (place : ℕ) (before : List Bool) (c : ℕ) (curve : Curve) (b : Block)
+    (net more z : ℤ) (accept : Bool) → IsChange problem.blocks place Decide accept (place + 1) before (before ++ accept ∷ [])
+    → slice_get problem.blocks place ≡ Some b → z ≡ net_volume problem.blocks before (c + 1)
+    → more ≡ by Decide accept (net_volume_of (c + 1) b.order) → net ≡ z +ℤ more
+    → IsClassCurve problem all (place + 1) c curve → IsOnCurve all curve (class_hours problem (place + 1) c) net
+on_curve_by problem all place before c curve b net more z accept is at was e sum found =
+    let within = net_in_range problem (before ++ accept ∷ []) c (place + 1) is.long in
+    let same : net_volume problem.blocks (before ++ accept ∷ []) (c + 1) ≡ net =
+    is.net (c + 1) b at ∙ ap₂ (λ (x y : ℤ). x +ℤ y) (sym was) (sym e) ∙ sym sum in
+    record {
+      least = least_net problem.blocks (place + 1) c;
+      most = most_net problem.blocks (place + 1) c;
+      curve_is = found;
+      at_least = subst (λ (x : ℤ). least_net problem.blocks (place + 1) c ≤ℤ x) same within.0;
+      at_most = subst (λ (x : ℤ). x ≤ℤ most_net problem.blocks (place + 1) c) same within.1;
+    }
+
+pub choice_at : {problem : ProblemState} {all : CurvesState} {place : ℕ} {b : Block} {kept : ℕ} {touch : Touch} {before : List Bool} (z : ℤ)
+    → IsTouch problem all place b kept touch → slice_get problem.blocks place ≡ Some b
+    → ((accept : Bool) → IsChange problem.blocks place Decide accept (place + 1) before (before ++ accept ∷ []))
+    → z ≡ net_volume problem.blocks before (touch.at + 1)
+    → IsChoiceAt all touch.choice (class_hours problem place touch.at) (class_hours problem (place + 1) touch.at) z
+choice_at {problem} {all} {place} {b} {kept} {touch} {before} z t at is was =
+    let within = net_in_range problem before touch.at place (is false).kind.0 in
+    record {
+      before_is = record {
+        least = least_net problem.blocks place touch.at;
+        most = most_net problem.blocks place touch.at;
+        curve_is = t.before_is;
+        at_least = subst (λ (x : ℤ). least_net problem.blocks place touch.at ≤ℤ x) (sym was) within.0;
+        at_most = subst (λ (x : ℤ). x ≤ℤ most_net problem.blocks place touch.at) (sym was) within.1;
+      };
+      left_is = on_curve_by problem all place before touch.at touch.choice.after b z (pos 0) z false (is false) at was refl
+          (omega (arith, ints)) t.after_is;
+      taken_is = on_curve_by problem all place before touch.at touch.choice.after b (z +ℤ touch.choice.net) touch.choice.net z true (is true) at
+          was t.net_is refl t.after_is;
+    }
+
+-- a net volume that a curve has is no large number
+pub curve_fits : (all : CurvesState) (curve : Curve) (periods : List (List Step)) (least most z : ℤ) → IsCurveAt all curve periods least most
+    → least ≤ℤ z → z ≤ℤ most → SFits w64 z
+curve_fits all curve periods least most z at low high =
+    let l = at.is_curve.least_is.at_least in let h = at.is_curve.most_is.at_most in omega (arith, ints, low, high, l, h)
+
+pub net_fits : {problem : ProblemState} {all : CurvesState} {place : ℕ} {b : Block} {kept : ℕ} {touch : Touch} (before : List Bool) (z : ℤ)
+    → IsTouch problem all place b kept touch → length before ≡ place → z ≡ net_volume problem.blocks before (touch.at + 1) → SFits w64 z
+net_fits {problem} {all} {place} {b} {kept} {touch} before z t depth is =
+    let within = net_in_range problem before touch.at place depth in
+    subst (SFits w64) (sym is) (curve_fits all touch.choice.before (class_hours problem place touch.at) (least_net problem.blocks place touch.at)
+    (most_net problem.blocks place touch.at) (net_volume problem.blocks before (touch.at + 1)) t.before_is within.0 within.1)
+
+-- the net volume after the decision on the block
+pub net_decided : {problem : ProblemState} {all : CurvesState} {place : ℕ} {b : Block} {kept : ℕ} {touch : Touch} (before : List Bool)
+    (accept : Bool) (z next : ℤ) → IsTouch problem all place b kept touch → slice_get problem.blocks place ≡ Some b
+    → IsChange problem.blocks place Decide accept (place + 1) before (before ++ accept ∷ [])
+    → z ≡ net_volume problem.blocks before (touch.at + 1) → next ≡ z +ℤ by Decide accept touch.choice.net
+    → (next ≡ net_volume problem.blocks (before ++ accept ∷ []) (touch.at + 1)) × SFits w64 next
+net_decided {problem} {all} {place} {b} {kept} {touch} before accept z next t at is was e =
+    let same : next ≡ net_volume problem.blocks (before ++ accept ∷ []) (touch.at + 1) =
+    e ∙ ap₂ (λ (x y : ℤ). x +ℤ by Decide accept y) was t.net_is ∙ sym (is.net (touch.at + 1) b at) in
+    let within = net_in_range problem (before ++ accept ∷ []) touch.at (place + 1) is.long in (
+      same,
+      subst (SFits w64) (sym same) (curve_fits all touch.choice.after (class_hours problem (place + 1) touch.at)
+          (least_net problem.blocks (place + 1) touch.at) (most_net problem.blocks (place + 1) touch.at)
+          (net_volume problem.blocks (before ++ accept ∷ []) (touch.at + 1)) t.after_is within.0 within.1),
+    )
 
 -- a class that doesn't balance after the change
 pub looked_none : (problem : ProblemState) (place depth : ℕ) (change : Change) (accept : Bool) (before after : List Bool) (c : ℕ)
@@ -450,16 +511,16 @@ looked_none problem place depth change accept before after c b own net is at was
     (ap (λ (k : ℕ). class_welfare problem k c (own.net +ℤ net)) is.long ∙ none)
 
 -- a touch more on a day
-pub class_turned : {problem : ProblemState} {all : CurvesState} {place j depth : ℕ} {b : Block} {change : Change} {accept listed : Bool}
+pub class_turned : {problem : ProblemState} {all : CurvesState} {place j depth : ℕ} {b : Block} {change : Change} {accept : Bool} {kept : ℕ}
     {touches : List Touch} {touch : Touch} {before after : List Bool} {total : ℤ} (classes : List Position) (own next : Position)
     (net value gained : ℤ) → IsChange problem.blocks place change accept depth before after → slice_get problem.blocks place ≡ Some b
-    → Touched problem all place b listed touches j touch → touch.at < length classes → IsPosition problem before touch.at own
+    → Touched problem all place b kept touches j touch → touch.at < length classes → IsPosition problem before touch.at own
     → net ≡ by change accept (net_volume_of (touch.at + 1) b.order) → value ≡ by change accept (class_value problem b.order touch.at)
     → next.net ≡ own.net +ℤ net → joint_welfare (class_hours problem depth touch.at) (own.net +ℤ net) ≡ Some next.welfare
     → gained ≡ (next.welfare -ℤ own.welfare) +ℤ value
     → IsChangedSoFar problem before after (drop j touches) (λ c. get_or classes c no_position) total
     → IsChangedSoFar problem before after (drop (j + 1) touches) (λ c. get_or (slice_set classes touch.at next) c no_position) (total +ℤ gained)
-class_turned {problem} {all} {place} {j} {depth} {b} {change} {accept} {listed} {touches} {touch} {before} {after} {total} classes own next net
+class_turned {problem} {all} {place} {j} {depth} {b} {change} {accept} {kept} {touches} {touch} {before} {after} {total} classes own next net
     value gained is at t inside was e f sum found gain so_far =
     let now = now_position problem place depth change accept before after touch.at b own next net is at was e sum found in
     touch_changed problem before after touch (drop (j + 1) touches) (λ c. get_or classes c no_position)
@@ -469,29 +530,6 @@ class_turned {problem} {all} {place} {j} {depth} {b} {change} {accept} {listed} 
     (class_gain problem place depth change accept before after touch.at b own next gained is at was now
     (gain ∙ ap (λ (z : ℤ). (next.welfare -ℤ own.welfare) +ℤ z) f))
     (subst (λ (ts : List Touch). IsChangedSoFar problem before after ts (λ c. get_or classes c no_position) total) t.rest_is so_far)
-
--- a touch more in the slots
-pub class_decided : {problem : ProblemState} {all : CurvesState} {place j depth : ℕ} {b : Block} {accept : Bool}
-    {touches : List Touch} {touch : Touch} {before after : List Bool} {total : ℤ} (slots : List Position) (own next : Position)
-    (net value gained : ℤ) → IsChange problem.blocks place Decide accept depth before after → slice_get problem.blocks place ≡ Some b
-    → Touched problem all place b accept touches j touch → length problem.hours ≤ last_period → touch.to < length slots
-    → IsPosition problem before touch.at own
-    → net ≡ by Decide accept (net_volume_of (touch.at + 1) b.order) → value ≡ by Decide accept (class_value problem b.order touch.at)
-    → next.net ≡ own.net +ℤ net → joint_welfare (class_hours problem depth touch.at) (own.net +ℤ net) ≡ Some next.welfare
-    → gained ≡ (next.welfare -ℤ own.welfare) +ℤ value
-    → IsChangedSoFar problem before after (drop j touches) (in_slots problem.blocks place slots (drop j touches)) total
-    → IsChangedSoFar problem before after (drop (j + 1) touches)
-    (in_slots problem.blocks place (slice_set slots touch.to next) (drop (j + 1) touches)) (total +ℤ gained)
-class_decided {problem} {all} {place} {j} {depth} {b} {accept} {touches} {touch} {before} {after} {total} slots own next net
-    value gained is at t few inside was e f sum found gain so_far =
-    let now = now_position problem place depth Decide accept before after touch.at b own next net is at was e sum found in
-    touch_changed problem before after touch (drop (j + 1) touches) (in_slots problem.blocks place slots (touch ∷ drop (j + 1) touches))
-    (in_slots problem.blocks place (slice_set slots touch.to next) (drop (j + 1) touches)) total gained t.is.inside t.past
-    (subst (λ (p : Position). IsPosition problem after touch.at p) (sym (next_slot slots next t at inside)) now)
-    (λ c apart of. other_slot slots next c t at few apart of.inside)
-    (class_gain problem place depth Decide accept before after touch.at b own next gained is at was now
-    (gain ∙ ap (λ (z : ℤ). (next.welfare -ℤ own.welfare) +ℤ z) f))
-    (subst (λ (ts : List Touch). IsChangedSoFar problem before after ts (in_slots problem.blocks place slots ts) total) t.rest_is so_far)
 
 -- all touches, on a day
 pub all_turned : (problem : ProblemState) (before after : List Bool) (rest : List Touch) (day : Day) → length day.classes ≡ last_period
@@ -509,87 +547,11 @@ all_turned problem before after rest day long none few so_far =
     }
 
 -- no touch yet, on a day
-pub unturned : (problem : ProblemState) (all : CurvesState) (place depth : ℕ) (change : Change) (accept listed : Bool) (before after : List Bool)
+pub unturned : (problem : ProblemState) (all : CurvesState) (place depth : ℕ) (change : Change) (accept : Bool) (kept : ℕ) (before after : List Bool)
     (b : Block) (touches : List Touch) (day : Day) → IsChange problem.blocks place change accept depth before after
-    → slice_get problem.blocks place ≡ Some b → AreTouches problem all place b listed touches → IsDay problem before day
+    → slice_get problem.blocks place ≡ Some b → AreTouches problem all place b kept touches → IsDay problem before day
     → IsChangedSoFar problem before after touches (λ c. get_or day.classes c no_position) day.total
-unturned problem all place depth change accept listed before after b touches day is at are of =
+unturned problem all place depth change accept kept before after b touches day is at are of =
     nothing_changed problem place depth change accept before after b touches (λ c. get_or day.classes c no_position) day.total is at
-    (λ c inside none. untouched problem all place b listed touches c are inside none)
+    (λ c inside none. untouched problem all place b kept touches c are inside none)
     (λ c inside. of.each c no_position inside.inside inside.first) of.total_is
-
--- no touch yet, in the slots
-pub undecided : (problem : ProblemState) (all : CurvesState) (place depth : ℕ) (accept : Bool) (before after : List Bool)
-    (b : Block) (touches : List Touch) (trail : Trail) (total : ℤ) → IsChange problem.blocks place Decide accept depth before after
-    → slice_get problem.blocks place ≡ Some b → AreTouches problem all place b accept touches → IsDayIn problem before trail total
-    → IsChangedSoFar problem before after touches (in_slots problem.blocks place trail.slots touches) total
-undecided problem all place depth accept before after b touches trail total is at are of =
-    nothing_changed problem place depth Decide accept before after b touches (in_slots problem.blocks place trail.slots touches) total is at
-    (λ c inside none. untouched problem all place b accept touches c are inside none)
-    (first_slots are at is.kind.0 of) (ap (λ (z : ℤ). Some z) (sym of.total_is) ∙ of.day_is.total_is)
-
--- ---- a block has a touch, since it has a volume
-pub some_touch : (problem : ProblemState) (all : CurvesState) (place : ℕ) (b : Block) (accept : Bool) (touches : List Touch) (t : ℕ)
-    → AreTouches problem all place b accept touches → slice_get problem.blocks place ≡ Some b → t < length problem.hours
-    → 0 < volume_in b.order.volumes (suc t) → 0 < length touches
-some_touch problem all place b accept touches t are at inside some =
-    let c = first_of problem.blocks t in
-    let first = first_first problem.blocks t in
-    let most = first_most problem.blocks t in
-    let same = class_volume problem.blocks t c place b refl at in
-    let one : suc c ≡ c + 1 = omega arith in
-    let here = same ∙ ap (volume_in b.order.volumes) one in
-    let x : nat_lt c (length problem.hours) ≡ true = grind (arith, nat_tests, inside, most) in
-    let y : (first_of problem.blocks c == c) ≡ true = grind (arith, nat_tests, first) in
-    let z : (volume_in b.order.volumes (c + 1) == 0) ≡ false = grind (arith, nat_tests, here, some) in
-    let count = are.one_each c ∙ touched_one (nat_lt c (length problem.hours)) (first_of problem.blocks c == c)
-    (volume_in b.order.volumes (c + 1) == 0) x y z in
-    let least = count_by-le-length (λ (u : Touch). u.at == c) touches in
-    omega (arith, count, least)
-  where
-    touched_one : (x y z : Bool) → x ≡ true → y ≡ true → z ≡ false → ◌≡◌ {A = ℕ} (cond (x && (y && not z)) 1 0) 1
-    touched_one true true false e f g = refl
-    touched_one true true true e f g = absurd (cc)
-    touched_one true false z e f g = absurd (cc)
-    touched_one false y z e f g = absurd (cc)
-
--- ---- giving up
-pub under : (problem : ProblemState) (least : ℕ) (before after : List Bool) (total shown floor bound : ℤ) (r : Bool) → shown ≡ total
-    → bound ≡ floor
-    → IsWithin (last_period * greatest_period_bound) total → r ≡ true → IsTrue r ↔ (shown <ℤ bound)
-    → ((z : ℤ) → IsWithin (last_period * greatest_period_bound) z → (z <ℤ floor) ↔ (z <ℤ pos least))
-    → (NeverRises problem.blocks before after → (w : ℤ) → relaxed_welfare problem after ≡ Some w → w ≤ℤ total)
-    → IsGivenUp problem least before after
-under problem least before after total shown floor bound r same level within e below m f =
-    inr (λ never w is. (let less = (m total within).0 (subst (λ z. total <ℤ z) level (subst (λ z. z <ℤ bound) same (below.0 e))) in
-    let most = f never w is in omega (arith, ints, less, most)))
-
--- what isn't under the floor is at least as great
-pub not_under : (shown bound : ℤ) (r : Bool) → r ≡ false → IsTrue r ↔ (shown <ℤ bound) → bound ≤ℤ shown
-not_under shown bound r e below =
-    by_lt_z shown bound (λ less. absurd (let yes : r ≡ true = below.1 less in true≢false (sym yes ∙ e))) (λ more. more)
-
--- a total that isn't under the floor is at least what was asked for
-pub asked : (least : ℕ) (total floor bound : ℤ) → bound ≡ floor → IsWithin (last_period * greatest_period_bound) total
-    → ((z : ℤ) → IsWithin (last_period * greatest_period_bound) z → (z <ℤ floor) ↔ (z <ℤ pos least))
-    → bound ≤ℤ total → pos least ≤ℤ total
-asked least total floor bound level within m high =
-    by_lt_z total (pos least) (λ less. absurd (let low = (m total within).1 less in omega (arith, ints, low, level, high))) (λ more. more)
-
--- ---- a block has a volume in some period of the day
-first_pair : (count : ℕ) (pairs : List Pair) → IsVolumes pairs → have_beyond count pairs ≡ false
-    → (t : ℕ) × (t < count) × (0 < volume_in pairs (suc t))
-first_pair count [] are none = absurd (let some = are.nonempty in omega (arith, some))
-first_pair count (p ∷ ps) are none =
-    let increasing = are.increasing in
-    let above : 0 < p.0 = grind (arith, nat_tests, increasing) in
-    let most : p.0 ≤ count = grind (arith, nat_tests, none) in
-    let number : p.0 ≡ suc (p.0 - 1) = omega (arith, above) in
-    let own = own_volume p ps (suc (p.0 - 1)) number in
-    let some = are.ranges.1.at_least in
-    (p.0 - 1, omega (arith, above, most), omega (arith, own, some))
-
-pub some_volume : (count : ℕ) (blocks : List Block) (k : ℕ) (b : Block) → AreBlocks count blocks → slice_get blocks k ≡ Some b
-    → (t : ℕ) × (t < count) × (0 < volume_in b.order.volumes (suc t))
-some_volume count blocks k b are at =
-    let block = block_in count blocks k b are at in first_pair count b.order.volumes block.order.volumes block.in_day

@@ -1,5 +1,5 @@
 -- What the walk reads: the curve of each class at each depth, and what each block is in each of its classes.
-use Rattle.std.specs.Prelude.{◌≡◌, ℕ, ◌+◌, ◌*◌, ◌<◌, ◌≤◌, ◌==◌, ◌&&◌, not, nat_lt, if◌then◌else◌, Bool, true, false, ℤ, pos, ◌+ℤ◌, Option, Some, List, [], ◌∷◌, length}
+use Rattle.std.specs.Prelude.{◌≡◌, ℕ, ◌+◌, ◌*◌, ◌<◌, ◌≤◌, ◌==◌, ◌&&◌, not, nat_lt, if◌then◌else◌, Bool, ℤ, pos, ◌+ℤ◌, Option, Some, List, [], ◌∷◌, length}
 use Rattle.std.specs.Prelude.{take, slice_get, slice_index_or, count_by}
 use Rattle.dam_book.specs.Limits.{last_period, most_hourly, most_blocks}
 use Rattle.dam_book.specs.Terms.{BlockTerms}
@@ -7,17 +7,15 @@ use Rattle.dam_book.specs.declared.order.Side.{Side}
 use Rattle.dam_book.specs.declared.order.Side.TheVariants.{Buy, Sell}
 use Rattle.dam_curve.specs.declared.curves.Curve.{Curve}
 use Rattle.dam_curve.specs.Curve.{CurvesState, IsCurveAt}
+use Rattle.dam_curve.specs.Losses.{AreLosses}
 use Rattle.dam_blocks.specs.declared.problem.Block.{Block}
 use Rattle.dam_blocks.specs.Problem.{ProblemState, AreBlocks, AreHours, hourly_orders}
 use Rattle.dam_blocks.specs.Selection.{volume_in, net_volume_of, value_of}
 use Rattle.dam_bound.specs.Classes.{first_of, over_class, class_hours}
-use Rattle.dam_bound.specs.Day.{IsDay}
+use Rattle.dam_bound.specs.Relaxed.{relaxed_welfare}
 use Rattle.dam_bound.specs.Trail.{slot_count, slot_at}
 use Rattle.dam_bound.specs.inside.Families.{AreFamilies}
-use Rattle.dam_bound.specs.declared.day.Day.{Day}
-use Rattle.dam_bound.specs.declared.day.Change.TheVariants.{Decide}
 use Rattle.dam_bound.specs.declared.touch.Touch.{Touch}
-use Rattle.dam_bound.specs.inside.Change.{by}
 
 -- ---- what the decided blocks can make of the net volume
 -- the number, if it is of the side that is asked for
@@ -57,16 +55,24 @@ pub record AreCurves (problem : ProblemState) (all : CurvesState) (depth : ℕ) 
 abbrev pub class_value : ProblemState → BlockTerms → ℕ → ℤ
 class_value problem o c = over_class (λ t. value_of t o) problem.blocks c 0 (length problem.hours)
 
--- what a decision on the block at the place makes of one of its classes
-pub record IsTouch (problem : ProblemState) (all : CurvesState) (place : ℕ) (b : Block) (accept : Bool) (touch : Touch) : Type 0 where
+-- the losses of the choice stand in the tables for each net volume that decisions on the earlier blocks can make
+abbrev pub HasLosses : ProblemState → CurvesState → ℕ → Touch → Type 0
+HasLosses problem all place touch =
+    AreLosses all.losses (class_hours problem place touch.at) (class_hours problem (place + 1) touch.at) touch.choice touch.offset
+    (least_net problem.blocks place touch.at) (most_net problem.blocks place touch.at)
+
+-- what a decision on the block at the place makes of one of its classes; the losses are kept from this place on
+pub record IsTouch (problem : ProblemState) (all : CurvesState) (place : ℕ) (b : Block) (kept : ℕ) (touch : Touch) : Type 0 where
   pub inside : touch.at < length problem.hours
   pub first : first_of problem.blocks touch.at ≡ touch.at
   pub some : 0 < volume_in b.order.volumes (touch.at + 1)
   pub from_is : touch.from ≡ slot_at problem.blocks touch.at place
   pub to_is : touch.to ≡ (place + 1) * last_period + touch.at
-  pub net_is : touch.net ≡ by Decide accept (net_volume_of (touch.at + 1) b.order)
-  pub value_is : touch.value ≡ by Decide accept (class_value problem b.order touch.at)
-  pub curve_is : IsClassCurve problem all (place + 1) touch.at touch.curve
+  pub net_is : touch.choice.net ≡ net_volume_of (touch.at + 1) b.order
+  pub value_is : touch.choice.value ≡ class_value problem b.order touch.at
+  pub before_is : IsClassCurve problem all place touch.at touch.choice.before
+  pub after_is : IsClassCurve problem all (place + 1) touch.at touch.choice.after
+  pub losses_are : kept ≤ place → HasLosses problem all place touch
 
 -- whether the block has a volume in the class that begins at the place
 abbrev pub is_touched : ProblemState → Block → ℕ → Bool
@@ -78,30 +84,17 @@ abbrev pub touches_at : ℕ → List Touch → ℕ
 touches_at c touches = count_by (λ (touch : Touch). touch.at == c) touches
 
 -- one touch for each class in which the block has a volume, in any order
-pub record AreTouches (problem : ProblemState) (all : CurvesState) (place : ℕ) (b : Block) (accept : Bool) (touches : List Touch)
+pub record AreTouches (problem : ProblemState) (all : CurvesState) (place : ℕ) (b : Block) (kept : ℕ) (touches : List Touch)
     : Type 0 where
+  pub few : length touches ≤ last_period
   pub one_each : (c : ℕ) → touches_at c touches ≡ (if is_touched problem b c then 1 else 0)
-  pub each : (j : ℕ) (touch : Touch) → slice_get touches j ≡ Some touch → IsTouch problem all place b accept touch
+  pub each : (j : ℕ) (touch : Touch) → slice_get touches j ≡ Some touch → IsTouch problem all place b kept touch
 
--- the touch, if the block is rejected
-abbrev pub rejected : Touch → Touch
-rejected touch = record touch { net = pos 0; value = pos 0 }
-
--- the touches of a block by the decision on it
-pub record LotState : Type 0 where
-  pub accepted : List Touch
-  pub rejected : List Touch
-
--- the touches of the block at the place by either decision
-pub record IsLot (problem : ProblemState) (all : CurvesState) (place : ℕ) (b : Block) (lot : LotState) : Type 0 where
-  pub accepted : AreTouches problem all place b true lot.accepted
-  pub rejected : AreTouches problem all place b false lot.rejected
-
--- the lots of the first blocks
-pub record AreLots (problem : ProblemState) (all : CurvesState) (count : ℕ) (lots : List LotState) : Type 0 where
+-- the touches of the first blocks
+pub record AreLots (problem : ProblemState) (all : CurvesState) (kept count : ℕ) (lots : List (List Touch)) : Type 0 where
   pub as_many : length lots ≡ count
-  pub each : (k : ℕ) (b : Block) (lot : LotState) → slice_get problem.blocks k ≡ Some b → slice_get lots k ≡ Some lot
-      → IsLot problem all k b lot
+  pub each : (k : ℕ) (b : Block) (touches : List Touch) → slice_get problem.blocks k ≡ Some b → slice_get lots k ≡ Some touches
+      → AreTouches problem all k b kept touches
 
 -- the slot in which each class stands once that many blocks are decided
 pub record ArePlaces (problem : ProblemState) (depth : ℕ) (places : List ℕ) : Type 0 where
@@ -115,19 +108,20 @@ pub record AreFirsts (problem : ProblemState) (firsts : List ℕ) : Type 0 where
   pub long : length firsts ≡ last_period
   pub each : (i d : ℕ) → i < length problem.hours → slice_index_or firsts i d ≡ first_of problem.blocks i
 
--- all that a walk reads
+-- all that a walk reads; the losses are kept from the block at the place 'kept' on
 pub record TablesState : Type 0 where
   pub count : ℕ
   pub curves : CurvesState
   pub firsts : List ℕ
   pub ends : List Curve
-  pub lots : List LotState
+  pub kept : ℕ
+  pub lots : List (List Touch)
   pub places : List ℕ
-  pub root : Day
+  pub root : ℤ
   pub families : List (Option (List Bool))
 
--- what the tables of a problem have: a curve for each class and depth, the lots of each block, the root's day, and the
--- families
+-- what the tables of a problem have: a curve for each class and depth, the touches of each block, the relaxed welfare with
+-- no block decided, and the families
 pub record AreTablesOf (problem : ProblemState) (tables : TablesState) : Type 0 where
   pub count_is : tables.count ≡ length problem.hours
   pub few_periods : length problem.hours ≤ last_period
@@ -137,7 +131,7 @@ pub record AreTablesOf (problem : ProblemState) (tables : TablesState) : Type 0 
   pub few_hourly : hourly_orders problem.hours ≤ most_hourly
   pub firsts_are : AreFirsts problem tables.firsts
   pub ends_are : AreCurves problem tables.curves (length problem.blocks) tables.ends
-  pub lots_are : AreLots problem tables.curves (length problem.blocks) tables.lots
+  pub lots_are : AreLots problem tables.curves tables.kept (length problem.blocks) tables.lots
   pub places_are : ArePlaces problem (length problem.blocks) tables.places
-  pub root_is : IsDay problem [] tables.root
+  pub root_is : Some tables.root ≡ relaxed_welfare problem []
   pub families_are : AreFamilies problem.blocks tables.families

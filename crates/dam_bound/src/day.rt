@@ -84,15 +84,15 @@ pub(crate) enum Change {
 
 /// The net volume and the value that a class gains if the block is accepted, or loses if it was and is rejected.
 fn turned(touch: &Touch, accept: bool) -> (i64, i64)
-    requires { IsWithin greatest_class_value touch.now.value }
-    ensures net { result.0 ≡ by Turn accept touch.now.net }
-    ensures value { result.1 ≡ by Turn accept touch.now.value }
+    requires { IsWithin greatest_class_value touch.now.choice.value }
+    ensures net { result.0 ≡ by Turn accept touch.now.choice.net }
+    ensures value { result.1 ≡ by Turn accept touch.now.choice.value }
 {
-    let net = i64::from(touch.net);
+    let net = i64::from(touch.choice.net);
     if accept {
-        (net, touch.value)
+        (net, touch.choice.value)
     } else {
-        (-net, -touch.value)
+        (-net, -touch.choice.value)
     }
 }
 
@@ -120,7 +120,7 @@ pub(crate) fn turn_block<A: Allocator>(
     dam_hour::laws::welfare();
     dam_hour::laws::magnitude();
     dam_blocks::laws::sums();
-    for touch in touches_of(tables, place, true) {
+    for touch in touches_of(tables, place) {
         let at = touch.at as usize;
         let own = day.classes[at];
         let (net, value) = turned(touch, accept);

@@ -6,7 +6,10 @@
 //! let walk = Walk::new(&problem, &tables);
 //! let mut trail = Trail::empty();
 //! let open = walk.begin(&mut trail); // the bound with every block open
-//! let bound = walk.extend(&mut trail, 0, true, open, 0); // block 0 accepted, the others open; None if under 0
+//! let bounds = walk.extensions(&trail, 0, open, 0); // block 0 accepted or rejected, the others open
+//! if let Some(accepted) = bounds.accepted { // None if it has no bound, or one under 0
+//!     walk.enter(&mut trail, 0, true); // from here on with block 0 accepted
+//! }
 //!
 //! let relaxed = Relaxed::build(alloc, &problem)?;
 //! let same = relaxed.bound(Selection::none().with(0), 1); // from the definition
@@ -16,15 +19,17 @@
 //! whatever is decided. A table is the joint welfare of a class's periods over its net volume, without what the
 //! accepted blocks are worth, as straight lines (`dam_curve`): one with no block decided, and one for each block
 //! with a volume there. It is proved to be the definition's welfare, which [`Relaxed::bound`] finds by clearing
-//! each period.
+//! each period. The tables before and after a block give its losses in a class: by how much the welfare falls at a net
+//! volume if the block is rejected, and if it is accepted. In tables for a long search (`with_losses`) the last blocks
+//! keep their losses for each net volume that the earlier ones can make, and one look-up then finds both.
 //!
-//! A walk down the tree of prefixes keeps the days of those on its way in the slots of a [`Trail`]. It begins
-//! with the day of the prefix that decides nothing (`begin`), and makes that of a prefix with one more
-//! decision (`extend`): the same welfare, with only the classes of the last block looked up, and only
-//! until it is seen to be less than what is asked for. If a prefix decides every block, `day_at`
-//! returns the finished day as a [`Day`]: `turn` makes the day with one decision reversed, and `gain` returns the
-//! gain of an accepted block with its accepted descendants. It clears the hours of the problem at the net
-//! volumes of the day, since no table has the price of a period.
+//! A walk down the tree of prefixes keeps the days of those on its way, the net volume of each class, in the slots of
+//! a [`Trail`]. It begins with the day of the prefix that decides nothing (`begin`). The losses of the next block, one
+//! pair for each of its classes, give the bounds of both prefixes with a decision more (`extensions`). They are looked
+//! up only until both bounds are seen to be less than the caller asks for. The day of one is then made (`enter`).
+//! If a prefix decides every block, `day_at` returns the finished day as a [`Day`]: `turn` makes the day with one
+//! decision reversed, and `gain` returns the gain of an accepted block with its accepted descendants. It clears the
+//! hours of the problem at the net volumes of the day, since no table has the price of a period.
 //!
 //! What these words mean stands in `specs/`: prefixes and their completions, the relaxed welfare, the live count, the
 //! classes and the tables. A contract sees a [`Walk`] or a [`Relaxed`] as the problem that it was built of, without its
@@ -52,5 +57,5 @@ mod walk;
 pub use day::Day;
 pub use relaxed::Relaxed;
 pub use tables::Tables;
-pub use trail::Trail;
+pub use trail::{Extensions, Trail};
 pub use walk::{Bounds, Walk};

@@ -16,16 +16,16 @@ use crate::touch::Touch;
 use dam_curve::Curve;
 use std::alloc::Allocator;
 
-/// What the decision on the block at the place makes of each of its classes.
+/// What a decision on the block at the place makes of each of its classes.
 #[inline(always)]
-pub(crate) fn touches_of<A: Allocator>(tables: &Tables<A>, place: usize, accept: bool) -> &[Touch]
+pub(crate) fn touches_of<A: Allocator>(tables: &Tables<A>, place: usize) -> &[Touch]
     requires { (problem : ProblemState) × AreTablesOf problem tables.now
         × (place < length problem.blocks) }
     ensures { (problem : ProblemState) (b : Block) → AreTablesOf problem tables.now
         → slice_get problem.blocks place ≡ Some b
-        → AreTouches problem tables.now.curves place b accept result.now }
+        → AreTouches problem tables.now.curves place b tables.now.kept result.now }
 {
-    tables.lots[place].touches(accept)
+    tables.lots[place].touches.as_slice()
 }
 
 /// The curve of the class that begins at the place, with every block decided.

@@ -5,7 +5,7 @@ ghost use Rattle.dam_book.specs.Limits.{last_period, most_blocks};
 ghost use Rattle.dam_book.specs.declared.order.Side.TheVariants.{Buy, Sell};
 ghost use Rattle.dam_hour.specs.Limits.{greatest_net};
 ghost use Rattle.dam_curve.specs.Supply.{IsSupplyOf};
-ghost use Rattle.dam_curve.specs.Curve.{Keeps};
+ghost use Rattle.dam_curve.specs.Losses.{Keeps};
 ghost use Rattle.dam_hour.specs.declared.step.Step.{Step};
 ghost use Rattle.dam_blocks.specs.declared.problem.Block.{Block};
 ghost use Rattle.dam_blocks.specs.Problem.{ProblemState, AreBlocks};
@@ -59,7 +59,7 @@ pub(crate) struct Periods<A: Allocator> {
     /// For each period the place of the first one of its class.
     pub(crate) firsts: [u32; MOST_PERIODS],
     /// For each period what the decided blocks can make of its net volume.
-    ranges: [Range; MOST_PERIODS],
+    pub(crate) ranges: [Range; MOST_PERIODS],
 }
 
 impl<A: Allocator> Model for Periods<A> {
@@ -183,14 +183,13 @@ impl<A: Allocator> Periods<A> {
         widen(&mut self.ranges, order);
     }
 
-    /// Adds the curve of the class that begins at the place, with a welfare for each net volume if that is asked for.
+    /// Adds the curve of the class that begins at the place.
     /// The error is out of memory.
     pub(crate) fn curve<B: Allocator, C: Allocator>(
         &self,
         curves: &mut Curves<B>,
         sum: &mut Sum<C>,
         class: usize,
-        with_values: bool,
     ) -> Result<Curve, AllocError>
         requires { (problem : ProblemState) × (depth : ℕ) × AreDecided problem depth self.now
             × IsClass problem class }
@@ -207,11 +206,7 @@ impl<A: Allocator> Periods<A> {
                 sum.add(&self.supplies[at])?;
             }
         }
-        if with_values {
-            curves.add_values(sum)
-        } else {
-            curves.add(sum)
-        }
+        curves.add(sum)
     }
 
     /// How many periods the class has that begins at the place.

@@ -1,15 +1,11 @@
-//! Which tables keep a welfare for each net volume. These are the faster to look up and take the more memory, so they
-//! are those of the last blocks, which a search decides most often.
-
-ghost use Rattle.std.specs.Prelude.{◌≤◌, length};
-ghost use Rattle.dam_book.specs.Limits.{last_period};
+//! Which blocks keep their losses for each net volume. Losses that are kept are the faster to look up and take memory,
+//! so they are those of the last blocks, which a search decides most often.
 
 use dam_blocks::{Block, MOST_PERIODS};
 use dam_book::BlockOrder;
 
-/// How many welfares of 8 bytes the tables of a day keep at most, for each of its periods. A class may take more than
-/// its periods' part.
-const VALUES_EACH: u64 = 5_000;
+/// How many losses of 8 bytes are kept at most.
+const MOST_LOSSES: u64 = 750_000;
 
 /// How many net volumes the decided blocks can make of each class at most, at the place of its first period; 0 at
 /// other places.
@@ -48,7 +44,7 @@ impl Reach {
         }
     }
 
-    /// How many welfares the tables of a block have at most.
+    /// How many losses the block has at most.
     fn over(&self, order: &BlockOrder) -> u64 {
         let mut count = 0u64;
         for (period, _) in order.volumes().pairs() {
@@ -58,26 +54,22 @@ impl Reach {
     }
 }
 
-/// From which block on the tables keep a welfare for each net volume: as many of the last blocks as there is room for.
-pub(crate) fn first_with_values(
-    blocks: &[Block],
-    firsts: &[u32; MOST_PERIODS],
-    periods: usize,
-) -> usize {
+/// From which block on the losses are kept: those of as many of the last blocks as there is room for.
+pub(crate) fn first_with_losses(blocks: &[Block], firsts: &[u32; MOST_PERIODS]) -> usize {
     let mut reach = Reach::of(firsts);
     for block in blocks {
         reach.widen(&block.order);
     }
-    let mut room = VALUES_EACH.saturating_mul(periods as u64);
+    let mut room = MOST_LOSSES;
     let mut place = blocks.len();
     while place > 0 {
         let order = &blocks[place - 1].order;
+        reach.narrow(order);
         let count = reach.over(order);
         if count > room {
             break;
         }
         room -= count;
-        reach.narrow(order);
         place -= 1;
     }
     place

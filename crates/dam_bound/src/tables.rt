@@ -1,31 +1,29 @@
 //! What the walk reads: the welfare of each class of periods at each depth as a curve over the net volume, and each
 //! block in each of its classes.
 
-ghost use Rattle.std.specs.Prelude.{◌≡◌, ◌<◌, ◌≤◌, ◌+◌, pos, neg_ℤ, ◌*ℤ◌, ◌≤ℤ◌, ℕ, ℤ, true, Some, List, [], length, map, slice_get, IfOk, IsPermutation};
+ghost use Rattle.std.specs.Prelude.{◌≡◌, ◌<◌, ◌≤◌, ◌+◌, pos, neg_ℤ, ◌*ℤ◌, ◌≤ℤ◌, ℕ, ℤ, Some, List, [], length, slice_get, IfOk, IsPermutation};
 ghost use Rattle.dam_book.specs.Limits.{last_period, most_blocks};
-ghost use Rattle.dam_curve.specs.Curve.{Keeps};
+ghost use Rattle.dam_curve.specs.Losses.{Keeps};
 ghost use Rattle.dam_blocks.specs.declared.problem.Block.{Block};
 ghost use Rattle.dam_blocks.specs.Problem.{ProblemState};
-ghost use Rattle.dam_bound.specs.Day.{IsDay};
-ghost use Rattle.dam_bound.specs.Relaxed.{without_rows};
-ghost use Rattle.dam_bound.specs.Tables.{AreCurves, class_value, IsTouch, AreTouches, AreLots, AreFirsts, ArePlaces, AreTablesOf, rejected};
+ghost use Rattle.dam_bound.specs.Relaxed.{relaxed_welfare, without_rows};
+ghost use Rattle.dam_bound.specs.Tables.{least_net, most_net, AreCurves, class_value, IsTouch, AreTouches, AreLots, AreFirsts, ArePlaces, AreTablesOf};
 ghost use Rattle.dam_bound.specs.inside.Change.{greatest_class_value};
 ghost use Rattle.dam_bound.specs.inside.Building.{IsClass, AreDecided, IsDeciding};
 ghost use Rattle.dam_curve.specs.Curve.{CurvesState};
-ghost use Rattle.dam_blocks.specs.Selection.{volume_in};
+ghost use Rattle.dam_blocks.specs.Selection.{volume_in, net_volume_of};
 ghost use Rattle.dam_hour.specs.Best.{signed};
 ghost use Rattle.dam_hour.specs.Limits.{greatest_value};
 ghost use Rattle.dam_blocks.specs.Magnitude.{IsWithin};
 
 use crate::classes::firsts_of;
-use crate::day::{Day, Position};
 use crate::families::families_of;
 use crate::periods::Periods;
-use crate::room::first_with_values;
+use crate::room::first_with_losses;
 use crate::touch::{Lot, Touch};
 use dam_blocks::{Block, MOST_PERIODS, Problem, Selection, value_of};
 use dam_book::{BlockOrder, Period, Qty, Side};
-use dam_curve::{Curve, Curves, Sum};
+use dam_curve::{Choice, Curve, Curves, Sum};
 use dam_hour::laws;
 use std::alloc::{AllocError, Allocator, Global};
 use std::marker::Model;
@@ -43,10 +41,12 @@ pub struct Tables<A: Allocator = Global> {
     /// For each class the curve with every block decided, at the place of its first period.
     pub(crate) ends: Vec<Curve, A>,
     pub(crate) lots: Vec<Lot<A>, A>,
+    /// From which block on the losses are kept.
+    pub(crate) kept: usize,
     /// The slot in which each class stands with every block decided.
     pub(crate) places: [u32; MOST_PERIODS],
-    /// The day with no block decided.
-    pub(crate) root: Day,
+    /// The relaxed welfare with no block decided.
+    pub(crate) root: i64,
     /// For each block those that descend from it.
     pub(crate) families: Vec<Option<Selection>, A>,
 }
@@ -61,6 +61,7 @@ impl<A: Allocator> Model for Tables<A> {
       curves = t.curves;
       firsts = t.firsts;
       ends = t.ends.items;
+      kept = t.kept;
       lots = t.lots.items;
       places = t.places;
       root = t.root;
@@ -109,8 +110,10 @@ struct Deciding<'a, A: Allocator> {
     places: &'a [u32; MOST_PERIODS],
     /// The first slot of the block's row.
     row: u32,
-    /// Whether its tables keep a welfare for each net volume.
-    with_values: bool,
+    /// The curve of each class before the block is decided.
+    ends: &'a [Curve],
+    /// Whether its losses are kept.
+    with_losses: bool,
 }
 
 impl<'a, A: Allocator> Model for Deciding<'a, A> {
@@ -122,24 +125,47 @@ impl<'a, A: Allocator> Model for Deciding<'a, A> {
       periods = d.periods.now;
       order = d.order.now;
       places = d.places.now;
+      ends = d.ends.now;
       row = d.row;
+      keep = d.with_losses;
     } };
 }
 
 impl<A: Allocator> Deciding<'_, A> {
     /// What the accepted block is worth in all periods of the class that begins at the place.
     fn value(&self, at: usize) -> i64
-        requires { (problem : ProblemState) × (k : ℕ) × (b : Block)
-            × IsDeciding problem k b self.now × IsClass problem at }
-        ensures value { (problem : ProblemState) (k : ℕ) (b : Block)
-            → IsDeciding problem k b self.now → IsClass problem at
+        requires { (problem : ProblemState) × (all : CurvesState) × (kept : ℕ) × (k : ℕ)
+            × (b : Block) × IsDeciding problem all kept k b self.now × IsClass problem at }
+        ensures value { (problem : ProblemState) (all : CurvesState) (kept k : ℕ) (b : Block)
+            → IsDeciding problem all kept k b self.now → IsClass problem at
             → result ≡ class_value problem b.order at }
         ensures size { IsWithin greatest_class_value result }
     {
         times(value_of(self.order, Period::at(at)), self.periods.size(at))
     }
 
-    /// The accepted block in the class that begins at the place.
+    /// The net volumes, from the least to the most, that decisions on the earlier blocks can make of the class that
+    /// begins at the place, in which the accepted block adds this net volume.
+    fn range_before(&self, at: usize, net: i32) -> (i64, i64)
+        requires { (problem : ProblemState) × (all : CurvesState) × (kept : ℕ) × (k : ℕ)
+            × (b : Block) × IsDeciding problem all kept k b self.now × IsClass problem at
+            × (net ≡ net_volume_of (at + 1) b.order) }
+        ensures least { (problem : ProblemState) (all : CurvesState) (kept k : ℕ) (b : Block)
+            → IsDeciding problem all kept k b self.now → IsClass problem at
+            → net ≡ net_volume_of (at + 1) b.order
+            → result.0 ≡ least_net problem.blocks k at }
+        ensures most { (problem : ProblemState) (all : CurvesState) (kept k : ℕ) (b : Block)
+            → IsDeciding problem all kept k b self.now → IsClass problem at
+            → net ≡ net_volume_of (at + 1) b.order
+            → result.1 ≡ most_net problem.blocks k at }
+    {
+        let periods = self.periods;
+        let range = periods.ranges[at];
+        let net = i64::from(net);
+        (range.least - net.min(0), range.most - net.max(0))
+    }
+
+    /// What a decision on the block makes of the class that begins at the place.
     fn touch<B: Allocator, C: Allocator>(
         &self,
         curves: &mut Curves<B>,
@@ -147,40 +173,52 @@ impl<A: Allocator> Deciding<'_, A> {
         at: usize,
         qty: Qty,
     ) -> Result<Touch, AllocError>
-        requires { (problem : ProblemState) × (k : ℕ) × (b : Block)
-            × IsDeciding problem k b self.now × IsClass problem at × (volume_in b.order.volumes (at + 1) ≡ qty) }
-        ensures touch { (problem : ProblemState) (k : ℕ) (b : Block)
-            → IsDeciding problem k b self.now → IsClass problem at
+        requires { (problem : ProblemState) × (kept : ℕ) × (k : ℕ) × (b : Block)
+            × IsDeciding problem curves.old kept k b self.now × IsClass problem at
+            × (volume_in b.order.volumes (at + 1) ≡ qty) }
+        ensures touch { (problem : ProblemState) (kept k : ℕ) (b : Block)
+            → IsDeciding problem curves.old kept k b self.now → IsClass problem at
             → volume_in b.order.volumes (at + 1) ≡ qty
-            → IfOk result (IsTouch problem curves.new k b true) }
+            → IfOk result (IsTouch problem curves.new k b kept) }
         ensures at { IfOk result (λ touch. touch.at ≡ at) }
         ensures kept { Keeps curves.old curves.new }
     {
-        let curve = self.periods.curve(curves, sum, at, self.with_values)?;
+        let after = self.periods.curve(curves, sum, at)?;
         let value = self.value(at);
+        let choice = Choice {
+            before: self.ends[at],
+            after,
+            net: net_of(self.order.side(), qty),
+            value,
+        };
+        let offset = if self.with_losses {
+            let (least, most) = self.range_before(at, choice.net);
+            curves.keep_losses(&choice, least, most)?
+        } else {
+            0
+        };
         Ok(Touch {
             at: at as u32,
             from: self.places[at],
             to: self.row + at as u32,
-            net: net_of(self.order.side(), qty),
-            value,
-            curve,
-            stake: stake_of(self.order, qty, value, curves.price_near(curve, 0)),
+            choice,
+            offset,
+            stake: stake_of(self.order, qty, value, curves.price_near(after, 0)),
         })
     }
 
-    /// The accepted block in each of its classes, in the order of its periods.
+    /// What a decision on the block makes of each of its classes, in the order of its periods.
     fn touches<B: Allocator, C: Allocator, D: Allocator>(
         &self,
         alloc: D,
         curves: &mut Curves<B>,
         sum: &mut Sum<C>,
     ) -> Result<Vec<Touch, D>, AllocError>
-        requires { (problem : ProblemState) × (k : ℕ) × (b : Block)
-            × IsDeciding problem k b self.now }
-        ensures touches { (problem : ProblemState) (k : ℕ) (b : Block)
-            → IsDeciding problem k b self.now
-            → IfOk result (λ touches. AreTouches problem curves.new k b true touches.items) }
+        requires { (problem : ProblemState) × (kept : ℕ) × (k : ℕ) × (b : Block)
+            × IsDeciding problem curves.old kept k b self.now }
+        ensures touches { (problem : ProblemState) (kept k : ℕ) (b : Block)
+            → IsDeciding problem curves.old kept k b self.now
+            → IfOk result (λ touches. AreTouches problem curves.new k b kept touches.items) }
         ensures kept { Keeps curves.old curves.new }
     {
         let periods = self.periods;
@@ -196,51 +234,37 @@ impl<A: Allocator> Deciding<'_, A> {
     }
 }
 
-/// The touches of the block if it is rejected.
-fn rejected<A: Allocator>(alloc: A, touches: &[Touch]) -> Result<Vec<Touch, A>, AllocError>
-    ensures { IfOk result (λ others. others.items ≡ map rejected touches.now) }
+/// The lot with what may be lost or gained most at the front.
+fn by_stake<A: Allocator>(touches: Vec<Touch, A>) -> Lot<A>
+    ensures { IsPermutation touches.items result }
 {
-    let mut others = Vec::with_capacity(alloc, touches.len())?;
-    for touch in touches {
-        others.push(touch.rejected())?;
-    }
-    Ok(others)
-}
-
-/// The lot with what may be lost most at the front of either list.
-fn by_stake<A: Allocator>(accepted: Vec<Touch, A>, rejected: Vec<Touch, A>) -> Lot<A>
-    ensures accepted { IsPermutation accepted.items result.accepted }
-    ensures rejected { IsPermutation rejected.items result.rejected }
-{
-    let mut accepted = accepted;
-    let mut rejected = rejected;
-    accepted.sort_unstable_by_key(|touch| !touch.stake);
-    rejected.sort_unstable_by_key(|touch| touch.stake);
-    Lot { accepted, rejected }
+    let mut touches = touches;
+    touches.sort_unstable_by_key(|touch| !touch.stake.saturating_abs());
+    Lot { touches }
 }
 
 /// Puts the block's own slots and curves in the place of those that its classes have before it.
 fn take_over(places: &mut [u32; MOST_PERIODS], ends: &mut [Curve], touches: &[Touch])
-    requires { (problem : ProblemState) × (all : CurvesState) × (k : ℕ) × (b : Block)
+    requires { (problem : ProblemState) × (all : CurvesState) × (kept : ℕ) × (k : ℕ) × (b : Block)
         × (slice_get problem.blocks k ≡ Some b) × (k < most_blocks)
         × (length problem.hours ≤ last_period)
-        × AreTouches problem all k b true touches.now
+        × AreTouches problem all k b kept touches.now
         × (length ends.old ≡ length problem.hours) × (length places.old ≡ last_period) }
-    ensures places { (problem : ProblemState) (all : CurvesState) (k : ℕ) (b : Block)
+    ensures places { (problem : ProblemState) (all : CurvesState) (kept k : ℕ) (b : Block)
         → slice_get problem.blocks k ≡ Some b → k < most_blocks
         → length problem.hours ≤ last_period
-        → AreTouches problem all k b true touches.now
+        → AreTouches problem all k b kept touches.now
         → ArePlaces problem k places.old → ArePlaces problem (k + 1) places.new }
-    ensures ends { (problem : ProblemState) (all : CurvesState) (k : ℕ) (b : Block)
+    ensures ends { (problem : ProblemState) (all : CurvesState) (kept k : ℕ) (b : Block)
         → slice_get problem.blocks k ≡ Some b
-        → AreTouches problem all k b true touches.now
+        → AreTouches problem all k b kept touches.now
         → AreCurves problem all k ends.old → AreCurves problem all (k + 1) ends.new }
     ensures many { length ends.new ≡ length ends.old }
 {
     for touch in touches {
         let at = touch.at as usize;
         places[at] = touch.to;
-        ends[at] = touch.curve;
+        ends[at] = touch.choice.after;
     }
 }
 
@@ -260,7 +284,7 @@ fn first_curves<A: Allocator, B: Allocator, C: Allocator, D: Allocator>(
     for at in 0..periods.count() {
         let first = periods.firsts[at] as usize;
         let curve = if first == at {
-            periods.curve(curves, sum, at, false)?
+            periods.curve(curves, sum, at)?
         } else {
             ends[first]
         };
@@ -269,25 +293,23 @@ fn first_curves<A: Allocator, B: Allocator, C: Allocator, D: Allocator>(
     Ok(ends)
 }
 
-/// The day with no block decided.
-fn root_of<A: Allocator>(curves: &Curves<A>, firsts: &[u32], ends: &[Curve]) -> Day
+/// The relaxed welfare with no block decided.
+fn root_of<A: Allocator>(curves: &Curves<A>, firsts: &[u32], ends: &[Curve]) -> i64
     requires { (problem : ProblemState) × AreFirsts problem firsts.now
         × AreCurves problem curves.now 0 ends.now × (length problem.hours ≤ last_period) }
     ensures { (problem : ProblemState) → AreFirsts problem firsts.now
         → AreCurves problem curves.now 0 ends.now → length problem.hours ≤ last_period
-        → IsDay problem [] result }
+        → Some result ≡ relaxed_welfare problem [] }
 {
     laws::balance();
     laws::welfare();
-    let mut root = Day::empty();
+    let mut total = 0;
     for at in 0..ends.len() {
         if firsts[at] as usize == at {
-            let welfare = curves.welfare(ends[at], 0).unwrap();
-            root.classes[at] = Position { net: 0, welfare };
-            root.total += welfare;
+            total += curves.welfare(ends[at], 0).unwrap();
         }
     }
-    root
+    total
 }
 
 /// The slots in which the classes stand with no block decided.
@@ -310,6 +332,7 @@ fn lots_of<A: Allocator, B: Allocator, C: Allocator + Copy>(
     places: &mut [u32; MOST_PERIODS],
     ends: &mut [Curve],
     blocks: &[Block],
+    kept: usize,
 ) -> Result<Vec<Lot<C>, C>, AllocError>
     requires { (problem : ProblemState) × (problem.blocks ≡ blocks.now)
         × AreDecided problem 0 periods.old × AreCurves problem curves.old 0 ends.old
@@ -317,7 +340,7 @@ fn lots_of<A: Allocator, B: Allocator, C: Allocator + Copy>(
     ensures lots { (problem : ProblemState) → problem.blocks ≡ blocks.now
         → AreDecided problem 0 periods.old → AreCurves problem curves.old 0 ends.old
         → ArePlaces problem 0 places.old
-        → IfOk result (λ lots. AreLots problem curves.new (length problem.blocks) lots.items) }
+        → IfOk result (λ lots. AreLots problem curves.new kept (length problem.blocks) lots.items) }
     ensures ends { (problem : ProblemState) → problem.blocks ≡ blocks.now
         → AreDecided problem 0 periods.old → AreCurves problem curves.old 0 ends.old
         → ArePlaces problem 0 places.old
@@ -333,28 +356,53 @@ fn lots_of<A: Allocator, B: Allocator, C: Allocator + Copy>(
     let mut sum = Sum::new(alloc);
     let mut lots = Vec::with_capacity(alloc, blocks.len())?;
     let mut row = MOST_PERIODS as u32;
-    let valued = first_with_values(blocks, &periods.firsts, periods.count());
     for block in blocks {
         periods.decide(&block.order);
-        let accepted = Deciding {
+        let touches = Deciding {
             periods,
             order: &block.order,
             places,
             row,
-            with_values: lots.len() >= valued,
+            ends,
+            with_losses: lots.len() >= kept,
         }
         .touches(alloc, curves, &mut sum)?;
-        take_over(places, ends, &accepted);
-        let rejected = rejected(alloc, &accepted)?;
-        lots.push(by_stake(accepted, rejected))?;
+        take_over(places, ends, &touches);
+        lots.push(by_stake(touches))?;
         row += MOST_PERIODS as u32;
     }
     Ok(lots)
 }
 
 impl<A: Allocator + Copy> Tables<A> {
-    /// The tables of a problem. The error is out of memory.
+    /// The tables of a problem, which keep no losses: a walk takes each from the curves. They are made quickly, for a
+    /// short walk. The error is out of memory.
     pub fn of<B: Allocator>(alloc: A, problem: &Problem<B>) -> Result<Tables<A>, AllocError>
+        ensures { IfOk result (AreTablesOf (without_rows problem.now)) }
+    {
+        Tables::made(alloc, problem, problem.block_count())
+    }
+
+    /// The tables of a problem, which keep the losses of as many of the last blocks as there is room for, in some MiB.
+    /// They are for a long walk. The error is out of memory.
+    pub fn with_losses<B: Allocator>(
+        alloc: A,
+        problem: &Problem<B>,
+    ) -> Result<Tables<A>, AllocError>
+        ensures { IfOk result (AreTablesOf (without_rows problem.now)) }
+    {
+        let periods = usize::from(problem.periods().get());
+        let firsts = firsts_of(problem.blocks(), periods);
+        Tables::made(alloc, problem, first_with_losses(problem.blocks(), &firsts))
+    }
+
+    /// The tables of a problem, which keep the losses from the block at the place `kept` on. The error is out of
+    /// memory.
+    fn made<B: Allocator>(
+        alloc: A,
+        problem: &Problem<B>,
+        kept: usize,
+    ) -> Result<Tables<A>, AllocError>
         ensures { IfOk result (AreTablesOf (without_rows problem.now)) }
     {
         let blocks = problem.blocks();
@@ -371,6 +419,7 @@ impl<A: Allocator + Copy> Tables<A> {
             &mut places,
             &mut ends,
             blocks,
+            kept,
         )?;
         Ok(Tables {
             count: periods.count(),
@@ -378,6 +427,7 @@ impl<A: Allocator + Copy> Tables<A> {
             firsts: periods.firsts,
             ends,
             lots,
+            kept,
             places,
             root,
             families: families_of(alloc, blocks)?,

@@ -1,68 +1,38 @@
-ghost use Rattle.std.specs.Prelude.{◌≡◌, true, false};
-ghost use Rattle.dam_bound.specs.Tables.{rejected};
-
-use dam_curve::Curve;
+use dam_curve::Choice;
 use std::alloc::Allocator;
 use std::marker::Model;
 
-/// What a decision on a block makes of a class of periods.
+/// The effect of a decision on a block in a class of periods.
 #[derive(Clone, Copy)]
 pub(crate) struct Touch {
+    /// Added to a net volume, it gives the place of the loss, if the losses are kept.
+    pub(crate) offset: i64,
     /// The class: the place of its first period.
     pub(crate) at: u32,
     /// The slot in which the class stands before the block is decided.
     pub(crate) from: u32,
     /// The slot in which it stands afterwards.
     pub(crate) to: u32,
-    /// What the decision adds to the net volume of each period, in tenths of a MW.
-    pub(crate) net: i32,
-    /// What the decided block is worth in all of the class's periods, in cents per MWh times tenths of a MW.
-    pub(crate) value: i64,
-    /// The joint welfare of the class with the later blocks undecided, without what accepted blocks are worth.
-    pub(crate) curve: Curve,
-    /// What is lost, or below 0 gained, by accepting the block, at about the prices at a net volume of 0.
+    /// To take it is to accept the block. The curves are the joint welfare of the class with this block and the later
+    /// ones undecided, and with the later ones alone, without what accepted blocks are worth. The value is what the
+    /// block is worth in all of the class's periods.
+    pub(crate) choice: Choice,
+    /// The loss by accepting the block at about the prices at a net volume of 0; below 0 if it is a gain.
     pub(crate) stake: i64,
 }
 
-impl Touch {
-    /// The touch, if the block is rejected.
-    pub(crate) fn rejected(self) -> Touch
-        ensures { result ≡ rejected self }
-    {
-        Touch {
-            net: 0,
-            value: 0,
-            ..self
-        }
-    }
-}
-
-/// A block: what either decision on it makes of each of its classes. What may be lost most comes first, so that a day
-/// whose bound is too low is given up soon.
+/// A block: the effect of a decision on each of its classes. The greatest stakes come first, so that a bound that is
+/// too low is given up soon.
 #[derive(Drop)]
 pub(crate) struct Lot<A: Allocator> {
-    pub(crate) accepted: Vec<Touch, A>,
-    pub(crate) rejected: Vec<Touch, A>,
+    pub(crate) touches: Vec<Touch, A>,
 }
 
 impl<A: Allocator> Model for Lot<A> {
-    ghost use Rattle.dam_bound.specs.Tables.{LotState};
+    ghost use Rattle.std.specs.Prelude.{List};
+    ghost use Rattle.dam_bound.specs.declared.touch.Touch.{Touch};
 
-    ghost Value = { LotState };
+    ghost Value = { List Touch };
 
-    ghost view = { λ l. record { accepted = l.accepted.items; rejected = l.rejected.items } };
-}
-
-impl<A: Allocator> Lot<A> {
-    /// What the decision makes of each of the block's classes, in any order.
-    pub(crate) fn touches(&self, accept: bool) -> &[Touch]
-        ensures accepted { accept ≡ true → result.now ≡ self.now.accepted }
-        ensures rejected { accept ≡ false → result.now ≡ self.now.rejected }
-    {
-        if accept {
-            self.accepted.as_slice()
-        } else {
-            self.rejected.as_slice()
-        }
-    }
+    ghost view = { λ l. l.touches.items };
 }

@@ -1,18 +1,19 @@
-//! The days of a walk, in slots that are neither copied nor undone.
+//! The days of a walk, in slots that are neither copied nor undone, and the bounds of the prefixes that extend them.
 
-ghost use Rattle.std.specs.Prelude.{◌≡◌, ◌*◌, ◌+◌, ◌<◌, ◌≤◌, ℕ, ℤ, pos, ◌^◌, ◌<ℤ◌, ◌≤ℤ◌, ◌↔◌, List, Bool, length, slice_index_or, IsTrue, IfSome, MatchOption};
+ghost use Rattle.std.specs.Prelude.{◌≡◌, ◌*◌, ◌+◌, ◌-◌, ◌<◌, ◌≤◌, ℕ, ℤ, pos, neg_ℤ, ◌+ℤ◌, ◌-ℤ◌, ◌^◌, ◌<ℤ◌, ◌≤ℤ◌, ◌↔◌, [], ◌∷◌, ◌++◌, List, Bool, Option, Some, None, length, slice_index_or, IsTrue, IfSome, MatchOption};
 ghost use Rattle.dam_book.specs.Limits.{last_period};
 ghost use Rattle.dam_blocks.specs.Problem.{ProblemState};
 ghost use Rattle.dam_blocks.specs.Magnitude.{IsWithin};
+ghost use Rattle.dam_bound.specs.Day.{IsDay};
+ghost use Rattle.dam_bound.specs.Relaxed.{relaxed_welfare};
 ghost use Rattle.dam_bound.specs.inside.Levels.{greatest_period_bound};
-ghost use Rattle.dam_bound.specs.Trail.{slot_count, IsDayIn};
-ghost use Rattle.dam_bound.specs.inside.Change.{IsChange, IsGivenUp};
-ghost use Rattle.dam_bound.specs.declared.day.Change.TheVariants.{Decide};
-ghost use Rattle.dam_bound.specs.declared.day.Position.{Position};
+ghost use Rattle.dam_bound.specs.Trail.{slot_count, IsDayIn, IsBoundOf, bound_by};
+ghost use Rattle.dam_curve.specs.Losses.{greatest_loss};
+ghost use Rattle.dam_bound.specs.inside.Change.{IsDecision, IsBoundFrom};
 ghost use Rattle.dam_bound.specs.Tables.{AreTablesOf};
 
 use crate::day::{Day, Position};
-use crate::lookup::{moved, touches_of};
+use crate::lookup::touches_of;
 use crate::tables::Tables;
 use dam_blocks::MOST_PERIODS;
 use dam_book::MOST_BLOCKS;
@@ -28,7 +29,7 @@ const SLOTS: usize = (MOST_BLOCKS + 1) * MOST_PERIODS;
 /// begins from the same day.
 #[derive(Drop)]
 pub struct Trail {
-    pub(crate) slots: [Position; SLOTS],
+    pub(crate) slots: [i64; SLOTS],
 }
 
 impl Trail {
@@ -36,103 +37,262 @@ impl Trail {
     pub fn empty() -> Trail
         ensures { length result.slots ≡ slot_count }
     {
-        Trail {
-            slots: [Position::none(); SLOTS],
-        }
+        Trail { slots: [0; SLOTS] }
     }
 }
 
-/// Writes the first `count` places of the root's day to their slots.
-pub(crate) fn write_root(root: &Day, trail: &mut Trail, count: usize)
+/// Writes the net volumes of the root, on a day of `count` periods.
+pub(crate) fn write_root(trail: &mut Trail, count: usize)
     requires { count ≤ last_period }
-    ensures classes { (i : ℕ) (own : Position) → i < count
-        → slice_index_or trail.new.slots i own ≡ slice_index_or root.now.classes i own }
+    ensures nets { (i : ℕ) (d : ℤ) → i < count → slice_index_or trail.new.slots i d ≡ pos 0 }
     ensures room { length trail.new.slots ≡ slot_count }
 {
-    trail.slots[..count].copy_from_slice(&root.classes[..count]);
+    trail.slots[..count].fill(0);
+}
+
+/// The bounds of the two extensions of a prefix by a decision on its next block, in cents per MWh times tenths of a MW:
+/// the relaxed welfare of each; `None` if it has none, or one that is less than was asked for.
+#[derive(Clone, Copy)]
+pub struct Extensions {
+    pub rejected: Option<i64>,
+    pub accepted: Option<i64>,
+}
+
+impl Extensions {
+    /// No bounds, since both totals are under the floor.
+    fn neither() -> Extensions
+        ensures { result ≡ record { rejected = None; accepted = None } }
+    {
+        Extensions {
+            rejected: None,
+            accepted: None,
+        }
+    }
+
+    /// The totals as bounds, each if it isn't under the floor.
+    fn reached(rejected: i64, accepted: i64, floor: i64) -> Extensions
+        ensures rejected { MatchOption result.rejected (rejected <ℤ floor)
+            (λ left. (left ≡ rejected) × (floor ≤ℤ left)) }
+        ensures accepted { MatchOption result.accepted (accepted <ℤ floor)
+            (λ left. (left ≡ accepted) × (floor ≤ℤ left)) }
+    {
+        Extensions {
+            rejected: reached(rejected, floor),
+            accepted: reached(accepted, floor),
+        }
+    }
+
+    /// The bound of the extension by this decision.
+    #[inline(always)]
+    pub fn by(&self, accept: bool) -> Option<i64>
+        ensures { result ≡ bound_by accept self.now }
+    {
+        if accept { self.accepted } else { self.rejected }
+    }
 }
 
 /// The least total that isn't under what is asked for.
 fn floor_of(least: u64) -> i64
     ensures floor { (total : ℤ) → IsWithin (last_period * greatest_period_bound) total
         → (total <ℤ result) ↔ (total <ℤ pos least) }
+    ensures below { result ≤ℤ pos least }
     ensures at_least { pos 0 ≤ℤ result }
     ensures at_most { result <ℤ pos (2 ^ 63) }
 {
     i64::try_from(least).unwrap_or(i64::MAX)
 }
 
-/// Whether the total is under the floor.
-fn is_under(total: i64, floor: i64) -> bool
-    ensures { IsTrue result ↔ (total <ℤ floor) }
+/// The total, if it isn't under the floor.
+fn reached(total: i64, floor: i64) -> Option<i64>
+    ensures { MatchOption result (total <ℤ floor) (λ left. (left ≡ total) × (floor ≤ℤ left)) }
 {
-    total < floor
+    if total < floor {
+        return None;
+    }
+    Some(total)
 }
 
-/// Decides the block at the place in each of its classes, and returns the new total, which is at least
-/// `least`; `None` if some period doesn't balance, or if the total is under `least` after one of them. In a
-/// walk no decision raises the relaxed welfare of a period, so a total under `least` stays under it.
-///
-/// The slots below the block's row stay as they are.
-pub(crate) fn decide_block<A: Allocator>(
+/// Whether the greatest loss that is kept brings the total under the floor.
+fn is_near(total: i64, floor: i64) -> bool
+    requires { IsWithin (last_period * greatest_period_bound) total }
+    ensures { IsTrue result ↔ ((total -ℤ pos greatest_loss) <ℤ floor) }
+{
+    total - i64::from(u32::MAX) < floor
+}
+
+/// What is left of a total after a loss. A total under the floor is of no use, and stays under it.
+fn lowered(total: i64, loss: Option<i64>, floor: i64) -> i64
+    requires { floor ≤ℤ total → IfSome loss (λ fall. (neg_ℤ (pos (2 ^ 63)) ≤ℤ (total -ℤ fall))
+        × ((total -ℤ fall) <ℤ pos (2 ^ 63))) }
+    ensures { MatchOption loss (result ≡ neg_ℤ (pos 1))
+        (λ fall. (floor ≤ℤ total → result ≡ total -ℤ fall) × (total <ℤ floor → result ≡ total)) }
+{
+    match loss {
+        Some(loss) if total >= floor => total - loss,
+        Some(_) => total,
+        None => -1,
+    }
+}
+
+/// The bounds of both extensions of a prefix by the block at the place, from the curves. `total` is the relaxed welfare
+/// of the prefix. A bound under the floor is of no use.
+#[inline(never)]
+fn exact_bounds<A: Allocator>(
     tables: &Tables<A>,
-    trail: &mut Trail,
+    trail: &Trail,
     place: usize,
-    accept: bool,
+    total: i64,
+    floor: i64,
+) -> Extensions
+    requires day { (problem : ProblemState) × (before : List Bool)
+        × AreTablesOf problem tables.now × (place < length problem.blocks)
+        × ((accept : Bool) → IsDecision problem place accept before)
+        × IsDayIn problem before trail.now total }
+    requires floor { pos 0 ≤ℤ floor }
+    ensures bounds { (problem : ProblemState) (before : List Bool) (accept : Bool)
+        → AreTablesOf problem tables.now → place < length problem.blocks
+        → ((choice : Bool) → IsDecision problem place choice before)
+        → IsDayIn problem before trail.now total
+        → IsBoundFrom problem (before ++ accept ∷ []) floor (bound_by accept result) }
+{
+    dam_hour::laws::joining();
+    dam_hour::laws::welfare();
+    dam_hour::laws::magnitude();
+    dam_blocks::laws::sums();
+    let mut rejected = total;
+    let mut accepted = total;
+    for touch in touches_of(tables, place) {
+        let net = trail.slots[touch.from as usize];
+        let loss = tables.curves.exact_loss(&touch.choice, net);
+        rejected = lowered(rejected, loss.left, floor);
+        accepted = lowered(accepted, loss.taken, floor);
+        if rejected < floor && accepted < floor {
+            return Extensions::neither();
+        }
+    }
+    Extensions::reached(rejected, accepted, floor)
+}
+
+/// The bounds of both extensions of a prefix by the block at the place, from the losses that are kept. `total` is the
+/// relaxed welfare of the prefix; it is so near the floor that the greatest loss that is kept brings it under.
+#[inline(always)]
+fn kept_bounds<A: Allocator>(
+    tables: &Tables<A>,
+    trail: &Trail,
+    place: usize,
+    total: i64,
+    floor: i64,
+) -> Extensions
+    requires day { (problem : ProblemState) × (before : List Bool)
+        × AreTablesOf problem tables.now × (place < length problem.blocks)
+        × ((accept : Bool) → IsDecision problem place accept before)
+        × IsDayIn problem before trail.now total }
+    requires kept { tables.now.kept ≤ place }
+    requires near { (total -ℤ pos greatest_loss) <ℤ floor }
+    requires size { IsWithin (last_period * greatest_period_bound) total }
+    ensures bounds { (problem : ProblemState) (before : List Bool) (accept : Bool)
+        → AreTablesOf problem tables.now → place < length problem.blocks
+        → ((choice : Bool) → IsDecision problem place choice before)
+        → IsDayIn problem before trail.now total
+        → IsBoundFrom problem (before ++ accept ∷ []) floor (bound_by accept result) }
+{
+    let mut rejected = total;
+    let mut accepted = total;
+    for touch in touches_of(tables, place) {
+        let net = trail.slots[touch.from as usize];
+        let loss = tables.curves.loss(touch.offset, net);
+        rejected -= i64::from(loss.left);
+        accepted -= i64::from(loss.taken);
+        if rejected < floor && accepted < floor {
+            return Extensions::neither();
+        }
+    }
+    Extensions::reached(rejected, accepted, floor)
+}
+
+/// The bounds of both extensions of a prefix by the block at the place, as far as they are at least `least`. `total` is
+/// the relaxed welfare of the prefix.
+///
+/// The classes are looked at only until both totals are seen to be under `least`: no decision raises the relaxed
+/// welfare of a period, so a total under `least` stays under it.
+pub(crate) fn bounds_of<A: Allocator>(
+    tables: &Tables<A>,
+    trail: &Trail,
+    place: usize,
     total: i64,
     least: u64,
-) -> Option<i64>
-    requires { (problem : ProblemState) × (before : List Bool) × (after : List Bool)
-        × AreTablesOf problem tables.now
-        × (place < length problem.blocks)
-        × IsChange problem.blocks place Decide accept (place + 1) before after
-        × IsDayIn problem before trail.old total }
-    ensures day { (problem : ProblemState) (before after : List Bool)
-        → AreTablesOf problem tables.now
-        → place < length problem.blocks
-        → IsChange problem.blocks place Decide accept (place + 1) before after
-        → IsDayIn problem before trail.old total
-        → MatchOption result (IsGivenUp problem least before after)
-        (IsDayIn problem after trail.new) }
-    ensures reached { IfSome result (λ left. pos least ≤ℤ left) }
-    ensures below { (i : ℕ) (own : Position) → i < (place + 1) * last_period
-        → slice_index_or trail.new.slots i own ≡ slice_index_or trail.old.slots i own }
-    ensures room { length trail.new.slots ≡ slot_count }
+) -> Extensions
+    requires { (problem : ProblemState) × (before : List Bool)
+        × AreTablesOf problem tables.now × (place < length problem.blocks)
+        × ((accept : Bool) → IsDecision problem place accept before)
+        × IsDayIn problem before trail.now total }
+    ensures bounds { (problem : ProblemState) (before : List Bool) (accept : Bool)
+        → AreTablesOf problem tables.now → place < length problem.blocks
+        → ((choice : Bool) → IsDecision problem place choice before)
+        → IsDayIn problem before trail.now total
+        → IsBoundOf problem (before ++ accept ∷ []) least (bound_by accept result) }
+    ensures reached { (accept : Bool) → IfSome (bound_by accept result) (λ left. pos least ≤ℤ left) }
 {
     dam_hour::laws::joining();
     dam_hour::laws::welfare();
     dam_hour::laws::magnitude();
     dam_blocks::laws::sums();
     let floor = floor_of(least);
-    let mut left = total;
-    for touch in touches_of(tables, place, accept) {
-        let own = trail.slots[touch.from as usize];
-        let next = moved(tables, touch.curve, own, i64::from(touch.net), touch.value);
-        let Some((next, gained)) = next else {
-            return None;
-        };
-        trail.slots[touch.to as usize] = next;
-        left += gained;
-        if is_under(left, floor) {
-            return None;
-        }
+    if place < tables.kept || !is_near(total, floor) {
+        return exact_bounds(tables, trail, place, total, floor);
     }
-    Some(left)
+    kept_bounds(tables, trail, place, total, floor)
 }
 
-/// The day that stands in the slots, in which the class at each place stands in the slot of the list.
-pub(crate) fn day_of(trail: &Trail, places: &[u32], count: usize, total: i64) -> Day
-    requires count { count ≤ last_period }
-    requires places { (i d : ℕ) → i < count → slice_index_or places.now i d < slot_count }
-    requires long { length places.now ≡ last_period }
-    ensures classes { (i : ℕ) (own : Position) → i < count → slice_index_or result.classes i own
-        ≡ slice_index_or trail.now.slots (slice_index_or places.now i 0) own }
-    ensures total { result.total ≡ total }
-    ensures long { length result.classes ≡ last_period }
+/// Writes the net volumes of the extension of a prefix by the decision on the block at the place to the block's row of
+/// slots. The slots below stay as they are.
+pub(crate) fn write_block<A: Allocator>(
+    tables: &Tables<A>,
+    trail: &mut Trail,
+    place: usize,
+    accept: bool,
+)
+    requires { (problem : ProblemState) × (before : List Bool) × (total : ℤ)
+        × AreTablesOf problem tables.now × (place < length problem.blocks)
+        × IsDecision problem place accept before
+        × IsDayIn problem before trail.old total }
+    ensures day { (problem : ProblemState) (before : List Bool) (total left : ℤ)
+        → AreTablesOf problem tables.now → place < length problem.blocks
+        → IsDecision problem place accept before
+        → IsDayIn problem before trail.old total
+        → Some left ≡ relaxed_welfare problem (before ++ accept ∷ [])
+        → IsDayIn problem (before ++ accept ∷ []) trail.new left }
+    ensures below { (i : ℕ) (d : ℤ) → i < (place + 1) * last_period
+        → slice_index_or trail.new.slots i d ≡ slice_index_or trail.old.slots i d }
+    ensures room { length trail.new.slots ≡ slot_count }
+{
+    for touch in touches_of(tables, place) {
+        let before = trail.slots[touch.from as usize];
+        let after = if accept {
+            before + i64::from(touch.choice.net)
+        } else {
+            before
+        };
+        trail.slots[touch.to as usize] = after;
+    }
+}
+
+/// The day of a prefix that decides every block, whose relaxed welfare this is: where each class stands. Each class has
+/// a welfare there, since the prefix has a relaxed welfare.
+pub(crate) fn day_of<A: Allocator>(tables: &Tables<A>, trail: &Trail, total: i64) -> Day
+    requires { (problem : ProblemState) × (prefix : List Bool) × AreTablesOf problem tables.now
+        × (length prefix ≡ length problem.blocks) × IsDayIn problem prefix trail.now total }
+    ensures { (problem : ProblemState) (prefix : List Bool) → AreTablesOf problem tables.now
+        → length prefix ≡ length problem.blocks → IsDayIn problem prefix trail.now total
+        → IsDay problem prefix result }
 {
     let mut day = Day::empty();
-    for at in 0..count {
-        day.classes[at] = trail.slots[places[at] as usize];
+    for at in 0..tables.count {
+        if tables.firsts[at] as usize == at {
+            let net = trail.slots[tables.places[at] as usize];
+            let welfare = tables.curves.welfare(tables.ends[at], net).unwrap();
+            day.classes[at] = Position { net, welfare };
+        }
     }
     day.total = total;
     day

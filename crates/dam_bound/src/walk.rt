@@ -5,14 +5,14 @@ ghost use Rattle.dam_blocks.specs.Problem.{ProblemState};
 ghost use Rattle.dam_blocks.specs.Selection.{padded};
 ghost use Rattle.dam_blocks.specs.Eligible.{ArePrices, family_surplus};
 ghost use Rattle.dam_bound.specs.Relaxed.{relaxed_welfare, without_rows};
-ghost use Rattle.dam_bound.specs.Day.{IsDay, IsUnder};
-ghost use Rattle.dam_bound.specs.Trail.{IsDayIn, KeepsDays};
+ghost use Rattle.dam_bound.specs.Day.{IsDay};
+ghost use Rattle.dam_bound.specs.Trail.{IsDayIn, KeepsDays, IsBoundOf, bound_by};
 ghost use Rattle.dam_bound.specs.Tables.{AreTablesOf};
 
 use crate::day::{Day, copy_classes, turn_block};
 use crate::gain::gain_of;
 use crate::tables::Tables;
-use crate::trail::{Trail, day_of, decide_block, write_root};
+use crate::trail::{Extensions, Trail, bounds_of, day_of, write_block, write_root};
 use dam_blocks::{Problem, Selection, laws};
 use std::alloc::Allocator;
 use std::marker::Model;
@@ -65,50 +65,61 @@ impl<'a, A: Allocator, B: Allocator> Walk<'a, A, B> {
         ensures { IsDayIn self.now [] trail.new result }
     {
         let tables = self.tables;
-        write_root(&tables.root, trail, tables.count);
-        tables.root.total
+        write_root(trail, tables.count);
+        tables.root
     }
 
-    /// Extends the day of a prefix by the decision on the block at the depth, and returns the relaxed
-    /// welfare of the extension; `None` exactly if it has none or one under `least`. `total` is what `begin` or
-    /// `extend` returned for the prefix; all are in cents per MWh times tenths of a MW. The days of the prefix
-    /// and of shorter ones stay, so that the other decision can be made afterwards.
+    /// The bounds of the two extensions of a prefix by a decision on the block at the depth: the relaxed welfare of
+    /// each; `None` exactly if it has none or one under `least`. `total` is the relaxed welfare of the prefix, as
+    /// `begin` or `extensions` returned it; all are in cents per MWh times tenths of a MW.
     ///
-    /// Only the classes of periods in which the block has a volume are looked at, and only until the
-    /// relaxed welfare is seen to be under `least`. Takes no memory.
-    pub fn extend(
-        &self,
-        trail: &mut Trail,
-        depth: usize,
-        accept: bool,
-        total: i64,
-        least: u64,
-    ) -> Option<i64>
+    /// Only the classes of periods in which the block has a volume are looked at, and only until both relaxed
+    /// welfares are seen to be under `least`. Takes no memory.
+    pub fn extensions(&self, trail: &Trail, depth: usize, total: i64, least: u64) -> Extensions
         requires depth { depth < length self.now.blocks }
         requires day { (prefix : List Bool) × (length prefix ≡ depth)
-            × IsDayIn self.now prefix trail.old total }
-        ensures kept { KeepsDays self.now depth trail.old trail.new }
-        ensures day { (prefix : List Bool) → length prefix ≡ depth
-            → IsDayIn self.now prefix trail.old total
-            → MatchOption result (IsUnder self.now (prefix ++ accept ∷ []) least)
-            (IsDayIn self.now (prefix ++ accept ∷ []) trail.new) }
-        ensures reached { IfSome result (λ welfare. pos least ≤ℤ welfare) }
+            × IsDayIn self.now prefix trail.now total }
+        ensures bounds { (prefix : List Bool) (accept : Bool) → length prefix ≡ depth
+            → IsDayIn self.now prefix trail.now total
+            → IsBoundOf self.now (prefix ++ accept ∷ []) least (bound_by accept result) }
+        ensures reached { (accept : Bool) → IfSome (bound_by accept result) (λ welfare. pos least ≤ℤ welfare) }
     {
         dam_hour::laws::joining();
         dam_hour::laws::welfare();
         dam_hour::laws::magnitude();
         laws::sums();
-        decide_block(self.tables, trail, depth, accept, total, least)
+        bounds_of(self.tables, trail, depth, total, least)
     }
 
-    /// The day of a prefix that decides every block, if it is in the slots with this relaxed welfare.
+    /// Makes the day of the extension of a prefix by the decision on the block at the depth, if the extension has a
+    /// relaxed welfare. The days of the prefix and of shorter ones stay, so that the other decision can be made
+    /// afterwards. Takes no memory.
+    pub fn enter(&self, trail: &mut Trail, depth: usize, accept: bool)
+        requires depth { depth < length self.now.blocks }
+        requires day { (prefix : List Bool) × (total : ℤ) × (length prefix ≡ depth)
+            × IsDayIn self.now prefix trail.old total }
+        ensures kept { KeepsDays self.now depth trail.old trail.new }
+        ensures day { (prefix : List Bool) (total left : ℤ) → length prefix ≡ depth
+            → IsDayIn self.now prefix trail.old total
+            → Some left ≡ relaxed_welfare self.now (prefix ++ accept ∷ [])
+            → IsDayIn self.now (prefix ++ accept ∷ []) trail.new left }
+    {
+        dam_hour::laws::joining();
+        dam_hour::laws::welfare();
+        dam_hour::laws::magnitude();
+        laws::sums();
+        write_block(self.tables, trail, depth, accept);
+    }
+
+    /// The day of a prefix that decides every block, which is in the slots with this relaxed welfare.
     /// Takes no memory.
     pub fn day_at(&self, trail: &Trail, total: i64) -> Day
+        requires { (prefix : List Bool) × (length prefix ≡ length self.now.blocks)
+            × IsDayIn self.now prefix trail.now total }
         ensures { (prefix : List Bool) → length prefix ≡ length self.now.blocks
             → IsDayIn self.now prefix trail.now total → IsDay self.now prefix result }
     {
-        let tables = self.tables;
-        day_of(trail, &tables.places, tables.count, total)
+        day_of(self.tables, trail, total)
     }
 
     /// Makes `to` a day of whichever prefix `from` is the day of. Only what belongs to the problem's

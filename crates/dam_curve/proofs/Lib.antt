@@ -1,7 +1,6 @@
 -- The lemmas that several functions need.
 pub mod Parts
 pub mod Supplying
-pub mod Valuing
 pub mod Clearing
 pub mod Removing
 pub mod PeriodLines
@@ -9,3 +8,6 @@ pub mod ListsOfLines
 pub mod Adding
 pub mod JointWelfare
 pub mod LookingUp
+pub mod Reading
+pub mod Losing
+pub mod ExactLosses

@@ -4,19 +4,17 @@ use Rattle.std.proofs.Common.{FitsSigned, to_z, of_z, w32, w64, List, [], ◌∷
 use Rattle.std.specs.List.{slice_range}
 use Rattle.std.proofs.lemmas.Int.{ints}
 use Rattle.std.proofs.lemmas.Bool.{cases_lt}
-use Rattle.std.proofs.lemmas.List.{take_all, drop_at, length-take-le, take-append-drop, take-append-le, drop-append-le, get_or_append_left}
+use Rattle.std.proofs.lemmas.List.{take_all, drop_at, length-take-le, take-append-le, drop-append-le}
 use Rattle.dam_book.specs.Limits.{last_period}
 use Rattle.dam_hour.specs.declared.step.Step.{Step}
 use Rattle.dam_hour.specs.Limits.{greatest_price}
 use Rattle.dam_curve.specs.declared.line.Line.{Line}
 use Rattle.dam_curve.specs.declared.curves.Curve.{Curve}
 use Rattle.dam_curve.specs.Curve.{joint_welfare, line_at, end_of, AreLines, bottom_of, IsOutside, greatest_line_surplus, IsCurve, lines_at}
-use Rattle.dam_curve.specs.Curve.{IsSmallLine, CurvesState, IsValueAt, AreValuesAt, IsCurveAt, Keeps}
-use Rattle.dam_curve.specs.declared.curves.Lookup.{Lookup}
-use Rattle.dam_curve.specs.declared.curves.Lookup.TheVariants.{Hints, Values}
+use Rattle.dam_curve.specs.Curve.{IsSmallLine, CurvesState, IsCurveAt}
+use Rattle.dam_curve.specs.Losses.{Keeps}
 use Rattle.dam_curve.proofs.ListsOfLines.{bottom_at, small_at}
 use Rattle.dam_curve.proofs.PeriodLines.{times_small}
-use Rattle.dam_curve.proofs.Valuing.{value_stays}
 use Rattle.dam_curve.proofs.Adding.{line_here, place_from, stands_from, end_at, outside_from}
 
 -- ---- the lines of one curve
@@ -26,8 +24,8 @@ part_behind xs ys n m e f = ap (take (m - n)) (drop_at xs ys n (sym e)) ∙ take
 pub curve_added : (old ls : List Line) (all : CurvesState) (curve : Curve) (ps : List (List Step)) (least most : ℤ) (d : Line)
     → all.lines ≡ old ++ ls → curve.first ≡ length old → curve.count ≡ length ls → 0 < length ls
     → curve.bottom ≡ (get_or ls (length ls - 1) d).most → curve.top ≡ (get_or ls 0 d).most
-    → AreValuesAt ps ls all.values curve.lookup → IsCurve ps least most ls → IsCurveAt all curve ps least most
-curve_added old ls all curve ps least most d e first count some bottom top values is =
+    → IsCurve ps least most ls → IsCurveAt all curve ps least most
+curve_added old ls all curve ps least most d e first count some bottom top is =
     let at : lines_at all.lines curve ≡ ls = ap (λ ws. lines_at ws curve) e
     ∙ part_behind old ls curve.first (curve.first + curve.count) first (omega (arith, count)) in
     let long = ap length e ∙ length-append old ls in
@@ -39,7 +37,6 @@ curve_added old ls all curve ps least most d e first count some bottom top value
         top ∙ sym (end_at ls d some) ∙ ap (λ ws. end_of ws (pos 0)) (sym at),
       );
       none = λ l. absurd (omega (arith, l, count, some));
-      values_are = subst (λ (ws : List Line). AreValuesAt ps ws all.values curve.lookup) (sym at) values;
     }
 
 -- ---- a curve among more of them
@@ -48,17 +45,12 @@ range_kept xs ys n m o l =
     ap (take (m - n)) (drop-append-le n xs ys (omega (arith, o, l)))
     ∙ take-append-le (m - n) (drop n xs) ys (let long = length-drop n xs in omega (arith, long, o, l))
 
-values_kept : (ps : List (List Step)) (ls : List Line) (xs ys : List ℤ) (lookup : Lookup) → AreValuesAt ps ls xs lookup
-    → AreValuesAt ps ls (xs ++ ys) lookup
-values_kept ps ls xs ys (Hints hints) are = tt
-values_kept ps ls xs ys (Values first) are =
-    λ i net e low. value_stays xs ys (first + i) (joint_welfare ps net) (are i net e low)
-
-curve_kept : (old : CurvesState) (ls : List Line) (vs : List ℤ) → Keeps old (record { lines = old.lines ++ ls; values = old.values ++ vs })
-curve_kept old ls vs curve ps least most is =
-    let same : lines_at (old.lines ++ ls) curve ≡ lines_at old.lines curve =
-    range_kept old.lines ls curve.first (curve.first + curve.count) (omega arith) is.within in
-    let long = length-append old.lines ls in
+curve_kept : (old new : CurvesState) (ls : List Line) → new.lines ≡ old.lines ++ ls → (curve : Curve) (ps : List (List Step)) (least most : ℤ)
+    → IsCurveAt old curve ps least most → IsCurveAt new curve ps least most
+curve_kept old new ls lines curve ps least most is =
+    let same : lines_at new.lines curve ≡ lines_at old.lines curve = ap (λ (ws : List Line). lines_at ws curve) lines
+    ∙ range_kept old.lines ls curve.first (curve.first + curve.count) (omega arith) is.within in
+    let long = ap length lines ∙ length-append old.lines ls in
     let within = is.within in
     record {
       within = omega (arith, long, within);
@@ -66,20 +58,11 @@ curve_kept old ls vs curve ps least most is =
       ends = λ some. (let ends = is.ends some in
           (ends.0 ∙ ap bottom_of (sym same), ends.1 ∙ ap (λ (ws : List Line). end_of ws (pos 0)) (sym same)));
       none = is.none;
-      values_are = subst (λ (ws : List Line). AreValuesAt ps ws (old.values ++ vs) curve.lookup) (sym same)
-          (values_kept ps (lines_at old.lines curve) old.values vs curve.lookup is.values_are);
     }
 
 pub keeps_more : (old new : CurvesState) (ls : List Line) → new.lines ≡ old.lines ++ ls
-    → take (length old.values) new.values ≡ old.values → Keeps old new
-keeps_more old new ls lines values =
-    let all : new.values ≡ old.values ++ drop (length old.values) new.values =
-    sym (take-append-drop (length old.values) new.values) ∙ ap (λ (xs : List ℤ). xs ++ drop (length old.values) new.values) values in
-    λ curve ps least most is.
-    subst (λ (vs : List ℤ). IsCurveAt (record { lines = new.lines; values = vs }) curve ps least most) (sym all)
-    (subst (λ (ws : List Line). IsCurveAt (record { lines = ws; values = old.values ++ drop (length old.values) new.values }) curve ps
-    least most) (sym lines)
-    (curve_kept old ls (drop (length old.values) new.values) curve ps least most is))
+    → take (length old.losses) new.losses ≡ old.losses → Keeps old new
+keeps_more old new ls lines losses = record { curves = curve_kept old new ls lines; losses = losses }
 
 count_is : (lines : List Line) (curve : Curve) → curve.first + curve.count ≤ length lines → length (lines_at lines curve) ≡ curve.count
 count_is lines curve l =
@@ -87,7 +70,7 @@ count_is lines curve l =
     let part = length-take-le (curve.first + curve.count - curve.first) (drop curve.first lines) (omega (arith, long, l)) in
     omega (arith, part)
 
-no_line : (ls : List Line) (net : ℤ) → length ls ≡ 0 → IsOutside ls net
+pub no_line : (ls : List Line) (net : ℤ) → length ls ≡ 0 → IsOutside ls net
 no_line [] net e = tt
 no_line (line ∷ ls) net e = absurd (omega (arith, e))
 
@@ -111,21 +94,6 @@ pub record IsWithin (ls : List Line) (net : ℤ) : Type 0 where
   pub some : 0 < length ls
   pub first : (d : Line) → net ≤ℤ (get_or ls 0 d).most
   pub last : (d : Line) → (get_or ls (length ls - 1) d).most ≤ℤ net
-
-pub within_curve : (curves : CurvesState) (curve : Curve) (ps : List (List Step)) (least most net : ℤ) → IsCurveAt curves curve ps least most
-    → curve.bottom ≤ℤ net → net ≤ℤ curve.top → IsWithin (lines_at curves.lines curve) net
-within_curve curves curve ps least most net is low high = elim (cases_lt 0 curve.count) [
-  | inl some ↦
-      (let ends = is.ends some in let long = count_is curves.lines curve is.within in let ls = lines_at curves.lines curve in
-      let any : 0 < length ls = omega (arith, some, long) in
-      record {
-        some = any;
-        first = λ d. (let top = end_at ls d any in let own = ends.1 in omega (arith, ints, top, own, high));
-        last = λ d.
-            (let bottom = bottom_at ls (length ls - 1) d (omega (arith, any)) in let own = ends.0 in omega (arith, ints, bottom, own, low));
-      })
-  | inr none ↦ (let apart = is.none (omega (arith, none)) in absurd (omega (arith, ints, apart, low, high)))
-]
 
 pub within_lines : (ls : List Line) (net at : ℤ) → at ≡ net → 0 < length ls → bottom_of ls ≤ℤ net → net ≤ℤ end_of ls (pos 0) → IsWithin ls at
 within_lines ls net at same some low high = record {
@@ -213,15 +181,3 @@ pub valued : (line : Line) (price wide net at : ℤ) → IsSmallLine last_period
     → net ≤ℤ pos 2147483648 → at ≡ net → wide ≡ to_z w32 (of_z w32 line.price) → price ≡ to_z w64 (of_z w64 wide) → FitsAt line price at
 valued line price wide net at small low high same e k =
     fits_at line price at wide (small_at_net line at small (omega (arith, ints, low, same)) (omega (arith, ints, high, same))) e k
-
--- ---- the value that stands there
-pub value_there : (curves : CurvesState) (curve : Curve) (ps : List (List Step)) (least most net : ℤ) (first i : ℕ)
-    → IsCurveAt curves curve ps least most → curve.lookup ≡ Values first → curve.bottom ≤ℤ net → net ≤ℤ curve.top
-    → net +ℤ pos i ≡ curve.top → IsValueAt curves.values (first + i) (joint_welfare ps net)
-value_there curves curve ps least most net first i is kind low high e = elim (cases_lt 0 curve.count) [
-  | inl some ↦
-      (let ends = is.ends some in let bottom = ends.0 in let top = ends.1 in
-      let values = subst (AreValuesAt ps (lines_at curves.lines curve) curves.values) kind is.values_are in
-      values i net (e ∙ top) (omega (arith, ints, bottom, low)))
-  | inr none ↦ (let apart = is.none (omega (arith, none)) in absurd (omega (arith, ints, apart, low, high)))
-]

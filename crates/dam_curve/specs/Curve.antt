@@ -1,6 +1,6 @@
 -- The greatest welfare of periods as a function of the net volume, by straight lines.
 use Rattle.std.specs.Prelude.{◌≡◌, ◌⊎◌, ℕ, ◌+◌, ◌*◌, ◌<◌, ◌≤◌, ℤ, pos, neg_ℤ, ◌+ℤ◌, ◌*ℤ◌, ◌≤ℤ◌, ◌<ℤ◌, Option, Some, None}
-use Rattle.std.specs.Prelude.{List, [], ◌∷◌, length, slice_range, slice_index_or}
+use Rattle.std.specs.Prelude.{List, [], ◌∷◌, length, slice_range}
 use Rattle.dam_book.specs.Limits.{last_period, greatest_volume}
 use Rattle.dam_hour.specs.Execution.{IsHour, IsNetVolume}
 use Rattle.dam_hour.specs.Best.{greatest_welfare}
@@ -8,8 +8,7 @@ use Rattle.dam_hour.specs.Limits.{most_steps, greatest_price, greatest_value, pr
 use Rattle.dam_hour.specs.declared.step.Step.{Step}
 use Rattle.dam_curve.specs.declared.line.Line.{Line}
 use Rattle.dam_curve.specs.declared.curves.Curve.{Curve}
-use Rattle.dam_curve.specs.declared.curves.Lookup.{Lookup}
-use Rattle.dam_curve.specs.declared.curves.Lookup.TheVariants.{Hints, Values}
+use Rattle.dam_curve.specs.declared.losses.Loss.{Loss}
 
 -- the sum of two welfares, if there are both
 abbrev pub both : Option ℤ → Option ℤ → Option ℤ
@@ -89,29 +88,14 @@ pub record IsCurve (periods : List (List Step)) (least most : ℤ) (lines : List
   pub small : AreSmallLines (length periods) lines
   pub outside : (net : ℤ) → least ≤ℤ net → net ≤ℤ most → IsOutside lines net → joint_welfare periods net ≡ None
 
--- the lines of many curves, one curve after another, and the welfares of those that have one at each net volume
+-- the lines of many curves, one curve after another, and the losses of choices, one choice after another
 pub record CurvesState : Type 0 where
   pub lines : List Line
-  pub values : List ℤ
+  pub losses : List Loss
 
 -- the lines of one curve among those of many
 abbrev pub lines_at : List Line → Curve → List Line
 lines_at lines curve = slice_range lines curve.first (curve.first + curve.count)
-
--- the welfare stands at the place
-pub record IsValueAt (values : List ℤ) (place : ℕ) (welfare : Option ℤ) : Type 0 where
-  pub inside : place < length values
-  pub value_is : (d : ℤ) → Some (slice_index_or values place d) ≡ welfare
-
--- the joint welfares of the periods stand there from this place on, from the greatest net volume of the lines down
-abbrev pub AreValuesOf : List (List Step) → List Line → ℕ → List ℤ → Type 0
-AreValuesOf periods lines first values = (i : ℕ) (net : ℤ) → net +ℤ pos i ≡ end_of lines (pos 0) → bottom_of lines ≤ℤ net
-    → IsValueAt values (first + i) (joint_welfare periods net)
-
--- if the curve has its values, they stand there
-abbrev pub AreValuesAt : List (List Step) → List Line → List ℤ → Lookup → Type 0
-AreValuesAt periods lines values (Hints hints) = Unit {0}
-AreValuesAt periods lines values (Values first) = AreValuesOf periods lines first values
 
 -- the curve of these periods stands there; if it has no line, no net volume is within its ends
 pub record IsCurveAt (curves : CurvesState) (curve : Curve) (periods : List (List Step)) (least most : ℤ) : Type 0 where
@@ -120,12 +104,6 @@ pub record IsCurveAt (curves : CurvesState) (curve : Curve) (periods : List (Lis
   pub ends : 0 < curve.count
       → (curve.bottom ≡ bottom_of (lines_at curves.lines curve)) × (curve.top ≡ end_of (lines_at curves.lines curve) (pos 0))
   pub none : curve.count ≡ 0 → curve.top <ℤ curve.bottom
-  pub values_are : AreValuesAt periods (lines_at curves.lines curve) curves.values curve.lookup
-
--- every curve that stood there still does
-abbrev pub Keeps : CurvesState → CurvesState → Type 0
-Keeps old new = (curve : Curve) (periods : List (List Step)) (least most : ℤ)
-    → IsCurveAt old curve periods least most → IsCurveAt new curve periods least most
 
 -- the size of the welfare of a day's periods
 abbrev pub greatest_joint_welfare : ℕ

@@ -1,3 +1,4 @@
 pub mod Supply
 pub mod Curve
+pub mod Losses
 pub mod inside

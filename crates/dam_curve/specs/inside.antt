@@ -1,3 +1,4 @@
 -- What only contracts inside this crate cite.
 pub mod Supply
 pub mod Lines
+pub mod Reading

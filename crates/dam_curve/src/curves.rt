@@ -2,10 +2,11 @@ ghost use Rattle.std.specs.Prelude.{◌≡◌, ◌+◌, ◌-◌, ◌^◌, ◌≤
 ghost use Rattle.dam_book.specs.Limits.{last_period};
 ghost use Rattle.dam_hour.specs.declared.step.Step.{Step};
 ghost use Rattle.dam_curve.specs.declared.line.Line.{Line};
-ghost use Rattle.dam_curve.specs.declared.curves.Lookup.TheVariants.{Values};
-ghost use Rattle.dam_curve.specs.Curve.{joint_welfare, line_at, end_of, bottom_of, IsSmallLine, IsCurve, CurvesState, AreValuesOf, IsCurveAt, Keeps, greatest_joint_welfare};
+ghost use Rattle.dam_curve.specs.Curve.{joint_welfare, line_at, end_of, bottom_of, IsSmallLine, IsCurve, CurvesState, IsCurveAt, greatest_joint_welfare};
+ghost use Rattle.dam_curve.specs.Losses.{Keeps};
 
 use crate::line::Line;
+use crate::losses::Loss;
 use crate::sum::Sum;
 use dam_hour::laws;
 use std::alloc::{AllocError, Allocator, Global};
@@ -14,17 +15,7 @@ use std::marker::Model;
 /// How many hints a curve has for each of its lines, at most, besides one for the whole curve.
 const HINTS: usize = 8;
 
-/// How a net volume is looked up in a curve. A wrong hint only costs time; that values are right is promised
-/// (`IsCurveAt`).
-#[derive(Clone, Copy)]
-pub(crate) enum Lookup {
-    /// Its line is looked for from a hint.
-    Hints(Hints),
-    /// The welfare stands there for each net volume, from the greatest down; this is the place of the first.
-    Values(u32),
-}
-
-/// The hints of a curve.
+/// The hints of a curve. A wrong hint only costs time (`place_of`).
 #[derive(Clone, Copy)]
 pub(crate) struct Hints {
     /// Where they begin.
@@ -41,17 +32,18 @@ pub struct Curve {
     /// The least net volume and the greatest, in tenths of a MW.
     pub(crate) bottom: i32,
     pub(crate) top: i32,
-    pub(crate) lookup: Lookup,
+    pub(crate) hints: Hints,
 }
 
-/// The lines of many curves, one curve after another.
+/// The lines of many curves, one curve after another, and the losses of choices between them.
 ///
-/// A contract sees the list of the lines and that of the values, and asks of a curve which periods it is of.
+/// A contract sees the list of the lines and the list of the losses. It asks of a curve which periods it is of, and
+/// of a choice whether its losses stand there.
 #[derive(Drop)]
 pub struct Curves<A: Allocator = Global> {
-    lines: Vec<Line, A>,
-    /// The welfares of the curves that have one at each net volume.
-    values: Vec<i64, A>,
+    pub(crate) lines: Vec<Line, A>,
+    /// The losses of the choices that keep them, one choice after another.
+    pub(crate) losses: Vec<Loss, A>,
     /// Places of lines near which a net volume is. They need not be right: a look-up goes on from there.
     hints: Vec<u16, A>,
 }
@@ -61,11 +53,12 @@ impl<A: Allocator> Model for Curves<A> {
 
     ghost Value = { CurvesState };
 
-    ghost view = { λ c. record { lines = c.lines.items; values = c.values.items } };
+    ghost view = { λ c. record { lines = c.lines.items; losses = c.losses.items } };
 }
 
-/// The number in 32 bits. If it doesn't fit, there is no memory for that many lines, hints or values.
-fn narrow(number: usize) -> Result<u32, AllocError>
+/// The number in 32 bits. If it doesn't fit, there are more lines, hints or losses than can be kept, which is reported as
+/// out of memory.
+pub(crate) fn narrow(number: usize) -> Result<u32, AllocError>
     ensures { IfOk result (λ narrow. narrow ≡ number) }
 {
     let Ok(narrow) = u32::try_from(number) else {
@@ -121,7 +114,7 @@ fn value_of(line: Line, net: i64) -> i64
 
 /// The place of the line that holds at the net volume, looked for from a place near by, and the joint welfare there.
 #[inline(always)]
-fn value_in(lines: &[Line], net: i64, near: usize) -> (usize, i64)
+pub(crate) fn value_in(lines: &[Line], net: i64, near: usize) -> (usize, i64)
     requires curve { (periods : List (List Step)) × (least : ℤ) × (most : ℤ)
         × IsCurve periods least most lines.now }
     requires some { 0 < length lines.now }
@@ -136,72 +129,25 @@ fn value_in(lines: &[Line], net: i64, near: usize) -> (usize, i64)
     (place, value_of(lines[place], net))
 }
 
-/// The greatest net volume of these lines, and how many there are from the least to it.
-fn span_of(lines: &[Line]) -> (i64, u64)
-    requires some { 0 < length lines.now }
-    ensures top { result.0 ≡ end_of lines.now (pos 0) }
-    ensures within { (i : ℕ) → i < result.1 → bottom_of lines.now ≤ℤ (result.0 -ℤ pos i) }
-    ensures all { (i : ℕ) (net : ℤ) → net +ℤ pos i ≡ result.0 → bottom_of lines.now ≤ℤ net
-        → i < result.1 }
-    ensures few { result.1 ≤ 2 ^ 32 }
-    ensures least { neg_ℤ (pos (2 ^ 31)) ≤ℤ bottom_of lines.now }
-    ensures most { result.0 ≤ℤ pos (2 ^ 31) }
-{
-    let top = i64::from(lines[0].most);
-    let bottom = i64::from(lines[lines.len() - 1].most);
-    let count = if bottom <= top {
-        (top - bottom) as u64 + 1
-    } else {
-        0
-    };
-    (top, count)
-}
-
-/// Writes the joint welfare at each net volume of these lines, from the greatest down. The error is out of memory, and
-/// nothing is then written.
-fn write_values<A: Allocator>(values: &mut Vec<i64, A>, lines: &[Line]) -> Result<(), AllocError>
-    requires curve { (periods : List (List Step)) × (least : ℤ) × (most : ℤ)
-        × IsCurve periods least most lines.now }
-    requires some { 0 < length lines.now }
-    ensures values { (periods : List (List Step)) (least most : ℤ)
-        → IsCurve periods least most lines.now → OnOk result
-        (AreValuesOf periods lines.now (length values.old.items) values.new.items) }
-    ensures kept { OnOk result
-        (take (length values.old.items) values.new.items ≡ values.old.items) }
-    ensures err { OnErr result (values.new.items ≡ values.old.items) }
-{
-    let (top, count) = span_of(lines);
-    let before = values.len();
-    let mut near = 0;
-    for under in 0..count {
-        let (place, value) = value_in(lines, top - under as i64, near);
-        if values.push(value).is_err() {
-            values.truncate(before);
-            return Err(AllocError);
-        }
-        near = place;
-    }
-    Ok(())
-}
-
 impl<A: Allocator + Copy> Curves<A> {
     /// No curve yet.
     pub fn new(alloc: A) -> Curves<A>
-        ensures { result ≡ record { lines = []; values = [] } }
+        ensures { result ≡ record { lines = []; losses = [] } }
     {
         Curves {
             lines: Vec::new(alloc),
-            values: Vec::new(alloc),
+            losses: Vec::new(alloc),
             hints: Vec::new(alloc),
         }
     }
 }
 
 impl<A: Allocator> Curves<A> {
-    /// Adds a curve whose lines are looked for. The error is out of memory, and no curve is then added.
+    /// Adds the curve of the sum. The error is out of memory, and no curve is then added.
     pub fn add<B: Allocator>(&mut self, sum: &Sum<B>) -> Result<Curve, AllocError>
         ensures added { (periods : List (List Step)) (least most : ℤ)
-            → IsCurve periods least most sum.now → IfOk result (λ curve. IsCurveAt self.new curve periods least most) }
+            → IsCurve periods least most sum.now
+            → IfOk result (λ curve. IsCurveAt self.new curve periods least most) }
         ensures kept { Keeps self.old self.new }
         ensures err { OnErr result (self.new ≡ self.old) }
     {
@@ -218,38 +164,7 @@ impl<A: Allocator> Curves<A> {
             count,
             bottom: lines[lines.len() - 1].most,
             top: lines[0].most,
-            lookup: Lookup::Hints(hints),
-        })
-    }
-
-    /// Adds a curve with its welfare at each net volume, which is the faster to look up, and takes 8 bytes for each.
-    /// The error is out of memory, and no curve is then added.
-    pub fn add_values<B: Allocator>(&mut self, sum: &Sum<B>) -> Result<Curve, AllocError>
-        requires { (periods : List (List Step)) × (least : ℤ) × (most : ℤ)
-            × IsCurve periods least most sum.now }
-        ensures added { (periods : List (List Step)) (least most : ℤ)
-            → IsCurve periods least most sum.now → IfOk result (λ curve. IsCurveAt self.new curve periods least most) }
-        ensures kept { Keeps self.old self.new }
-        ensures err { OnErr result (self.new ≡ self.old) }
-    {
-        let lines = sum.lines();
-        if lines.is_empty() {
-            return Ok(Curve::none());
-        }
-        let first = narrow(self.lines.len())?;
-        let count = narrow(lines.len())?;
-        let value = narrow(self.values.len())?;
-        write_values(&mut self.values, lines)?;
-        if self.lines.extend_from_slice(lines).is_err() {
-            self.values.truncate(value as usize);
-            return Err(AllocError);
-        }
-        Ok(Curve {
-            first,
-            count,
-            bottom: lines[lines.len() - 1].most,
-            top: lines[0].most,
-            lookup: Lookup::Values(value),
+            hints,
         })
     }
 
@@ -274,12 +189,14 @@ impl<A: Allocator> Curves<A> {
     }
 
     /// A place near the line for the net volume; it may be any.
-    fn near(&self, curve: Curve, hints: Hints, net: i64) -> usize
+    fn near(&self, curve: Curve, net: i64) -> usize
         requires least { curve.bottom ≤ℤ net }
         requires most { net ≤ℤ curve.top }
     {
         let under = (i64::from(curve.top) - net) as u64;
-        let hint = (hints.first as usize).saturating_add((under >> (hints.shift % 64)) as usize);
+        let hint = (curve.hints.first as usize).saturating_add(
+            (under >> (curve.hints.shift % 64)) as usize,
+        );
         match self.hints.get(hint) {
             Some(place) => usize::from(*place),
             None => 0,
@@ -303,39 +220,23 @@ impl<A: Allocator> Curves<A> {
         if net < i64::from(curve.bottom) || net > i64::from(curve.top) {
             return None;
         }
-        match curve.lookup {
-            Lookup::Values(first) => Some(self.value(curve, first, net)),
-            Lookup::Hints(hints) => Some(self.searched(curve, hints, net)),
-        }
-    }
-
-    /// The value that stands there for the net volume.
-    #[inline(always)]
-    fn value(&self, curve: Curve, first: u32, net: i64) -> i64
-        requires curve { (periods : List (List Step)) × (least : ℤ) × (most : ℤ)
-            × IsCurveAt self.now curve periods least most × (least ≤ℤ net) × (net ≤ℤ most) }
-        requires lookup { curve.lookup ≡ Values first }
-        requires bottom { curve.bottom ≤ℤ net }
-        requires top { net ≤ℤ curve.top }
-        ensures { (periods : List (List Step)) (least most : ℤ)
-            → IsCurveAt self.now curve periods least most → Some result ≡ joint_welfare periods net }
-    {
-        self.values[first as usize + (i64::from(curve.top) - net) as usize]
+        Some(self.searched(curve, net))
     }
 
     /// The value of the line for the net volume.
     #[inline(always)]
-    fn searched(&self, curve: Curve, hints: Hints, net: i64) -> i64
+    fn searched(&self, curve: Curve, net: i64) -> i64
         requires curve { (periods : List (List Step)) × (least : ℤ) × (most : ℤ)
             × IsCurveAt self.now curve periods least most × (least ≤ℤ net) × (net ≤ℤ most) }
         requires bottom { curve.bottom ≤ℤ net }
         requires top { net ≤ℤ curve.top }
         ensures { (periods : List (List Step)) (least most : ℤ)
-            → IsCurveAt self.now curve periods least most → Some result ≡ joint_welfare periods net }
+            → IsCurveAt self.now curve periods least most
+            → Some result ≡ joint_welfare periods net }
     {
         let first = curve.first as usize;
         let lines = &self.lines[first..first + curve.count as usize];
-        value_in(lines, net, self.near(curve, hints, net)).1
+        value_in(lines, net, self.near(curve, net)).1
     }
 }
 
@@ -350,7 +251,7 @@ impl Curve {
             count: 0,
             bottom: 0,
             top: -1,
-            lookup: Lookup::Hints(Hints { first: 0, shift: 0 }),
+            hints: Hints { first: 0, shift: 0 },
         }
     }
 }

@@ -1,5 +1,5 @@
-//! The greatest welfare of periods as a function of the net volume: as straight lines and, if that is asked for, at each
-//! net volume.
+//! The greatest welfare of periods as a function of the net volume, as straight lines; and by how much either side of a
+//! choice lowers it, at each net volume.
 //!
 //! The price of a period changes only where the volume of an order ends. Between two such net volumes the greatest
 //! welfare is a straight line: the price times the net volume, and what all orders gain at that price. Several
@@ -11,13 +11,20 @@
 //! sum.clear(-500, 500)?; // from 50 MW bought to 50 MW sold, so far over no period
 //! sum.add(&supply)?;
 //! let mut curves = Curves::new(alloc);
-//! let curve = curves.add(&sum)?; // or `add_values`, which takes more memory and is the faster to look up
-//! let welfare = curves.welfare(curve, 120); // that of `Hour::clear` at this net volume
+//! let before = curves.add(&sum)?;
+//! let welfare = curves.welfare(before, 120); // that of `Hour::clear` at this net volume
+//!
 //! supply.remove(steps[0]); // the period without one of its steps
+//! sum.clear(-500, 500)?;
+//! sum.add(&supply)?;
+//! let after = curves.add(&sum)?;
+//! let choice = Choice { net: 50, value: -200_000, before, after }; // taking it sells 5 MW
+//! let offset = curves.keep_losses(&choice, -450, 450)?; // takes more memory, and is the faster to look up
+//! let loss = curves.loss(offset, 120); // how far the welfare falls if it is left, and if it is taken
 //! ```
 //!
-//! A contract sees the lines and the values of all curves, and asks of a curve which periods it is of, and between
-//! which net volumes.
+//! A contract sees the lines of all curves and all losses. It asks of a curve which periods it is of, and between which
+//! net volumes.
 //! Tests alone show that a call reports out of memory only if memory was refused.
 //!
 //! The crate knows nothing of blocks and books.
@@ -25,10 +32,12 @@
 
 mod curves;
 mod line;
+mod losses;
 mod row;
 mod sum;
 mod supply;
 
 pub use curves::{Curve, Curves};
+pub use losses::{Choice, ExactLoss, Loss};
 pub use sum::Sum;
 pub use supply::Supply;

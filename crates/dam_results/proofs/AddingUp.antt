@@ -39,10 +39,10 @@ pub record AddingLaws : Type 0 where
       → traded Buy blocks sel t ss xs ≡ traded Sell blocks sel t ss xs
   pub best : (ss : List Step) (net : ℤ) (xs ys : List ℕ) → IsBest ss net xs → IsBest ss net ys → xs ≡ ys
 
-same_some : {A : Type 0} (a b : A) → Some a ≡ Some b → a ≡ b
+pub same_some : {A : Type 0} (a b : A) → Some a ≡ Some b → a ≡ b
 same_some a b e = cc
 
-same_hour : (t i s j : ℕ) → AtHour t i ≡ AtHour s j → (t ≡ s) × (i ≡ j)
+pub same_hour : (t i s j : ℕ) → AtHour t i ≡ AtHour s j → (t ≡ s) × (i ≡ j)
 same_hour t i s j e = (cc, cc)
 
 same_block : (i j : ℕ) → AtBlock i ≡ AtBlock j → i ≡ j
@@ -109,7 +109,7 @@ period_at blocks sel t (suc k) (hour ∷ hours) (q ∷ periods) r are e =
     let next : k + suc t ≡ suc k + t = omega arith in
     (rest.0, rest.1, subst (λ (n : ℕ). IsPeriodResult blocks sel n rest.0 r) next rest.2)
 
-hour_is : (t n k : ℕ) (rows : List Row) (ss : List Step) → slice_get (hours_from t n rows) k ≡ Some ss → ss ≡ steps_in (k + t) rows
+pub hour_is : (t n k : ℕ) (rows : List Row) (ss : List Step) → slice_get (hours_from t n rows) k ≡ Some ss → ss ≡ steps_in (k + t) rows
 hour_is t zero k rows ss e = absurd (cc)
 hour_is t (suc n) zero rows ss e =
     let first : t ≡ 0 + t = omega arith in
@@ -119,7 +119,7 @@ hour_is t (suc n) (suc k) rows ss e =
     hour_is (suc t) n k rows ss e ∙ ap (λ (m : ℕ). steps_in m rows) next
 
 -- ---- the place of an hourly order
-abbrev step_of : HourTerms → Step
+abbrev pub step_of : HourTerms → Step
 step_of o = record { side = o.side; price = o.price; qty = o.qty }
 
 seam : {A : Type 0} (xs ys : List A) (y : A) → slice_get (xs ++ y ∷ ys) (length xs) ≡ Some y
@@ -130,7 +130,7 @@ own_steps : (key : Key) (o : HourTerms) (rest : List Row) → steps_in o.period 
 own_steps key o rest =
     ap (λ (b : Bool). cons_option (cond b (Some (step_of o)) None) (steps_in o.period rest)) (eq-eqb o.period o.period refl)
 
-stands_there : (front : List Row) (key : Key) (o : HourTerms) (rest : List Row)
+pub stands_there : (front : List Row) (key : Key) (o : HourTerms) (rest : List Row)
     → slice_get (steps_in o.period (front ++ (key, Hour o) ∷ rest)) (length (steps_in o.period front)) ≡ Some (step_of o)
 stands_there front key o rest =
     ap (λ (ss : List Step). slice_get ss (length (steps_in o.period front)))

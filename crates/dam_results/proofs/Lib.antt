@@ -17,5 +17,6 @@ pub mod ClearingSteps
 pub mod PublishedOnce
 pub mod BestSelections
 pub mod AddingUp
+pub mod Executed
 pub mod Withdrawn
 pub mod OtherLimits

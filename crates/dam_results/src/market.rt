@@ -1,22 +1,23 @@
 //! What the published results promise to those who trade in the market, each promise the contract of a
 //! function that does nothing but cite the laws that it rests on.
-ghost use Rattle.std.specs.Prelude.{◌≡◌, true, false, ℕ, ◌+◌, ◌≤◌, ℤ, pos, List, Some, slice_get, slice_set, remove};
-ghost use Rattle.dam_book.specs.Terms.{BlockTerms};
+ghost use Rattle.std.specs.Prelude.{◌≡◌, true, false, ℕ, ◌+◌, ◌≤◌, ℤ, pos, List, Some, length, take, slice_get, slice_set, remove};
+ghost use Rattle.dam_book.specs.Terms.{HourTerms, BlockTerms};
 ghost use Rattle.dam_book.specs.Book.{Key, BookState, IsBook};
-ghost use Rattle.dam_book.specs.declared.order.Order.TheVariants.{Block as BlockOrder};
+ghost use Rattle.dam_book.specs.declared.order.Order.TheVariants.{Hour as HourOrder, Block as BlockOrder};
 ghost use Rattle.dam_book.specs.declared.order.Side.{Side};
 ghost use Rattle.dam_book.specs.declared.order.Side.TheVariants.{Buy, Sell};
 ghost use Rattle.dam_hour.specs.declared.step.Step.{Step};
 ghost use Rattle.dam_hour.specs.Price.{IsBetter, IsWorse};
 ghost use Rattle.dam_hour.specs.Best.{IsBest};
-ghost use Rattle.dam_blocks.specs.Problem.{problem_of};
+ghost use Rattle.dam_hour.specs.Market.{IsExecutedAt};
+ghost use Rattle.dam_blocks.specs.Problem.{steps_in, problem_of};
 ghost use Rattle.dam_blocks.specs.Selection.{net_volume};
 ghost use Rattle.dam_blocks.specs.Market.{traded};
 ghost use Rattle.dam_results.specs.declared.published.PeriodResult.{PeriodResult};
 ghost use Rattle.dam_results.specs.declared.published.RowResult.{RowResult};
-ghost use Rattle.dam_results.specs.declared.published.RowResult.TheVariants.{Block as BlockResult};
+ghost use Rattle.dam_results.specs.declared.published.RowResult.TheVariants.{Hour as HourResult, Block as BlockResult};
 ghost use Rattle.dam_results.specs.Clearing.{IsClearing};
-ghost use Rattle.dam_results.specs.Market.{published_gains, published_trades, IsWithoutRow, IsWithOtherLimit};
+ghost use Rattle.dam_results.specs.Market.{price_in, published_gains, published_trades, IsWithoutRow, IsWithOtherLimit};
 
 /// The published results add up: the welfare is what all orders gain by what is published of them, and
 /// the volume of a period is what they buy there, and what they sell. What they trade by what is published
@@ -43,6 +44,22 @@ pub fn published_results_add_up()
     dam_blocks::market::money_balances();
     dam_hour::laws::uniqueness();
 }
+
+/// What is published of an hourly order is its execution: at the published price of its period, the best
+/// execution gives it the published volume, at its place among the hourly orders of the period. So
+/// `dam_hour::market::fair_in_a_period` is of each.
+pub fn hourly_orders_are_executed()
+    ensures executed { (book : BookState) (welfare : ℕ) (periods : List PeriodResult)
+        (rows : List RowResult) (clearing : IsClearing book welfare periods rows) (place : ℕ)
+        (key : Key) (order : HourTerms) (who name : List ℕ) (volume : ℕ)
+        → slice_get book.rows place ≡ Some (key, HourOrder order)
+        → slice_get rows place ≡ Some (HourResult who name volume)
+        → IsExecutedAt (steps_in order.period book.rows)
+        (net_volume (problem_of book).blocks clearing.selection order.period)
+        (price_in periods order.period)
+        (length (steps_in order.period (take place book.rows)))
+        (record { side = order.side; price = order.price; qty = order.qty }) volume }
+{}
 
 /// A rejected block may as well not be there: what is published of the book without it is the same, except
 /// that there is no line of the block.

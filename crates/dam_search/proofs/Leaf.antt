@@ -1,6 +1,6 @@
 -- The verdict on a selection, by the day of its decisions.
-use Rattle.std.proofs.Common.{◌≡◌, inr, ◌↔◌, MatchOption, ℕ, ℤ, pos, ◌<ℤ◌, Bool, true, false, Option, Some, None, List, ◌∙◌, ap, sym, subst}
-use Rattle.std.proofs.lemmas.Int.{to_z-of_z}
+use Rattle.std.proofs.Common.{◌≡◌, inr, ◌↔◌, MatchOption, ℕ, ℤ, pos, ◌<ℤ◌, Bool, true, false, Option, Some, None, List, ◌∙◌, ap, sym, subst, refl, ◌≤◌, arith}
+use Rattle.std.proofs.lemmas.Int.{ints, to_z-of_z}
 use mir.Syntax.{w64}
 use mir.Val.{to_z, of_z, SFits}
 use Rattle.dam_blocks.specs.declared.selection.Best.{Best}
@@ -11,7 +11,7 @@ use Rattle.dam_blocks.specs.Result.{RanksAtOrBelow}
 use Rattle.dam_bound.specs.declared.day.Day.{Day}
 use Rattle.dam_bound.specs.declared.trail.Trail.{Trail}
 use Rattle.dam_bound.specs.Day.{IsDay, IsUnder}
-use Rattle.dam_bound.specs.Trail.{IsDayIn}
+use Rattle.dam_bound.specs.Trail.{IsDayIn, IsBoundOf}
 use Rattle.dam_bound.specs.Prefix.{IsCompletion}
 use Rattle.dam_bound.specs.Relaxed.{relaxed_welfare, without_rows}
 use Rattle.dam_search.specs.Piece.{Rises}
@@ -39,7 +39,31 @@ pub welfare_is_told : (problem relaxed : ProblemState) (prefix sel : List Bool) 
     → IsDayIn relaxed prefix trail total
     → relaxed_welfare problem prefix ≡ selection_welfare problem sel → selection_welfare problem sel ≡ Some total
 welfare_is_told problem relaxed prefix sel trail total same is decided =
-    welfare_is_total problem relaxed prefix sel is.day same is.day_is decided ∙ ap (λ (z : ℤ). Some z) is.total_is
+    sym (is.total_is ∙ ap (λ (p : ProblemState). relaxed_welfare p prefix) same ∙ decided)
+
+-- the bound, if there is one, and if there is none
+pub bound_told : (told : Option ℤ) (total : ℤ) (problem : ProblemState) (prefix : List Bool) (low : ℕ) → told ≡ Some total
+    → IsBoundOf problem prefix low told → Some total ≡ relaxed_welfare problem prefix
+bound_told (Some own) total problem prefix low e is = sym e ∙ is
+bound_told None total problem prefix low e is = absurd (cc)
+
+pub bound_untold : (told : Option ℤ) (problem : ProblemState) (prefix : List Bool) (low : ℕ) → told ≡ None
+    → IsBoundOf problem prefix low told → IsUnder problem prefix low
+bound_untold (Some own) problem prefix low e is = absurd (cc)
+bound_untold None problem prefix low e under = under
+
+-- the bound of the other extension, once more was read
+pub read_more : (told : Option ℤ) (problem : ProblemState) (prefix : List Bool) (low high : ℕ) → low ≤ high
+    → IsBoundOf problem prefix low told → IsBoundOf problem prefix high told
+read_more (Some own) problem prefix low high more is = is
+read_more None problem prefix low high more under = λ w e. (let less = under w e in omega (arith, ints, less, more))
+
+-- the bound of a prefix whose day stands in the slots if it has one
+pub bound_stands : (told : Option ℤ) (problem : ProblemState) (prefix : List Bool) (low : ℕ) (trail : Trail) → IsBoundOf problem prefix low told
+    → ((total : ℤ) → told ≡ Some total → Some total ≡ relaxed_welfare problem prefix → IsDayIn problem prefix trail total)
+    → MatchOption told (IsUnder problem prefix low) (IsDayIn problem prefix trail)
+bound_stands (Some own) problem prefix low trail is stands = stands own refl is
+bound_stands None problem prefix low trail under stands = under
 
 -- what is known of a prefix, or what else is known
 pub if_told : (told : Option ℤ) (total : ℤ) (problem : ProblemState) (prefix : List Bool) (trail : Trail) (low : ℕ) → told ≡ Some total

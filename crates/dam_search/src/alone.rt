@@ -12,6 +12,7 @@ use crate::incumbent::{Incumbent, Private};
 use crate::laws;
 use crate::piece::search_piece;
 use crate::space::kept;
+use crate::trial::tables_for;
 use dam_blocks::{Best, Problem};
 use dam_bound::{Tables, Walk};
 use std::alloc::Global;
@@ -62,7 +63,8 @@ fn concluded(
 /// lock and no shared word. It is for callers that can't start threads.
 ///
 /// It finds what `search` finds, whose clauses it has for a plan that cuts nothing. The whole search
-/// is piece 0, which visits at most `nodes` nodes; 67,108,864 are enough for any problem.
+/// is piece 0, which visits at most `nodes` nodes; 67,108,864 are enough for any problem. If `nodes` is greater than
+/// 65,536, it first tries as many nodes, as `search` does.
 pub fn search_alone(alloc: Global, problem: &Problem, nodes: u32) -> Result<Best, SearchFault>
     ensures ok { IfOk result (λ best. IsResult problem.now best.selection (pos best.welfare)) }
     ensures unfinished { (piece visited : ℕ)
@@ -71,8 +73,9 @@ pub fn search_alone(alloc: Global, problem: &Problem, nodes: u32) -> Result<Best
     ensures whole { (piece : ℕ) → ¬ (IsErrOf result (SearchFault.Collected piece)) }
 {
     let tables = Tables::of(alloc, problem)?;
+    let first = first_selection(problem, &Walk::new(problem, &tables));
+    let tables = tables_for(alloc, problem, tables, first.welfare, nodes);
     let walk = &Walk::new(problem, &tables);
-    let first = first_selection(problem, walk);
     let mut incumbent = Private::new();
     incumbent.offer(first.welfare);
     let answer = search_piece(problem, walk, 0, 0, nodes, &mut incumbent);

@@ -28,6 +28,7 @@ mod piece;
 mod prefix;
 mod shared;
 mod space;
+mod trial;
 mod turnstile;
 mod view;
 mod words;

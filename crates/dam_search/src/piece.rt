@@ -1,8 +1,9 @@
-ghost use Rattle.std.specs.Prelude.{◌≡◌, ◌⊎◌, ◌+◌, ◌-◌, ◌^◌, ◌<◌, ◌≤◌, max, ℤ, pos, ◌<ℤ◌, ◌≤ℤ◌, true, false, Some, None};
-ghost use Rattle.std.specs.Prelude.{Option, [], ◌∷◌, ◌++◌, length, IsTrue, ◌↔◌, MatchBool, IfSome, IfNone};
+ghost use Rattle.std.specs.Prelude.{◌≡◌, ◌⊎◌, ◌+◌, ◌-◌, ◌^◌, ◌<◌, ◌≤◌, max, ℕ, ℤ, pos, ◌<ℤ◌, ◌≤ℤ◌, true, false, Some, None};
+ghost use Rattle.std.specs.Prelude.{List, Option, [], ◌∷◌, ◌++◌, length, IsTrue, ◌↔◌, MatchBool, IfSome, IfNone};
 ghost use Rattle.dam_blocks.specs.Selection.{choice, padded, IsAdmissible};
+ghost use Rattle.dam_blocks.specs.Eligible.{ArePrices, HasNoLoss};
 ghost use Rattle.dam_bound.specs.Relaxed.{without_rows};
-ghost use Rattle.dam_bound.specs.Trail.{IsDayIn, KeepsDays};
+ghost use Rattle.dam_bound.specs.Trail.{IsDayIn, KeepsDays, IsBoundOf};
 ghost use Rattle.dam_search.specs.Piece.{IsFind, IsMatched, Rises, welfare_found, IsSound, IsSpent};
 ghost use Rattle.dam_search.specs.inside.Walk.{IsBoundIn, Finds, Covers, IsGoing, IsWalked};
 
@@ -65,6 +66,38 @@ fn equals(bound: i64, value: u64) -> bool
 }
 
 impl<A: Allocator, B: Allocator> SearchSpace<'_, A, B> {
+    /// Whether some accepted block loses at the prices of a prefix that decides every block, with the accepted ones
+    /// that descend from it. The day of the prefix is in the slots, with this relaxed welfare.
+    ///
+    /// It isn't inlined, since few prefixes come so far, and its day takes room on the stack.
+    #[inline(never)]
+    fn loses(&self, prefix: &Prefix, trail: &Trail, total: i64) -> bool
+        requires full { length self.now.problem.now.blocks ≡ length prefix.now }
+        requires day { IsDayIn self.now.walk.now prefix.now trail.now total }
+        ensures { (prices : List ℤ)
+            → ArePrices self.now.walk.now.blocks (padded prefix.now) 1 self.now.walk.now.hours prices
+            → (result ≡ false) ↔ HasNoLoss self.now.walk.now.blocks (padded prefix.now) prices }
+    {
+        let day = self.walk.day_at(trail, total);
+        prefix.has_loss(self.walk, &day)
+    }
+
+    /// Makes the day of the extension of a prefix by a decision on its next block, if `total` is the bound of the
+    /// extension; there is none if it has no bound, or one that needn't be known.
+    #[inline(always)]
+    fn enter(&self, prefix: &Prefix, accept: bool, trail: &mut Trail, total: Option<i64>)
+        requires depth { length prefix.now < length self.now.walk.now.blocks }
+        requires day { (before : ℤ) × IsDayIn self.now.walk.now prefix.now trail.old before }
+        ensures stands { (before : ℤ) (least : ℕ) → IsDayIn self.now.walk.now prefix.now trail.old before
+            → IsBoundOf self.now.walk.now (prefix.now ++ accept ∷ []) least total
+            → IsBoundIn self.now.walk.now (prefix.now ++ accept ∷ []) least trail.new total }
+        ensures kept { KeepsDays self.now.walk.now (length prefix.now) trail.old trail.new }
+    {
+        if total.is_some() {
+            self.walk.enter(trail, prefix.depth(), accept);
+        }
+    }
+
     /// Takes the selection of a prefix that decides every block and that the links and the groups admit,
     /// and offers its welfare, if it is eligible and the best so far.
     ///
@@ -103,8 +136,7 @@ impl<A: Allocator, B: Allocator> SearchSpace<'_, A, B> {
         let Some(best) = candidate(prefix.selection(), total, found) else {
             return;
         };
-        let day = self.walk.day_at(trail, total);
-        if prefix.has_loss(self.walk, &day) {
+        if self.loses(prefix, trail, total) {
             return;
         }
         let welfare = best.welfare;
@@ -162,16 +194,35 @@ impl<A: Allocator, B: Allocator> SearchSpace<'_, A, B> {
             return true;
         };
         let accept = equals(bound, found.read);
-        if !self.decide(nodes, &prefix, accept, trail, bound, incumbent, found) {
+        let next = self
+            .walk
+            .extensions(trail, prefix.depth(), bound, found.read);
+        if !self.decide(
+            nodes,
+            &prefix,
+            accept,
+            trail,
+            next.by(accept),
+            incumbent,
+            found,
+        ) {
             return false;
         }
-        self.decide(nodes, &prefix, !accept, trail, bound, incumbent, found)
+        self.decide(
+            nodes,
+            &prefix,
+            !accept,
+            trail,
+            next.by(!accept),
+            incumbent,
+            found,
+        )
     }
 
     /// Explores the extension of a prefix by this decision on the next block, as `explore` does.
     ///
-    /// If the links and the groups don't admit it, it is passed over without a visit. Its day is made of the
-    /// prefix's, and no further than until its bound is under what was read: there is no total then.
+    /// If the links and the groups don't admit it, it is passed over without a visit. `total` is its bound; there is
+    /// none if it has no bound, or one that is known to be under what was read. Its day is made only if there is one.
     #[cycle(explore)]
     fn decide<I: Incumbent>(
         &self,
@@ -179,12 +230,13 @@ impl<A: Allocator, B: Allocator> SearchSpace<'_, A, B> {
         prefix: &Prefix,
         accept: bool,
         trail: &mut Trail,
-        total: i64,
+        total: Option<i64>,
         incumbent: &mut I,
         found: &mut Progress,
     ) -> bool
         requires depth { length prefix.now < length self.now.problem.now.blocks }
-        requires day { IsDayIn self.now.walk.now prefix.now trail.old total }
+        requires day { (total : ℤ) × IsDayIn self.now.walk.now prefix.now trail.old total }
+        requires bound { IsBoundOf self.now.walk.now (prefix.now ++ accept ∷ []) found.old.read total }
         requires admissible { IsAdmissible self.now.problem.now.blocks (padded prefix.now) }
         requires going { IsGoing self.now.problem.now nodes
             (I.greatest_read incumbent.old) (I.greatest_offer incumbent.old) found.old }
@@ -200,10 +252,8 @@ impl<A: Allocator, B: Allocator> SearchSpace<'_, A, B> {
         if accept && !extended.is_still_admissible(self.problem) {
             return true;
         }
-        let next = self
-            .walk
-            .extend(trail, prefix.depth(), accept, total, found.read);
-        self.explore(nodes, extended, trail, next, incumbent, found)
+        self.enter(prefix, accept, trail, total);
+        self.explore(nodes, extended, trail, total, incumbent, found)
     }
 }
 
@@ -214,7 +264,7 @@ impl<A: Allocator, B: Allocator> SearchSpace<'_, A, B> {
 /// `depth` - 1 - i is 0. A node is a prefix that extends the piece's. If the links and the groups admit
 /// it, it is visited when its bound is compared with what was read, or, if it decides every block, when
 /// its welfare is looked at; otherwise it is passed over without a visit. No node is visited twice, and
-/// the answer isn't `done` if it takes more than `nodes` nodes. The search takes no memory but 40 kB of
+/// the answer isn't `done` if it takes more than `nodes` nodes. The search takes no memory but 20 kB of
 /// the stack, for the days of the walk.
 pub fn search_piece<A: Allocator, B: Allocator, R: Bounds<B>, I: Incumbent>(
     problem: &Problem<A>,

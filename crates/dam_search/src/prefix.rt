@@ -147,10 +147,11 @@ impl Prefix {
         dam_bound::laws::extension();
         let mut total = walk.begin(trail);
         for place in 0..self.depth {
-            let next = walk.extend(trail, place, self.taken.has(place), total, 0);
-            let Some(next) = next else {
+            let accept = self.taken.has(place);
+            let Some(next) = walk.extensions(trail, place, total, 0).by(accept) else {
                 return None;
             };
+            walk.enter(trail, place, accept);
             total = next;
         }
         Some(total)

@@ -14,6 +14,7 @@ use crate::fault::SearchFault;
 use crate::first::first_selection;
 use crate::incumbent::Incumbent;
 use crate::shared::Shared;
+use crate::trial::tables_for;
 use crate::turnstile::Turnstile;
 use crate::words::{ClosedWords, close, new_words};
 use crate::worker::work;
@@ -198,7 +199,9 @@ pub(crate) fn explore_all<R: Threads + Sync, T: Turnstile + Sync>(
 /// accepts the block at the first place where two differ. No plan and no order in which the workers
 /// happen to run changes it.
 ///
-/// The search first finds a good selection, and offers its welfare before any worker starts. The cutting
+/// The search first finds a good selection, and offers its welfare before any worker starts. If the plan allows more than
+/// 65,536 nodes, it then tries as many, to see whether it is long: a long one is given tables of some MiB, which are
+/// quicker to read. The limit on nodes counts no node of the trial. The cutting
 /// decides as many of the first blocks as the plan says, or all of them if there are fewer. The workers,
 /// each on a thread of its own, draw its pieces as they come free, and prune by the greatest welfare
 /// that any of them has found. If a thread can't be made, the calling one does its work. Of the faults,
@@ -220,6 +223,8 @@ pub fn search<R: Threads + Sync, T: Turnstile + Sync>(
     ensures whole { (piece : ℕ) → ¬ (IsErrOf result (SearchFault.Collected piece)) }
 {
     let tables = Tables::of(alloc, problem)?;
+    let first = first_selection(problem, &Walk::new(problem, &tables)).welfare;
+    let tables = tables_for(alloc, problem, tables, first, plan.nodes());
     let walk = Walk::new(problem, &tables);
     let task = Task {
         alloc,
@@ -228,7 +233,7 @@ pub fn search<R: Threads + Sync, T: Turnstile + Sync>(
         depth: plan.depth(problem.block_count()),
         nodes: plan.nodes(),
         workers: plan.workers(),
-        first: first_selection(problem, &walk).welfare,
+        first,
     };
     let explored = explore_all(rt, &task, turnstile)?;
     collected(problem, task.depth, task.nodes, &explored.answers)

@@ -1,5 +1,5 @@
 -- What the tables are made from, block by block.
-use Rattle.std.specs.Prelude.{◌≡◌, ℕ, ◌+◌, ◌*◌, ◌<◌, ◌≤◌, ℤ, pos, neg_ℤ, Some, List, ◌++◌, length, drop, slice_get, slice_index_or}
+use Rattle.std.specs.Prelude.{◌≡◌, ℕ, ◌+◌, ◌*◌, ◌<◌, ◌≤◌, ℤ, pos, neg_ℤ, Bool, false, Some, List, ◌++◌, length, drop, slice_get, slice_index_or}
 use Rattle.dam_book.specs.Limits.{last_period, most_blocks}
 use Rattle.dam_book.specs.Terms.{BlockTerms}
 use Rattle.dam_book.specs.declared.order.Side.{Side}
@@ -10,7 +10,9 @@ use Rattle.dam_blocks.specs.declared.problem.Block.{Block}
 use Rattle.dam_blocks.specs.Problem.{ProblemState, AreBlocks}
 use Rattle.dam_bound.specs.Classes.{first_of, over_class}
 use Rattle.dam_bound.specs.Relaxed.{as_steps}
-use Rattle.dam_bound.specs.Tables.{if_of, least_net, most_net, AreFirsts, ArePlaces}
+use Rattle.dam_curve.specs.Curve.{CurvesState}
+use Rattle.dam_curve.specs.declared.curves.Curve.{Curve}
+use Rattle.dam_bound.specs.Tables.{if_of, least_net, most_net, AreCurves, AreFirsts, ArePlaces}
 use Rattle.dam_bound.specs.declared.periods.Range.{Range}
 
 -- the supply of each period: the hourly orders, and after them the blocks that as many decisions leave undecided
@@ -44,12 +46,15 @@ pub record PeriodsState : Type 0 where
   pub firsts : List ℕ
   pub ranges : List Range
 
--- a block that is decided in the periods, and its slots
+-- a block that is decided in the periods, the slots and the curves before it, its own row of slots, and whether its losses
+-- are kept
 pub record DecidingState : Type 0 where
   pub periods : PeriodsState
   pub order : BlockTerms
   pub places : List ℕ
+  pub ends : List Curve
   pub row : ℕ
+  pub keep : Bool
 
 -- the periods of the problem with as many blocks decided
 pub record AreDecided (problem : ProblemState) (depth : ℕ) (periods : PeriodsState) : Type 0 where
@@ -61,10 +66,13 @@ pub record AreDecided (problem : ProblemState) (depth : ℕ) (periods : PeriodsS
   pub firsts_are : AreFirsts problem periods.firsts
   pub ranges_are : AreRanges problem depth periods.ranges
 
--- the block at the place is the last of those that are decided, with the slots before it and its own row of them
-pub record IsDeciding (problem : ProblemState) (k : ℕ) (b : Block) (deciding : DecidingState) : Type 0 where
+-- the block at the place is the last of those that are decided, with the slots and the curves before it and its own row of
+-- slots; the losses are kept from this place on
+pub record IsDeciding (problem : ProblemState) (all : CurvesState) (kept k : ℕ) (b : Block) (deciding : DecidingState) : Type 0 where
   pub block_is : slice_get problem.blocks k ≡ Some b
   pub order_is : b.order ≡ deciding.order
   pub periods_are : AreDecided problem (k + 1) deciding.periods
   pub places_are : ArePlaces problem k deciding.places
+  pub ends_are : AreCurves problem all k deciding.ends
+  pub keep_is : deciding.keep ≡ false → k < kept
   pub row_is : deciding.row ≡ (k + 1) * last_period

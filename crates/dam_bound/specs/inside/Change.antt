@@ -1,5 +1,5 @@
 -- What becomes of a day if one block is decided, or decided the other way.
-use Rattle.std.specs.Prelude.{◌≡◌, ◌⊎◌, ℕ, ◌+◌, ◌*◌, Bool, true, false, ℤ, pos, neg_ℤ, ◌+ℤ◌, ◌≤ℤ◌, Some, None, List, ◌++◌, length, drop}
+use Rattle.std.specs.Prelude.{◌≡◌, ℕ, ◌+◌, ◌*◌, Bool, true, false, ℤ, pos, neg_ℤ, ◌+ℤ◌, ◌≤ℤ◌, ◌<ℤ◌, Option, Some, MatchOption, List, [], ◌∷◌, ◌++◌, length, drop}
 use Rattle.std.specs.Prelude.{slice_get}
 use Rattle.dam_book.specs.Limits.{last_period, most_blocks}
 use Rattle.dam_hour.specs.Limits.{greatest_value}
@@ -10,7 +10,6 @@ use Rattle.dam_blocks.specs.Problem.{ProblemState}
 use Rattle.dam_blocks.specs.Selection.{volume_in, net_volume_of, value_of, net_volume, block_value}
 use Rattle.dam_blocks.specs.Eligible.{period_welfare}
 use Rattle.dam_bound.specs.Relaxed.{as_steps, relaxed_welfare}
-use Rattle.dam_bound.specs.Day.{IsUnder}
 use Rattle.dam_bound.specs.inside.Levels.{greatest_period_bound}
 use Rattle.dam_bound.specs.declared.day.Change.{Change}
 use Rattle.dam_bound.specs.declared.day.Change.TheVariants.{Decide, Turn}
@@ -45,10 +44,20 @@ NeverRises blocks before after = (t : ℕ) (ss : List Step) (w : ℤ)
     → period_welfare blocks after t (ss ++ as_steps t (drop (length after) blocks)) ≡ Some w
     → (r : ℤ) × (period_welfare blocks before t (ss ++ as_steps t (drop (length before) blocks)) ≡ Some r) × (w ≤ℤ r)
 
--- some period doesn't balance; or the relaxed welfare is under what is asked for, provided that no period's rises
-abbrev pub IsGivenUp : ProblemState → ℕ → List Bool → List Bool → Type 0
-IsGivenUp problem least before after = (relaxed_welfare problem after ≡ None)
-    ⊎ (NeverRises problem.blocks before after → IsUnder problem after least)
+-- the decision on the block at the place, after those on all earlier ones: no period's relaxed welfare rises by it
+pub record IsDecision (problem : ProblemState) (place : ℕ) (accept : Bool) (before : List Bool) : Type 0 where
+  pub change : IsChange problem.blocks place Decide accept (place + 1) before (before ++ accept ∷ [])
+  pub never : NeverRises problem.blocks before (before ++ accept ∷ [])
+
+-- the prefix has no relaxed welfare, or one under the floor
+abbrev pub IsBelow : ProblemState → List Bool → ℤ → Type 0
+IsBelow problem prefix floor = (w : ℤ) → relaxed_welfare problem prefix ≡ Some w → w <ℤ floor
+
+-- the total is the prefix's relaxed welfare, and not under the floor; or there is none, and the prefix has no relaxed
+-- welfare or one under the floor
+abbrev pub IsBoundFrom : ProblemState → List Bool → ℤ → Option ℤ → Type 0
+IsBoundFrom problem prefix floor total =
+    MatchOption total (IsBelow problem prefix floor) (λ w. (Some w ≡ relaxed_welfare problem prefix) × (floor ≤ℤ w))
 
 -- the size of a class's welfare, apart from what the accepted blocks are worth; of what a block is worth in a class; and of
 -- what a change of the block makes of the total

@@ -1,5 +1,5 @@
 -- A touch more, and all of them.
-use Rattle.std.proofs.Common.{◌≡◌, ◌+◌, true, ℤ, length, drop, get_or, slice_set, ap, ◌∙◌, sym, subst, rules, arith}
+use Rattle.std.proofs.Common.{◌≡◌, ◌+◌, ℤ, length, drop, get_or, slice_set, ap, ◌∙◌, sym, subst, rules, arith}
 use Rattle.std.proofs.lemmas.Int.{ints, to_z-of_z}
 use Rattle.std.proofs.lemmas.List.{length-set, drop_all}
 use mir.Syntax.{w64}
@@ -25,7 +25,7 @@ pub loop-touch-init : goal.loop-touch-init
 loop-touch-init g c = record {
   long = c.requires.6.long;
   so_far = λ problem before after b are at is of.
-      unturned problem c.args.tables.now.curves c.args.place (length problem.blocks) Turn c.args.accept true before after b
+      unturned problem c.args.tables.now.curves c.args.place (length problem.blocks) Turn c.args.accept c.args.tables.now.kept before after b
       c.touches_of-touch-items.result.now c.args.day.now is at (c.touches_of-touch-items.ensures problem b are at) of;
 }
 
@@ -35,7 +35,7 @@ bounds-day-at g c =
     let block = one_at r.0.blocks c.args.place r.4 in
     let touches = c.touches_of-touch-items.result.now in let touch = get_or touches j no_touch in
     let are = c.touches_of-touch-items.ensures r.0 block.0 r.3 block.1 in
-    let t = touch_now r.0 c.args.tables.now.curves c.args.place block.0 true touches j are c.loop-touch-test.true in
+    let t = touch_now r.0 c.args.tables.now.curves c.args.place block.0 c.args.tables.now.kept touches j are c.loop-touch-test.true in
     let inside = t.is.inside in let few = r.3.few_periods in omega (arith, inside, few)
 
 pub turned-net-requires : goal.turned-net-requires
@@ -44,7 +44,7 @@ turned-net-requires g c =
     let block = one_at r.0.blocks c.args.place r.4 in
     let touches = c.touches_of-touch-items.result.now in let touch = get_or touches j no_touch in
     let are = c.touches_of-touch-items.ensures r.0 block.0 r.3 block.1 in
-    let t = touch_now r.0 c.args.tables.now.curves c.args.place block.0 true touches j are c.loop-touch-test.true in
+    let t = touch_now r.0 c.args.tables.now.curves c.args.place block.0 c.args.tables.now.kept touches j are c.loop-touch-test.true in
     subst (IsWithin greatest_class_value) (sym t.is.value_is)
     (class_value_within r.0 block.0.order touch.at (sized r.3) (block_order (length r.0.hours) r.0.blocks c.args.place block.0 r.3.blocks_are block.1))
 
@@ -54,7 +54,7 @@ end_of-requires g c =
     let block = one_at r.0.blocks c.args.place r.4 in
     let touches = c.touches_of-touch-items.result.now in let touch = get_or touches j no_touch in
     let are = c.touches_of-touch-items.ensures r.0 block.0 r.3 block.1 in
-    let t = touch_now r.0 c.args.tables.now.curves c.args.place block.0 true touches j are c.loop-touch-test.true in
+    let t = touch_now r.0 c.args.tables.now.curves c.args.place block.0 c.args.tables.now.kept touches j are c.loop-touch-test.true in
     (r.0, r.3, t.is.inside)
 
 pub moved-requires-clause-curve : goal.moved-requires-clause-curve
@@ -63,7 +63,7 @@ moved-requires-clause-curve g c =
     let block = one_at r.0.blocks c.args.place r.4 in
     let touches = c.touches_of-touch-items.result.now in let touch = get_or touches j no_touch in
     let are = c.touches_of-touch-items.ensures r.0 block.0 r.3 block.1 in
-    let t = touch_now r.0 c.args.tables.now.curves c.args.place block.0 true touches j are c.loop-touch-test.true in
+    let t = touch_now r.0 c.args.tables.now.curves c.args.place block.0 c.args.tables.now.kept touches j are c.loop-touch-test.true in
     let so_far = c.loop-touch.invariant.so_far r.0 r.1 r.2 block.0 r.3 block.1 r.5 r.6 in
     let inside = t.is.inside in let few = r.3.few_periods in let long = c.loop-touch.invariant.long in
     let own = own_class c.loop-touch.day.classes no_position t (omega (arith, inside, few, long)) so_far in
@@ -78,7 +78,7 @@ moved-requires-clause-welfare g c =
     let block = one_at r.0.blocks c.args.place r.4 in
     let touches = c.touches_of-touch-items.result.now in let touch = get_or touches j no_touch in
     let are = c.touches_of-touch-items.ensures r.0 block.0 r.3 block.1 in
-    let t = touch_now r.0 c.args.tables.now.curves c.args.place block.0 true touches j are c.loop-touch-test.true in
+    let t = touch_now r.0 c.args.tables.now.curves c.args.place block.0 c.args.tables.now.kept touches j are c.loop-touch-test.true in
     let so_far = c.loop-touch.invariant.so_far r.0 r.1 r.2 block.0 r.3 block.1 r.5 r.6 in
     let inside = t.is.inside in let few = r.3.few_periods in let long = c.loop-touch.invariant.long in
     let own = own_class c.loop-touch.day.classes no_position t (omega (arith, inside, few, long)) so_far in
@@ -101,7 +101,7 @@ moved-requires-clause-value g c =
     let block = one_at r.0.blocks c.args.place r.4 in
     let touches = c.touches_of-touch-items.result.now in let touch = get_or touches j no_touch in
     let are = c.touches_of-touch-items.ensures r.0 block.0 r.3 block.1 in
-    let t = touch_now r.0 c.args.tables.now.curves c.args.place block.0 true touches j are c.loop-touch-test.true in
+    let t = touch_now r.0 c.args.tables.now.curves c.args.place block.0 c.args.tables.now.kept touches j are c.loop-touch-test.true in
     subst (IsWithin greatest_class_value)
     (sym (passed c.turned-net.result.1 (search rules) ∙ c.turned-net.ensures.value ∙ ap (by Turn c.args.accept) t.is.value_is))
     (by_within Turn c.args.accept greatest_class_value (class_value r.0 block.0.order touch.at)
@@ -113,7 +113,7 @@ returns-in_default g c problem before after are_tables inside_blocks is of =
     let block = one_at problem.blocks c.args.place inside_blocks in
     let touches = c.touches_of-touch-items.result.now in let touch = get_or touches j no_touch in
     let are = c.touches_of-touch-items.ensures problem block.0 are_tables block.1 in
-    let t = touch_now problem c.args.tables.now.curves c.args.place block.0 true touches j are c.loop-touch-test.true in
+    let t = touch_now problem c.args.tables.now.curves c.args.place block.0 c.args.tables.now.kept touches j are c.loop-touch-test.true in
     let so_far = c.loop-touch.invariant.so_far problem before after block.0 are_tables block.1 is of in
     let inside = t.is.inside in let few = are_tables.few_periods in let long = c.loop-touch.invariant.long in
     let own = own_class c.loop-touch.day.classes no_position t (omega (arith, inside, few, long)) so_far in
@@ -132,7 +132,7 @@ bounds-day-at-in-loop-touch g c =
     let block = one_at r.0.blocks c.args.place r.4 in
     let touches = c.touches_of-touch-items.result.now in let touch = get_or touches j no_touch in
     let are = c.touches_of-touch-items.ensures r.0 block.0 r.3 block.1 in
-    let t = touch_now r.0 c.args.tables.now.curves c.args.place block.0 true touches j are c.loop-touch-test.true in
+    let t = touch_now r.0 c.args.tables.now.curves c.args.place block.0 c.args.tables.now.kept touches j are c.loop-touch-test.true in
     let inside = t.is.inside in let few = r.3.few_periods in omega (arith, inside, few)
 
 pub overflow_add-day : goal.overflow_add-day
@@ -165,7 +165,7 @@ loop-touch-preserved g c = record {
       (let j = c.loop-touch.touch-index in
       let touches = c.touches_of-touch-items.result.now in let touch = get_or touches j no_touch in
       let are = c.touches_of-touch-items.ensures problem b are_tables at in
-      let t = touch_now problem c.args.tables.now.curves c.args.place b true touches j are c.loop-touch-test.true in
+      let t = touch_now problem c.args.tables.now.curves c.args.place b c.args.tables.now.kept touches j are c.loop-touch-test.true in
       let so_far = c.loop-touch.invariant.so_far problem before after b are_tables at is of in
       let inside = t.is.inside in let few = are_tables.few_periods in let long = c.loop-touch.invariant.long in
       let own = own_class c.loop-touch.day.classes no_position t (omega (arith, inside, few, long)) so_far in

@@ -1,12 +1,12 @@
 -- A period more.
-use Rattle.std.proofs.Common.{◌≢◌, ◌<◌, List, length, length-append, slice_index_or, [], ◌∷◌, ap, ◌∙◌, sym, subst, refl, rules, arith}
-use Rattle.dam_curve.specs.Curve.{Keeps}
+use Rattle.std.proofs.Common.{◌≢◌, ◌<◌, length, length-append, slice_index_or, [], ◌∷◌, ap, ◌∙◌, sym, subst, rules, arith}
+use Rattle.dam_curve.specs.Losses.{Keeps}
 use Rattle.dam_curve.specs.declared.curves.Curve.{Curve}
 use Rattle.dam_curve.specs.Curve.{CurvesState}
 use Rattle.dam_bound.specs.Tables.{IsClassCurve}
 use Rattle.dam_bound.proofs.Classing.{first_most}
 use Rattle.dam_bound.proofs.BuildingCurves.{first_read}
-use Rattle.dam_bound.proofs.BuildingTouches.{keeps_on}
+use Rattle.dam_bound.proofs.BuildingTouches.{keeps_on, keeps_all}
 use Rattle.dam_bound.proofs.BuildingDay.{curve_pushed}
 use Rattle.dam_bound.proofs.tables.first_curves.Goals as goal
 use Rattle.dam_bound.proofs.tables.first_curves.Goals.{then-first-at+in_ok-curve, else-first-at}
@@ -64,7 +64,7 @@ loop-at-preserved g c =
                 (omega (arith, c.loop-at-test.true, c.count-at-end.ensures, ap (λ p. length p.supplies) c.periods.view_is)) in
                 let apart : slice_index_or c.periods.inside.firsts c.loop-at.at 0 ≢ c.loop-at.at = search (rules, w.if-first-at) in
                 curve_pushed problem c.loop-at.curves c.if-first-at.curves c.loop-at.at c.loop-at.ends.items _ c.if-first-at.curve
-                (subst (Keeps c.loop-at.curves) (sym w.curves-is) (λ curve periods least most is. is))
+                (subst (Keeps c.loop-at.curves) (sym w.curves-is) (keeps_all c.loop-at.curves))
                 (λ first. absurd (apart (read.1 ∙ first)))
                 c.in_ok-push.ensures.items (c.loop-at.invariant.so_far problem are));
           })

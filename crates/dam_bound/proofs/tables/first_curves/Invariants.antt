@@ -1,6 +1,6 @@
 -- The curves so far.
 use Rattle.std.proofs.Common.{◌≡◌, length}
-use Rattle.dam_curve.specs.Curve.{Keeps}
+use Rattle.dam_curve.specs.Losses.{Keeps}
 use Rattle.dam_blocks.specs.Problem.{ProblemState}
 use Rattle.dam_bound.specs.inside.Building.{AreDecided}
 use Rattle.dam_bound.proofs.BuildingDay.{AreFirstCurves}

@@ -1,18 +1,18 @@
 -- A lot more, and all of them.
-use Rattle.std.proofs.Common.{◌≡◌, ℕ, true, List, length, map, ap, ◌∙◌, sym, subst, refl, rules, arith}
+use Rattle.std.proofs.Common.{◌≡◌, ℕ, List, length, ap, ◌∙◌, sym, subst, refl, rules, arith}
 use Rattle.std.specs.List.{slice_get}
 use Rattle.std.proofs.lemmas.Option.{slice_get_read, slice_get_within}
 use Rattle.dam_blocks.specs.declared.problem.Block.{Block}
-use Rattle.dam_bound.specs.Tables.{AreCurves, AreTouches, rejected, AreLots, ArePlaces}
+use Rattle.dam_bound.specs.Tables.{AreCurves, AreTouches, AreLots, ArePlaces}
 use Rattle.dam_bound.specs.inside.Building.{AreDecided}
-use Rattle.dam_bound.proofs.BuildingLots.{none_built, built_more}
+use Rattle.dam_bound.proofs.BuildingLots.{none_built, built_more, is_decided}
 use Rattle.dam_bound.proofs.tables.lots_of.Goals as goal
 
 pub loop-block-init : goal.loop-block-init
 loop-block-init g c = record {
   row = omega arith;
   decided = λ problem is are. are;
-  so_far = λ problem is are curves places. none_built problem c.args.curves.now c.args.ends.now c.args.places.now c.in_ok-lots.lots.items
+  so_far = λ problem is are curves places. none_built problem c.args.curves.now c.args.kept c.args.ends.now c.args.places.now c.in_ok-lots.lots.items
       c.in_ok-lots.ensures.items curves places;
 }
 
@@ -30,19 +30,18 @@ decide-requires g c =
 
 pub touches-requires : goal.touches-requires
 touches-requires g c =
+    let problem = c.requires.0 in
     let read = slice_get_read _ _ c.loop-block.block-index _ (search rules) c.loop-block-test.true c.block-item.is in
-    let at = ap (λ (bs : List Block). slice_get bs c.loop-block.block-index) c.requires.1 ∙ read in (
-      c.requires.0,
+    let at = ap (λ (bs : List Block). slice_get bs c.loop-block.block-index) c.requires.1 ∙ read in
+    let decided = c.decide.ensures problem c.loop-block.block-index c.block-item.result at refl
+    (c.loop-block.invariant.decided problem c.requires.1 c.requires.2) in (
+      problem,
+      c.args.kept,
       c.loop-block.block-index,
       c.block-item.result,
-      record {
-        block_is = at;
-        order_is = refl;
-        periods_are = c.decide.ensures c.requires.0 c.loop-block.block-index c.block-item.result at refl
-            (c.loop-block.invariant.decided c.requires.0 c.requires.1 c.requires.2);
-        places_are = (c.loop-block.invariant.so_far c.requires.0 c.requires.1 c.requires.2 c.requires.3 c.requires.4).places_are;
-        row_is = c.loop-block.invariant.row;
-      },
+      is_decided problem c.loop-block.curves c.args.kept c.loop-block.block-index c.len.result c.block-item.result _
+          c.loop-block.lots.items at refl decided refl (omega (arith, c.len.ensures, c.loop-block.lots.ok)) c.loop-block.invariant.row
+          (c.loop-block.invariant.so_far problem c.requires.1 c.requires.2 c.requires.3 c.requires.4),
     )
 
 pub take_over-requires : goal.take_over-requires
@@ -50,25 +49,23 @@ take_over-requires g c =
     let problem = c.requires.0 in
     let read = slice_get_read _ _ c.loop-block.block-index _ (search rules) c.loop-block-test.true c.block-item.is in
     let at = ap (λ (bs : List Block). slice_get bs c.loop-block.block-index) c.requires.1 ∙ read in
-    let decided = c.loop-block.invariant.decided problem c.requires.1 c.requires.2 in
+    let before = c.loop-block.invariant.decided problem c.requires.1 c.requires.2 in
+    let decided = c.decide.ensures problem c.loop-block.block-index c.block-item.result at refl before in
     let built = c.loop-block.invariant.so_far problem c.requires.1 c.requires.2 c.requires.3 c.requires.4 in
     let inside = slice_get_within problem.blocks c.loop-block.block-index c.block-item.result at in
-    let few = decided.few_blocks in
-    let touches = c.in_ok-accepted.ensures.touches problem c.loop-block.block-index c.block-item.result (record {
-      block_is = at;
-      order_is = refl;
-      periods_are = c.decide.ensures problem c.loop-block.block-index c.block-item.result at refl decided;
-      places_are = built.places_are;
-      row_is = c.loop-block.invariant.row;
-    }) in (
+    let few = before.few_blocks in
+    let touches = c.in_ok-touches.ensures.touches problem c.args.kept c.loop-block.block-index c.block-item.result
+    (is_decided problem c.loop-block.curves c.args.kept c.loop-block.block-index c.len.result c.block-item.result _
+    c.loop-block.lots.items at refl decided refl (omega (arith, c.len.ensures, c.loop-block.lots.ok)) c.loop-block.invariant.row built) in (
       problem,
       c.touches.new.curves,
+      c.args.kept,
       c.loop-block.block-index,
       c.block-item.result,
       at,
       omega (arith, inside, few),
-      decided.few_periods,
-      subst (AreTouches problem c.touches.new.curves c.loop-block.block-index c.block-item.result true) (sym c.deref.ensures.value) touches,
+      before.few_periods,
+      subst (AreTouches problem c.touches.new.curves c.loop-block.block-index c.block-item.result c.args.kept) (sym c.deref.ensures.value) touches,
       built.ends_are.as_many,
       built.places_are.long,
     )
@@ -84,27 +81,22 @@ loop-block-preserved g c =
           c.decide.ensures problem c.loop-block.block-index c.block-item.result at refl (c.loop-block.invariant.decided problem is are));
       so_far = λ problem is are curves places.
           (let at = ap (λ (bs : List Block). slice_get bs c.loop-block.block-index) is ∙ read in
-          let decided = c.loop-block.invariant.decided problem is are in
+          let before = c.loop-block.invariant.decided problem is are in
+          let decided = c.decide.ensures problem c.loop-block.block-index c.block-item.result at refl before in
           let built = c.loop-block.invariant.so_far problem is are curves places in
           let inside = slice_get_within problem.blocks c.loop-block.block-index c.block-item.result at in
-          let few = decided.few_blocks in
-          let touches = c.in_ok-accepted.ensures.touches problem c.loop-block.block-index c.block-item.result (record {
-            block_is = at;
-            order_is = refl;
-            periods_are = c.decide.ensures problem c.loop-block.block-index c.block-item.result at refl decided;
-            places_are = built.places_are;
-            row_is = row;
-          }) in
-          let seen = subst (AreTouches problem c.touches.new.curves c.loop-block.block-index c.block-item.result true)
+          let few = before.few_blocks in
+          let touches = c.in_ok-touches.ensures.touches problem c.args.kept c.loop-block.block-index c.block-item.result
+          (is_decided problem c.loop-block.curves c.args.kept c.loop-block.block-index c.len.result c.block-item.result _
+          c.loop-block.lots.items at refl decided refl (omega (arith, c.len.ensures, c.loop-block.lots.ok)) row built) in
+          let seen = subst (AreTouches problem c.touches.new.curves c.loop-block.block-index c.block-item.result c.args.kept)
           (sym c.deref.ensures.value) touches in
-          built_more problem c.loop-block.curves c.touches.new.curves c.loop-block.block-index c.block-item.result c.loop-block.ends
+          built_more problem c.loop-block.curves c.touches.new.curves c.args.kept c.loop-block.block-index c.block-item.result c.loop-block.ends
           c.take_over.new.ends c.loop-block.places c.take_over.new.places c.loop-block.lots.items c.push.new.self.items
-          c.in_ok-accepted.accepted.items c.in_ok-rejected.rejected.items c.by_stake.result c.touches.ensures.kept at touches
-          (c.in_ok-rejected.ensures ∙ ap (map rejected) c.deref-in-loop-block.ensures.value)
-          c.by_stake.ensures.accepted c.by_stake.ensures.rejected c.in_ok-push.ensures.items
-          (λ ends. c.take_over.ensures.ends problem c.touches.new.curves c.loop-block.block-index c.block-item.result at seen ends)
-          (λ slots. c.take_over.ensures.places problem c.touches.new.curves c.loop-block.block-index c.block-item.result at
-          (omega (arith, inside, few)) decided.few_periods seen slots)
+          c.in_ok-touches.touches.items c.by_stake.result c.touches.ensures.kept at touches c.by_stake.ensures c.in_ok-push.ensures.items
+          (λ ends. c.take_over.ensures.ends problem c.touches.new.curves c.args.kept c.loop-block.block-index c.block-item.result at seen ends)
+          (λ slots. c.take_over.ensures.places problem c.touches.new.curves c.args.kept c.loop-block.block-index c.block-item.result at
+          (omega (arith, inside, few)) before.few_periods seen slots)
           built);
     }
 
@@ -112,7 +104,7 @@ pub returns-clause-lots : goal.returns-clause-lots
 returns-clause-lots g c problem is are curves places =
     let past = c.loop-block-test.false in let end = c.loop-block.auto.block-index-end in let long = ap length is in
     let all : c.loop-block.block-index ≡ length problem.blocks = omega (arith, past, end, long) in
-    subst (λ (n : ℕ). AreLots problem c.loop-block.curves n c.loop-block.lots.items) all
+    subst (λ (n : ℕ). AreLots problem c.loop-block.curves c.args.kept n c.loop-block.lots.items) all
     (c.loop-block.invariant.so_far problem is are curves places).lots_are
 
 pub returns-clause-ends : goal.returns-clause-ends

@@ -14,5 +14,5 @@ invariant-loop-block g l = record {
       → AreDecided problem l.block-index l.periods;
   so_far : (problem : ProblemState) → problem.blocks ≡ l.blocks → AreDecided problem 0 l.fn.periods
       → AreCurves problem l.fn.curves 0 l.fn.ends → ArePlaces problem 0 l.fn.places
-      → IsBuiltSoFar problem l.curves l.block-index l.ends l.places l.lots.items;
+      → IsBuiltSoFar problem l.curves l.kept l.block-index l.ends l.places l.lots.items;
 }

@@ -9,10 +9,10 @@ use Rattle.dam_search.proofs.workers.search.Goals as goal
 
 pub collected-requires-clause-worked : goal.collected-requires-clause-worked
 collected-requires-clause-worked g c =
-    let problem = c.args.problem.now in let reached = first_reached problem c.first_selection.result c.first_selection.ensures.eligible in
-    subst (λ (xs : List PieceAnswer). All (λ (a : PieceAnswer). IsWorked problem c.depth.result c.nodes.result a) xs)
+    let problem = c.args.problem.now in let reached = first_reached problem c.first_selection-first.result c.first_selection-first.ensures.eligible in
+    subst (λ (xs : List PieceAnswer). All (λ (a : PieceAnswer). IsWorked problem c.depth.result c.nodes-2.result a) xs)
     (sym c.deref.ensures.value)
-    (all_worked problem c.depth.result c.nodes.result c.first_selection.result.welfare c.in_ok-explored.explored.answers.items reached
+    (all_worked problem c.depth.result c.nodes-2.result c.first_selection-first.result.welfare c.in_ok-explored.explored.answers.items reached
     c.in_ok-explored.ensures)
 
 pub returns-clause-unfinished : goal.returns-clause-unfinished
@@ -21,13 +21,13 @@ returns-clause-unfinished g c piece visited e =
     let depth : c.depth.result ≡ min c.args.plan.cut (length problem.blocks) = c.depth.ensures.value
     ∙ ap (λ (n : ℕ). min c.args.plan.cut n) c.block_count.ensures.value in
     subst (λ (n : ℕ). IsUnfinished problem n c.args.plan.nodes piece visited) depth
-    (subst (λ (n : ℕ). IsUnfinished problem c.depth.result n piece visited) c.nodes.ensures.value
+    (subst (λ (n : ℕ). IsUnfinished problem c.depth.result n piece visited) c.nodes-2.ensures.value
     (c.collected.ensures.unfinished piece visited e))
 
 pub returns-clause-whole : goal.returns-clause-whole
 returns-clause-whole g c piece e =
     let answers = c.in_ok-explored.explored.answers.items in
-    let one = one_each c.args.problem.now c.depth.result c.nodes.result c.first_selection.result.welfare answers c.in_ok-explored.ensures in
+    let one = one_each c.args.problem.now c.depth.result c.nodes-2.result c.first_selection-first.result.welfare answers c.in_ok-explored.ensures in
     none_faulty c.depth.result answers c.collected.result piece
     (subst (λ (xs : List PieceAnswer). IsCollected c.depth.result xs c.collected.result) c.deref.ensures.value
     c.collected.ensures.collected) one e

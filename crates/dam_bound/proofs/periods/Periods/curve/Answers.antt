@@ -97,29 +97,10 @@ loop-at-preserved g c =
           (subst (λ (n : ℕ). IsCurveSoFar problem depth c.args.class n c.loop-at.sum) same (c.loop-at.invariant.curve problem depth are class)));
     }
 
-pub add_values-requires : goal.add_values-requires
-add_values-requires g c =
-    let past = c.loop-at-test.false in
-    let none : c.loop-at.at ≡ 0 = omega (arith, past) in (
-      members_from c.requires.0 c.requires.1 c.args.class 0,
-      least_net c.requires.0.blocks c.requires.1 c.args.class,
-      most_net c.requires.0.blocks c.requires.1 c.args.class,
-      subst (λ (n : ℕ). IsCurveSoFar c.requires.0 c.requires.1 c.args.class n c.loop-at.sum) none
-          (c.loop-at.invariant.curve c.requires.0 c.requires.1 c.requires.2 c.requires.3),
-    )
-
-pub returns-then-with_values-clause-curve : goal.returns-then-with_values-clause-curve
-returns-then-with_values-clause-curve g c problem depth are class =
+pub returns-clause-curve : goal.returns-clause-curve
+returns-clause-curve g c problem depth are class =
     let past = c.loop-at-test.false in
     let none : c.loop-at.at ≡ 0 = omega (arith, past) in
-    c.add_values.ensures.added (members_from problem depth c.args.class 0) (least_net problem.blocks depth c.args.class)
-    (most_net problem.blocks depth c.args.class)
-    (subst (λ (n : ℕ). IsCurveSoFar problem depth c.args.class n c.loop-at.sum) none (c.loop-at.invariant.curve problem depth are class))
-
-pub returns-else-with_values-clause-curve : goal.returns-else-with_values-clause-curve
-returns-else-with_values-clause-curve g c problem depth are class =
-    let past = c.loop-at-test.false in
-    let none : c.loop-at.at ≡ 0 = omega (arith, past) in
-    c.add-else-with_values.ensures.added (members_from problem depth c.args.class 0) (least_net problem.blocks depth c.args.class)
+    c.add-2.ensures.added (members_from problem depth c.args.class 0) (least_net problem.blocks depth c.args.class)
     (most_net problem.blocks depth c.args.class)
     (subst (λ (n : ℕ). IsCurveSoFar problem depth c.args.class n c.loop-at.sum) none (c.loop-at.invariant.curve problem depth are class))

@@ -7,9 +7,9 @@ use Rattle.dam_bound.proofs.BuildingTouches.{worth_in_all}
 use Rattle.dam_bound.proofs.tables.Deciding.value.Goals as goal
 
 pub returns-clause-value : goal.returns-clause-value
-returns-clause-value g c problem k b is class =
-    let deciding = subst (IsDeciding problem k b) (sym c.self.view_is) is in
-    let all = c.times.ensures.size in let a = all.at_least in let d = all.at_most in
+returns-clause-value g c problem all kept k b is class =
+    let deciding = subst (IsDeciding problem all kept k b) (sym c.self.view_is) is in
+    let whole = c.times.ensures.size in let a = whole.at_least in let d = whole.at_most in
     let one = c.value_of.ensures.size in let e = one.at_least in let f = one.at_most in
     let some = c.size.ensures.some in let few = c.size.ensures.few in
     to_z-of_z w64 c.times.result (omega (arith, ints, a, d))

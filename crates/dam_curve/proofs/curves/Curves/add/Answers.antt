@@ -12,5 +12,5 @@ returns-then-is_empty-clause-added g c ps least most is =
 pub returns-clause-added : goal.returns-clause-added
 returns-clause-added g c ps least most is =
     curve_added c.args.self.now.lines c.lines-lines.result.now _ _ ps least most (record { most = pos 0; price = pos 0; surplus = pos 0 })
-    (search rules) (search rules) (search rules) (search rules) (search rules) (search rules) tt
+    (search rules) (search rules) (search rules) (search rules) (search rules) (search rules)
     (subst (IsCurve ps least most) (sym c.lines-lines.ensures) is)

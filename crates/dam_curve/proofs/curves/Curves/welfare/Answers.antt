@@ -1,7 +1,7 @@
--- The value that stands there, or that of the line, is the joint welfare; and it is small.
-use Rattle.std.proofs.Common.{◌≡◌, ℤ, pos, Some, List, ap, ◌∙◌, inl, inr, refl, sym, subst, to_z, of_z, w64, rules, arith}
+-- The value of the line is the joint welfare; and it is small.
+use Rattle.std.proofs.Common.{◌≡◌, ℤ, Some, ap, ◌∙◌, inl, inr, sym, to_z, of_z, w64, rules, arith}
 use Rattle.std.proofs.lemmas.Int.{ints}
-use Rattle.dam_curve.specs.Curve.{IsCurveAt, joint_welfare, lines_at}
+use Rattle.dam_curve.specs.Curve.{joint_welfare}
 use Rattle.dam_curve.proofs.LookingUp.{none_there}
 use Rattle.dam_curve.proofs.JointWelfare.{SizeLaws, joint_small}
 use Rattle.dam_curve.proofs.curves.Curves.welfare.Goals.{then-net-from-via-then-net-from, then-net-from-via-else-net-from+then-net-from-2}
@@ -15,46 +15,24 @@ returns-then-net-from-clause-value g c ps least most is low high =
       | then-net-from-via-else-net-from+then-net-from-2 w ↦ inr (search rules)
     ])
 
-pub returns-in-Values-clause-value : goal.returns-in-Values-clause-value
-returns-in-Values-clause-value g c ps least most is low high =
-    let own : to_z w64 (of_z w64 c.value.result) ≡ c.value.result = search rules in
-    let net : to_z w64 (of_z w64 c.args.net) ≡ c.args.net = search rules in
-    ap (λ (z : ℤ). Some z) own ∙ c.value.ensures ps least most is ∙ ap (joint_welfare ps) net
-
-pub returns-in-Values-clause-at_least : goal.returns-in-Values-clause-at_least
-returns-in-Values-clause-at_least g c =
-    let laws : SizeLaws = record { reached = c.welfare.ensures.reached; small = c.magnitude.ensures } in
-    let value = returns-in-Values-clause-value g c c.requires.0 c.requires.1 c.requires.2 c.requires.3 c.requires.4 c.requires.5 in
-    let few = c.requires.3.is_curve.few in
-    let small = joint_small laws c.requires.0 c.args.net _ c.requires.3.is_curve.are_hours (sym value) in
-    omega (arith, ints, small.0, few)
-
-pub returns-in-Values-clause-at_most : goal.returns-in-Values-clause-at_most
-returns-in-Values-clause-at_most g c =
-    let laws : SizeLaws = record { reached = c.welfare.ensures.reached; small = c.magnitude.ensures } in
-    let value = returns-in-Values-clause-value g c c.requires.0 c.requires.1 c.requires.2 c.requires.3 c.requires.4 c.requires.5 in
-    let few = c.requires.3.is_curve.few in
-    let small = joint_small laws c.requires.0 c.args.net _ c.requires.3.is_curve.are_hours (sym value) in
-    omega (arith, ints, small.1, few)
-
-pub returns-in-Hints-clause-value : goal.returns-in-Hints-clause-value
-returns-in-Hints-clause-value g c ps least most is low high =
+pub returns-clause-value : goal.returns-clause-value
+returns-clause-value g c ps least most is low high =
     let own : to_z w64 (of_z w64 c.searched.result) ≡ c.searched.result = search rules in
     let net : to_z w64 (of_z w64 c.args.net) ≡ c.args.net = search rules in
     ap (λ (z : ℤ). Some z) own ∙ c.searched.ensures ps least most is ∙ ap (joint_welfare ps) net
 
-pub returns-in-Hints-clause-at_least : goal.returns-in-Hints-clause-at_least
-returns-in-Hints-clause-at_least g c =
+pub returns-clause-at_least : goal.returns-clause-at_least
+returns-clause-at_least g c =
     let laws : SizeLaws = record { reached = c.welfare.ensures.reached; small = c.magnitude.ensures } in
-    let value = returns-in-Hints-clause-value g c c.requires.0 c.requires.1 c.requires.2 c.requires.3 c.requires.4 c.requires.5 in
+    let value = returns-clause-value g c c.requires.0 c.requires.1 c.requires.2 c.requires.3 c.requires.4 c.requires.5 in
     let few = c.requires.3.is_curve.few in
     let small = joint_small laws c.requires.0 c.args.net _ c.requires.3.is_curve.are_hours (sym value) in
     omega (arith, ints, small.0, few)
 
-pub returns-in-Hints-clause-at_most : goal.returns-in-Hints-clause-at_most
-returns-in-Hints-clause-at_most g c =
+pub returns-clause-at_most : goal.returns-clause-at_most
+returns-clause-at_most g c =
     let laws : SizeLaws = record { reached = c.welfare.ensures.reached; small = c.magnitude.ensures } in
-    let value = returns-in-Hints-clause-value g c c.requires.0 c.requires.1 c.requires.2 c.requires.3 c.requires.4 c.requires.5 in
+    let value = returns-clause-value g c c.requires.0 c.requires.1 c.requires.2 c.requires.3 c.requires.4 c.requires.5 in
     let few = c.requires.3.is_curve.few in
     let small = joint_small laws c.requires.0 c.args.net _ c.requires.3.is_curve.are_hours (sym value) in
     omega (arith, ints, small.1, few)

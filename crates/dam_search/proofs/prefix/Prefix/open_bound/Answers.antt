@@ -20,7 +20,7 @@ less w (negsuc n) value h e = omega (arith, ints)
 -- the total that stands in the slots is the bound
 bound_is : (relaxed : ProblemState) (prefix : List Bool) (trail : Trail) (total : ℤ) → IsDayIn relaxed prefix trail total
     → Some total ≡ relaxed_welfare relaxed prefix
-bound_is relaxed prefix trail total is = ap (λ (z : ℤ). Some z) (sym is.total_is) ∙ is.day_is.total_is
+bound_is relaxed prefix trail total is = is.total_is
 
 pub returns-in_default : goal.returns-in_default
 returns-in_default c relaxed trail low few day sel w whole e =

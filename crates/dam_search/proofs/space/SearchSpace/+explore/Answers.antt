@@ -10,11 +10,11 @@ use Rattle.dam_blocks.specs.Selection.{padded, IsAdmissible}
 use Rattle.dam_blocks.specs.Eligible.{selection_welfare}
 use Rattle.dam_bound.specs.Prefix.{IsCompletion}
 use Rattle.dam_bound.specs.Day.{IsUnder}
-use Rattle.dam_bound.specs.Trail.{IsDayIn}
+use Rattle.dam_bound.specs.Trail.{IsDayIn, IsBoundOf}
 use Rattle.dam_bound.specs.Relaxed.{without_rows, relaxed_welfare, reaches}
-use Rattle.dam_search.specs.inside.Walk.{Spends, Reads, IsGoing, IsWalked}
+use Rattle.dam_search.specs.inside.Walk.{IsBoundIn, Spends, Reads, IsGoing, IsWalked}
 use Rattle.dam_search.proofs.Ranks.{found_after, finds_nothing, finds_shorter, finds_twice, covers_both, welfare_rises}
-use Rattle.dam_search.proofs.Leaf.{as_passed}
+use Rattle.dam_search.proofs.Leaf.{read_more}
 use Rattle.dam_search.proofs.LastBlock.{still_rejected}
 use Rattle.dam_search.proofs.Walks.{spends_none, spends_nothing, spends_one, spends_first, spends_both, reads_nothing, reads_asked}
 use Rattle.dam_search.proofs.space.SearchSpace.+explore.Goals.{decide-else-accept-via-then-accept+else-not-is_still_admissible}
@@ -34,14 +34,12 @@ undecided prefix depth count n e f h more = omega (arith, more)
 unmet : (visited nodes : ℕ) → visited ≤ nodes → visited ≢ nodes → visited < nodes
 unmet visited nodes h more = omega (arith, more)
 
--- the day of the prefix with a decision
-next_day : (problem : ProblemState) (next prefix : List Bool) (accept : Bool) (place low : ℕ) (total : Option ℤ) (trail : Trail)
-    → next ≡ prefix ++ accept ∷ [] → place ≡ length prefix
-    → (length prefix ≡ place
-    → MatchOption total (IsUnder problem (prefix ++ accept ∷ []) low) (IsDayIn problem (prefix ++ accept ∷ []) trail))
-    → MatchOption total (IsUnder problem next low) (IsDayIn problem next trail)
-next_day problem next prefix accept place low total trail e is g =
-    subst (λ (xs : List Bool). MatchOption total (IsUnder problem xs low) (IsDayIn problem xs trail)) (sym e) (g (sym is))
+-- the bound of the prefix with a decision
+next_bound : (problem : ProblemState) (next prefix : List Bool) (accept : Bool) (low : ℕ) (total : Option ℤ) (trail : Trail)
+    → next ≡ prefix ++ accept ∷ [] → IsBoundIn problem (prefix ++ accept ∷ []) low trail total
+    → IsBoundIn problem next low trail total
+next_bound problem next prefix accept low total trail e is =
+    subst (λ (xs : List Bool). IsBoundIn problem xs low trail total) (sym e) is
 
 -- a rejected block changes nothing of what the links and the groups admit
 rejected_here : (blocks : List Block) (next prefix : List Bool) (accept : Bool) → next ≡ prefix ++ accept ∷ [] → accept ≡ false
@@ -72,14 +70,13 @@ pub decide-explore-requires : goal.decide-explore-requires
 decide-explore-requires g t c =
     let blocks = c.args.self.now.problem.now.blocks in let relaxed = c.args.self.now.walk.now in let prefix = c.args.prefix.now in
     let next = c.extended-extended.result in let is = c.extended-extended.ensures in let read = c.args.found.now.read in
-    let total = c.extend-next.result in let trail = c.extend-next.new.trail in
+    let total = c.args.total in let trail = c.enter.new.trail in
     let long : length next ≡ length prefix + 1 =
     omega (arith, ap (λ (xs : List Bool). length xs) is, length-append prefix (c.args.accept ∷ [])) in
     let few : length prefix < most_blocks = omega (arith, c.requires.depth, c.kept.ensures.few_blocks) in
-    let is_day : MatchOption total (IsUnder relaxed next read) (IsDayIn relaxed next trail) =
-    next_day relaxed next prefix c.args.accept c.depth.result read total trail is c.depth.ensures.value
-    (λ e. c.extend-next.ensures.day prefix e
-    (as_passed relaxed prefix c.args.trail.now c.args.total (search rules) c.requires.day)) in
+    let is_bound : IsBoundIn relaxed next read trail total =
+    next_bound relaxed next prefix c.args.accept read total trail is
+    (c.enter.ensures.stands c.requires.day.0 read c.requires.day.1 c.requires.bound) in
     let admissible : IsAdmissible blocks (padded next) = elim c.else-accept.branch [
       | decide-else-accept-via-then-accept+else-not-is_still_admissible w ↦ w.is_still_admissible.ensures.value.0 (search rules)
       | decide-else-accept-via-else-accept w ↦
@@ -97,11 +94,9 @@ decide-returns-clause-walked g t c =
 
 pub decide-returns-clause-days : goal.decide-returns-clause-days
 decide-returns-clause-days g t c prefix total few day =
-    let depth = c.depth.ensures.value in
     let long = ap (λ (xs : List Bool). length xs) c.extended-extended.ensures in
     let more = length-append c.args.prefix.now (c.args.accept ∷ []) in
-    c.explore.ensures.days prefix total (omega (arith, few, long, more))
-    (c.extend-next.ensures.kept prefix total (omega (arith, few, depth)) day)
+    c.explore.ensures.days prefix total (omega (arith, few, long, more)) (c.enter.ensures.kept prefix total few day)
 
 -- ---- the node
 
@@ -169,6 +164,13 @@ explore-returns-in_default-clause-walked g t c =
 
 -- ---- its two extensions
 
+pub explore-extensions-next-requires-clause-day : goal.explore-extensions-next-requires-clause-day
+explore-extensions-next-requires-clause-day g t c =
+    let relaxed = c.args.self.now.walk.now in let prefix = c.args.prefix in
+    let low : c.args.found.now.read ≤ c.read-found.result = omega (arith, c.requires.going.read, c.read-found.ensures.rises) in
+    let is = c.in-Some.ensures relaxed c.args.trail.now c.args.found.now.read low c.requires.day in
+    (prefix, search rules, search (rules, is.1))
+
 pub explore-decide-requires : goal.explore-decide-requires
 explore-decide-requires g t c =
     let problem = c.args.self.now.problem.now in let relaxed = c.args.self.now.walk.now in let prefix = c.args.prefix in
@@ -178,6 +180,10 @@ explore-decide-requires g t c =
     undecided prefix c.depth.result c.block_count.result (length problem.blocks) c.depth.ensures.value c.block_count.ensures.value
     c.requires.depth c.if-depth-block_count.false in
     let day : IsDayIn relaxed prefix c.args.trail.now c.in-Some.bound = is.1 in
+    let first = c.equals-accept.result in
+    let bound : IsBoundOf relaxed (prefix ++ first ∷ []) c.read-found.result c.by.result =
+    subst (IsBoundOf relaxed (prefix ++ first ∷ []) c.read-found.result) (sym c.by.ensures)
+    (c.extensions-next.ensures.bounds prefix first (search rules) (search (rules, is.1))) in
     let going : IsGoing problem c.args.nodes (g.I.Incumbent.greatest_read c.read-found.new.self)
     (g.I.Incumbent.greatest_offer c.read-found.new.self)
     (record { best = c.args.found.now.best; read = c.read-found.result; visited = c.args.found.now.visited + 1 }) =
@@ -237,6 +243,12 @@ explore-decide-requires-2 g t c =
     let day : IsDayIn relaxed prefix c.decide.new.trail c.in-Some.bound = c.decide.ensures.days prefix c.in-Some.bound (omega arith) is.1 in
     let now = c.decide.new.found in let incumbent = c.decide.new.incumbent in
     let walked = c.decide.ensures.walked in let told = walked.reads.greatest_read in let top = walked.offered in
+    let first = c.equals-accept.result in
+    let before : IsBoundOf relaxed (prefix ++ not first ∷ []) c.read-found.result c.by-2.result =
+    subst (IsBoundOf relaxed (prefix ++ not first ∷ []) c.read-found.result) (sym c.by-2.ensures)
+    (c.extensions-next.ensures.bounds prefix (not first) (search rules) (search (rules, is.1))) in
+    let bound : IsBoundOf relaxed (prefix ++ not first ∷ []) now.read c.by-2.result =
+    read_more c.by-2.result relaxed (prefix ++ not first ∷ []) c.read-found.result now.read (omega (arith, walked.reads.grows)) before in
     let going : IsGoing problem c.args.nodes (g.I.Incumbent.greatest_read incumbent) (g.I.Incumbent.greatest_offer incumbent) now = record {
       room = walked.spends.within;
       read = omega (arith, told);

@@ -24,14 +24,15 @@ returns-in_default-clause-covers g c sel w whole e =
     c.in_default.is c.requires.day)
     (c.decided.ensures c.args.self.now.problem.now c.args.prefix.now sel (omega (arith, c.requires.full)) whole) e.welfare_is)
 
-pub has_loss-requires-clause-day : goal.has_loss-requires-clause-day
-has_loss-requires-clause-day g c =
+pub loses-requires : goal.loses-requires
+loses-requires g c =
     let prefix = c.args.prefix.now in
     let is = if_told c.args.total c.in-Some.total c.args.self.now.walk.now prefix c.args.trail.now c.args.found.now.read
     c.in-Some.is c.requires.day in
-    let blocks = ap (λ (p : ProblemState). length p.blocks) c.args.self.now.same in
-    c.day_at-day.ensures prefix (omega (arith, c.requires.full, blocks))
-    (as_passed c.args.self.now.walk.now prefix c.args.trail.now c.in-Some.total (search rules) is)
+    record {
+      full = c.requires.full;
+      day = as_passed c.args.self.now.walk.now prefix c.args.trail.now c.in-Some.total (search rules) is;
+    }
 
 pub returns-in_default-candidate-clause-finds : goal.returns-in_default-candidate-clause-finds
 returns-in_default-candidate-clause-finds g c = finds_nothing c.args.self.now.problem.now c.args.prefix.now c.args.found.now.best
@@ -52,15 +53,15 @@ returns-in_default-candidate-clause-covers g c sel w whole e =
     (subst (λ (z : ℤ). (z <ℤ pos c.args.found.now.read) ⊎ IsMatched z c.selection.result c.args.found.now.best) (value ∙ sym same)
     c.in_default-candidate.ensures.none)
 
-pub returns-then-has_loss-clause-finds : goal.returns-then-has_loss-clause-finds
-returns-then-has_loss-clause-finds g c = finds_nothing c.args.self.now.problem.now c.args.prefix.now c.args.found.now.best
+pub returns-then-loses-clause-finds : goal.returns-then-loses-clause-finds
+returns-then-loses-clause-finds g c = finds_nothing c.args.self.now.problem.now c.args.prefix.now c.args.found.now.best
 
-pub returns-then-has_loss-clause-covers : goal.returns-then-has_loss-clause-covers
-returns-then-has_loss-clause-covers g c sel w whole e =
+pub returns-then-loses-clause-covers : goal.returns-then-loses-clause-covers
+returns-then-loses-clause-covers g c sel w whole e =
     let problem = c.args.self.now.problem.now in let prefix = c.args.prefix.now in
     let only = c.completions.ensures.only problem prefix sel (omega (arith, c.requires.full)) whole e.admissible in
-    absurd (losing problem prefix c.has_loss.result w c.if-has_loss.true
-    (tells_of problem c.args.self.now.walk.now prefix c.has_loss.result c.args.self.now.same c.has_loss.ensures)
+    absurd (losing problem prefix c.loses.result w c.if-loses.true
+    (tells_of problem c.args.self.now.walk.now prefix c.loses.result c.args.self.now.same c.loses.ensures)
     (subst (λ (xs : List Bool). IsEligible problem xs w) only e))
 
 pub returns-clause-finds : goal.returns-clause-finds
@@ -76,8 +77,8 @@ returns-clause-finds g c =
     let fits : SFits w64 c.in-Some.total = search rules in
     let value = to_z-of_z w64 c.in-Some.total fits in
     let found = c.in-Some-candidate.ensures.some in
-    let is = not_losing problem prefix c.has_loss.result c.in-Some.total c.if-has_loss.false
-    (tells_of problem c.args.self.now.walk.now prefix c.has_loss.result c.args.self.now.same c.has_loss.ensures)
+    let is = not_losing problem prefix c.loses.result c.in-Some.total c.if-loses.false
+    (tells_of problem c.args.self.now.walk.now prefix c.loses.result c.args.self.now.same c.loses.ensures)
     whole c.requires.admissible total (c.prices.ensures problem (padded prefix) c.in-Some.total c.kept.ensures total) in
     finds_selection problem prefix c.args.found.now.best c.in-Some-candidate.best c.in-Some.total (found.0 ∙ c.selection.ensures)
     (found.1 ∙ value) whole is found.2

@@ -1,0 +1,258 @@
+//! The losses of each side of a choice at each net volume.
+
+ghost use Rattle.std.specs.Prelude.{◌≡◌, ◌<◌, ◌≤◌, ◌+◌, ◌^◌, ℕ, ℤ, pos, neg_ℤ, ◌+ℤ◌, ◌-ℤ◌, ◌≤ℤ◌, Option, Some, None, List, length, slice_index_or, take, IfOk, OnOk, IfSome, MatchOption};
+ghost use Rattle.dam_hour.specs.declared.step.Step.{Step};
+ghost use Rattle.dam_curve.specs.Curve.{joint_welfare, lines_at, greatest_joint_welfare};
+ghost use Rattle.dam_curve.specs.Losses.{IsKept, IsLoss, IsLossAt, AreLosses, IsChoice, IsChoiceAt, Keeps, welfare_left, welfare_taken};
+ghost use Rattle.dam_curve.specs.inside.Reading.{IsOnLines, AreReadAt};
+
+use crate::curves::{Curve, Curves, narrow, value_in};
+use crate::line::Line;
+use dam_hour::laws;
+use std::alloc::{AllocError, Allocator};
+use std::marker::Model;
+
+/// A choice between taking and leaving. To take it adds a net volume and a value; to leave it adds nothing.
+#[derive(Clone, Copy)]
+pub struct Choice {
+    /// Added to the net volume if the choice is taken, in tenths of a MW.
+    pub net: i32,
+    /// Added to the welfare if the choice is taken, in cents per MWh times tenths of a MW.
+    pub value: i64,
+    /// The curve while the choice is open.
+    pub before: Curve,
+    /// The curve once it is taken or left.
+    pub after: Curve,
+}
+
+/// By how much a choice lowers the welfare at a net volume, in cents per MWh times tenths of a MW. The greatest number
+/// of 32 bits stands for every loss from it on, and for 'no welfare afterwards'. If the welfare rises, or if there is
+/// none while the choice is open, nothing is promised.
+#[derive(Clone, Copy)]
+pub struct Loss {
+    /// If it is left.
+    pub left: u32,
+    /// If it is taken.
+    pub taken: u32,
+}
+
+/// The exact losses of a choice at a net volume at which there is a welfare while it is open, in cents per MWh times
+/// tenths of a MW; `None` if some period doesn't balance afterwards.
+#[derive(Clone, Copy)]
+pub struct ExactLoss {
+    /// If it is left.
+    pub left: Option<i64>,
+    /// If it is taken.
+    pub taken: Option<i64>,
+}
+
+/// The number that is kept of the loss between two welfares.
+fn kept(before: Option<i64>, after: Option<i64>) -> u32
+    ensures { (w : ℤ) → before ≡ Some w → IsKept result w after }
+{
+    let (Some(before), Some(after)) = (before, after) else {
+        return u32::MAX;
+    };
+    match before.checked_sub(after) {
+        Some(loss) => u32::try_from(loss).unwrap_or(u32::MAX),
+        None => u32::MAX,
+    }
+}
+
+/// The lines of a curve, read at net volumes near each other.
+///
+/// A contract sees the lines.
+#[derive(Drop)]
+struct Reader<'a> {
+    lines: &'a [Line],
+    /// The place of the line that was read last.
+    near: usize,
+}
+
+impl<'a> Model for Reader<'a> {
+    ghost use Rattle.std.specs.Prelude.{List};
+    ghost use Rattle.dam_curve.specs.declared.line.Line.{Line};
+
+    ghost Value = { List Line };
+
+    ghost view = { λ r. r.lines.now };
+}
+
+impl<'a> Reader<'a> {
+    /// A reader of these lines.
+    fn new(lines: &'a [Line]) -> Reader<'a>
+        ensures { result ≡ lines.now }
+    {
+        Reader { lines, near: 0 }
+    }
+
+    /// The joint welfare at the net volume; `None` exactly if some period doesn't balance.
+    fn welfare(&mut self, net: i64) -> Option<i64>
+        requires { (periods : List (List Step)) × IsOnLines self.old periods net }
+        ensures value { (periods : List (List Step)) → IsOnLines self.old periods net
+            → result ≡ joint_welfare periods net }
+        ensures at_least { IfSome result (λ w. neg_ℤ (pos greatest_joint_welfare) ≤ℤ w) }
+        ensures at_most { IfSome result (λ w. w ≤ℤ pos greatest_joint_welfare) }
+        ensures kept { self.new ≡ self.old }
+    {
+        laws::welfare();
+        laws::magnitude();
+        let lines = self.lines;
+        if lines.is_empty()
+            || net > i64::from(lines[0].most)
+            || net < i64::from(lines[lines.len() - 1].most)
+        {
+            return None;
+        }
+        let (place, value) = value_in(lines, net, self.near);
+        self.near = place;
+        Some(value)
+    }
+}
+
+/// The readers of a choice's curves: before it, and after it if it is left and if it is taken.
+#[derive(Drop)]
+struct Readers<'a> {
+    before: Reader<'a>,
+    left: Reader<'a>,
+    taken: Reader<'a>,
+}
+
+impl Readers<'_> {
+    /// The loss of the choice at the net volume.
+    fn loss(&mut self, choice: &Choice, net: i64) -> Loss
+        requires choice { (before : List (List Step)) × (after : List (List Step))
+            × AreReadAt self.old.before self.old.left self.old.taken choice.now before after net }
+        requires value_least { neg_ℤ (pos (2 ^ 62)) ≤ℤ choice.now.value }
+        requires value_most { choice.now.value ≤ℤ pos (2 ^ 62) }
+        ensures value { (before after : List (List Step))
+            → AreReadAt self.old.before self.old.left self.old.taken choice.now before after net
+            → IsLoss before after choice.now net result }
+        ensures before { self.new.before ≡ self.old.before }
+        ensures left { self.new.left ≡ self.old.left }
+        ensures taken { self.new.taken ≡ self.old.taken }
+    {
+        let before = self.before.welfare(net);
+        let left = self.left.welfare(net);
+        let taken = match self.taken.welfare(net + i64::from(choice.net)) {
+            Some(welfare) => Some(choice.value + welfare),
+            None => None,
+        };
+        Loss {
+            left: kept(before, left),
+            taken: kept(before, taken),
+        }
+    }
+}
+
+/// The lines of a curve among those of many.
+fn lines_of(lines: &[Line], curve: Curve) -> &[Line]
+    requires { curve.first + curve.count ≤ length lines.now }
+    ensures { result.now ≡ lines_at lines.now curve }
+{
+    let first = curve.first as usize;
+    &lines[first..first + curve.count as usize]
+}
+
+/// Writes the losses of a choice between the curves of these lines, one for each net volume from the least to the most.
+/// The error is out of memory. The losses that stood there before the call stay.
+fn write_losses<A: Allocator>(
+    losses: &mut Vec<Loss, A>,
+    before: &[Line],
+    after: &[Line],
+    choice: &Choice,
+    least: i64,
+    most: i64,
+) -> Result<(), AllocError>
+    requires choice { (earlier : List (List Step)) × (later : List (List Step))
+        × ((net : ℤ) → least ≤ℤ net → net ≤ℤ most
+        → AreReadAt before.now after.now after.now choice.now earlier later net) }
+    requires value_least { neg_ℤ (pos (2 ^ 62)) ≤ℤ choice.now.value }
+    requires value_most { choice.now.value ≤ℤ pos (2 ^ 62) }
+    ensures losses { (earlier later : List (List Step)) (net : ℤ) (place : ℕ)
+        → least ≤ℤ net → net ≤ℤ most
+        → AreReadAt before.now after.now after.now choice.now earlier later net
+        → pos place +ℤ least ≡ pos (length losses.old.items) +ℤ net
+        → OnOk result (IsLossAt losses.new.items earlier later choice.now net place) }
+    ensures kept { take (length losses.old.items) losses.new.items ≡ losses.old.items }
+{
+    let mut readers = Readers {
+        before: Reader::new(before),
+        left: Reader::new(after),
+        taken: Reader::new(after),
+    };
+    let mut net = least;
+    while net <= most {
+        losses.push(readers.loss(choice, net))?;
+        net += 1;
+    }
+    Ok(())
+}
+
+impl<A: Allocator> Curves<A> {
+    /// Keeps the loss of a choice at each net volume from the least to the most, and returns the offset from a net
+    /// volume to the place of its loss. The error is out of memory. Takes 8 bytes for each.
+    pub fn keep_losses(&mut self, choice: &Choice, least: i64, most: i64) -> Result<i64, AllocError>
+        requires choice { (before : List (List Step)) × (after : List (List Step))
+            × IsChoice self.old choice.now before after least most }
+        requires value_least { neg_ℤ (pos (2 ^ 62)) ≤ℤ choice.now.value }
+        requires value_most { choice.now.value ≤ℤ pos (2 ^ 62) }
+        ensures losses { (before after : List (List Step))
+            → IsChoice self.old choice.now before after least most
+            → IfOk result
+            (λ offset. AreLosses self.new.losses before after choice.now offset least most) }
+        ensures kept { Keeps self.old self.new }
+    {
+        if most < least {
+            return Ok(0);
+        }
+        let first = i64::from(narrow(self.losses.len())?);
+        let lines = self.lines.as_slice();
+        let before = lines_of(lines, choice.before);
+        let after = lines_of(lines, choice.after);
+        write_losses(&mut self.losses, before, after, choice, least, most)?;
+        Ok(first - least)
+    }
+
+    /// The loss that is kept for the net volume, by the offset that `keep_losses` returned.
+    #[inline(always)]
+    pub fn loss(&self, offset: i64, net: i64) -> Loss
+        requires { (place : ℕ) × (pos place ≡ net +ℤ offset) × (place < length self.now.losses) }
+        ensures { (place : ℕ) (d : Loss) → pos place ≡ net +ℤ offset
+            → result ≡ slice_index_or self.now.losses place d }
+    {
+        self.losses[(net + offset) as usize]
+    }
+
+    /// The exact losses of a choice at the net volume, from its curves. Takes no memory.
+    pub fn exact_loss(&self, choice: &Choice, net: i64) -> ExactLoss
+        requires choice { (before : List (List Step)) × (after : List (List Step))
+            × IsChoiceAt self.now choice.now before after net }
+        requires value_least { neg_ℤ (pos (2 ^ 62)) ≤ℤ choice.now.value }
+        requires value_most { choice.now.value ≤ℤ pos (2 ^ 62) }
+        ensures left { (before after : List (List Step)) (w : ℤ)
+            → IsChoiceAt self.now choice.now before after net → joint_welfare before net ≡ Some w
+            → MatchOption result.left (welfare_left after net ≡ None)
+            (λ loss. welfare_left after net ≡ Some (w -ℤ loss)) }
+        ensures taken { (before after : List (List Step)) (w : ℤ)
+            → IsChoiceAt self.now choice.now before after net → joint_welfare before net ≡ Some w
+            → MatchOption result.taken (welfare_taken after choice.now net ≡ None)
+            (λ loss. welfare_taken after choice.now net ≡ Some (w -ℤ loss)) }
+    {
+        let Some(before) = self.welfare(choice.before, net) else {
+            return ExactLoss {
+                left: None,
+                taken: None,
+            };
+        };
+        let left = match self.welfare(choice.after, net) {
+            Some(after) => Some(before - after),
+            None => None,
+        };
+        let taken = match self.welfare(choice.after, net + i64::from(choice.net)) {
+            Some(after) => Some(before - (choice.value + after)),
+            None => None,
+        };
+        ExactLoss { left, taken }
+    }
+}
