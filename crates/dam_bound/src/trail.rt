@@ -231,7 +231,8 @@ pub(crate) fn bounds_of<A: Allocator>(
         → ((choice : Bool) → IsDecision problem place choice before)
         → IsDayIn problem before trail.now total
         → IsBoundOf problem (before ++ accept ∷ []) least (bound_by accept result) }
-    ensures reached { (accept : Bool) → IfSome (bound_by accept result) (λ left. pos least ≤ℤ left) }
+    ensures reached { (accept : Bool)
+        → IfSome (bound_by accept result) (λ left. pos least ≤ℤ left) }
 {
     dam_hour::laws::joining();
     dam_hour::laws::welfare();

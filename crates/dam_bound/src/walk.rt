@@ -82,7 +82,8 @@ impl<'a, A: Allocator, B: Allocator> Walk<'a, A, B> {
         ensures bounds { (prefix : List Bool) (accept : Bool) → length prefix ≡ depth
             → IsDayIn self.now prefix trail.now total
             → IsBoundOf self.now (prefix ++ accept ∷ []) least (bound_by accept result) }
-        ensures reached { (accept : Bool) → IfSome (bound_by accept result) (λ welfare. pos least ≤ℤ welfare) }
+        ensures reached { (accept : Bool)
+            → IfSome (bound_by accept result) (λ welfare. pos least ≤ℤ welfare) }
     {
         dam_hour::laws::joining();
         dam_hour::laws::welfare();

@@ -75,7 +75,8 @@ impl<A: Allocator, B: Allocator> SearchSpace<'_, A, B> {
         requires full { length self.now.problem.now.blocks ≡ length prefix.now }
         requires day { IsDayIn self.now.walk.now prefix.now trail.now total }
         ensures { (prices : List ℤ)
-            → ArePrices self.now.walk.now.blocks (padded prefix.now) 1 self.now.walk.now.hours prices
+            → ArePrices self.now.walk.now.blocks (padded prefix.now) 1
+            self.now.walk.now.hours prices
             → (result ≡ false) ↔ HasNoLoss self.now.walk.now.blocks (padded prefix.now) prices }
     {
         let day = self.walk.day_at(trail, total);
@@ -88,7 +89,8 @@ impl<A: Allocator, B: Allocator> SearchSpace<'_, A, B> {
     fn enter(&self, prefix: &Prefix, accept: bool, trail: &mut Trail, total: Option<i64>)
         requires depth { length prefix.now < length self.now.walk.now.blocks }
         requires day { (before : ℤ) × IsDayIn self.now.walk.now prefix.now trail.old before }
-        ensures stands { (before : ℤ) (least : ℕ) → IsDayIn self.now.walk.now prefix.now trail.old before
+        ensures stands { (before : ℤ) (least : ℕ)
+            → IsDayIn self.now.walk.now prefix.now trail.old before
             → IsBoundOf self.now.walk.now (prefix.now ++ accept ∷ []) least total
             → IsBoundIn self.now.walk.now (prefix.now ++ accept ∷ []) least trail.new total }
         ensures kept { KeepsDays self.now.walk.now (length prefix.now) trail.old trail.new }
@@ -236,7 +238,8 @@ impl<A: Allocator, B: Allocator> SearchSpace<'_, A, B> {
     ) -> bool
         requires depth { length prefix.now < length self.now.problem.now.blocks }
         requires day { (total : ℤ) × IsDayIn self.now.walk.now prefix.now trail.old total }
-        requires bound { IsBoundOf self.now.walk.now (prefix.now ++ accept ∷ []) found.old.read total }
+        requires bound { IsBoundOf self.now.walk.now (prefix.now ++ accept ∷ []) found.old.read
+            total }
         requires admissible { IsAdmissible self.now.problem.now.blocks (padded prefix.now) }
         requires going { IsGoing self.now.problem.now nodes
             (I.greatest_read incumbent.old) (I.greatest_offer incumbent.old) found.old }
