@@ -2,3 +2,4 @@
 pub mod Making
 pub mod Better
 pub mod Hindrances
+pub mod Bits

@@ -28,9 +28,11 @@ pub fn ranks_above(first: Best, second: Best) -> bool
 fn accepts_first(first: Selection, second: Selection) -> bool
     ensures { result ≡ accepts_first first second }
 {
+    first.kept();
+    second.kept();
     for place in 0..MOST_BLOCKS {
-        let accepted = first.accepts(place);
-        if accepted != second.accepts(place) {
+        let accepted = first.has(place);
+        if accepted != second.has(place) {
             return accepted;
         }
     }

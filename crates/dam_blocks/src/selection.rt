@@ -10,7 +10,8 @@ use std::marker::Model;
 /// A contract sees the list of its acceptances, one for each place that a block of a book may have.
 #[derive(Clone, Copy, PartialEq, Eq, Debug)]
 pub struct Selection {
-    accepted: [bool; MOST_BLOCKS],
+    /// The bit of weight 2 to the power i is 1 if the block at place i is accepted.
+    accepted: u32,
 }
 
 impl Model for Selection {
@@ -18,9 +19,15 @@ impl Model for Selection {
 
     ghost Value = { List Bool };
 
-    ghost view = { λ s. s.accepted };
+    ghost use Rattle.dam_blocks.specs.inside.Bits.{flags_of, with_flags, IsSet, same_flags};
 
-    ghost inverse = { λ sel. record { accepted = sel } };
+    ghost view = { flags_of };
+
+    ghost invariant = { IsSet };
+
+    ghost inverse = { with_flags };
+
+    ghost inverse_ok = { same_flags };
 }
 
 /// The number of choices over this number of places.
@@ -36,9 +43,7 @@ impl Selection {
     pub fn none() -> Selection
         ensures { result ≡ empty_selection }
     {
-        Selection {
-            accepted: [false; MOST_BLOCKS],
-        }
+        Selection { accepted: 0 }
     }
 
     /// The selection with the block at this place accepted too.
@@ -46,7 +51,7 @@ impl Selection {
         requires { place < most_blocks }
         ensures { result ≡ slice_set self place true }
     {
-        self.accepted[place] = true;
+        self.accepted |= 1 << place;
         self
     }
 
@@ -56,15 +61,14 @@ impl Selection {
         ensures value { result ≡ accepts self place }
         ensures places { length self ≡ most_blocks }
     {
-        self.accepted.get(place).copied().unwrap_or(false)
+        place < MOST_BLOCKS && (self.accepted >> place) & 1 == 1
     }
 
-    /// Whether the block at this place is accepted, as `has` does, with no copy of the selection made.
-    pub(crate) fn accepts(&self, place: usize) -> bool
-        requires { place < most_blocks }
-        ensures { result ≡ accepts self.now place }
+    /// For proofs: the call computes nothing. A selection has a place for each block that a book may have.
+    pub(crate) fn kept(self)
+        ensures { length self ≡ most_blocks }
     {
-        self.accepted[place]
+        let _bits = self.accepted;
     }
 
     /// The choice of this number over the first `count` places, of which there are 2 to the power
