@@ -163,23 +163,23 @@ impl<A: Allocator, B: Allocator> SearchSpace<'_, A, B> {
     fn explore<I: Incumbent>(
         &self,
         nodes: u32,
-        prefix: Prefix,
+        prefix: &Prefix,
         trail: &mut Trail,
         total: Option<i64>,
         incumbent: &mut I,
         found: &mut Progress,
     ) -> bool
-        requires depth { length prefix ≤ length self.now.problem.now.blocks }
-        requires day { IsBoundIn self.now.walk.now prefix found.old.read trail.old total }
-        requires admissible { IsAdmissible self.now.problem.now.blocks (padded prefix) }
+        requires depth { length prefix.now ≤ length self.now.problem.now.blocks }
+        requires day { IsBoundIn self.now.walk.now prefix.now found.old.read trail.old total }
+        requires admissible { IsAdmissible self.now.problem.now.blocks (padded prefix.now) }
         requires going { IsGoing self.now.problem.now nodes
             (I.greatest_read incumbent.old) (I.greatest_offer incumbent.old) found.old }
-        ensures walked { IsWalked self.now.problem.now prefix nodes
+        ensures walked { IsWalked self.now.problem.now prefix.now nodes
             (I.greatest_read incumbent.old) (I.greatest_offer incumbent.old)
             (I.greatest_read incumbent.new) (I.greatest_offer incumbent.new)
             found.old found.new result }
         ensures kept { I.kept incumbent.new ≡ I.kept incumbent.old }
-        ensures days { KeepsDays self.now.walk.now (length prefix) trail.old trail.new }
+        ensures days { KeepsDays self.now.walk.now (length prefix.now) trail.old trail.new }
     {
         dam_blocks::laws::ranking();
         dam_bound::laws::completions();
@@ -188,7 +188,7 @@ impl<A: Allocator, B: Allocator> SearchSpace<'_, A, B> {
         }
         found.visited += 1;
         if prefix.depth() == self.problem.block_count() {
-            self.try_selection(&prefix, trail, total, incumbent, found);
+            self.try_selection(prefix, trail, total, incumbent, found);
             return true;
         }
         found.read = incumbent.read();
@@ -201,7 +201,7 @@ impl<A: Allocator, B: Allocator> SearchSpace<'_, A, B> {
             .extensions(trail, prefix.depth(), bound, found.read);
         if !self.decide(
             nodes,
-            &prefix,
+            prefix,
             accept,
             trail,
             next.by(accept),
@@ -212,7 +212,7 @@ impl<A: Allocator, B: Allocator> SearchSpace<'_, A, B> {
         }
         self.decide(
             nodes,
-            &prefix,
+            prefix,
             !accept,
             trail,
             next.by(!accept),
@@ -256,7 +256,7 @@ impl<A: Allocator, B: Allocator> SearchSpace<'_, A, B> {
             return true;
         }
         self.enter(prefix, accept, trail, total);
-        self.explore(nodes, extended, trail, total, incumbent, found)
+        self.explore(nodes, &extended, trail, total, incumbent, found)
     }
 }
 
@@ -319,7 +319,7 @@ pub fn search_piece<A: Allocator, B: Allocator, R: Bounds<B>, I: Incumbent>(
         visited: 0,
     };
     let space = SearchSpace { problem, walk };
-    let done = space.explore(nodes, prefix, &mut trail, total, incumbent, &mut found);
+    let done = space.explore(nodes, &prefix, &mut trail, total, incumbent, &mut found);
     PieceAnswer {
         piece,
         best: found.best,

@@ -102,7 +102,7 @@ decide-returns-clause-days g t c prefix total few day =
 
 pub explore-returns-then-found-nodes-clause-walked : goal.explore-returns-then-found-nodes-clause-walked
 explore-returns-then-found-nodes-clause-walked g t c =
-    let problem = c.args.self.now.problem.now in let prefix = c.args.prefix in let found = c.args.found.now in
+    let problem = c.args.self.now.problem.now in let prefix = c.args.prefix.now in let found = c.args.found.now in
     let left = length problem.blocks - length prefix in let told = g.I.Incumbent.greatest_read c.args.incumbent.now in
     let going = c.requires.going in
     record {
@@ -115,7 +115,7 @@ explore-returns-then-found-nodes-clause-walked g t c =
 
 pub explore-returns-then-depth-block_count-clause-walked : goal.explore-returns-then-depth-block_count-clause-walked
 explore-returns-then-depth-block_count-clause-walked g t c =
-    let problem = c.args.self.now.problem.now in let prefix = c.args.prefix in let found = c.args.found.now in
+    let problem = c.args.self.now.problem.now in let prefix = c.args.prefix.now in let found = c.args.found.now in
     let left = length problem.blocks - length prefix in let told = g.I.Incumbent.greatest_read in
     let going = c.requires.going in let after = c.try_selection.new.found in
     let visited : after.visited ≡ found.visited + 1 = c.try_selection.ensures.visited in
@@ -139,7 +139,7 @@ explore-returns-then-depth-block_count-clause-walked g t c =
 
 pub explore-returns-in_default-clause-walked : goal.explore-returns-in_default-clause-walked
 explore-returns-in_default-clause-walked g t c =
-    let problem = c.args.self.now.problem.now in let relaxed = c.args.self.now.walk.now in let prefix = c.args.prefix in
+    let problem = c.args.self.now.problem.now in let relaxed = c.args.self.now.walk.now in let prefix = c.args.prefix.now in
     let found = c.args.found.now in
     let left = length problem.blocks - length prefix in let told = g.I.Incumbent.greatest_read in
     let going = c.requires.going in let read = going.read in let offered = going.offered in
@@ -166,14 +166,14 @@ explore-returns-in_default-clause-walked g t c =
 
 pub explore-extensions-next-requires-clause-day : goal.explore-extensions-next-requires-clause-day
 explore-extensions-next-requires-clause-day g t c =
-    let relaxed = c.args.self.now.walk.now in let prefix = c.args.prefix in
+    let relaxed = c.args.self.now.walk.now in let prefix = c.args.prefix.now in
     let low : c.args.found.now.read ≤ c.read-found.result = omega (arith, c.requires.going.read, c.read-found.ensures.rises) in
     let is = c.in-Some.ensures relaxed c.args.trail.now c.args.found.now.read low c.requires.day in
     (prefix, search rules, search (rules, is.1))
 
 pub explore-decide-requires : goal.explore-decide-requires
 explore-decide-requires g t c =
-    let problem = c.args.self.now.problem.now in let relaxed = c.args.self.now.walk.now in let prefix = c.args.prefix in
+    let problem = c.args.self.now.problem.now in let relaxed = c.args.self.now.walk.now in let prefix = c.args.prefix.now in
     let low : c.args.found.now.read ≤ c.read-found.result = omega (arith, c.requires.going.read, c.read-found.ensures.rises) in
     let is = c.in-Some.ensures relaxed c.args.trail.now c.args.found.now.read low c.requires.day in
     let depth : length prefix < length problem.blocks =
@@ -199,7 +199,7 @@ explore-decide-requires g t c =
 
 pub explore-returns-then-not-decide-clause-walked : goal.explore-returns-then-not-decide-clause-walked
 explore-returns-then-not-decide-clause-walked g t c =
-    let problem = c.args.self.now.problem.now in let prefix = c.args.prefix in let n = length problem.blocks in
+    let problem = c.args.self.now.problem.now in let prefix = c.args.prefix.now in let n = length problem.blocks in
     let first = c.equals-accept.result in
     let nodes = c.args.nodes in let told = g.I.Incumbent.greatest_read in
     let low : c.args.found.now.read ≤ c.read-found.result = omega (arith, c.requires.going.read, c.read-found.ensures.rises) in
@@ -234,7 +234,7 @@ explore-returns-then-not-decide-clause-walked g t c =
 
 pub explore-decide-requires-2 : goal.explore-decide-requires-2
 explore-decide-requires-2 g t c =
-    let problem = c.args.self.now.problem.now in let relaxed = c.args.self.now.walk.now in let prefix = c.args.prefix in
+    let problem = c.args.self.now.problem.now in let relaxed = c.args.self.now.walk.now in let prefix = c.args.prefix.now in
     let low : c.args.found.now.read ≤ c.read-found.result = omega (arith, c.requires.going.read, c.read-found.ensures.rises) in
     let is = c.in-Some.ensures relaxed c.args.trail.now c.args.found.now.read low c.requires.day in
     let depth : length prefix < length problem.blocks =
@@ -259,7 +259,7 @@ explore-decide-requires-2 g t c =
 
 pub explore-returns-clause-walked : goal.explore-returns-clause-walked
 explore-returns-clause-walked g t c =
-    let problem = c.args.self.now.problem.now in let prefix = c.args.prefix in let n = length problem.blocks in
+    let problem = c.args.self.now.problem.now in let prefix = c.args.prefix.now in let n = length problem.blocks in
     let first = c.equals-accept.result in
     let nodes = c.args.nodes in let told = g.I.Incumbent.greatest_read in
     let low : c.args.found.now.read ≤ c.read-found.result = omega (arith, c.requires.going.read, c.read-found.ensures.rises) in
