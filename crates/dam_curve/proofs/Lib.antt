@@ -10,4 +10,6 @@ pub mod JointWelfare
 pub mod LookingUp
 pub mod Reading
 pub mod Losing
+pub mod Ramps
+pub mod Stretches
 pub mod ExactLosses

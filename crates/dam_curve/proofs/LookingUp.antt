@@ -102,14 +102,20 @@ within_lines ls net at same some low high = record {
   last = λ d. (let bottom = bottom_at ls (length ls - 1) d (omega (arith, some)) in omega (arith, ints, bottom, low, same));
 }
 
+pub value_from : (f : ℤ → Option ℤ) (ls : List Line) (net : ℤ) (place : ℕ) (d : Line) → AreLines f ls (bottom_of ls)
+    → (get_or ls (length ls - 1) d).most ≤ℤ net → place < length ls → ((e : Line) → net ≤ℤ (get_or ls place e).most)
+    → ((e : Line) → place + 1 < length ls → (get_or ls (place + 1) e).most ≤ℤ net)
+    → Some (line_at (get_or ls place d) net) ≡ f net
+value_from f ls net place d are last l holds next =
+    let stands = stands_from ls net place holds next in
+    let here = line_here f ls net place d are (place_from ls net place d l last) stands in
+    sym (here.1.each net here.2 (holds d))
+
 pub value_at : (f : ℤ → Option ℤ) (ls : List Line) (net : ℤ) (place : ℕ) (d : Line) → AreLines f ls (bottom_of ls) → IsWithin ls net
     → place < length ls → ((e : Line) → net ≤ℤ (get_or ls place e).most)
     → ((e : Line) → place + 1 < length ls → (get_or ls (place + 1) e).most ≤ℤ net)
     → Some (line_at (get_or ls place d) net) ≡ f net
-value_at f ls net place d are within l holds next =
-    let stands = stands_from ls net place holds next in
-    let here = line_here f ls net place d are (place_from ls net place d l (within.last d)) stands in
-    sym (here.1.each net here.2 (holds d))
+value_at f ls net place d are within l holds next = value_from f ls net place d are (within.last d) l holds next
 
 -- ---- how large the numbers are
 product_small : (x y : ℤ) (n m : ℕ) → neg_ℤ (pos n) ≤ℤ x → x ≤ℤ pos n → neg_ℤ (pos m) ≤ℤ y → y ≤ℤ pos m
@@ -121,15 +127,15 @@ product_small (negsuc h) y n m a b c e =
     (omega (arith, ints, t.0, t.1, turned), omega (arith, ints, t.0, t.1, turned))
 
 -- a line at a net volume of 32 bits
-record AreSmallAt (line : Line) (net : ℤ) : Type 0 where
-  price_at_least : neg_ℤ (pos (last_period * greatest_price)) ≤ℤ line.price
-  price_at_most : line.price ≤ℤ pos (last_period * greatest_price)
-  product_at_least : neg_ℤ (pos ((last_period * greatest_price) * 2147483648)) ≤ℤ (line.price *ℤ net)
-  product_at_most : (line.price *ℤ net) ≤ℤ pos ((last_period * greatest_price) * 2147483648)
-  surplus_at_least : neg_ℤ (pos (last_period * greatest_line_surplus)) ≤ℤ line.surplus
-  surplus_at_most : line.surplus ≤ℤ pos (last_period * greatest_line_surplus)
+pub record AreSmallAt (line : Line) (net : ℤ) : Type 0 where
+  pub price_at_least : neg_ℤ (pos (last_period * greatest_price)) ≤ℤ line.price
+  pub price_at_most : line.price ≤ℤ pos (last_period * greatest_price)
+  pub product_at_least : neg_ℤ (pos ((last_period * greatest_price) * 2147483648)) ≤ℤ (line.price *ℤ net)
+  pub product_at_most : (line.price *ℤ net) ≤ℤ pos ((last_period * greatest_price) * 2147483648)
+  pub surplus_at_least : neg_ℤ (pos (last_period * greatest_line_surplus)) ≤ℤ line.surplus
+  pub surplus_at_most : line.surplus ≤ℤ pos (last_period * greatest_line_surplus)
 
-small_at_net : (line : Line) (net : ℤ) → IsSmallLine last_period line → neg_ℤ (pos 2147483648) ≤ℤ net → net ≤ℤ pos 2147483648
+pub small_at_net : (line : Line) (net : ℤ) → IsSmallLine last_period line → neg_ℤ (pos 2147483648) ≤ℤ net → net ≤ℤ pos 2147483648
     → AreSmallAt line net
 small_at_net line net small low high =
     let product = product_small line.price net (last_period * greatest_price) 2147483648 small.price_at_least small.price_at_most low high in

@@ -1,8 +1,8 @@
 -- The losses of a choice, net volume by net volume, after those of others.
-use Rattle.std.proofs.Common.{◌≡◌, ℕ, ◌<◌, ℤ, pos, ◌+ℤ◌, ◌-ℤ◌, ◌≤ℤ◌, ◌<ℤ◌, nat_abs, List, [], ◌∷◌, ◌++◌, length, length-append, take, FitsSigned, to_z, of_z, w64, inl, inr, ◌∙◌, sym, subst, arith}
+use Rattle.std.proofs.Common.{◌≡◌, ℕ, ◌<◌, ℤ, pos, ◌+ℤ◌, ◌-ℤ◌, ◌≤ℤ◌, ◌<ℤ◌, nat_abs, List, ◌++◌, length, length-append, take, drop, take-append-drop, ap, FitsSigned, to_z, of_z, w64, inl, inr, ◌∙◌, sym, subst, arith}
 use Rattle.std.proofs.lemmas.Int.{ints}
 use Rattle.std.proofs.lemmas.Bool.{cases_lt}
-use Rattle.std.proofs.lemmas.List.{take-append-le, get_or_append_left, get_or_push}
+use Rattle.std.proofs.lemmas.List.{take_all, take-take, get_or_append_left}
 use Rattle.dam_hour.specs.declared.step.Step.{Step}
 use Rattle.dam_hour.specs.Execution.{IsNetVolume}
 use Rattle.dam_curve.specs.declared.line.Line.{Line}
@@ -10,19 +10,13 @@ use Rattle.dam_curve.specs.declared.losses.Choice.{Choice}
 use Rattle.dam_curve.specs.declared.losses.Loss.{Loss}
 use Rattle.dam_curve.specs.Losses.{IsLoss, IsLossAt}
 use Rattle.dam_curve.specs.inside.Reading.{AreReadAt}
+use Rattle.dam_curve.specs.inside.Ramp.{AreLossesFrom}
 
 pub loss_stays : (xs ys : List Loss) (before after : List (List Step)) (choice : Choice) (net : ℤ) (place : ℕ)
     → IsLossAt xs before after choice net place → IsLossAt (xs ++ ys) before after choice net place
 loss_stays xs ys before after choice net place is = record {
   inside = (let long = length-append xs ys in let l = is.inside in omega (arith, long, l));
   loss_is = λ d. subst (IsLoss before after choice net) (sym (get_or_append_left xs ys d place is.inside)) (is.loss_is d);
-}
-
-loss_pushed : (xs : List Loss) (loss : Loss) (before after : List (List Step)) (choice : Choice) (net : ℤ) (place : ℕ) → length xs ≡ place
-    → IsLoss before after choice net loss → IsLossAt (xs ++ loss ∷ []) before after choice net place
-loss_pushed xs loss before after choice net place e is = record {
-  inside = (let long = length-append xs (loss ∷ []) in omega (arith, long, e));
-  loss_is = λ d. subst (IsLoss before after choice net) (sym (get_or_push xs loss d place e)) is;
 }
 
 -- the losses of the net volumes from the least to this one stand after those that were there
@@ -34,44 +28,38 @@ pub record AreLossesSoFar (earlier later : List Line) (choice : Choice) (old los
       → AreReadAt earlier later later choice before after at → pos place +ℤ least ≡ pos (length old) +ℤ at
       → IsLossAt losses before after choice at place
 
-pub loss_more : (earlier later : List Line) (choice : Choice) (old losses : List Loss) (least net next : ℤ) (loss : Loss)
-    → ((before after : List (List Step)) → AreReadAt earlier later later choice before after net → IsLoss before after choice net loss)
-    → next ≡ net +ℤ pos 1 → AreLossesSoFar earlier later choice old losses least net
-    → AreLossesSoFar earlier later choice old (losses ++ loss ∷ []) least next
-loss_more earlier later choice old losses least net next loss is step so_far =
-    let long = so_far.long in let low = so_far.at_least in
-    let more = length-append losses (loss ∷ []) in
+pub losses_none : (earlier later : List Line) (choice : Choice) (old losses : List Loss) (least : ℤ) → losses ≡ old
+    → AreLossesSoFar earlier later choice old losses least least
+losses_none earlier later choice old losses least e =
+    let long = ap (λ (xs : List Loss). length xs) e in
     record {
-      at_least = omega (arith, ints, low, step);
-      long = omega (arith, ints, long, more, step);
-      kept = take-append-le (length old) losses (loss ∷ []) (omega (arith, ints, long, low)) ∙ so_far.kept;
-      each = λ before after at place from to read e. elim (cases_lt place (length losses)) [
-        | inl less ↦ loss_stays losses (loss ∷ []) before after choice at place
-            (so_far.each before after at place from (omega (arith, ints, less, long, e)) read e)
-        | inr more ↦
-            (let same : net ≡ at = omega (arith, ints, more, long, e, step, to) in
-            loss_pushed losses loss before after choice at place (omega (arith, ints, long, e, same))
-            (subst (λ (z : ℤ). IsLoss before after choice z loss) same
-            (is before after (subst (AreReadAt earlier later later choice before after) (sym same) read))))
-      ];
+      at_least = omega (arith, ints);
+      long = omega (arith, ints, long);
+      kept = ap (take (length old)) e ∙ take_all (length old) old (omega arith);
+      each = λ before after at place low to read f. absurd (let no : 0 < 0 = omega (arith, ints, low, to) in omega (arith, no));
     }
 
--- ---- the next net volume in the numbers of the machine
-pub after_fits : (most wide : ℤ) → IsNetVolume most → wide ≡ most → FitsSigned w64 (wide +ℤ pos 1)
-after_fits most wide is same = let low = is.at_least in let high = is.at_most in omega (arith, ints, low, high, same)
-
-pub next_is : (net most : ℤ) → IsNetVolume most → FitsSigned w64 net → net ≤ℤ most → to_z w64 (of_z w64 (net +ℤ pos 1)) ≡ net +ℤ pos 1
-next_is net most is fits l = let high = is.at_most in omega (arith, ints, fits, high, l)
-
--- ---- the loss by readers that have these lines
-pub read_by : (a b c x y : List Line) (choice : Choice) (net : ℤ) (loss : Loss) → a ≡ x → b ≡ y → c ≡ y
-    → ((before after : List (List Step)) → AreReadAt a b c choice before after net → IsLoss before after choice net loss)
-    → (before after : List (List Step)) → AreReadAt x y y choice before after net → IsLoss before after choice net loss
-read_by a b c x y choice net loss e f h is before after read =
-    is before after
-    (subst (λ (ls : List Line). AreReadAt ls b c choice before after net) (sym e)
-    (subst (λ (ls : List Line). AreReadAt x ls c choice before after net) (sym f)
-    (subst (λ (ls : List Line). AreReadAt x y ls choice before after net) (sym h) read)))
+pub losses_more : (earlier later : List Line) (choice : Choice) (old losses more : List Loss) (least net last next : ℤ)
+    → AreLossesFrom earlier later later choice losses more net last → net ≤ℤ last → next ≡ last +ℤ pos 1
+    → AreLossesSoFar earlier later choice old losses least net → AreLossesSoFar earlier later choice old more least next
+losses_more earlier later choice old losses more least net last next from ordered step so_far =
+    let long = so_far.long in let low = so_far.at_least in let longer = from.long in
+    let front : more ≡ losses ++ drop (length losses) more = sym (take-append-drop (length losses) more)
+    ∙ ap (λ (xs : List Loss). xs ++ drop (length losses) more) from.kept in
+    record {
+      at_least = omega (arith, ints, low, step, ordered);
+      long = omega (arith, ints, long, longer, step);
+      kept = sym (take-take (length old) (length losses) more (omega (arith, ints, long, low)))
+          ∙ ap (take (length old)) from.kept ∙ so_far.kept;
+      each = λ before after at place low2 to read e. elim (cases_lt place (length losses)) [
+        | inl less ↦ subst (λ (xs : List Loss). IsLossAt xs before after choice at place) (sym front)
+            (loss_stays losses (drop (length losses) more) before after choice at place
+            (so_far.each before after at place low2 (omega (arith, ints, less, long, e)) read e))
+        | inr not_less ↦
+            from.each before after at place (omega (arith, ints, not_less, long, e)) (omega (arith, ints, to, step)) read
+            (omega (arith, ints, long, e))
+      ];
+    }
 
 -- ---- from a net volume to the place of its loss
 pub record IsOffset (first : ℕ) (least wide start : ℤ) : Type 0 where

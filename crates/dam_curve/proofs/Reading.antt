@@ -1,17 +1,16 @@
 -- The lines of a curve at a net volume, and the welfare that is read from them.
-use Rattle.std.proofs.Common.{◌≡◌, ℕ, ◌-◌, ◌<◌, ℤ, pos, neg_ℤ, ◌≤ℤ◌, ◌<ℤ◌, ◌+ℤ◌, Option, Some, None, List, length, get_or, to_z, of_z, w32, w64, ap, ◌∙◌, sym, subst, inl, inr, refl, arith}
+use Rattle.std.proofs.Common.{◌≡◌, ◌-◌, ◌<◌, ℤ, pos, neg_ℤ, ◌≤ℤ◌, ◌<ℤ◌, ◌+ℤ◌, None, List, length, get_or, to_z, of_z, w32, w64, sym, subst, inl, inr, refl, arith}
 use Rattle.std.proofs.lemmas.Int.{ints}
 use Rattle.dam_hour.specs.declared.step.Step.{Step}
 use Rattle.dam_hour.specs.Execution.{IsNetVolume}
 use Rattle.dam_curve.specs.declared.line.Line.{Line}
 use Rattle.dam_curve.specs.declared.curves.Curve.{Curve}
 use Rattle.dam_curve.specs.declared.losses.Choice.{Choice}
-use Rattle.dam_curve.specs.Curve.{both, joint_welfare, end_of, bottom_of, IsOutside, IsCurve, CurvesState, lines_at, greatest_joint_welfare}
-use Rattle.dam_curve.specs.Losses.{IsKept, IsOnCurve, IsChoiceAt}
+use Rattle.dam_curve.specs.Curve.{joint_welfare, end_of, bottom_of, IsOutside, IsCurve, CurvesState, lines_at, greatest_joint_welfare}
+use Rattle.dam_curve.specs.Losses.{IsOnCurve, IsChoiceAt}
 use Rattle.dam_curve.specs.inside.Reading.{IsOnLines, AreReadAt}
 use Rattle.dam_curve.proofs.ListsOfLines.{bottom_at}
 use Rattle.dam_curve.proofs.Adding.{end_at, outside_from}
-use Rattle.dam_curve.proofs.JointWelfare.{SizeLaws, joint_small}
 
 -- ---- beyond the lines
 pub under_lines : (ls : List Line) (net : ℤ) → 0 < length ls → (d : Line) → net <ℤ (get_or ls (length ls - 1) d).most → IsOutside ls net
@@ -35,29 +34,6 @@ none_beyond ls ps net on o = sym (on.curve_is.outside net on.at_least on.at_most
 pub record IsSmallWelfare (w : ℤ) : Type 0 where
   pub at_least : neg_ℤ (pos greatest_joint_welfare) ≤ℤ w
   pub at_most : w ≤ℤ pos greatest_joint_welfare
-
-pub small_on_lines : SizeLaws → (ls : List Line) (ps : List (List Step)) (net w : ℤ) → IsOnLines ls ps net → Some w ≡ joint_welfare ps net
-    → IsSmallWelfare w
-small_on_lines laws ls ps net w on is =
-    let small = joint_small laws ps net w on.curve_is.are_hours (sym is) in
-    let few = on.curve_is.few in
-    record { at_least = omega (arith, ints, small.0, few); at_most = omega (arith, ints, small.1, few) }
-
--- ---- what is read, and what is kept of it
-pub read_at : (ls : List Line) (ps : List (List Step)) (at net : ℤ) (r : Option ℤ) → at ≡ net
-    → (IsOnLines ls ps at → r ≡ joint_welfare ps at) → IsOnLines ls ps net → r ≡ joint_welfare ps net
-read_at ls ps at net r same read on = subst (λ (z : ℤ). IsOnLines ls ps z → r ≡ joint_welfare ps z) same read on
-
-pub kept_between : (kept : ℕ) (x y p q : Option ℤ) (w : ℤ) → x ≡ p → y ≡ q
-    → ((z : ℤ) → x ≡ Some z → IsKept kept z y) → p ≡ Some w → IsKept kept w q
-kept_between kept x y p q w e f is e2 = subst (IsKept kept w) f (is w (e ∙ e2))
-
-pub some_taken : (value welfare sum : ℤ) (read taken p : Option ℤ) → taken ≡ Some sum → sum ≡ value +ℤ welfare → read ≡ Some welfare
-    → read ≡ p → taken ≡ both (Some value) p
-some_taken value welfare sum read taken p t s r e = t ∙ ap (λ (z : ℤ). Some z) s ∙ ap (both (Some value)) (sym r ∙ e)
-
-pub none_taken : (value : ℤ) (read taken p : Option ℤ) → taken ≡ None → read ≡ None → read ≡ p → taken ≡ both (Some value) p
-none_taken value read taken p t r e = t ∙ ap (both (Some value)) (sym r ∙ e)
 
 -- ---- in the numbers of the machine
 pub net_volume : (ls : List Line) (ps : List (List Step)) (net : ℤ) → IsOnLines ls ps net → IsNetVolume net

@@ -2,3 +2,4 @@
 pub mod Supply
 pub mod Lines
 pub mod Reading
+pub mod Ramp

@@ -103,11 +103,13 @@ fn write_hints<A: Allocator>(hints: &mut Vec<u16, A>, lines: &[Line]) -> Result<
 
 /// What a line says of a net volume.
 #[inline(always)]
-fn value_of(line: Line, net: i64) -> i64
+pub(crate) fn value_of(line: Line, net: i64) -> i64
     requires line { IsSmallLine last_period line }
     requires least { neg_ℤ (pos (2 ^ 31)) ≤ℤ net }
     requires most { net ≤ℤ pos (2 ^ 31) }
-    ensures { result ≡ line_at line net }
+    ensures value { result ≡ line_at line net }
+    ensures at_least { neg_ℤ (pos (2 ^ 58)) ≤ℤ result }
+    ensures at_most { result ≤ℤ pos (2 ^ 58) }
 {
     line.surplus + i64::from(line.price) * net
 }
@@ -257,7 +259,7 @@ impl Curve {
 }
 
 /// The line that holds at the net volume; looked for from a place near by, which may be any.
-fn place_of(lines: &[Line], net: i64, near: usize) -> usize
+pub(crate) fn place_of(lines: &[Line], net: i64, near: usize) -> usize
     requires some { 0 < length lines.now }
     requires first { (d : Line) → net ≤ℤ (slice_index_or lines.now 0 d).most }
     requires last { (d : Line)

@@ -33,7 +33,9 @@
 mod curves;
 mod line;
 mod losses;
+mod ramp;
 mod row;
+mod stretch;
 mod sum;
 mod supply;
 

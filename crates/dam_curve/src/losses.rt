@@ -6,11 +6,10 @@ ghost use Rattle.dam_curve.specs.Curve.{joint_welfare, lines_at, greatest_joint_
 ghost use Rattle.dam_curve.specs.Losses.{IsKept, IsLoss, IsLossAt, AreLosses, IsChoice, IsChoiceAt, Keeps, welfare_left, welfare_taken};
 ghost use Rattle.dam_curve.specs.inside.Reading.{IsOnLines, AreReadAt};
 
-use crate::curves::{Curve, Curves, narrow, value_in};
+use crate::curves::{Curve, Curves, narrow};
 use crate::line::Line;
-use dam_hour::laws;
+use crate::stretch::Readers;
 use std::alloc::{AllocError, Allocator};
-use std::marker::Model;
 
 /// A choice between taking and leaving. To take it adds a net volume and a value; to leave it adds nothing.
 #[derive(Clone, Copy)]
@@ -46,105 +45,6 @@ pub struct ExactLoss {
     pub taken: Option<i64>,
 }
 
-/// The number that is kept of the loss between two welfares.
-fn kept(before: Option<i64>, after: Option<i64>) -> u32
-    ensures { (w : ℤ) → before ≡ Some w → IsKept result w after }
-{
-    let (Some(before), Some(after)) = (before, after) else {
-        return u32::MAX;
-    };
-    match before.checked_sub(after) {
-        Some(loss) => u32::try_from(loss).unwrap_or(u32::MAX),
-        None => u32::MAX,
-    }
-}
-
-/// The lines of a curve, read at net volumes near each other.
-///
-/// A contract sees the lines.
-#[derive(Drop)]
-struct Reader<'a> {
-    lines: &'a [Line],
-    /// The place of the line that was read last.
-    near: usize,
-}
-
-impl<'a> Model for Reader<'a> {
-    ghost use Rattle.std.specs.Prelude.{List};
-    ghost use Rattle.dam_curve.specs.declared.line.Line.{Line};
-
-    ghost Value = { List Line };
-
-    ghost view = { λ r. r.lines.now };
-}
-
-impl<'a> Reader<'a> {
-    /// A reader of these lines.
-    fn new(lines: &'a [Line]) -> Reader<'a>
-        ensures { result ≡ lines.now }
-    {
-        Reader { lines, near: 0 }
-    }
-
-    /// The joint welfare at the net volume; `None` exactly if some period doesn't balance.
-    fn welfare(&mut self, net: i64) -> Option<i64>
-        requires { (periods : List (List Step)) × IsOnLines self.old periods net }
-        ensures value { (periods : List (List Step)) → IsOnLines self.old periods net
-            → result ≡ joint_welfare periods net }
-        ensures at_least { IfSome result (λ w. neg_ℤ (pos greatest_joint_welfare) ≤ℤ w) }
-        ensures at_most { IfSome result (λ w. w ≤ℤ pos greatest_joint_welfare) }
-        ensures kept { self.new ≡ self.old }
-    {
-        laws::welfare();
-        laws::magnitude();
-        let lines = self.lines;
-        if lines.is_empty()
-            || net > i64::from(lines[0].most)
-            || net < i64::from(lines[lines.len() - 1].most)
-        {
-            return None;
-        }
-        let (place, value) = value_in(lines, net, self.near);
-        self.near = place;
-        Some(value)
-    }
-}
-
-/// The readers of a choice's curves: before it, and after it if it is left and if it is taken.
-#[derive(Drop)]
-struct Readers<'a> {
-    before: Reader<'a>,
-    left: Reader<'a>,
-    taken: Reader<'a>,
-}
-
-impl Readers<'_> {
-    /// The loss of the choice at the net volume.
-    fn loss(&mut self, choice: &Choice, net: i64) -> Loss
-        requires choice { (before : List (List Step)) × (after : List (List Step))
-            × AreReadAt self.old.before self.old.left self.old.taken choice.now before after net }
-        requires value_least { neg_ℤ (pos (2 ^ 62)) ≤ℤ choice.now.value }
-        requires value_most { choice.now.value ≤ℤ pos (2 ^ 62) }
-        ensures value { (before after : List (List Step))
-            → AreReadAt self.old.before self.old.left self.old.taken choice.now before after net
-            → IsLoss before after choice.now net result }
-        ensures before { self.new.before ≡ self.old.before }
-        ensures left { self.new.left ≡ self.old.left }
-        ensures taken { self.new.taken ≡ self.old.taken }
-    {
-        let before = self.before.welfare(net);
-        let left = self.left.welfare(net);
-        let taken = match self.taken.welfare(net + i64::from(choice.net)) {
-            Some(welfare) => Some(choice.value + welfare),
-            None => None,
-        };
-        Loss {
-            left: kept(before, left),
-            taken: kept(before, taken),
-        }
-    }
-}
-
 /// The lines of a curve among those of many.
 fn lines_of(lines: &[Line], curve: Curve) -> &[Line]
     requires { curve.first + curve.count ≤ length lines.now }
@@ -164,6 +64,7 @@ fn write_losses<A: Allocator>(
     least: i64,
     most: i64,
 ) -> Result<(), AllocError>
+    requires ordered { least ≤ℤ most }
     requires choice { (earlier : List (List Step)) × (later : List (List Step))
         × ((net : ℤ) → least ≤ℤ net → net ≤ℤ most
         → AreReadAt before.now after.now after.now choice.now earlier later net) }
@@ -176,15 +77,11 @@ fn write_losses<A: Allocator>(
         → OnOk result (IsLossAt losses.new.items earlier later choice.now net place) }
     ensures kept { take (length losses.old.items) losses.new.items ≡ losses.old.items }
 {
-    let mut readers = Readers {
-        before: Reader::new(before),
-        left: Reader::new(after),
-        taken: Reader::new(after),
-    };
+    losses.reserve((most - least) as usize + 1)?;
+    let mut readers = Readers::new(before, after);
     let mut net = least;
     while net <= most {
-        losses.push(readers.loss(choice, net))?;
-        net += 1;
+        net = readers.write_losses(losses, choice, net, most) + 1;
     }
     Ok(())
 }

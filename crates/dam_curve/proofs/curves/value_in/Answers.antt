@@ -24,7 +24,7 @@ returns c = record {
   value = λ ps least most is.
       (let net : to_z w64 (of_z w64 c.args.net) ≡ c.args.net = search rules in
       let own : to_z w64 (of_z w64 c.value_of.result) ≡ c.value_of.result = search rules in
-      ap (λ (z : ℤ). Some z) (own ∙ c.value_of.ensures)
+      ap (λ (z : ℤ). Some z) (own ∙ c.value_of.ensures.value)
       ∙ value_at (joint_welfare ps) c.args.lines.now (to_z w64 (of_z w64 c.args.net)) c.place_of-place.result
       (record { most = pos 0; price = pos 0; surplus = pos 0 }) is.are_lines
       (within_lines c.args.lines.now c.args.net (to_z w64 (of_z w64 c.args.net)) net c.requires.some c.requires.bottom c.requires.top)

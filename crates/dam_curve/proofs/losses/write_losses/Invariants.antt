@@ -1,6 +1,7 @@
--- The losses of the net volumes so far stand after those that were there, and the readers keep their lines.
-use Rattle.std.proofs.Common.{◌≡◌, pos, ◌+ℤ◌}
-use borrow.Author.Gap.{gap}
+-- The losses of the net volumes so far stand after those that were there, there is room for the others, and the readers keep
+-- their lines.
+use Rattle.std.proofs.Common.{◌≡◌, pos, ◌+ℤ◌, ◌-ℤ◌, ◌<ℤ◌, nat_abs}
+use Rattle.std.specs.Vec.{vec_len, vec_capacity}
 use Rattle.dam_curve.proofs.Losing.{AreLossesSoFar}
 use Rattle.dam_curve.proofs.losses.write_losses.Given as goal
 
@@ -10,7 +11,8 @@ invariant-loop-net g l = record {
   left : l.readers.left ≡ l.after;
   taken : l.readers.taken ≡ l.after;
   so_far : AreLossesSoFar l.before l.after l.choice l.fn.losses.items l.losses.items l.least l.net;
+  room : (pos (vec_len l.losses) +ℤ (l.most -ℤ l.net)) <ℤ pos (vec_capacity l.losses);
 }
 
 abbrev pub decreases-loop-net : goal.decreases-loop-net
-decreases-loop-net g l = gap l.net (l.most +ℤ pos 1)
+decreases-loop-net g l = nat_abs ((l.most +ℤ pos 1) -ℤ l.net)
