@@ -54,23 +54,32 @@ impl Reach {
     }
 }
 
-/// From which block on the losses are kept: those of as many of the last blocks as there is room for.
-pub(crate) fn first_with_losses(blocks: &[Block], firsts: &[u32; MOST_PERIODS]) -> usize {
+/// Which blocks keep their losses.
+#[derive(Clone, Copy)]
+pub(crate) struct Room {
+    /// From which block on they are kept.
+    pub(crate) first: usize,
+    /// How many losses these are at most.
+    pub(crate) losses: u64,
+}
+
+/// Which blocks keep their losses: as many of the last ones as there is room for.
+pub(crate) fn room_for(blocks: &[Block], firsts: &[u32; MOST_PERIODS]) -> Room {
     let mut reach = Reach::of(firsts);
     for block in blocks {
         reach.widen(&block.order);
     }
-    let mut room = MOST_LOSSES;
-    let mut place = blocks.len();
-    while place > 0 {
-        let order = &blocks[place - 1].order;
+    let mut losses = 0u64;
+    let mut first = blocks.len();
+    while first > 0 {
+        let order = &blocks[first - 1].order;
         reach.narrow(order);
-        let count = reach.over(order);
-        if count > room {
+        let more = losses.saturating_add(reach.over(order));
+        if more > MOST_LOSSES {
             break;
         }
-        room -= count;
-        place -= 1;
+        losses = more;
+        first -= 1;
     }
-    place
+    Room { first, losses }
 }

@@ -19,7 +19,7 @@ ghost use Rattle.dam_blocks.specs.Magnitude.{IsWithin};
 use crate::classes::firsts_of;
 use crate::families::families_of;
 use crate::periods::Periods;
-use crate::room::first_with_losses;
+use crate::room::{Room, room_for};
 use crate::touch::{Lot, Touch};
 use dam_blocks::{Block, MOST_PERIODS, Problem, Selection, value_of};
 use dam_book::{BlockOrder, Period, Qty, Side};
@@ -374,6 +374,13 @@ fn lots_of<A: Allocator, B: Allocator, C: Allocator + Copy>(
     Ok(lots)
 }
 
+/// Which blocks of the problem keep their losses, if any do.
+fn room_of<A: Allocator>(problem: &Problem<A>) -> Room {
+    let periods = usize::from(problem.periods().get());
+    let blocks = problem.blocks();
+    room_for(blocks, &firsts_of(blocks, periods))
+}
+
 impl<A: Allocator + Copy> Tables<A> {
     /// The tables of a problem, which keep no losses: a walk takes each from the curves. They are made quickly, for a
     /// short walk. The error is out of memory.
@@ -391,9 +398,7 @@ impl<A: Allocator + Copy> Tables<A> {
     ) -> Result<Tables<A>, AllocError>
         ensures { IfOk result (AreTablesOf (without_rows problem.now)) }
     {
-        let periods = usize::from(problem.periods().get());
-        let firsts = firsts_of(problem.blocks(), periods);
-        Tables::made(alloc, problem, first_with_losses(problem.blocks(), &firsts))
+        Tables::made(alloc, problem, room_of(problem).first)
     }
 
     /// The tables of a problem, which keep the losses from the block at the place `kept` on. The error is out of
@@ -432,5 +437,13 @@ impl<A: Allocator + Copy> Tables<A> {
             root,
             families: families_of(alloc, blocks)?,
         })
+    }
+}
+
+impl Tables {
+    /// How many losses the tables made by `with_losses` keep at most: a measure of what it costs to make them, of which
+    /// nothing is promised. Takes no memory.
+    pub fn losses_of<A: Allocator>(problem: &Problem<A>) -> u64 {
+        room_of(problem).losses
     }
 }

@@ -9,15 +9,20 @@ use dam_blocks::Problem;
 use dam_bound::{Tables, Walk};
 use std::alloc::Global;
 
-/// How many nodes a trial visits at most. To compute the losses takes some milliseconds, in which a walk without them
-/// visits about as many nodes.
-const TRIAL_NODES: u32 = 65_536;
+/// How many losses can be made, as measured, in the time in which a walk by tables without losses visits a node. So a
+/// trial takes about as long as making the losses.
+const LOSSES_A_NODE: u64 = 16;
+
+/// How many nodes a trial visits at most.
+fn trial_nodes(problem: &Problem) -> u32 {
+    u32::try_from(Tables::losses_of(problem) / LOSSES_A_NODE).unwrap_or(u32::MAX)
+}
 
 /// Tables for a search whose pieces visit at most `nodes` nodes each, if this welfare is offered before it.
 ///
-/// A walk of at most 65,536 nodes tries the given tables, unless the search is limited to fewer. If it isn't done, new
-/// tables that keep losses take their place. If there is no memory for these, the given ones serve. The selection that
-/// the trial finds isn't used.
+/// A walk tries the given tables for as many nodes as could be visited while the losses are made, unless the search is
+/// limited to fewer. If it isn't done, new tables that keep losses take their place. If there is no memory for these, the
+/// given ones serve. The selection that the trial finds isn't used.
 pub(crate) fn tables_for(
     alloc: Global,
     problem: &Problem,
@@ -28,13 +33,14 @@ pub(crate) fn tables_for(
     requires { AreTablesOf (without_rows problem.now) tables }
     ensures { AreTablesOf (without_rows problem.now) result }
 {
-    if nodes <= TRIAL_NODES {
+    let trial = trial_nodes(problem);
+    if nodes <= trial {
         return tables;
     }
     let mut incumbent = Private::new();
     incumbent.offer(first);
     let walk = &Walk::new(problem, &tables);
-    if search_piece(problem, walk, 0, 0, TRIAL_NODES, &mut incumbent).done {
+    if search_piece(problem, walk, 0, 0, trial, &mut incumbent).done {
         return tables;
     }
     match Tables::with_losses(alloc, problem) {

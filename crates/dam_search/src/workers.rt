@@ -199,8 +199,8 @@ pub(crate) fn explore_all<R: Threads + Sync, T: Turnstile + Sync>(
 /// accepts the block at the first place where two differ. No plan and no order in which the workers
 /// happen to run changes it.
 ///
-/// The search first finds a good selection, and offers its welfare before any worker starts. If the plan allows more than
-/// 65,536 nodes, it then tries as many, to see whether it is long: a long one is given tables of some MiB, which are
+/// The search first finds a good selection, and offers its welfare before any worker starts. It then tries some thousands
+/// of nodes, if the plan allows more, to see whether it is long: a long one is given tables of some MiB, which are
 /// quicker to read. The limit on nodes counts no node of the trial. The cutting
 /// decides as many of the first blocks as the plan says, or all of them if there are fewer. The workers,
 /// each on a thread of its own, draw its pieces as they come free, and prune by the greatest welfare

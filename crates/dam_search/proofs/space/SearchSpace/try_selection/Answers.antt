@@ -1,10 +1,9 @@
 -- The selection of a prefix that decides every block is its only completion that can be eligible.
-use Rattle.std.proofs.Common.{◌⊎◌, ◌≤◌, inl, inr, ℤ, pos, ◌<ℤ◌, List, Bool, length, ap, ◌∙◌, sym, subst, rules, arith}
+use Rattle.std.proofs.Common.{◌⊎◌, ◌≤◌, inl, inr, ℤ, pos, ◌<ℤ◌, List, Bool, length, ◌∙◌, sym, subst, rules, arith}
 use Rattle.std.proofs.lemmas.Int.{to_z-of_z}
 use mir.Syntax.{w64}
 use mir.Val.{SFits}
 use Rattle.dam_book.specs.Limits.{most_blocks}
-use Rattle.dam_blocks.specs.Problem.{ProblemState}
 use Rattle.dam_blocks.specs.Selection.{padded}
 use Rattle.dam_blocks.specs.Eligible.{IsEligible}
 use Rattle.dam_search.specs.Piece.{IsMatched}
