@@ -34,7 +34,7 @@ MOST_BYTES = {
 }
 WRITTEN = re.compile(r"<!-- the (.*?): tools/reading-list --write -->.*?<!-- the end of the \1 -->", re.DOTALL)
 # The headings of a crate's README.
-HEADINGS = ["For whom", "Use", "What its contracts promise", "What is only tested", "What it knows nothing of"]
+HEADINGS = ["For whom", "Use", "Promises of its contracts", "Only tested", "Out of its scope"]
 SCREEN = 45  # lines
 # Each word of the code and of the definitions.
 SOURCES = {
