@@ -21,16 +21,17 @@ WIDEST = 140  # columns of a line that isn't of a table
 OTHER_WORDS = re.compile(r"\b(anew|beside|dear|so many|want of|whoever)\b", re.IGNORECASE)
 # The most bytes of a page, without the parts that a script writes. A page that grows beyond is split, or says things twice.
 MOST_BYTES = {
-    "README.md": 8_500,
-    "ARCHITECTURE.md": 7_500,
-    "ASSURANCE.md": 23_000,
-    "DECISIONS.md": 20_000,
+    "README.md": 7_900,
+    "ARCHITECTURE.md": 7_000,
+    "ASSURANCE.md": 22_000,
+    "DECISIONS.md": 15_000,
+    "MEASURED.md": 8_000,
     "OPERATING.md": 6_000,
     "READING.md": 4_500,
-    "TESTED.md": 14_000,
+    "TESTED.md": 13_000,
     "THEOREM.md": 10_000,
     "TRUST.md": 8_000,
-    "USING.md": 17_000,
+    "USING.md": 14_000,
 }
 WRITTEN = re.compile(r"<!-- the (.*?): tools/reading-list --write -->.*?<!-- the end of the \1 -->", re.DOTALL)
 # The headings of a crate's README.
