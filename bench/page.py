@@ -43,7 +43,7 @@ HEAD = """# Measured figures
 `bench/run` measures, and `bench/page.py` writes this page. A figure is the median of several runs; runs that are compared take turns. The
 head of each part's script says how it measures. On a busy machine, as the load of the minute before shows, a figure says little.
 
-Every figure is in a CSV file, with its target and, of a comparison, both figures; some stand here too. Missed targets stand here by kind:
+Every figure is in a CSV file, with its target and, for a comparison, both figures; some stand here too. Missed targets stand here by kind:
 how many of a kind are missed, their figures, and the worst. `grep MISSED bench/measured/*.csv` prints each.
 """
 
