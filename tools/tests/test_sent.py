@@ -200,7 +200,7 @@ class Worked(unittest.TestCase):
             (["day,23,,,,,,,", *OWN], "it is for a day of 23 periods, but the journal is for one of 24"),
             (
                 [OWN[0], "cancel,A,H1"],
-                "line 2: it has 3 fields and should have 9, so 6 commas are missing: add what is missing at its end",
+                "line 2: it has 3 fields and should have 9, so 6 commas are missing: complete it at its end",
             ),
             (
                 [OWN[0], OWN[1].replace("200", "2.00")],
