@@ -1,5 +1,6 @@
 """Facts that several pages need: each page has the same numbers as the code, and explanations stand on one page."""
 
+import ast
 import re
 import unittest
 
@@ -107,6 +108,28 @@ class Facts(unittest.TestCase):
         count = len(list((TOP / "crates").glob("*/must-fail/*.edit")))
         said = re.findall(r"(\d+) of `must-fail/`", "".join(map(plain, PAGES)))
         self.assertEqual(said, [str(count)])
+
+    def test_the_lines_of_the_audit(self):
+        """They are said in round numbers."""
+        text, lib = plain(TOP / "docs" / "AUDIT.md"), TOP / "tools" / "lib"
+
+        def lines(paths):
+            return sum(len(path.read_text().splitlines()) for path in paths)
+
+        found, left = set(), [TOP / "tools" / "audit"]
+        while left:
+            path = left.pop()
+            if path not in found:
+                found.add(path)
+                nodes = [node for node in ast.walk(ast.parse(path.read_text())) if isinstance(node, ast.ImportFrom)]
+                names = {name.name for node in nodes if node.module in ("lib", None) for name in node.names}
+                names |= {node.module.removeprefix("lib.") for node in nodes if node.module}
+                left += [each for each in (lib / f"{name}.py" for name in names) if each.exists()]
+        modules = re.findall(r"`(\w+)`", re.search(r"in `tools/lib/` the modules (.*?)\.", text)[1])
+        self.assertLessEqual({lib / f"{name}.py" for name in modules}, found)
+        for said, count in (r"some ([\d,]+) lines of Python", lines(found)), (r"some ([\d,]+) of these", lines(lib / f"{name}.py" for name in modules)):
+            with self.subTest(said):
+                self.assertAlmostEqual(int(re.search(said, text)[1].replace(",", "")) / count, 1, delta=0.1)
 
     def test_the_numbers_of_definitions(self):
         """They are said in round numbers."""
