@@ -152,7 +152,7 @@ class Worked(unittest.TestCase):
         wanted = (command.NO_INPUT, "", f"audit: sent isn't what A sent: {said}\n")
         self.assertEqual(audit(PUBLISHED, text_of([heads, *rows])), wanted)
         heads, rows = heads.removeprefix("what,"), ["A,H1,hour,bye,3.00,1,1"]
-        said = "audit: sent isn't what A sent: not each row of its table is an order: line 2, column side: 'bye' should be buy or sell\n"
+        said = "audit: sent isn't what A sent: its table has rows that aren't orders: line 2, column side: 'bye' should be buy or sell\n"
         self.assertEqual(audit(PUBLISHED, text_of([heads, *rows])), (command.NO_INPUT, "", said))
 
     @unittest.skipUnless(command.has("openpyxl"), "openpyxl is missing (Debian's python3-openpyxl)")
