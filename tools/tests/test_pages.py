@@ -19,6 +19,8 @@ MOST = 200  # characters of a cell
 WIDEST = 140  # columns of a line that isn't of a table
 # What the house rule of English has other words for, apart from the table of that rule.
 OTHER_WORDS = re.compile(r"\b(anew|beside|dear|so many|want of|whoever)\b", re.IGNORECASE)
+# Pages whose sentences with 'what' aren't looked at: examples, and sentences that stand in sources.
+OTHER_PAGES = {"CONTRIBUTING.md", "CHECK.md", "OPERATING.md", "DEFINITIONS.md", "READING.md"}
 # The most bytes of a page, without the parts that a script writes. A page that grows beyond is split, or says things twice.
 MOST_BYTES = {
     "README.md": 7_900,
@@ -88,6 +90,17 @@ class Pages(unittest.TestCase):
                 if not (page.name == "CONTRIBUTING.md" and line.lstrip().startswith("|")):
                     with self.subTest(page=page.name, line=line[:40]):
                         self.assertIsNone(OTHER_WORDS.search(line))
+
+    def test_what_is_not_a_noun(self):
+        """In sentences, 'what' only asks; headings, tables, quotes and the pages with examples of the rule are left out."""
+        for page in PAGES:
+            if page.name not in OTHER_PAGES:
+                lines = (line for line in prose(page).splitlines() if not line.lstrip().startswith(("|", "#", "- [")))
+                text = WRITTEN.sub("", "\n".join(lines))
+                text = re.sub(r"`[^`]*`|\]\([^)]*\)|\[[^\]]*\?\]", "", text)
+                for sentence in re.split(r"(?<=[.:;?])\s", text):
+                    with self.subTest(page=page.name, sentence=sentence[:60]):
+                        self.assertTrue(sentence.endswith("?") or not re.search(r"\b[Ww]hat\b(?! if\b)", sentence))
 
     def test_each_crate_has_a_readme_of_a_screen(self):
         for crate in CRATES:
