@@ -16,7 +16,6 @@ NUMBER = r"(-?\d[\d,]*)"
 # How a limit is said, and its numbers. At the first two words of a line a comment may begin.
 LIMITS = {
     rf"{NUMBER} hourly orders and {NUMBER} blocks": (rules.MOST_HOURLY, rules.MOST_BLOCKS),
-    rf"at most {NUMBER} blocks\*\* and {NUMBER} hourly": (rules.MOST_BLOCKS, rules.MOST_HOURLY),
     rf"(?:up to|at most|has|have) {NUMBER} hourly orders": (rules.MOST_HOURLY,),
     rf"whole cents(?: per MWh,)? from {NUMBER} to {NUMBER}": (rules.LEAST_PRICE, rules.GREATEST_PRICE),
     rf"whole tenths of a MW, from 1 to {NUMBER}": (rules.GREATEST_VOLUME,),
@@ -44,11 +43,11 @@ ONCE = {
     r"the launcher `\./dam` couldn't build": ["FORMATS.md"],
     r"\| `device: read` \|": ["FORMATS.md"],
     r"no run is known": ["FORMATS.md"],
-    r"\d minutes \d+ seconds": ["CHECK.md"],
+    r"some 20 minutes, once": ["README.md"],
     r"None of them changes the results": ["USING.md"],
     r"\| `--workers N` \|": ["USING.md"],
     r"[Tt]ies go to the larger bought volume, and|Ties go to the selection": ["RULES.md", "RULES.md"],
-    r"\b37 (?:of `must-fail/`|in each)": ["CHECK.md"],
+    r"\b\d+ of `must-fail/`": ["CHECK.md"],
     r"from memory": ["RULES.md", "THEOREM.md"],
     r"\b60 times\b": ["dam.h"],
     r"each of the 2\^n selections": ["AUDIT.md"],
