@@ -1,6 +1,6 @@
 #!/usr/bin/env python3
-"""Looks at versions of a book of 4,000 orders, alone and while other threads call and look, compared with a plain program's; what a
-call costs with 100, 1,000 and 4,000 orders held; and the time and memory of a day of 9,999 commands.
+"""Looks at versions of a book of 4,000 orders, alone and while other threads call and look, compared with a plain program's; the cost
+of a call with 100, 1,000 and 4,000 orders held; and the time and memory of a day of 9,999 commands.
 
 The plain program looks at a version through a lock-free pointer, and copies its book in every call. A day's memory may be 4 times that
 of a gate whose looks took its lock. If a program of the measures from before a change is named, it takes turns with today's. A tenth is

@@ -12,6 +12,7 @@ import os
 import re
 import subprocess
 import sys
+import textwrap
 from pathlib import Path
 
 HERE = Path(__file__).resolve().parent
@@ -23,28 +24,27 @@ RUN_COLUMNS = ["part", "date", "commit", "machine", "load", "kit", "notes"]
 # The figures that the page shows of each part, apart from those that miss a target; the others stand in the files alone. Of two groups the
 # first names the row of a table, and the second its column.
 SHOWN = {
-    "quick": r"(?:dam (?:replay|clear|day)|settle) .*(?:wall time|plain pass)|Hour::clear, 4,000.*",
+    "quick": r"(?:dam (?:replay|clear)|settle) .*(?:wall time|plain pass)|Hour::clear, 4,000.*",
     "families": r"(\w+) (\d+), plan 2 3: dam clear",
     "blocks": r"(\w+) (\d+), spread 50, seed 1: dam clear",
-    "growth": r"All selections of 24 blocks, tried one by one: (\w+), (\d+ periods), dam clear",
     "workers": r".*4 workers as fast as 1",
     "looks": r"a look compared with a plain one, while [03] threads.*|a call, 4,000 orders held|dam day.*",
-    "quarters": r"(\w+) (\d+): dam clear of 96 periods compared with 24",
+    "quarters": r"dam replay of 10,000 blocks.*",
 }
 # What the cells of such a table are, and the names of its columns.
 CELLS = {
     "families": ("`dam clear` by the default plan", "{} hourly orders"),
     "blocks": ("`dam clear` by the default plan, spread 50", "{} periods"),
-    "growth": ("`dam clear` with 24 blocks", "{}"),
-    "quarters": ("96 periods compared with 24", "{} hourly orders"),
 }
 PICTURES = {"growth": "![Nodes of each family by the number of blocks, compared with 2^n](growth.svg)\n"}
+UNITS = {"ns": 1e-9, "us": 1e-6, "ms": 1e-3}  # of a second
 HEAD = """# Measured figures
 
-`bench/run` measures, and `bench/page.py` writes this page. A figure is the median of several runs; runs that are compared take turns. Some
-figures of each part stand here, and all that miss their target. `bench/measured/` has every figure as CSV, with its target and, if two
-things are compared, the figure of each. The head of each part's script says how it measures, and explains some figures. The load says how
-busy the machine was before: on a busy machine a figure says little.
+`bench/run` measures, and `bench/page.py` writes this page. A figure is the median of several runs; runs that are compared take turns. The
+head of each part's script says how it measures. On a busy machine, as the load of the minute before shows, a figure says little.
+
+Every figure is in a CSV file, with its target and, for a comparison, both figures; some stand here too. Missed targets stand here by kind:
+how many of a kind are missed, their figures, and the worst. `grep MISSED bench/measured/*.csv` prints each.
 """
 
 
@@ -120,6 +120,11 @@ def about(part):
     return ast.get_docstring(ast.parse(text)).split("\n\n")[0]
 
 
+def filled(text):
+    """A paragraph in lines of at most 140 columns."""
+    return "".join(f"{line}\n" for line in textwrap.wrap(text, 140))
+
+
 def row(fields):
     return f"| {' | '.join(field.replace('|', '/') for field in fields)} |"
 
@@ -130,6 +135,8 @@ def table(head, rows):
 
 def shown(part, rows):
     """The figures that the page shows of a part."""
+    if part not in SHOWN:
+        return ""
     found = [(re.fullmatch(SHOWN[part], each[0]), *each[:4]) for each in rows]
     found = [each for each in found if each[0]]
     if part not in CELLS:
@@ -142,24 +149,58 @@ def shown(part, rows):
     return table([what, *map(column.format, columns)], lines) if found else ""
 
 
+def size(figure):
+    """A figure as a number, by which figures of one kind can be sorted: a time in seconds, any other in its own unit."""
+    number, _, unit = figure.partition(" ")
+    return float(number.replace(",", "")) * UNITS.get(unit, 1)
+
+
+def span(figures):
+    """From the least to the greatest of these, with their unit once if it is the same."""
+    least, greatest = min(figures, key=size), max(figures, key=size)
+    if least == greatest:
+        return least
+    number, _, unit = least.partition(" ")
+    return f"{number if greatest.endswith(f' {unit}') else least} to {greatest}"
+
+
+def missed(rows):
+    """A row for each kind of missed target, the words after the last colon with the target itself: how many are missed of how many, their
+    figures, and which is furthest from the target."""
+    kinds = collections.defaultdict(list)
+    for what, figure, target, holds, _ in rows:
+        where, _, kind = what.rpartition(": ")
+        kinds[kind, target].append((where, figure, holds == "MISSED"))
+    for (kind, target), found in kinds.items():
+        wrong = [(where, figure) for where, figure, is_missed in found if is_missed]
+        if wrong:
+            furthest, _ = (min if target.startswith("at least") else max)(wrong, key=lambda each: size(each[1]))
+            yield [kind, f"{len(wrong)} of {len(found)}", span([figure for _, figure in wrong]), target, furthest]
+
+
 def section(part):
+    return "\n".join(filter(None, [f"## `bench/run {part}`\n", f"{about(part)}\n", shown(part, read(KEPT / f"{part}.csv")), PICTURES.get(part)]))
+
+
+def counted(part, date, commit, load, notes):
+    """The row of a part's run, with its figures and how many of its targets are missed; of the load the mean of the last minute."""
     rows = read(KEPT / f"{part}.csv")
     counts = collections.Counter(holds for _, _, _, holds, _ in rows)
-    kept = f"[All {len(rows)} figures](../bench/measured/{part}.csv)"
-    kept += f"; {counts['holds']} targets hold, {counts['MISSED']} are missed." if counts["holds"] or counts["MISSED"] else "."
-    missed = [[what, figure, target] for what, figure, target, holds, _ in rows if holds == "MISSED"]
-    parts = [f"## `bench/run {part}`\n", f"{about(part)}\n", f"{kept}\n", shown(part, rows)]
-    parts += [table(["Missed", "Figure", "Target"], missed)] if missed else []
-    return "\n".join(filter(None, [*parts, PICTURES.get(part)]))
+    wrong = f"{counts['MISSED']} of {counts['MISSED'] + counts['holds']}"
+    return [part, f"[{len(rows)}](../bench/measured/{part}.csv)", wrong, date, commit, load.split(" ")[0] or "unknown", notes]
 
 
 def page():
     runs = read(KEPT / "runs.csv")
-    head = ["Part", "Day", "Commit", "Load before", "Notes"]
-    when = table(head, [[run[0], run[1], run[2], run[4] or "unknown", run[6]] for run in runs])
+    notes = list(dict.fromkeys(note for run in runs for note in run[6].split("; ") if note))
+    lines = [counted(*run[:3], run[4], " ".join(f"({notes.index(note) + 1})" for note in run[6].split("; ") if note)) for run in runs]
+    when = table(["Part", "Figures", "Targets missed", "Day", "Commit", "Load", "Notes"], lines)
+    notes = "; ".join(f"({number}) {note}" for number, note in enumerate(notes, 1))
     machines = dict.fromkeys(f"{run[3]}, kit `{run[5]}`" for run in runs)
-    where = "".join(f"Machine: {machine}.\n" for machine in machines)
-    return "\n".join([HEAD, when, where, *map(section, (run[0] for run in runs))])
+    where = "".join(f"Machine: {machine}.\n" for machine in machines) + (f"Notes: {notes}.\n" if notes else "")
+    wrong = [[run[0], *each] for run in runs for each in missed(read(KEPT / f"{run[0]}.csv"))]
+    wrong = table(["Part", "Missed", "How many", "Figures", "Target", "Worst"], wrong) if wrong else "None.\n"
+    return "\n".join([HEAD, when, filled(where), "## Missed targets\n", wrong, *map(section, (run[0] for run in runs))])
 
 
 def main():

@@ -1,6 +1,6 @@
 #!/usr/bin/env python3
 """How much faster several workers are than one; one worker on shared words compared with one on a word of its own; and the default
-plan compared with one worker. The seconds are those of the search alone.
+plan compared with one worker. The seconds are the search's alone.
 
 A second worker costs the start of a thread, about a tenth of a millisecond, which a search that ends within a few milliseconds doesn't
 win back. Instructions show the cost of shared words better than time does: as `valgrind` counts them, there are 1.04 times as many as

@@ -71,7 +71,7 @@ class Lint:
                 self.bar.step(at - behind)
             behind = at
             if number > rules.MOST_RECORDS:
-                self.tell(line, f"a journal has at most {rules.MOST_RECORDS - 1} commands: remove what follows")
+                self.tell(line, f"a journal has at most {rules.MOST_RECORDS - 1} commands: remove the rest")
                 self.is_cut = True
                 break
             if record in RESULTS or record[0] == b"welfare":
@@ -164,7 +164,7 @@ class Lint:
         missing = most - count
         if missing > 0:
             commas = "a comma is missing" if missing == 1 else f"{missing} commas are missing"
-            do = f"write {whole}" if whole else "add what is missing at its end"
+            do = f"write {whole}" if whole else "complete it at its end"
             self.tell(line, f"it has {count} field{'s' * (count > 1)} and should have {most}, so {commas}: {do}")
         elif missing < 0:
             do = "a field can't contain a comma"

@@ -173,7 +173,7 @@ def period_table(day):
         rows.append([number, begins, cents, supporting(found), text.shown_volume(day.said.volumes[number - 1]), *parts])
     words = ["hourly buys, MW", "block buys, MW", "hourly sells, MW", "block sells, MW"]
     columns = heads("#period", "#begins", "price, EUR/MWh", "#supporting prices", "volume, MW", *words)
-    return Table("The price of each period, the prices that support it, and what is bought and sold", columns, rows)
+    return Table("The price of each period, the prices that support it, and the bought and sold volumes", columns, rows)
 
 
 def periods_of(order):
@@ -192,7 +192,7 @@ def block_table(day, found, limits):
         rows.append([name_cell(block.who, block.name), mark, why, euros(day, surplus), *row])
     columns = heads("surplus, EUR", "side", "limit, EUR/MWh", "periods", "offered, MWh", "linked by")
     caption = "Each block, the reason, and its surplus at the prices; for a rejected block, with the best family that it belongs to"
-    return Table(caption, [Head("block"), Head("decision", "decision"), Head("what decided", "why"), *columns], rows)
+    return Table(caption, [Head("block"), Head("decision", "decision"), Head("reason", "why"), *columns], rows)
 
 
 def order_row(day, row, made, found):
@@ -349,8 +349,8 @@ def statement_table(day, who, limits):
         rows.append([*row, cells["volume_mw"].replace(";", "; ")])
     columns = heads("is paid, EUR", "executed, MWh", "#command", "what", "kind", "side", "limit, EUR/MWh", "periods")
     columns.append(Head("volume, MW", f"{NUMBER} list"))
-    caption = f"Each command of {who}: what became of its order, or the reply, and the reason; an amount below 0 is paid by {who}"
-    return Table(caption, [Head("order"), Head("outcome", "outcome"), Head("what decided", "why"), *columns], rows)
+    caption = f"Each command of {who}: the result of its order, or the reply, and the reason; an amount below 0 is paid by {who}"
+    return Table(caption, [Head("order"), Head("outcome", "outcome"), Head("reason", "why"), *columns], rows)
 
 
 def own_periods(day, who):

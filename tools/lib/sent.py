@@ -96,7 +96,7 @@ def read_table(data, periods, who):
         orders = order_table.read_tables([("", data)], periods, who)
     except order_table.Wrong as fault:
         is_table = kinds.kind_of(data) == kinds.ORDERS
-        where = "not each row of its table is an order" if is_table else "it has no journal records and isn't a table of orders"
+        where = "its table has rows that aren't orders" if is_table else "it has no journal records and isn't a table of orders"
         raise Wrong(f"{where}: {fault}") from None
     return [Sent(number, submit) for number, submit in orders.submits], orders.others
 

@@ -54,21 +54,21 @@ def add_command(commands, call, name, epilog, words):
 def add_limit(commands, epilog):
     parser = add_command(commands, limit, "limit", epilog, "the worst limit at which a block is accepted")
     add = parser.add_argument
-    add("--participant", metavar="NAME", type=command.participant, required=True, help="whose order it is")
+    add("--participant", metavar="NAME", type=command.participant, required=True, help="the participant that entered the order")
     add("--order", metavar="NAME", type=order_name, help="the order")
     add("--all", action="store_true", help="every block of the participant, a row each")
     add("--jobs", metavar="N", type=jobs, help="how many clearings run at the same time (default: as many as there are processors)")
-    add("--from", dest="least", metavar="EUR", type=eur_mwh, help="of an hourly order: the least limit (default: 20 below the price)")
+    add("--from", dest="least", metavar="EUR", type=eur_mwh, help="for an hourly order: the least limit (default: 20 below the price)")
     add("--to", dest="greatest", metavar="EUR", type=eur_mwh, help="the greatest limit (default: 20 above the price)")
     add("--step", metavar="EUR", type=eur_mwh, help="the distance of two limits (default: 1.00)")
 
 
 def add_change(commands, epilog):
-    parser = add_command(commands, change, "change", epilog, "what further commands would have changed")
+    parser = add_command(commands, change, "change", epilog, "the effect of further commands")
     words = "further commands: records as in a journal, or a table of orders, or of commands with the column what (CSV or Excel); - for"
     words += " standard input"
     parser.add_argument("changes", metavar="CHANGES", help=words)
-    words = "of the orders only this participant's, and its gain and net amount"
+    words = "only this participant's orders, with its gain and net amount"
     parser.add_argument("--participant", metavar="NAME", type=command.participant, help=words)
 
 
@@ -114,7 +114,7 @@ def clear_one(args, running=None):
 def limit(args):
     """The worst limit at which a block is accepted, to the cent, or why no limit is enough; the prices, its surplus, the participant's gain
     and the welfare at it and one cent past it, and the other orders whose result differs. That is in words; with --decimal-comma, or a file
-    whose name ends with .csv or .xlsx, it is a table of one row. For an hourly order, what becomes of it under some limits."""
+    whose name ends with .csv or .xlsx, it is a table of one row. For an hourly order, its results under some limits."""
     output.check_options(args, args.journal)
     if args.all == bool(args.order):
         raise command.Stop("give --order with the order's name, or --all for every block", command.COMMAND_LINE)
@@ -199,8 +199,8 @@ def sampled(args, held, key):
 
 
 def change(args):
-    """What differs if further commands are put before the close: the welfare, prices and volumes, and each order's executed energy and
-    amount. The table is that of tools/compare."""
+    """The differences if further commands are put before the close: the welfare, prices and volumes, and each order's executed energy and
+    amount, in the table of tools/compare."""
     output.check_options(args, args.journal, args.changes)
     if args.journal == args.changes == "-":
         raise command.Stop("only one file can be standard input", command.COMMAND_LINE)
@@ -225,21 +225,21 @@ def change(args):
 
 
 def add_scenarios(commands, epilog):
-    parser = add_command(commands, run_scenarios, "scenarios", epilog, "what becomes of many scenarios")
+    parser = add_command(commands, run_scenarios, "scenarios", epilog, "the results of many scenarios")
     add = parser.add_argument
     words = "a table with the column scenario and those of a table of orders, or of commands with the column what (CSV or Excel)"
     add("scenarios", metavar="SCENARIOS", nargs="?", help=words)
-    words = "what is printed of each scenario (default: welfare; with --sample the blocks over all scenarios)"
+    words = "the table that is printed for each scenario (default: welfare; with --sample the blocks over all scenarios)"
     add("--rows", choices=scenario_tables.TABLES, help=words)
     add("--participant", metavar="NAME", type=command.participant, help="only this participant's rows; with --sample, whose orders stay")
     add("--order", metavar="NAME", type=order_name, help="only this order of the participant")
     add("--jobs", metavar="N", type=jobs, help="how many clearings run at the same time (default: as many as there are processors)")
     add("--sample", metavar="N", type=sample_count, help="random scenarios instead of a table")
-    add("--seed", metavar="WORD", help="of the random scenarios (default: 1)")
-    add("--price-sd", metavar="EUR", type=standard_deviation, help="the standard deviation that limits are changed by (default: 3)")
-    add("--volume-sd", metavar="SHARE", type=standard_deviation, help="that of the factor of volumes (default: 0.1)")
+    add("--seed", metavar="WORD", help="the seed of the random scenarios (default: 1)")
+    add("--price-sd", metavar="EUR", type=standard_deviation, help="the standard deviation of the changes of limits (default: 3)")
+    add("--volume-sd", metavar="SHARE", type=standard_deviation, help="the standard deviation of the factor of volumes (default: 0.1)")
     add("--cluster", metavar="ADDRESS", help="the scheduler of a dask cluster to run on, such as tcp://10.0.0.1:8786")
-    add("--quiet", action="store_true", help="print no notes on standard error; faults are still printed")
+    add("--quiet", action="store_true", help="leave out notes on standard error; faults are still printed")
 
 
 def sample_count(word):
@@ -336,7 +336,7 @@ def first_line(fault):
 
 
 def run_scenarios(args):
-    """What becomes of many scenarios: those of a table, each a name with the orders or commands that it adds to the journal; or with
+    """The results of many scenarios: of those in a table, each a name with the orders or commands that it adds to the journal; or with
     --sample random ones, in which the orders of all but one participant have other limits and volumes. An output that ends with .svg or
     .png is a picture of these."""
     output.check_options(args, args.journal, args.scenarios)

@@ -1,5 +1,6 @@
 """Facts that several pages need: each page has the same numbers as the code, and explanations stand on one page."""
 
+import ast
 import re
 import unittest
 
@@ -16,7 +17,7 @@ NUMBER = r"(-?\d[\d,]*)"
 LIMITS = {
     rf"{NUMBER} hourly orders and {NUMBER} blocks": (rules.MOST_HOURLY, rules.MOST_BLOCKS),
     rf"(?:up to|at most|has|have) {NUMBER} hourly orders": (rules.MOST_HOURLY,),
-    rf"(?:from|within) {NUMBER} to {NUMBER}(?: cents per MWh|\.? A volume)": (rules.LEAST_PRICE, rules.GREATEST_PRICE),
+    rf"whole cents(?: per MWh,)? from {NUMBER} to {NUMBER}": (rules.LEAST_PRICE, rules.GREATEST_PRICE),
     rf"whole tenths of a MW, from 1 to {NUMBER}": (rules.GREATEST_VOLUME,),
     rf"at most {NUMBER} bytes": (rules.MOST_BYTES,),
     rf"more than {NUMBER} bytes": (rules.MOST_BYTES,),
@@ -27,23 +28,36 @@ LIMITS = {
         {rules.MOST_DAY_PARTICIPANTS, None},
     ),
     rf"1 to {NUMBER} \| {NUMBER} \| stop": (engine.MOST_NODES, engine.MOST_NODES),
-    r"(\d+), (\d+) or (\d+) hours; or (\d+), (\d+) or (\d+) quarter-hours": tuple(rules.DAYS),
-    rf"{NUMBER} of these\s+units on a day of hours, and {NUMBER} on a day of": (1_000, 4_000),
-    rf"On a day of hours {NUMBER} of these\s+units are one EUR; on a day of quarter-hours, in which 1 MW makes 0.25 MWh, {NUMBER} are": (1_000, 4_000),
+    r"hours \((\d+), (\d+) or (\d+)\) or all quarter-hours \((\d+), (\d+) or (\d+)\)": tuple(rules.DAYS),
+    r"(\d+), (\d+) or (\d+) hours, and of (\d+), (\d+) or (\d+) quarter-hours": tuple(rules.DAYS),
+    rf"On a day of hours,? {NUMBER} (?:of these )?units": (1_000,),
+    rf"on a day of quarter-hours, in which 1 MW makes 0.25 MWh, {NUMBER} are": (4_000,),
 }
-# Explanations that stand once: other pages link to them.
+# Explanations that stand once, each with its page; the others link to it. The header stands alone, and the changelog says what a version had.
 ONCE = {
-    r"critical path dominates": "CHECK.md",
-    r"[Bb]est family\* is": "RULES.md",
-    r"whole\s+cents from the least, `low`, to the greatest": "RULES.md",
-    r"the launcher `\./dam` couldn't build": "FORMATS.md",
-    r"\| `device: read` \|": "FORMATS.md",
-    r"\| `HasChildren` \|": "RULES.md",
-    r"\| `--workers N` \|": "USING.md",
-    r"\| a day \| 23, 24 or 25": "README.md",
-    r"names that agree in the bits": "DECISIONS.md",
-    r"helgrind and drd report": "TESTED.md",
-    r"each of the 2\^n selections": "AUDIT.md",
+    r"whole cents per MWh": ["RULES.md", "dam.h"],
+    r"cents per MWh times tenths of a MW, and are": ["RULES.md"],
+    r"0.25 MWh, 4,000 are\b": ["RULES.md"],
+    r"\b92, 96 or 100\b": ["CHANGELOG.md", "RULES.md"],
+    r"\b24 blocks \(|\bat most 4,000 hourly": ["README.md", "RULES.md"],
+    r"the launcher `\./dam` couldn't build": ["FORMATS.md"],
+    r"\| `device: read` \|": ["FORMATS.md"],
+    r"no run is known": ["FORMATS.md"],
+    r"some 20 minutes, once": ["README.md"],
+    r"None of them changes the results": ["USING.md"],
+    r"\| `--workers N` \|": ["USING.md"],
+    r"[Tt]ies go to the larger bought volume, and|Ties go to the selection": ["RULES.md", "RULES.md"],
+    r"\b\d+ of `must-fail/`": ["CHECK.md"],
+    r"from memory": ["RULES.md", "THEOREM.md"],
+    r"\b60 times\b": ["dam.h"],
+    r"each of the 2\^n selections": ["AUDIT.md"],
+    r"no line for a refused order": ["USING.md"],
+    r"critical path dominates": ["CHECK.md"],
+    r"[Bb]est family\* is": ["RULES.md"],
+    r"whole cents from the least, `low`, to the greatest": ["RULES.md"],
+    r"\| `HasChildren` \|": ["RULES.md"],
+    r"names that agree in the bits": ["DECISIONS.md"],
+    r"helgrind and drd report": ["TESTED.md"],
 }
 
 
@@ -70,9 +84,9 @@ class Facts(unittest.TestCase):
                 self.assertGreater(counted, 0)
 
     def test_explanations_stand_once(self):
-        for said, home in ONCE.items():
+        for said, homes in ONCE.items():
             with self.subTest(said):
-                self.assertEqual([page.name for page in PAGES if re.search(said, page.read_text())], [home])
+                self.assertEqual(sorted(page.name for page in PAGES for _ in re.findall(said, plain(page))), homes)
 
     def test_the_statuses_of_the_cases_are_those_of_the_faults(self):
         """Each fault line of a worked case has a row of the table, with the status of the case."""
@@ -91,9 +105,30 @@ class Facts(unittest.TestCase):
 
     def test_the_number_of_wrong_bodies(self):
         count = len(list((TOP / "crates").glob("*/must-fail/*.edit")))
-        said = re.findall(r"(\d+) (?:wrong bodies of\s+`must-fail/`|in each\s+check|of `must-fail/`)", "".join(map(plain, PAGES)))
-        self.assertGreater(len(said), 2)
-        self.assertEqual(set(said), {str(count)})
+        said = re.findall(r"(\d+) of `must-fail/`", "".join(map(plain, PAGES)))
+        self.assertEqual(said, [str(count)])
+
+    def test_the_lines_of_the_audit(self):
+        """They are said in round numbers."""
+        text, lib = plain(TOP / "docs" / "AUDIT.md"), TOP / "tools" / "lib"
+
+        def lines(paths):
+            return sum(len(path.read_text().splitlines()) for path in paths)
+
+        found, left = set(), [TOP / "tools" / "audit"]
+        while left:
+            path = left.pop()
+            if path not in found:
+                found.add(path)
+                nodes = [node for node in ast.walk(ast.parse(path.read_text())) if isinstance(node, ast.ImportFrom)]
+                names = {name.name for node in nodes if node.module in ("lib", None) for name in node.names}
+                names |= {node.module.removeprefix("lib.") for node in nodes if node.module}
+                left += [each for each in (lib / f"{name}.py" for name in names) if each.exists()]
+        modules = re.findall(r"`(\w+)`", re.search(r"in `tools/lib/` the modules (.*?)\.", text)[1])
+        self.assertLessEqual({lib / f"{name}.py" for name in modules}, found)
+        for said, count in (r"some ([\d,]+) lines of Python", lines(found)), (r"some ([\d,]+) of these", lines(lib / f"{name}.py" for name in modules)):
+            with self.subTest(said):
+                self.assertAlmostEqual(int(re.search(said, text)[1].replace(",", "")) / count, 1, delta=0.1)
 
     def test_the_numbers_of_definitions(self):
         """They are said in round numbers."""

@@ -175,7 +175,7 @@ class Hand(unittest.TestCase):
         cancels = b"cancel,NORD,WIND-8,,,,,,\n" * 10_000
         self.assertEqual(
             [fault for fault in told(b"day,24,,,,,,,\n" + cancels + b"close,,,,,,,,\n") if "WIND-8" not in fault],
-            ["line 10002: a journal has at most 10000 commands: remove what follows"],
+            ["line 10002: a journal has at most 10000 commands: remove the rest"],
         )
 
     def test_one_fault_is_not_told_of_as_many(self):

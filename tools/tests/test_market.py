@@ -81,7 +81,7 @@ class Market(unittest.TestCase):
                 self.assertEqual(on_page[law], {clause for clause in clauses if clause})
 
     def test_each_case_runs(self):
-        table = PAGE.read_text().split("## What you might expect")[1]
+        table = PAGE.read_text().split("## Not promised")[1]
         named = re.findall(r"\| `([\w/-]+)` \|", table)
         pairs = {path.stem.rpartition("-")[0] for path in (TOP / "tests/cases/market").glob("*.csv")}
         self.assertEqual(pairs, {name for name in named if "/" not in name})

@@ -1,5 +1,6 @@
 """The page of measured figures: that it is made of the kept figures, and how a part's figures are taken over."""
 
+import re
 import sys
 import tempfile
 import unittest
@@ -21,6 +22,7 @@ ROWS = [
     ["links 500, plan 2 3: dam clear", "2 ms", "ends", "holds", ""],
     ["links 4000, plan 2 3: dam clear", "8 ms", "", "", ""],
     ["links 4000, plan 1 3: a node compared with the twin", "1.46 x", "at most 1.20 x", "MISSED", "46 ns and 31 ns"],
+    ["links 500: a node compared with the twin", "1.70 x", "at most 1.20 x", "MISSED", "51 ns and 30 ns"],
 ]
 
 
@@ -39,6 +41,26 @@ class Measured(unittest.TestCase):
             [[f"Time of dam clear: market, 24 periods, {blocks} blocks", figure, "", "", ""] for blocks, figure in ((8, "1 ms"), (24, "9 ms"))],
         )
 
+    def test_every_missed_target_is_counted(self):
+        text, total = page.PAGE.read_text(encoding="utf-8"), 0
+        for part in (row[0] for row in page.read(page.KEPT / "runs.csv")):
+            missed = [row for row in page.read(page.KEPT / f"{part}.csv") if row[3] == "MISSED"]
+            said = re.findall(rf"^\| {part} \| [^[|]* \| (\d+) of \d+ \| ([^|]*) \| ([^|]*) \| ([^|]*) \|$", text, re.MULTILINE)
+            with self.subTest(part):
+                self.assertEqual(sum(int(count) for count, *_ in said), len(missed))
+                for row in missed:
+                    self.assertTrue(any(row[2] == target for _, _, target, _ in said), row)
+                for _, figures, target, worst in said:
+                    found = [row for row in missed if row[0].startswith(worst) and row[2] == target]
+                    self.assertTrue(any(row[1].split(" ")[0] in figures for row in found), worst)
+            total += len(missed)
+        self.assertGreater(total, 10)
+
+    def test_a_span(self):
+        self.assertEqual(page.span(["1.90 x", "1.20 x", "1.5 x"]), "1.20 to 1.90 x")
+        self.assertEqual(page.span(["1.9 ms", "800 us", "0.1 s"]), "800 us to 0.1 s")
+        self.assertEqual(page.span(["1.9 ms"]), "1.9 ms")
+
     def test_a_part_is_taken_over(self):
         with tempfile.TemporaryDirectory() as folder:
             here = Path(folder)
@@ -50,10 +72,11 @@ class Measured(unittest.TestCase):
                 with unittest.mock.patch.dict("os.environ", {"HIGHS_LIMIT": "5", "BEFORE_IS": "that of yesterday"}):
                     page.take_over(["families"])
                 text = page.page()
-        self.assertIn("HiGHS had 5 s for each book; the program before is that of yesterday |", text)
-        self.assertIn("Hard books.\n\n[All 3 figures](../bench/measured/families.csv); 1 targets hold, 1 are missed.\n", text)
+        self.assertIn("Notes: (1) HiGHS had 5 s for each book; (2) the program before is that of yesterday.", " ".join(text.split()))
+        self.assertRegex(text, r"\| families \| \[4\]\(../bench/measured/families.csv\) \| 2 of 3 \| .* \| \(1\) \(2\) \|\n")
+        self.assertIn("Hard books.\n", text)
         self.assertIn("| links | 2 ms | 8 ms |\n", text)
-        self.assertIn("| Missed | Figure | Target |\n|---|---|---|\n| links 4000, plan 1 3: a node compared with the twin | 1.46 x |", text)
+        self.assertIn("| families | a node compared with the twin | 2 of 2 | 1.46 to 1.70 x | at most 1.20 x | links 500 |\n", text)
         self.assertNotIn("46 ns", text)
 
 

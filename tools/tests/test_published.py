@@ -71,7 +71,7 @@ class Curves(unittest.TestCase):
 class Blocks(unittest.TestCase):
     def test_the_auction_day(self):
         rows = {row["order"]: row for row in read(tables.TABLES["blocks"](day_of(AUCTION.read_bytes(), printed(AUCTION))))}
-        # RULES.md works these out.
+        # EXAMPLES.md works these out.
         self.assertEqual(rows["NOON"]["family_welfare_eur"], "3016400.000")
         self.assertEqual(rows["UNIT-7"]["family_welfare_eur"], "3024330.000")
         self.assertEqual((rows["UNIT-7"]["outcome"], rows["UNIT-7"]["family"]), ("paradoxically rejected", "UNIT-7"))

@@ -187,7 +187,7 @@ class Page(unittest.TestCase):
     def test_the_tables_have_the_decision_first(self):
         text = self.page(AUCTION.read_bytes(), printed(AUCTION))
         heads = re.findall(r"<th scope=\"col\"[^>]*>([^<]*)</th>", text[text.index('id="blocks"') :])
-        self.assertEqual(heads[:4], ["block", "decision", "what decided", "surplus, EUR"])
+        self.assertEqual(heads[:4], ["block", "decision", "reason", "surplus, EUR"])
         self.assertIn("blocks name this one as their parent", text)
 
     def test_the_page_of_a_participant(self):

@@ -152,7 +152,7 @@ class Worked(unittest.TestCase):
         wanted = (command.NO_INPUT, "", f"audit: sent isn't what A sent: {said}\n")
         self.assertEqual(audit(PUBLISHED, text_of([heads, *rows])), wanted)
         heads, rows = heads.removeprefix("what,"), ["A,H1,hour,bye,3.00,1,1"]
-        said = "audit: sent isn't what A sent: not each row of its table is an order: line 2, column side: 'bye' should be buy or sell\n"
+        said = "audit: sent isn't what A sent: its table has rows that aren't orders: line 2, column side: 'bye' should be buy or sell\n"
         self.assertEqual(audit(PUBLISHED, text_of([heads, *rows])), (command.NO_INPUT, "", said))
 
     @unittest.skipUnless(command.has("openpyxl"), "openpyxl is missing (Debian's python3-openpyxl)")
@@ -200,7 +200,7 @@ class Worked(unittest.TestCase):
             (["day,23,,,,,,,", *OWN], "it is for a day of 23 periods, but the journal is for one of 24"),
             (
                 [OWN[0], "cancel,A,H1"],
-                "line 2: it has 3 fields and should have 9, so 6 commas are missing: add what is missing at its end",
+                "line 2: it has 3 fields and should have 9, so 6 commas are missing: complete it at its end",
             ),
             (
                 [OWN[0], OWN[1].replace("200", "2.00")],

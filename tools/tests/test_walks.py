@@ -1,4 +1,4 @@
-"""The walks through example days in RULES.md: that the lines that they quote are printed, and that what they say of other
+"""The walks through example days in EXAMPLES.md: that the lines that they quote are printed, and that what they say of other
 selections is so by the audit's reading of the rules."""
 
 import re
@@ -12,7 +12,7 @@ LINE = re.compile(r"`((?:period|hour|block),[^`]*|\d+,(?:done|refused,\w+))`")
 
 def walk(heading):
     """The text of a section of the page, without its line ends."""
-    page = (TOP / "docs" / "RULES.md").read_text()
+    page = (TOP / "docs" / "EXAMPLES.md").read_text()
     return " ".join(page.partition(f"\n## {heading}\n")[2].partition("\n## ")[0].split())
 
 
