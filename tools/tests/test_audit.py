@@ -181,9 +181,24 @@ class Text(unittest.TestCase):
             b'a"b"\n': [[b'a"b"']],
             b'"a"""\n': [[b'a"']],
             b" a , b ": [[b" a ", b" b "]],
+            b"\0,\xff\x85\x0b\xe2\n": [[b"\0", b"\xff\x85\x0b\xe2"]],
+            b'a,"b\r\r\nc': [[b"a", b"b\r\r\nc"]],
+            b'"' + b"a" * 200_000: [[b"a" * 200_000]],
         }.items():
-            with self.subTest(given):
+            with self.subTest(given[:20]):
                 self.assertEqual(list(records(given)), wanted)
+
+    def test_where_records_and_open_quotes_begin(self):
+        from lib.text import open_quote, placed_records
+
+        text = b'\r\na,b\r\n\n"c""\n";d\re,"f'
+        self.assertEqual(list(placed_records(text)), [(2, [b"a", b"b"]), (8, [b'c"\n;d']), (17, [b"e", b"f"])])
+        self.assertEqual(list(placed_records(text, b";"))[1], (8, [b'c"\n', b"d"]))
+        for given, place in {b"": None, b'a"\n': None, b'"a"\n"b"': None, text: 8, text[9:]: 4, b'a,"b""c': 2, b'""""": 1"\n"': 10}.items():
+            with self.subTest(given):
+                self.assertEqual(open_quote(given), place)
+        self.assertEqual(open_quote(b'"a";"b', b";"), 4)
+        self.assertEqual(open_quote(b'a,"' + b"x" * 200_000), 2)
 
     def test_the_written_journal_reads_back(self):
         for number in range(300):
