@@ -1,7 +1,7 @@
 """The worked cases of tests/cases/. A file there is a text with several cases, which `read` reads and `written` writes.
 
-It begins with what its cases show, and maybe with the line `-- args` of the cases that have none. A case begins with a line `== NAME`, and
-maybe what it shows. Then come its parts, each a line `-- PART`, most with lines below it:
+It begins with what its cases show, and maybe with the line `-- args` of the cases that have none. A case begins with a
+line `== NAME`, and maybe with what it shows. Then come its parts, each a line `-- PART`, most with lines below it:
 
     -- args WORD..          the program's arguments
     -- runs                 further arguments: the program is run once with those of each line
@@ -9,11 +9,12 @@ maybe what it shows. Then come its parts, each a line `-- PART`, most with lines
     -- stdout, -- stderr    what the program prints; of several texts for a stream, each is right
     -- stdout begins        the first line of what it prints
     -- status N             the status; without it, 0
-    -- table                columns' names, and rows of cells, with two blanks or more between the cells: the case stands for one case of
-                            each row. In all its lines, `{COLUMN}` is replaced by the cell
+    -- table                columns' names, and rows of cells, with two blanks or more between the cells: the case stands
+                            for one case of each row, and in all its lines `{COLUMN}` is replaced by the cell
 
-A text that is left out is empty. `-- PART as in CASE` takes the text of a case above, or of FILE/CASE, and `-- PART from PATH` that of a
-file of the repository. Empty lines at the end of a text don't count. Each other line stands for itself and its line end, but for:
+A text that is left out is empty. `-- PART as in CASE` takes the text of a case above, or of FILE/CASE, and
+`-- PART from PATH` that of a file of the repository. Empty lines at the end of a text don't count. Each other line
+stands for itself and its line end, but for:
 
     {1..9}, {5 times}       the line stands once for each number, with that number here; or so many times, with nothing here
     \\n \\r \\x7b \\\\           a line end, a return, the byte 0x7b, a backslash
@@ -98,13 +99,13 @@ class Reader:
 
     def add(self, number, name, parts):
         kinds = [it.kind for it in parts]
-        twice = [it for it in kinds if kinds.count(it) > 1 and it not in MAY_STAND_TWICE]
+        twice = [it for it in kinds if kinds.count(it) > 1 and it not in MAY_STAND_TWICE or f"{it} begins" in kinds]
         if twice or name in self.found or "args" not in kinds:
             raise Fault(number, f"{name} has no arguments, is there already, or has a part twice")
         values = {"status": "0", **{it.kind: it.value for it in parts}}
         if not values["status"].isdigit():
             raise Fault(number, f"the status of {name} is no number: {values['status']}")
-        runs = [line.split() for it in parts if it.kind == "runs" for _, text in it.lines for line in repeated(text)]
+        runs = [line.split() for it in parts if it.kind == "runs" for at, text in it.lines for line in repeated(at, text)]
         stdin = [self.text(it) for it in parts if it.kind == "stdin"] or [b""]
         out, error = (self.printed([it for it in parts if it.kind.split()[0] == stream]) for stream in ("stdout", "stderr"))
         self.found[name] = Case(f"{self.file}/{name}", values["args"].split(), runs or [[]], stdin[0], out, error, int(values["status"]))
@@ -115,7 +116,7 @@ class Reader:
     def text(self, part):
         """The text of a part."""
         if not part.value:
-            return b"".join(unescaped(at, line) for at, text in part.lines for line in repeated(text))
+            return b"".join(unescaped(at, line) for at, text in part.lines for line in repeated(at, text))
         if part.lines:
             raise Fault(part.number, "a text from elsewhere, with lines below it")
         how, _, where = part.value.partition(" ")
@@ -129,7 +130,7 @@ class Reader:
 
 
 def blocks_of(text):
-    """What stands before the first case, and the cases: the number of their first line, their name, and the lines below it."""
+    """What stands before the first case, and the cases: each the number of its line, its name, and the lines below it."""
     found = [(0, "", [])]
     for number, line in enumerate(text.split("\n"), 1):
         if not PLAIN.fullmatch(line):
@@ -164,12 +165,12 @@ def rows_of(tables):
     """The rows of a case's table, each with its cells by their columns; one row without cells, if there is no table."""
     if not tables:
         return [{}]
-    (_, head), *rest = tables[0].lines or [(0, "")]
-    columns = re.split("  +", head)
-    rows = [(number, re.split("  +", line)) for number, line in rest]
-    wrong = [number for number, cells in rows if len(cells) != len(columns)]
-    if wrong or not rows:
-        raise Fault(*wrong[:1] or [tables[0].number], "not as many cells as columns, or no row")
+    (_, columns), *rows = [(number, re.split("  +", line)) for number, line in tables[0].lines] or [(0, [])]
+    if len(tables) > 1 or not rows:
+        raise Fault(tables[-1].number, "a second table, or one without rows")
+    for number, cells in rows:
+        if len(cells) != len(columns):
+            raise Fault(number, f"{len(cells)} cells below {len(columns)} columns")
     return [dict(zip(columns, cells)) for _, cells in rows]
 
 
@@ -184,11 +185,13 @@ def filled(number, text, row):
     return BRACE.sub(cell, text)
 
 
-def repeated(line):
+def repeated(number, line):
     """The lines for which a line stands that has ranges and numbers of times."""
     texts = TIMES.split(line)
     counts = zip(texts[1::4], texts[2::4], texts[3::4])
     ranges = [[""] * int(times) if times else range(int(least), int(most) + 1) for least, most, times in counts]
+    if not all(ranges):
+        raise Fault(number, f"a line that stands for none: {line}")
     for numbers in product(*ranges):
         yield texts[0] + "".join(f"{number}{text}" for number, text in zip(numbers, texts[4::4]))
 

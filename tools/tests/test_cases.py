@@ -1,5 +1,6 @@
-"""How the worked cases of tests/cases/ are read and written, and what tests/run-cases says of a program."""
+"""How the worked cases of tests/cases/ are read and written, and what tests/run-cases and tests/run-units count."""
 
+import os
 import random
 import re
 import subprocess
@@ -97,8 +98,13 @@ z
             ("-- status 1\n2\n", 3, "lines below `-- status`"),
             ("-- stdin\n-- stdin\n", 1, "a part twice"),
             ("-- stdin\n== a\n-- args b\n", 4, "is there already"),
-            ("-- table\nb  c\n1  2\n1\n", 6, "not as many cells as columns"),
-            ("-- table\nb  c\n", 3, "or no row"),
+            ("-- stdout begins\nb\n-- stdout\nb\n", 1, "a part twice"),
+            ("-- stdin\nb{2..1}\n", 4, "a line that stands for none: b{2..1}"),
+            ("-- runs\nb{0 times}\n", 4, "a line that stands for none: b{0 times}"),
+            ("-- table\nb  c\n1  2\n1\n", 6, "1 cells below 2 columns"),
+            ("-- table\nb  c\n", 3, "without rows"),
+            ("-- table\n", 3, "without rows"),
+            ("-- table\nb\n1\n-- table\nb\n2\n", 6, "a second table"),
         ):
             with self.subTest(text):
                 with self.assertRaises(worked.Fault) as fault:
@@ -140,6 +146,52 @@ z
         self.assertEqual(len(names), len(set(names)))
         used = re.findall(r"^-- stdout from (tests/cases/.*)$", "".join(path.read_text() for path in worked.files()), re.MULTILINE)
         self.assertEqual({TOP / path for path in used} | {*worked.files()}, {*worked.FOLDER.iterdir()})
+
+
+TESTS = """
+import unittest
+
+class Four(unittest.TestCase):
+    def test_right(self):
+        pass
+
+    def test_wrong(self):
+        self.assertEqual(1, 2)
+
+    def test_wrong_twice(self):
+        for number in range(2):
+            with self.subTest(number):
+                self.assertEqual(number, 2)
+
+    @unittest.skip("a package is missing")
+    def test_left_out(self):
+        self.fail()
+"""
+
+
+class Units(unittest.TestCase):
+    """By what runs the tests here, and by unittest."""
+
+    def counted(self, test):
+        for without in (False, True):
+            with tempfile.TemporaryDirectory() as folder:
+                Path(folder, "a").mkdir()
+                Path(folder, "a", "test_a.py").write_text(test)
+                if without:
+                    Path(folder, "pytest.py").write_text("raise ImportError\n")
+                run = [sys.executable, "-B", TOP / "tests" / "run-units", Path(folder, "a")]
+                ran = subprocess.run(run, cwd=folder, capture_output=True, text=True, env={**os.environ, "PYTHONPATH": folder})
+                if without:
+                    self.assertIn("pytest is missing", ran.stdout)
+                yield ran.returncode, ran.stdout.splitlines()[-1]
+
+    def test_the_counts(self):
+        self.assertEqual(list(self.counted(TESTS)), [(1, "1 passed, 2 failed, 1 skipped")] * 2)
+        right = TESTS.replace("1, 2", "1, 1").replace("number, 2", "number, number")
+        self.assertEqual(list(self.counted(right)), [(0, "3 passed, 0 failed, 1 skipped")] * 2)
+
+    def test_a_file_that_cannot_be_read(self):
+        self.assertEqual(list(self.counted("no code")), [(1, "0 passed, 1 failed")] * 2)
 
 
 if __name__ == "__main__":
