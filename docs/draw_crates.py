@@ -20,7 +20,7 @@ LOOK = 'font-family="DejaVu Sans, sans-serif" font-size="12" text-anchor="middle
 
 
 def read(top=TOP):
-    return crates.own(crates.listed((top / "crates.txt").read_text()))
+    return crates.own(crates.listed_in(top))
 
 
 def direct(used, name):

@@ -29,6 +29,7 @@ import compare
 import days
 import doctor
 from lib import best, book, command, journal, kinds, results, selection, verdict
+from shared.counts import Counts
 
 MOST_BLOCKS = 6
 RIGHT, WRONG, UNREAD, ENCODING = command.DONE, command.DIFFERS, command.NO_INPUT, command.ENCODING
@@ -169,8 +170,7 @@ def main():
                     for name, content in (("csv", data), ("txt", text)):
                         Path(args.keep, f"{re.sub('[^A-Za-z0-9]', '-', args.seed)}-{number}.{name}").write_bytes(content)
     print(f"by status: {', '.join(f'{seen[status]} with {status}' for status in sorted(seen))}")
-    print(f"{args.count - failed} passed, {failed} failed")
-    return failed > 0
+    return Counts(args.count - failed, failed).end()
 
 
 if __name__ == "__main__":

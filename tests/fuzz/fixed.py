@@ -1,6 +1,6 @@
 #!/usr/bin/env python3
-"""Runs the program on fixed texts, and compares what it prints with the rules as `tools/lib` reads them: a journal with each kind of
-record, in two spellings, cut after every byte; texts with as many bytes as may be read, and with one more; the auction day of
+"""Runs the program on fixed texts, and compares what it prints with the rules as `tools/lib` reads them: an empty day, and a journal with
+each kind of record, in two spellings, cut after every byte; texts with as many bytes as may be read, and with one more; the auction day of
 examples/ under every plan, and its day of quarter-hours under nine; and a day with the greatest number of commands, all of the
 greatest length. The last line is 'N passed, M failed'."""
 
@@ -25,7 +25,9 @@ amend,GAS,START,,,0,7:10;10:20,,
 amend,STAD,TOWN,,,29999,9:1000,,
 cancel,NORD,WIND-8,,,,,,
 """
-CLOSED = OPEN + b"close,,,,,,,,\n"
+CLOSE = b"close,,,,,,,,\n"
+CLOSED = OPEN + CLOSE
+EMPTY = b"day,24,,,,,,,\n" + CLOSE
 LETTERS = "ABCDEFGH"
 
 
@@ -54,7 +56,7 @@ def long_day():
 def inputs():
     """The commands, words and texts."""
     for spelled in (bytes, quoted):
-        for front in fronts(spelled(CLOSED)):
+        for front in fronts(spelled(EMPTY)) + fronts(spelled(CLOSED)):
             yield "replay", [], front
             yield "clear", [], front
         for front in fronts(spelled(OPEN)):

@@ -17,11 +17,12 @@ import cancels
 import colliding
 import judge
 from preload import EVERY, SECONDS, Program, Refusal
+from shared import cases
 from shared.counts import Counts
 from shared.printed import Printed
 
 TOP = Path(__file__).resolve().parents[2]
-EXAMPLES, CASES = TOP / "examples", TOP / "tests/cases"
+EXAMPLES = TOP / "examples"
 SHOWN = 10  # differences of a row
 FEW, MANY = 40, 200  # how many calls of a row are refused if not each is
 SMALL = 1_100  # each call for memory of a worked case is refused if it makes no more than this
@@ -58,16 +59,7 @@ def is_command(record):
 
 def worked_cases():
     """The worked cases for the built program: each with its name, its words and its input."""
-    for given in sorted(CASES.glob("*/*.csv")):
-        table = given.with_suffix(".words")
-        for line in table.read_text(encoding="ascii").splitlines() if table.exists() else ():
-            words = line.split("\t")[2].split()
-            yield f"{given.parent.name}/{given.stem} {' '.join(words)}", words, given.read_bytes()
-        if table.exists():
-            continue
-        own = given.with_suffix(".args")
-        words = (own if own.exists() else given.parent / "args").read_text(encoding="ascii").splitlines()
-        yield f"{given.parent.name}/{given.stem}", words, given.read_bytes()
+    return [(case.name, case.words, case.stdin) for case in cases.every()]
 
 
 AUCTION = records("auction-day.csv")

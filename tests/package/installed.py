@@ -11,7 +11,7 @@ from pathlib import Path
 from lib.version import VERSION
 
 TOP = Path(__file__).resolve().parents[2]
-CASE = TOP / "tests/cases/clear-merit-order"
+RESULTS = TOP / "tests/cases/sunny-day.stdout"
 SUNNY = "/usr/share/doc/dam/examples/sunny-day.csv"
 DAY = "/srv/day"  # in the system: the files of the day
 # These files, and what Debian's own tools keep, aren't the package's.
@@ -94,7 +94,7 @@ def day(counts, system):
         status, out, error = system.shell(line)
         counts.check(f"installed: {what}: status {status}, {error[-500:]}", status == 0 and wanted(out))
 
-    results = next(CASE.glob("*.stdout")).read_bytes()
+    results = RESULTS.read_bytes()
     check("dam clear", f"dam clear < {SUNNY} | tee results.txt", lambda out: out == results)
     check("dam-audit", f"dam-audit --best {SUNNY} results.txt", lambda out: b"no selection is better" in out)
     check("dam-table", f"dam-table --rows blocks {SUNNY} results.txt", lambda out: out.count(b"\n") == 13 and b"COAL,UNIT-7" in out)
@@ -118,7 +118,7 @@ def in_c(counts, system, caller):
     shutil.copy(caller, f"{system.root}{DAY}/caller.c")
     line = f"gcc -Wall -Werror caller.c $(pkg-config --cflags --libs dam) -o caller && ./caller clear < {SUNNY}"
     status, out, error = system.shell(line)
-    counts.check(f"installed: a program in C: {error[-500:]}", status == 0 and out == next(CASE.glob("*.stdout")).read_bytes())
+    counts.check(f"installed: a program in C: {error[-500:]}", status == 0 and out == RESULTS.read_bytes())
 
 
 def tests(counts, package, caller):

@@ -2,8 +2,8 @@
 
 
 class Counts:
-    def __init__(self):
-        self.passed = self.failed = self.skipped = 0
+    def __init__(self, passed=0, failed=0):
+        self.passed, self.failed, self.skipped = passed, failed, 0
 
     def check(self, about, is_right):
         self.passed += is_right

@@ -1,4 +1,6 @@
-"""The edits of must-fail/ and wrong-bodies/: each makes a wrong text of a right one."""
+"""The edits of must-fail/ and wrong-bodies/: each makes a wrong text of a right one.
+
+A file of must-fail/ is one edit. A file of wrong-bodies/ has several, each below a line with its name, or is one, too."""
 
 import os
 import re
@@ -7,6 +9,7 @@ from functools import cached_property
 from source import functions_of, outside
 
 FOLDERS = ("must-fail", "wrong-bodies")
+NAMED = re.compile(r"^name:[ \t]*(.*?)[ \t]*$", re.MULTILINE)
 
 
 class Unfit(Exception):
@@ -16,14 +19,11 @@ class Unfit(Exception):
 class Edit:
     """A wrong body of a crate: the whole texts that it makes, by their path in the crate, or the fault by which it makes none."""
 
-    def __init__(self, file, folder):
-        self.file, self.folder = file, folder
-        self.name, ending = os.path.splitext(os.path.basename(file))
-        self.texts, self.fault = {}, None
+    def __init__(self, name, place, text, folder, fault=None):
+        self.name, self.place, self.folder = name, place, folder
+        self.texts, self.fault = {}, fault
         try:
-            if ending != ".edit":
-                raise Unfit("its name does not end in .edit")
-            self.texts = texts_made(read(file), folder)
+            self.texts = {} if fault else texts_made(text, folder)
         except Unfit as why:
             self.fault = str(why)
 
@@ -35,14 +35,34 @@ class Edit:
 
 def edits_of(folder, kinds):
     """Returns the edits of a crate in folders of these kinds, in the order of their names."""
-    files = []
+    found = []
     for kind in kinds:
-        if os.path.isdir(f"{folder}/{kind}"):
-            files += [f"{folder}/{kind}/{it}" for it in os.listdir(f"{folder}/{kind}") if not it.endswith(".md")]
-    found = [Edit(it, folder) for it in sorted(files, key=os.path.basename)]
+        files = os.listdir(f"{folder}/{kind}") if os.path.isdir(f"{folder}/{kind}") else []
+        for file in sorted(files):
+            if not file.endswith(".md"):
+                found += edits_in(f"{kind}/{file}", folder, may_be_several=kind != "must-fail")
+    found.sort(key=lambda it: it.name)
     for one, other in zip(found, found[1:]):
         if one.name == other.name:
-            other.fault = f"the crate has another edit of this name, {os.path.relpath(one.file, folder)}"
+            other.fault = f"the crate has another edit of this name, {one.place}"
+    return found
+
+
+def edits_in(path, folder, may_be_several):
+    """Returns the edits of a file, given by its path in the crate."""
+    name, ending = os.path.splitext(os.path.basename(path))
+    if ending != ".edit":
+        return [Edit(name, path, "", folder, "its name does not end in .edit")]
+    text = read(f"{folder}/{path}")
+    if not (may_be_several and NAMED.search(text)):
+        return [Edit(name, path, text, folder)]
+    first, *others = NAMED.split(text)
+    found = [Edit(name, path, first, folder, "a line stands before the first 'name:' line")] if first.strip() else []
+    line = first.count("\n") + 1
+    for named, body in zip(others[::2], others[1::2]):
+        fault = None if named else "a 'name:' line names nothing"
+        found.append(Edit(named, f"{path}:{line}", body, folder, fault))
+        line += body.count("\n")
     return found
 
 

@@ -77,6 +77,36 @@ class Edits(unittest.TestCase):
         self.assertEqual(second.fault, "the crate has another edit of this name, must-fail/low.edit")
         self.assertEqual(third.fault, "its name does not end in .edit")
 
+    def test_a_file_of_several_edits(self):
+        low, high = edit("MOST - 4", "2"), edit("MOST - 1", "MOST")
+        write(f"{self.crate}/wrong-bodies/all.edit", f"name: low\n{low}\nname: high\n{high}")
+        write(f"{self.crate}/wrong-bodies/alone.edit", edit("MOST - 4", "3"))
+        alone, highest, lowest = edits_of(self.crate, ("must-fail", "wrong-bodies"))
+        self.assertEqual([it.name for it in (alone, highest, lowest)], ["alone", "high", "low"])
+        self.assertEqual(lowest.texts, texts_made(low, self.crate))
+        self.assertEqual(highest.texts, texts_made(high, self.crate))
+        self.assertEqual(alone.texts, texts_made(edit("MOST - 4", "3"), self.crate))
+        places = [(it.place, it.fault) for it in (alone, highest, lowest)]
+        self.assertEqual(places, [("wrong-bodies/alone.edit", None), ("wrong-bodies/all.edit:6", None), ("wrong-bodies/all.edit:1", None)])
+
+    def test_faults_of_a_file_of_several_edits(self):
+        body = edit("MOST - 4", "2")
+        write(f"{self.crate}/wrong-bodies/all.edit", f"{body}name: b\n{body}name: b\n{body}name: c\nname:\n{body}name: d\n{edit('no', 'x')}")
+        found = [(it.name, it.place.partition(":")[2], it.fault) for it in edits_of(self.crate, ("wrong-bodies",))]
+        self.assertEqual(found, [
+            ("", "13", "a 'name:' line names nothing"),
+            ("all", "", "a line stands before the first 'name:' line"),
+            ("b", "4", None),
+            ("b", "8", "the crate has another edit of this name, wrong-bodies/all.edit:4"),
+            ("c", "12", "it has no 'file:', 'old:' and 'new:' line"),
+            ("d", "17", "an 'old:' text stands 0 times in src/lib.rt, and not once: no"),
+        ])
+
+    def test_an_edit_of_must_fail_has_no_name_line(self):
+        write(f"{self.crate}/must-fail/low.edit", "name: low\n" + edit("MOST - 4", "2"))
+        (found,) = edits_of(self.crate, ("must-fail",))
+        self.assertEqual(found.fault, "a line begins with none of 'file:', 'old:' and 'new:': name: low")
+
     def test_what_an_edit_changes(self):
         write(f"{self.crate}/wrong-bodies/a_body.edit", edit("MOST - 4", "2"))
         write(f"{self.crate}/wrong-bodies/b_constant.edit", edit("= 5", "= 6"))

@@ -13,6 +13,15 @@ def listed(text, with_kinds=False):
     return found
 
 
+def listed_in(top, *others, with_kinds=False):
+    """The same of a repository's crates.txt, and of other lists."""
+    texts = []
+    for path in (f"{top}/crates.txt", *others):
+        with open(path, encoding="utf-8") as text:
+            texts.append(text.read())
+    return listed("\n".join(texts), with_kinds)
+
+
 def own(crates):
     """The same crates, each with those libraries alone that are in the list too."""
     return {name: [library for library in below if library in crates] for name, below in crates.items()}

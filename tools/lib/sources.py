@@ -15,6 +15,11 @@ import os
 import subprocess
 import sys
 
+if __package__:
+    from . import crates
+else:
+    import crates
+
 TOP = os.path.dirname(os.path.dirname(os.path.dirname(os.path.realpath(__file__))))
 PARTS = ("src", "specs", "proofs")
 # What the library for C is made of, besides its crate.
@@ -22,22 +27,9 @@ LIBRARY = "dam_c"
 IN_C = ("build", "dam.h", "exports.map", "heap.c")
 
 
-def lines():
-    """Returns for each crate of crates.txt the words after its colon: the libraries that it uses."""
-    with open(f"{TOP}/crates.txt", encoding="utf-8") as text:
-        split = [line.partition("#")[0].partition(":") for line in text]
-    return {name.split()[0]: below.split() for name, colon, below in split if colon}
-
-
 def listed():
     """Returns each crate of crates.txt with those of its libraries that belong to this repository."""
-    found = lines()
-    return {name: [it for it in below if it in found] for name, below in found.items()}
-
-
-def all_below(crates, name):
-    """Returns the libraries of the repository that a crate uses, directly or not."""
-    return {it for dep in crates[name] for it in [dep, *all_below(crates, dep)]}
+    return crates.own(crates.listed_in(TOP))
 
 
 def files_of(name):
@@ -59,11 +51,11 @@ def sum_of(folder, files, *words):
 
 def sums(crate):
     """Returns the sum of the sources of a crate, and of each crate below it."""
-    below, crates = lines(), listed()
+    below = crates.listed_in(TOP)
     # a repository without threads has no file HANDLES
     handles = sum_of_file(f"{TOP}/HANDLES") if os.path.exists(f"{TOP}/HANDLES") else ""
     found = {}
-    for name in sorted({crate, *all_below(crates, crate)}):
+    for name in sorted({crate, *crates.all_below(below, crate)}):
         found[name] = sum_of(f"{TOP}/crates/{name}", files_of(name), handles, *below[name])
     if crate == LIBRARY:
         found["library"] = sum_of(f"{TOP}/library", [f"{TOP}/library/{it}" for it in IN_C])

@@ -1,6 +1,6 @@
 """Records of comma-separated values, and the texts of numbers and names."""
 
-import functools
+import csv
 import re
 from fractions import Fraction
 
@@ -8,17 +8,8 @@ from . import rules
 
 MARK = b"\xef\xbb\xbf"  # a byte order mark
 LINE_END = re.compile(rb"\r\n|\r|\n")
-LINE_ENDS = re.compile(rb"[\r\n]*")
-
-
-@functools.cache
-def field_of(comma):
-    """A field begins with a quote, and then goes to the closing quote (two quotes in a row stand for one) with whatever follows
-    it, or to the end of the text if no quote closes it. Else it goes to the next comma or line end."""
-    comma = re.escape(comma)
-    return re.compile(rb'"([^"]*(?:""[^"]*)*)(?:"([^' + comma + rb"\r\n]*))?|([^" + comma + rb"\r\n]*)")
-
-
+LINE = re.compile(r"[^\r\n]+[\r\n]*|[\r\n]+")
+NO_NUL = "\u0100"  # no byte: stands for the byte 0, which `csv` doesn't read before Python 3.11
 # No number of a journal or of results has more digits than 18.
 NUMBER = re.compile(rb"-?[1-9][0-9]{0,17}|0")
 PARTICIPANT = re.compile(rb"[A-Z]{1,%d}" % rules.LONGEST_PARTICIPANT)
@@ -34,33 +25,40 @@ def records(text):
 
 
 def placed_records(text, comma=b","):
-    """The same, each with its offset in the text; also of a text whose fields are separated by something other than commas."""
-    return ((begin, fields) for begin, fields, _ in scanned(text, comma))
+    """The same, each with its offset in the text; also of a text whose fields are separated by something other than commas. A field whose
+    quote isn't closed goes to the end of the text; what follows a closing quote belongs to the field."""
+    begin, taken = 0, []
+    for fields in csv.reader(noted(csv_lines(text), taken), delimiter=comma.decode()):
+        if fields:
+            yield begin, [field.replace(NO_NUL, "\0").encode("latin-1") for field in fields]
+        begin += sum(taken)
+        taken.clear()
+
+
+def noted(texts, taken):
+    """The texts, of which the length is noted as soon as one is taken."""
+    for text in texts:
+        taken.append(len(text))
+        yield text
+
+
+def csv_lines(text):
+    """The lines of a text for `csv`, each with its end and the empty lines after it."""
+    if len(text) > csv.field_size_limit():
+        csv.field_size_limit(len(text))
+    return (line[0] for line in LINE.finditer(text.decode("latin-1").replace("\0", NO_NUL)))
 
 
 def open_quote(text, comma=b","):
     """Where a quote begins that isn't closed on its line; None if there is none."""
-    return next((quote for _, _, quote in scanned(text, comma) if quote is not None), None)
-
-
-def scanned(text, comma):
-    """The offset and the fields of each record, and where a quote begins in it that isn't closed on its line, or None."""
-    field_from = field_of(comma)
-    at = LINE_ENDS.match(text).end()
-    while at < len(text):
-        begin, fields, quote = at, [], None
-        while True:
-            field = field_from.match(text, at)
-            quoted, behind, plain = field.groups()
-            if quote is None and quoted is not None and (behind is None or LINE_END.search(quoted)):
-                quote = at
-            fields.append(plain if quoted is None else quoted.replace(b'""', b'"') + (behind or b""))
-            at = field.end()
-            if text[at : at + 1] != comma:
-                break
-            at += 1
-        yield begin, fields, quote
-        at = LINE_ENDS.match(text, at).end()
+    begin = 0
+    for line in csv_lines(text):
+        reader = csv.reader([line, ""], delimiter=comma.decode())
+        fields = next(reader)
+        if reader.line_num == 2:  # an open quote took in the second text; in its field, each quote is doubled
+            return begin + len(line) - len(fields[-1]) - fields[-1].count('"') - 1
+        begin += len(line)
+    return None
 
 
 def number(text, least, greatest):

@@ -16,10 +16,12 @@ sys.path[:0] = [str(TOOLS), str(TOP / "tests" / "fuzz")]
 
 import compare
 from lib import book, command, journal, results, selection
+from shared import cases as worked
 
 SECONDS = 300  # that a run may take
-AUCTION = TOP / "tests" / "cases" / "clear" / "auction-day.csv"
-QUARTERS = AUCTION.with_name("quarter-hour-day.csv")
+# Three examples, and their results.
+AUCTION, QUARTERS, SUNNY = (TOP / "examples" / f"{name}.csv" for name in ("auction-day", "quarter-hours", "sunny-day"))
+AUCTION_RESULTS, QUARTERS_RESULTS, SUNNY_RESULTS = (worked.FOLDER / f"{it.stem}.stdout" for it in (AUCTION, QUARTERS, SUNNY))
 # A journal with orders in periods 8 and 9 alone.
 FIRST = (TOP / "examples" / "first-day.csv").read_bytes()
 
@@ -37,24 +39,19 @@ def heed_interrupts(case):
     case.addCleanup(signal.signal, signal.SIGINT, signal.signal(signal.SIGINT, signal.default_int_handler))
 
 
-def status(case):
-    path = case.with_suffix(".status")
-    return int(path.read_text()) if path.exists() else 0
-
-
-def cases(folder):
-    """The inputs of the worked cases of a folder."""
-    return sorted((TOP / "tests" / "cases" / folder).glob("*.csv"))
+def cases(file):
+    """The worked cases of a file, by their names."""
+    return worked.named(file)
 
 
 def cleared_cases():
-    """The journal and the results of each worked clearing."""
-    return [(case.stem, case.read_bytes(), printed(case)) for case in cases("clear") if status(case) == 0]
+    """The name, the journal and the results of each worked clearing."""
+    return [(name, case.stdin, case.printed) for name, case in cases("clear").items() if case.status == 0]
 
 
-def printed(case, of="stdout"):
-    path = case.with_suffix(f".{of}")
-    return path.read_bytes() if path.exists() else b""
+def printed(example):
+    """The results of one of the three examples."""
+    return (worked.FOLDER / f"{example.stem}.stdout").read_bytes()
 
 
 def problem(data):

@@ -13,7 +13,7 @@ import unittest.mock
 from fractions import Fraction
 
 import support
-from support import AUCTION, audit, cleared_cases, journal_of, printed, problem, results_of, tool
+from support import AUCTION, AUCTION_RESULTS, audit, cleared_cases, journal_of, printed, problem, results_of, tool
 
 import days
 from lib import best, book, check, command, journal, period, results, rules, selection, sheets, tables, verdict
@@ -103,14 +103,13 @@ class Results(unittest.TestCase):
         self.assertIn("block GAS,START: it is accepted and loses 320000 together with its accepted descendants", wrong)
 
     def test_a_family_makes_its_root_good_and_no_child(self):
-        case = support.TOP / "tests/cases/clear/chain.csv"
-        chain = support.problem(case.read_bytes())
+        chain = support.problem(support.cases("clear")["chain"].stdin)
         self.assertEqual(chain.rescuers, [[1, 2], [2], []])
         for accepted, losers in ({0}, {0: 500}), ({0, 1}, {0: 2_500, 1: 2_000}), ({0, 1, 2}, {}):
             found = selection.outcome(chain, accepted)
             self.assertEqual(selection.losing(chain, accepted, found.surpluses), losers)
-        case = support.TOP / "tests/cases/clear/rescue-not-upwards.csv"
-        wrong = "\n".join(differences(case.read_bytes(), printed(case).replace(b"K2,rejected", b"K2,accepted")))
+        case = support.cases("clear")["rescue-not-upwards"]
+        wrong = "\n".join(differences(case.stdin, case.printed.replace(b"K2,rejected", b"K2,accepted")))
         self.assertIn("block A,K2: it is accepted and loses 500", wrong)
         self.assertNotIn("with those", wrong)
 
@@ -149,16 +148,16 @@ class Results(unittest.TestCase):
         self.assertEqual(set(found), set(range(len(kinds))))
 
     def test_a_selection_that_balances_nowhere_is_refused(self):
-        case = support.TOP / "tests/cases/clear/too-large-block.csv"
-        wrong = differences(case.read_bytes(), printed(case).replace(b"rejected", b"accepted"))
+        case = support.cases("clear")["too-large-block"]
+        wrong = differences(case.stdin, case.printed.replace(b"rejected", b"accepted"))
         self.assertIn("period 1: no execution balances", wrong[0])
 
 
 class Text(unittest.TestCase):
     def test_replies_and_faults_of_the_worked_cases(self):
-        for case in support.cases("replay"):
-            with self.subTest(case.stem):
-                self.assertEqual(self.replies(case.read_bytes()), (printed(case), printed(case, "stderr")))
+        for name, case in support.cases("replay").items():
+            with self.subTest(name):
+                self.assertEqual(self.replies(case.stdin), (case.printed, case.stderr.texts[0]))
 
     def replies(self, data):
         try:
@@ -182,9 +181,24 @@ class Text(unittest.TestCase):
             b'a"b"\n': [[b'a"b"']],
             b'"a"""\n': [[b'a"']],
             b" a , b ": [[b" a ", b" b "]],
+            b"\0,\xff\x85\x0b\xe2\n": [[b"\0", b"\xff\x85\x0b\xe2"]],
+            b'a,"b\r\r\nc': [[b"a", b"b\r\r\nc"]],
+            b'"' + b"a" * 200_000: [[b"a" * 200_000]],
         }.items():
-            with self.subTest(given):
+            with self.subTest(given[:20]):
                 self.assertEqual(list(records(given)), wanted)
+
+    def test_where_records_and_open_quotes_begin(self):
+        from lib.text import open_quote, placed_records
+
+        text = b'\r\na,b\r\n\n"c""\n";d\re,"f'
+        self.assertEqual(list(placed_records(text)), [(2, [b"a", b"b"]), (8, [b'c"\n;d']), (17, [b"e", b"f"])])
+        self.assertEqual(list(placed_records(text, b";"))[1], (8, [b'c"\n', b"d"]))
+        for given, place in {b"": None, b'a"\n': None, b'"a"\n"b"': None, text: 8, text[9:]: 4, b'a,"b""c': 2, b'""""": 1"\n"': 10}.items():
+            with self.subTest(given):
+                self.assertEqual(open_quote(given), place)
+        self.assertEqual(open_quote(b'"a";"b', b";"), 4)
+        self.assertEqual(open_quote(b'a,"' + b"x" * 200_000), 2)
 
     def test_the_written_journal_reads_back(self):
         for number in range(300):
@@ -320,8 +334,7 @@ class Best(unittest.TestCase):
                 self.assertEqual(audit(data, printed(AUCTION), "--best", "--by", method)[0], 0)
 
     def test_of_equal_selections_the_earlier_block_is_accepted(self):
-        case = support.TOP / "tests/cases/clear/two-equal-blocks.csv"
-        data = case.read_bytes()
+        data = support.cases("clear")["two-equal-blocks"].stdin
         for method in self.methods():
             with self.subTest(method):
                 status, out, _ = audit(data, results_of(data, frozenset({1})), "--best", "--by", method)
@@ -376,7 +389,7 @@ class CommandLine(unittest.TestCase):
 
     def test_a_tool_without_its_parts_has_no_verdict(self):
         """If Python leaves the tool's folder out, the tool finds it; a copy without it says so, and never that the results are wrong."""
-        words = [AUCTION, AUCTION.with_suffix(".stdout"), "--quiet"]
+        words = [AUCTION, AUCTION_RESULTS, "--quiet"]
         self.assertEqual(tool("audit", *words, python=(sys.executable, "-I")), (command.DONE, b"", ""))
         with tempfile.TemporaryDirectory() as folder:
             copy = shutil.copy(support.TOOLS / "audit", folder)

@@ -2,7 +2,9 @@
 
 import re
 import sys
+import tempfile
 import unittest
+from pathlib import Path
 
 from support import TOP
 
@@ -21,6 +23,13 @@ class Crates(unittest.TestCase):
         self.assertEqual(list(crates.listed(LIST, with_kinds=True)), ["low", "high staticlib", "middle", "top", "high"])
         self.assertEqual(crates.own(found)["high"], ["low"])
         self.assertEqual(crates.all_below(found, "top"), {"low", "high", "middle"})
+
+    def test_the_list_of_a_repository_and_another(self):
+        with tempfile.TemporaryDirectory() as top:
+            Path(top, "crates.txt").write_text("low:\nhigh: low")
+            Path(top, "tests").write_text("test: high\nhigh: other\n")
+            self.assertEqual(crates.listed_in(top, f"{top}/tests"), {"low": [], "high": ["low", "other"], "test": ["high"]})
+        self.assertIn("dam_book", crates.listed_in(TOP))
 
     def test_a_line_by_way_of_another_is_left_out(self):
         used = crates.own(crates.listed(LIST))

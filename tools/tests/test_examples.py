@@ -4,10 +4,9 @@ import subprocess
 import sys
 import unittest
 
-from support import TOP, cases, printed, tool
+from support import SUNNY, SUNNY_RESULTS, TOP, printed, tool
 
 SCRIPT = TOP / "examples" / "make_sunny_day.py"
-SUNNY = TOP / "examples" / "sunny-day.csv"
 
 
 class Examples(unittest.TestCase):
@@ -16,15 +15,12 @@ class Examples(unittest.TestCase):
         self.assertEqual(ran.stdout, SUNNY.read_bytes())
 
     def test_no_selection_of_the_sunny_day_is_better(self):
-        (case,) = cases("clear-merit-order")
-        self.assertEqual(case.read_bytes(), SUNNY.read_bytes())
-        status, said, _ = tool("audit", "--best", "--by", "enumeration", case, case.with_suffix(".stdout"))
+        status, said, _ = tool("audit", "--best", "--by", "enumeration", SUNNY, SUNNY_RESULTS)
         self.assertEqual(status, 0)
         self.assertIn(b"8 of 12 blocks accepted", said)
 
     def test_its_prices_differ_from_hour_to_hour(self):
-        (case,) = cases("clear-merit-order")
-        prices = [int(line.split(b",")[2]) for line in printed(case).splitlines() if line.startswith(b"period")]
+        prices = [int(line.split(b",")[2]) for line in printed(SUNNY).splitlines() if line.startswith(b"period")]
         self.assertGreater(len(set(prices)), 20)
         self.assertLess(min(prices), 0)
 

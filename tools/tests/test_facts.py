@@ -4,7 +4,7 @@ import ast
 import re
 import unittest
 
-from support import TOP, loaded, status
+from support import TOP, loaded, worked
 
 from lib import engine, rules
 from lib.specs import Repository
@@ -95,12 +95,13 @@ class Facts(unittest.TestCase):
         lines = [(line, int(number)) for cell, number in rows for line in re.findall(r"`([a-z]+(?:: [^`]*)?)`", cell)]
         patterns = {re.sub(r"<\\?\w+\\?>", r"\\d+", re.escape(line)): number for line, number in lines}
         counted = set()
-        for path in sorted((TOP / "tests" / "cases").glob("*/*.stderr")):
-            line = path.read_text().rstrip("\n")
-            fitting = {number for pattern, number in patterns.items() if re.fullmatch(pattern, line)}
-            with self.subTest(path.name, line=line):
-                self.assertEqual(fitting, {status(path)})
-            counted.add(line)
+        for case in worked.every():
+            line = case.stderr.texts[0].decode().rstrip("\n")
+            if line and not case.stderr.is_first_line:
+                fitting = {number for pattern, number in patterns.items() if re.fullmatch(pattern, line)}
+                with self.subTest(case.name, line=line):
+                    self.assertEqual(fitting, {case.status})
+                counted.add(line)
         self.assertGreater(len(counted), 15)
 
     def test_the_number_of_wrong_bodies(self):

@@ -14,7 +14,7 @@ import unittest
 from pathlib import Path
 from unittest import mock
 
-from support import AUCTION, TOOLS, heed_interrupts
+from support import AUCTION, AUCTION_RESULTS, TOOLS, heed_interrupts
 
 from lib import aside, command
 from lib.progress import Progress
@@ -124,7 +124,7 @@ class Written(unittest.TestCase):
         return ran.returncode, ran.stdout, ran.stderr.splitlines()[-1:]
 
     def test_each_tool(self):
-        texts = [AUCTION, AUCTION.with_suffix(".stdout")]
+        texts = [AUCTION, AUCTION_RESULTS]
         for name, packages in PACKAGES.items():
             if all(map(command.has, packages)):
                 words = [sys.executable, TOOLS / name, AUCTION, *texts[1:][: name != "lint"]]
@@ -143,7 +143,7 @@ class Written(unittest.TestCase):
             for given in (["/nowhere/a.csv"], ["--none"]):
                 status, out, _ = self.ends([sys.executable, TOOLS / "lint", *given], redirection)
                 self.assertEqual((status in (command.COMMAND_LINE, command.NO_INPUT), out), (True, ""))
-            words = [sys.executable, TOOLS / "table", AUCTION, AUCTION.with_suffix(".stdout")]
+            words = [sys.executable, TOOLS / "table", AUCTION, AUCTION_RESULTS]
             status, out, _ = self.ends(words, redirection)
             self.assertEqual((status, len(out.splitlines())), (0, 25))
         self.assertEqual(self.ends([sys.executable, TOOLS / "lint", "--quiet", AUCTION], ">&-"), (command.DIFFERS, "", []))

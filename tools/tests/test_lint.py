@@ -4,7 +4,7 @@ import random
 import unittest
 
 import support
-from support import AUCTION, FIRST, cases, journal_of, tool
+from support import AUCTION, AUCTION_RESULTS, FIRST, cases, journal_of, tool
 
 import days
 from lib import book, command, journal, lint
@@ -92,7 +92,7 @@ class Hand(unittest.TestCase):
 
     def test_other_kinds_of_files(self):
         """One line says what the file seems to be, and which tool reads it."""
-        orders = tool("table", "--rows", "orders", AUCTION, AUCTION.with_suffix(".stdout"))[1]
+        orders = tool("table", "--rows", "orders", AUCTION, AUCTION_RESULTS)[1]
         replies = book.replies_text(journal.read_journal(AUCTION.read_bytes())).encode()
         for data, part in (
             (support.printed(AUCTION), "these seem to be results, which aren't a journal: tools/audit reads them"),
@@ -221,13 +221,12 @@ class Random(unittest.TestCase):
 
 class CommandLine(unittest.TestCase):
     def test_worked_cases(self):
-        for case in cases("replay"):
-            with self.subTest(case.stem):
-                found = lint.faults(case.read_bytes(), "replay")
-                reply, fault = support.printed(case), support.printed(case, "stderr")
-                self.assertEqual(any(not one.refusal for one in found), bool(fault))
-                if not fault:
-                    self.assertEqual(len(found), reply.count(b",refused,"))
+        for name, case in cases("replay").items():
+            with self.subTest(name):
+                found = lint.faults(case.stdin, "replay")
+                self.assertEqual(any(not one.refusal for one in found), case.status != 0)
+                if case.status == 0:
+                    self.assertEqual(len(found), case.printed.count(b",refused,"))
 
     def test_statuses(self):
         self.assertEqual(tool("lint", "-", data=GOOD), (command.DONE, b"nothing is wrong\n", ""))

@@ -3,7 +3,7 @@
 import re
 import unittest
 
-from support import TOP, journal
+from support import TOP, cases, journal
 from lib import best, book, results, selection
 
 PAGE = TOP / "docs" / "MARKET.md"
@@ -83,20 +83,21 @@ class Market(unittest.TestCase):
     def test_each_case_runs(self):
         table = PAGE.read_text().split("## Not promised")[1]
         named = re.findall(r"\| `([\w/-]+)` \|", table)
-        pairs = {path.stem.rpartition("-")[0] for path in (TOP / "tests/cases/market").glob("*.csv")}
+        pairs = {name.rpartition("-")[0] for name in cases("market")}
         self.assertEqual(pairs, {name for name in named if "/" not in name})
         for name in named:
-            for file in [name] if "/" in name else [f"market/{name}-before", f"market/{name}-after"]:
-                self.assertTrue((TOP / "tests/cases" / f"{file}.csv").exists(), file)
+            for its in [name] if "/" in name else [f"market/{name}-before", f"market/{name}-after"]:
+                file, _, case = its.partition("/")
+                self.assertIn(case, cases(file))
 
     def test_the_cases_come_out(self):
-        """What the table says of each pair; `./check` compares the program with these files."""
+        """What the table says of each pair; `./check` compares the program with these cases."""
         for name, before, after in CASES:
             for when, lines in ("before", before), ("after", after):
                 with self.subTest(name, when=when):
-                    file = TOP / "tests/cases/market" / f"{name}-{when}.stdout"
-                    self.assertLessEqual(set(lines), set(file.read_text().splitlines()))
-        self.assertEqual({name for name, _, _ in CASES}, {path.stem.rpartition("-")[0] for path in (TOP / "tests/cases/market").glob("*.csv")})
+                    case = cases("market")[f"{name}-{when}"]
+                    self.assertLessEqual(set(lines), set(case.printed.decode().splitlines()))
+        self.assertEqual({name for name, _, _ in CASES}, {name.rpartition("-")[0] for name in cases("market")})
 
     def test_the_examples_come_out(self):
         town = "CITY,TOWN,hour,buy,5000,1:20,,"

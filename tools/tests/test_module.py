@@ -11,7 +11,7 @@ import unittest.mock
 from pathlib import Path
 
 import support
-from support import AUCTION, FIRST, TOP, printed
+from support import AUCTION, AUCTION_RESULTS, FIRST, TOP, printed
 
 import dam_tools
 from dam_tools.lib import engine
@@ -34,7 +34,7 @@ class Module(unittest.TestCase):
         self.assertEqual((day.wrong, day.said.welfare), ([], 3021520000))
         rows = dam_tools.records(day)
         self.assertEqual((len(rows), rows[18]["price_eur_mwh"], rows[18]["traded"]), (24, 165.0, True))
-        again = dam_tools.read_results(AUCTION, AUCTION.with_suffix(".stdout"))
+        again = dam_tools.read_results(AUCTION, AUCTION_RESULTS)
         for name in dam_tools.TABLES:
             self.assertEqual(dam_tools.records(day, name), dam_tools.records(again, name))
         self.assertEqual(dam_tools.TABLES, tuple(tables.TABLES))
@@ -52,7 +52,7 @@ class Module(unittest.TestCase):
 
     def test_what_is_printed_of_objects_is_short(self):
         self.assertEqual(repr(dam_tools.read_journal(FIRST)), "<Journal: 24 periods, 15 commands>")
-        day = dam_tools.read_results(AUCTION, AUCTION.with_suffix(".stdout"))
+        day = dam_tools.read_results(AUCTION, AUCTION_RESULTS)
         self.assertEqual(repr(day), "<Day: 24 periods, 80 hourly orders, 9 blocks, welfare 3,021,520.00 EUR>")
         day = dam_tools.read_results(AUCTION, printed(AUCTION).replace(b"UNIT-7,rejected,7", b"UNIT-7,rejected,8"))
         self.assertTrue(repr(day).endswith(", 1 fault>"), day)
@@ -66,7 +66,7 @@ class Module(unittest.TestCase):
             dam_tools.journal_of_orders("/nowhere/a.xlsx")
 
     def test_flat_records(self):
-        day = dam_tools.read_results(AUCTION, AUCTION.with_suffix(".stdout"))
+        day = dam_tools.read_results(AUCTION, AUCTION_RESULTS)
         for name in dam_tools.TABLES:
             for row in dam_tools.records(day, name, flat=True):
                 self.assertFalse([value for value in row.values() if isinstance(value, list)])
@@ -94,7 +94,7 @@ class Module(unittest.TestCase):
             dam_tools.journal_of_orders(b"x\n")
         with self.assertRaisesRegex(dam_tools.Fault, "a day has 23, 24, 25, 92, 96 or 100 periods, not 26"):
             dam_tools.journal_of_orders(sheets.written([tables.ORDER]).encode(), periods=26)
-        day = dam_tools.read_results(AUCTION, AUCTION.with_suffix(".stdout"))
+        day = dam_tools.read_results(AUCTION, AUCTION_RESULTS)
         for words in ({"table": "none"}, {"table": "curves", "long": True}):
             with self.assertRaises(ValueError):
                 dam_tools.records(day, **words)
@@ -102,7 +102,7 @@ class Module(unittest.TestCase):
             dam_tools.records(opened)
 
     def test_faults_of_files_programs_and_dates(self):
-        day = dam_tools.read_results(AUCTION, AUCTION.with_suffix(".stdout"))
+        day = dam_tools.read_results(AUCTION, AUCTION_RESULTS)
         slow = Path(self.program.parent, "slow")
         slow.write_text("#!/bin/sh\nexec sleep 60\n")
         slow.chmod(0o755)
@@ -141,7 +141,7 @@ class Module(unittest.TestCase):
 
     def test_what_is_a_number_is_one_everywhere(self):
         """A whole number in the figures of JSON, in its rows, and in records."""
-        day = dam_tools.read_results(AUCTION, AUCTION.with_suffix(".stdout"))
+        day = dam_tools.read_results(AUCTION, AUCTION_RESULTS)
         (row,) = (row for row in dam_tools.records(day, "figures") if row["figure"] == "traded_periods")
         self.assertEqual(repr(row["value"]), repr(tables.figure_values(day)["traded_periods"]))
 
@@ -167,21 +167,21 @@ class Module(unittest.TestCase):
             day = dam_tools.clear(AUCTION)
             with self.assertRaises(dam_tools.Fault) as fault:
                 dam_tools.clear(b"day,24,,,,,,,\n")
-        again = dam_tools.read_results(AUCTION, AUCTION.with_suffix(".stdout"))
+        again = dam_tools.read_results(AUCTION, AUCTION_RESULTS)
         for name in dam_tools.TABLES:
             self.assertEqual(dam_tools.records(day, name), dam_tools.records(again, name))
         self.assertEqual((str(fault.exception), fault.exception.status), ("input: StillOpen", 1))
 
     @unittest.skipUnless(command.has_zone(shapes.ZONE), "the time zones are missing (Debian's tzdata)")
     def test_dates(self):
-        day = dam_tools.read_results(AUCTION, AUCTION.with_suffix(".stdout"))
+        day = dam_tools.read_results(AUCTION, AUCTION_RESULTS)
         rows = dam_tools.records(day, "orders", long=True, date=datetime.date(2026, 7, 1))
         self.assertEqual(rows[0]["begins"], "2026-07-01T00:00:00+02:00")
         self.assertEqual(dam_tools.records(day, "orders", long=True, date="2026-07-01"), rows)
 
     @unittest.skipUnless(command.has("pandas"), "pandas is missing (Debian's python3-pandas)")
     def test_frames(self):
-        day = dam_tools.read_results(AUCTION, AUCTION.with_suffix(".stdout"))
+        day = dam_tools.read_results(AUCTION, AUCTION_RESULTS)
         frame = dam_tools.frame(day, "periods", date=datetime.date(2026, 11, 25))
         self.assertEqual((len(frame), frame["price_eur_mwh"].max()), (24, 165.0))
         self.assertEqual(str(frame["begins"][0]), "2026-11-25 00:00:00+01:00")
@@ -234,7 +234,7 @@ class Module(unittest.TestCase):
             self.assertAlmostEqual(dict(found)["STAD"], -1_193_050.0)
 
     def test_frames_without_pandas(self):
-        day = dam_tools.read_results(AUCTION, AUCTION.with_suffix(".stdout"))
+        day = dam_tools.read_results(AUCTION, AUCTION_RESULTS)
         with unittest.mock.patch.dict(sys.modules, {"pandas": None}), self.assertRaises(dam_tools.Fault) as fault:
             dam_tools.frame(day)
         self.assertIn("apt-get install python3-pandas", str(fault.exception))

@@ -8,7 +8,7 @@ import tempfile
 import unittest
 from pathlib import Path
 
-from support import AUCTION, TOP, book, cases, journal, printed, selection, tool
+from support import AUCTION, AUCTION_RESULTS, SUNNY, TOP, book, journal, printed, selection, tool
 
 from lib import best
 from shared.pages import links, prose
@@ -117,12 +117,10 @@ class Pages(unittest.TestCase):
                     self.assertTrue((TOP / "crates" / word).exists() or word.split("::")[-1] in SOURCES)
 
     def test_the_first_example_is_printed(self):
-        (case,) = cases("clear-merit-order")
-        lines = printed(case).decode().splitlines()
+        lines = printed(SUNNY).decode().splitlines()
         quoted = [line.split("  ")[0] for line in EXAMPLE.search((TOP / "README.md").read_text())[1].splitlines() if line != ".."]
         self.assertGreater(len(quoted), 4)
         self.assertEqual(quoted, [line for line in lines if line in quoted])
-        self.assertEqual(case.read_bytes(), (TOP / "examples" / "sunny-day.csv").read_bytes())
 
     def test_the_table_of_orders_makes_a_journal(self):
         table = re.search(r"```text\n(participant,order,.*?)```", (TOP / "docs" / "USING.md").read_text(), re.DOTALL)[1]
@@ -141,7 +139,7 @@ class Pages(unittest.TestCase):
         with tempfile.TemporaryDirectory() as folder:
             Path(folder, "days").mkdir()
             Path(folder, "tools").symlink_to(TOP / "tools")
-            answer = f'if grep -q "^day,24,"; then cat "{AUCTION.with_suffix(".stdout")}"; else echo input: NotDay >&2; exit 1; fi'
+            answer = f'if grep -q "^day,24,"; then cat "{AUCTION_RESULTS}"; else echo input: NotDay >&2; exit 1; fi'
             Path(folder, "dam").write_text(f"#!/bin/sh\n{answer}\n")
             Path(folder, "dam").chmod(0o755)
             for name, data in ("a", AUCTION.read_bytes()), ("b", b"x\n"), ("c d", AUCTION.read_bytes()), ("o'e", AUCTION.read_bytes()):

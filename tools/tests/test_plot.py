@@ -6,7 +6,7 @@ import unittest
 from pathlib import Path
 
 import support
-from support import AUCTION, FIRST, QUARTERS, day_of, journal_of, results_of, tool
+from support import AUCTION, AUCTION_RESULTS, FIRST, QUARTERS, day_of, journal_of, results_of, tool
 
 from lib import command, trades
 
@@ -169,7 +169,7 @@ class Pictures(unittest.TestCase):
 
     def test_command_line(self):
         with tempfile.TemporaryDirectory() as folder:
-            texts = [AUCTION, AUCTION.with_suffix(".stdout")]
+            texts = [AUCTION, AUCTION_RESULTS]
             begins = {"svg": b"<?xml", "png": b"\x89PNG"}
             for name in PICTURES:
                 words = [f"--picture={name}"]

@@ -9,7 +9,7 @@ import unittest
 from fractions import Fraction
 
 import support
-from support import AUCTION, FIRST, QUARTERS, TOP, day_of, printed, results_of, tool
+from support import AUCTION, AUCTION_RESULTS, FIRST, QUARTERS, TOP, day_of, printed, results_of, tool
 
 from lib import clock, command, published, rules, shapes, sheets, tables, trades
 
@@ -146,7 +146,7 @@ class Times(unittest.TestCase):
 
     @unittest.skipUnless(command.has_zone(shapes.ZONE), "the time zones are missing (Debian's tzdata)")
     def test_command_line(self):
-        texts = [AUCTION, AUCTION.with_suffix(".stdout")]
+        texts = [AUCTION, AUCTION_RESULTS]
         rows = tool("table", *texts, "--date", "2026-11-25", "--only", "8-9;19")[1].decode().splitlines()
         self.assertEqual(rows[0].split(",")[:2], ["period", "begins"])
         self.assertEqual([row.split(",")[1] for row in rows[1:]], [f"2026-11-25T{hour}:00:00+01:00" for hour in ("07", "08", "18")])
@@ -210,7 +210,7 @@ class Json(unittest.TestCase):
         self.assertEqual((rows[2]["volume_mw"], rows[2]["parent"], rows[3]["parent"]), ([80.0] * 4, None, "START"))
 
     def test_command_line(self):
-        texts = [AUCTION, AUCTION.with_suffix(".stdout")]
+        texts = [AUCTION, AUCTION_RESULTS]
         made = json.loads(tool("table", *texts, "--json", "--rows", "curves", "--only", "19")[1])
         self.assertEqual((made["table"], len(made["rows"]), made["day"]["welfare_eur"]), ("curves", 7, 3021520.0))
         made = json.loads(tool("table", AUCTION, "--json", "--rows", "commands")[1])

@@ -12,7 +12,7 @@ import unittest.mock
 from pathlib import Path
 
 import support
-from support import AUCTION, FIRST, QUARTERS, day_of, journal_of, printed, results_of, tool
+from support import AUCTION, AUCTION_RESULTS, FIRST, QUARTERS, SUNNY, day_of, journal_of, printed, results_of, tool
 
 from lib import command, trades
 
@@ -91,8 +91,8 @@ class Page(unittest.TestCase):
 
     def test_the_page_is_whole_and_stands_alone(self):
         for name in ("auction-day", "empty", "too-large-block"):
-            case = AUCTION.with_name(f"{name}.csv")
-            text = self.page(case.read_bytes(), printed(case), [1, 2])
+            case = support.cases("clear")[name]
+            text = self.page(case.stdin, case.printed, [1, 2])
             read = Reader(text)
             with self.subTest(name):
                 self.assertEqual((read.wrong, text.startswith("<!doctype html>\n")), ([], True))
@@ -191,7 +191,7 @@ class Page(unittest.TestCase):
         self.assertIn("blocks name this one as their parent", text)
 
     def test_the_page_of_a_participant(self):
-        texts = [AUCTION, AUCTION.with_suffix(".stdout"), "-o", "-"]
+        texts = [AUCTION, AUCTION_RESULTS, "-o", "-"]
         status, out, err = tool("report", *texts, "--participant", "GAS")
         read, text = Reader(out.decode()), out.decode()
         self.assertEqual((status, err, read.wrong), (0, "", []))
@@ -238,8 +238,7 @@ class Page(unittest.TestCase):
         """The limits go from -40 to 3,000 EUR/MWh; those far from the price are said in words."""
         from lib import pictures
 
-        case = support.cases("clear-merit-order")[0]
-        day = day_of(case.read_bytes(), printed(case))
+        day = day_of(SUNNY.read_bytes(), printed(SUNNY))
         for number in (13, 20):
             drawn = pictures.picture(pictures.period_picture(day, number), "svg", words_as_text=True).decode()
             self.assertIn("limits go up to 3,000.00 EUR/MWh", drawn)
@@ -256,8 +255,8 @@ class Page(unittest.TestCase):
         self.assertNotIn("These results break the rules of the market.", self.page(AUCTION.read_bytes(), printed(AUCTION)))
 
     def test_results_that_cannot_be_are_shown_as_wrong(self):
-        case = AUCTION.with_name("too-large-block.csv")
-        text = self.page(case.read_bytes(), printed(case).replace(b"rejected", b"accepted"), [1])
+        case = support.cases("clear")["too-large-block"]
+        text = self.page(case.stdin, case.printed.replace(b"rejected", b"accepted"), [1])
         self.assertIn("period 1: no execution balances", text)
         worse = results_of(AUCTION.read_bytes(), frozenset({0}))
         self.assertRegex(self.page(AUCTION.read_bytes(), worse), r"the welfare would be [0-9.,]+ EUR greater")
@@ -282,7 +281,7 @@ class Page(unittest.TestCase):
             self.assertEqual(tool("report", "-", "--curves", "none", "-o", out, data=day)[0], command.NO_INPUT)
 
     def test_wrong_command_lines(self):
-        texts = [AUCTION, AUCTION.with_suffix(".stdout"), "-o", "-"]
+        texts = [AUCTION, AUCTION_RESULTS, "-o", "-"]
         for words in ("25", "x", "1-25", "9-8", "0", ""):
             self.assertEqual(tool("report", *texts, "--curves", words)[0], command.COMMAND_LINE)
         self.assertEqual(tool("report", *texts, "--curve", "3")[0], command.COMMAND_LINE)

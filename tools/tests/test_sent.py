@@ -5,7 +5,7 @@ import tempfile
 import unittest
 from pathlib import Path
 
-from support import AUCTION, journal_of, printed, tool
+from support import AUCTION, AUCTION_RESULTS, journal_of, printed, tool
 
 import days
 from lib import book, command, journal, sent
@@ -159,7 +159,7 @@ class Worked(unittest.TestCase):
     def test_a_workbook(self):
         with tempfile.TemporaryDirectory() as folder:
             path = Path(folder, "orders.xlsx")
-            tool("table", "--quiet", "--rows", "orders", AUCTION, AUCTION.with_suffix(".stdout"), "-o", path)
+            tool("table", "--quiet", "--rows", "orders", AUCTION, AUCTION_RESULTS, "-o", path)
             status, out, err = tool("audit", AUCTION, "--sent", path, "--participant", "STAD")
             said = "as sent: 24 commands of STAD, each once, in their order, and no others (65 of others left out)"
             self.assertEqual((status, out.decode().splitlines()[0], err), (command.DONE, said, ""))

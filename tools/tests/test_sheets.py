@@ -7,12 +7,12 @@ import unittest
 from pathlib import Path
 from unittest import mock
 
-from support import AUCTION, journal_of, printed, results_of, tool
+from support import AUCTION, AUCTION_RESULTS, journal_of, printed, results_of, tool
 
 from lib import clock, command, journal, order_table, rules, sheets
 
 HEADER = "participant,order,kind,side,price_eur_mwh,periods,volume_mw,parent,group"
-TEXTS = [AUCTION, AUCTION.with_suffix(".stdout")]
+TEXTS = [AUCTION, AUCTION_RESULTS]
 WITH_EXCEL = unittest.skipUnless(command.has("openpyxl"), "openpyxl is missing (Debian's python3-openpyxl)")
 
 
@@ -278,7 +278,7 @@ class Statement(unittest.TestCase):
             self.assertEqual(tool("table", "--participant", "C", *words, "-", data=self.DAY), said)
 
     def test_amounts_add_up(self):
-        texts = [AUCTION, AUCTION.with_suffix(".stdout")]
+        texts = [AUCTION, AUCTION_RESULTS]
         out = tool("table", "--rows", "statement", *texts)[1].decode()
         total = sum(float(row["amount_eur"] or 0) for row in csv.DictReader(io.StringIO(out)))
         self.assertAlmostEqual(total, 0)

@@ -8,7 +8,7 @@ from fractions import Fraction
 from pathlib import Path
 
 import support
-from support import AUCTION, FIRST, QUARTERS, day_of, printed, results_of, tool
+from support import AUCTION, AUCTION_RESULTS, FIRST, QUARTERS, QUARTERS_RESULTS, day_of, printed, results_of, tool
 
 from lib import book, command, journal, order_table, sheets, tables, text
 
@@ -254,7 +254,7 @@ class Orders(unittest.TestCase):
 
 class CommandLine(unittest.TestCase):
     def test_tables_and_journals(self):
-        texts = [AUCTION, AUCTION.with_suffix(".stdout")]
+        texts = [AUCTION, AUCTION_RESULTS]
         with tempfile.TemporaryDirectory() as folder:
             note = "table: 1 of 94 commands was refused (of GAS): see --rows commands\n"
             self.assertEqual(tool("table", *texts, "--all", folder), (0, b"", note))
@@ -282,7 +282,7 @@ class CommandLine(unittest.TestCase):
         self.assertEqual(len(tool("table", "--rows", "commands", "-", data=opened)[1].splitlines()), 15)
         day = AUCTION.read_bytes() + b"results\n" + printed(AUCTION)
         out = tool("table", "--rows", "commands", "-", data=day)[1].decode()
-        self.assertEqual(out, tool("table", "--rows", "commands", AUCTION, AUCTION.with_suffix(".stdout"))[1].decode())
+        self.assertEqual(out, tool("table", "--rows", "commands", AUCTION, AUCTION_RESULTS)[1].decode())
         self.assertIn("93,cancel,GAS,START,,,,,,,,refused,HasChildren\n", out)
         self.assertIn(",amend,NORD,WIND-9,,,2.00,9,130.0,,,done,\n", out)
 
@@ -293,7 +293,7 @@ class CommandLine(unittest.TestCase):
         self.assertEqual((status, day, hour), (0, b"day,96,,,,,,,", b"submit,NORD,WIND,hour,sell,1250,96:450,,"))
         self.assertEqual((block.count(b":1;"), close), (95, b"close,,,,,,,,"))
         self.assertEqual(tool("table", "--journal", "-", "--periods=91", data=rows.encode())[0], command.COMMAND_LINE)
-        texts = [QUARTERS, QUARTERS.with_suffix(".stdout")]
+        texts = [QUARTERS, QUARTERS_RESULTS]
         periods = tool("table", *texts)[1].decode().splitlines()
         self.assertEqual((len(periods), periods[96].split(",")[:5]), (97, ["96", "0.25", "74.00", "385.0", "yes"]))
         orders = tool("table", *texts, "--rows", "orders")[1].decode().splitlines()
@@ -302,14 +302,14 @@ class CommandLine(unittest.TestCase):
         self.assertIn("GAS,FLEX-60,hour,sell,98.00,60,205.0,,,51.250,3.750,in part,,367.50000", orders)
 
     def test_some_periods(self):
-        texts = [AUCTION, AUCTION.with_suffix(".stdout")]
+        texts = [AUCTION, AUCTION_RESULTS]
         for words in ("1,3,5-7", "1;3;5-7"):
             rows = tool("table", *texts, "--only", words)[1].decode().splitlines()[1:]
             self.assertEqual([row.split(",")[0] for row in rows], ["1", "3", "5", "6", "7"])
 
     @unittest.skipUnless(command.has_zone("Europe/Berlin"), "the time zones are missing (Debian's tzdata)")
     def test_dates_at_the_ends_of_the_calendar(self):
-        texts = [AUCTION, AUCTION.with_suffix(".stdout")]
+        texts = [AUCTION, AUCTION_RESULTS]
         for date in ("9999-12-31", "0001-01-01"):
             said = f"--date {date} is the first or the last day of the calendar: it should be another\n"
             self.assertEqual(tool("table", *texts, "--date", date), (command.COMMAND_LINE, b"", f"table: {said}"))
@@ -322,7 +322,7 @@ class CommandLine(unittest.TestCase):
         self.assertEqual(err, "table: standard input has no orders: the day of the journal is empty\n")
 
     def test_faults(self):
-        texts = [AUCTION, AUCTION.with_suffix(".stdout")]
+        texts = [AUCTION, AUCTION_RESULTS]
         status, out, err = tool("table", "--journal", "-", data=f"{HEADER}\n{HOUR},x\n".encode())
         self.assertEqual((status, out), (command.NO_INPUT, b""))
         self.assertEqual(err, "table: standard input: line 2, it has 10 cells, but the header has 9\n")
@@ -355,7 +355,7 @@ class CommandLine(unittest.TestCase):
             (status, err),
             (command.NO_INPUT, "table: no command of standard input closes the book, so it has no results\n"),
         )
-        self.assertEqual(tool("table", AUCTION, AUCTION.with_suffix(".stdout"), "-o", "/nowhere/a.csv")[0], command.NO_INPUT)
+        self.assertEqual(tool("table", AUCTION, AUCTION_RESULTS, "-o", "/nowhere/a.csv")[0], command.NO_INPUT)
 
 
 if __name__ == "__main__":

@@ -5,7 +5,7 @@ import json
 import re
 import unittest
 
-from support import AUCTION, TOP, audit, cases, journal_of, printed, results_of, tool
+from support import AUCTION, TOP, audit, cleared_cases, journal_of, printed, results_of, tool
 
 from lib import command, faults, verdict, version
 
@@ -130,9 +130,9 @@ class Record(unittest.TestCase):
         self.assertEqual((status, [fault["kind"] for fault in json.loads(out)["faults"]]), (1, ["missing"]))
 
     def test_the_worked_cases(self):
-        for case in cases("clear"):
-            if not case.with_suffix(".status").exists():
-                made, _ = self.record(case.read_bytes(), printed(case))
+        for name, data, text in cleared_cases():
+            with self.subTest(name):
+                made, _ = self.record(data, text)
                 self.assertEqual(made["verdict"], "right")
 
 

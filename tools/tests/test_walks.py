@@ -5,7 +5,7 @@ import re
 import unittest
 from fractions import Fraction
 
-from support import QUARTERS, TOP, book, cases, journal, printed, problem, selection
+from support import QUARTERS, SUNNY, TOP, book, journal, printed, problem, selection
 
 LINE = re.compile(r"`((?:period|hour|block),[^`]*|\d+,(?:done|refused,\w+))`")
 
@@ -16,20 +16,20 @@ def walk(heading):
     return " ".join(page.partition(f"\n## {heading}\n")[2].partition("\n## ")[0].split())
 
 
-def replies(case):
+def replies(example):
     """The lines that `dam replay` prints, by the audit's reading of the rules."""
-    _, reasons = book.run(journal.read_journal(case.read_bytes()))
+    _, reasons = book.run(journal.read_journal(example.read_bytes()))
     return [f"{number},refused,{reason}" if reason else f"{number},done" for number, reason in enumerate(reasons, 1)]
 
 
 class Walk:
-    """A section on a day and the worked case that it is about."""
+    """A section on a day, and the example that it is about."""
 
     def setUp(self):
         self.text = walk(self.heading)
-        self.problem = problem(self.case.read_bytes())
+        self.problem = problem(self.example.read_bytes())
         names = {block.name: place for place, block in enumerate(self.problem.blocks)}
-        lines = printed(self.case).decode().splitlines()
+        lines = printed(self.example).decode().splitlines()
         self.accepted = {names[line.split(",")[2]] for line in lines if re.match("block,.*,accepted,", line)}
         self.names = names
 
@@ -52,13 +52,12 @@ class Walk:
             self.assertTrue(said in self.text or said.replace(".00 ", " ") in self.text, said)
 
     def test_the_day_is_the_example(self):
-        self.assertIn(f"`examples/{self.example}`", self.text)
-        self.assertEqual(self.case.read_bytes(), (TOP / "examples" / self.example).read_bytes())
+        self.assertIn(f"`examples/{self.example.name}`", self.text)
 
     def test_the_lines_are_printed(self):
         quoted = LINE.findall(self.text)
         self.assertGreater(len(quoted), 9)
-        self.assertEqual([line for line in quoted if line not in printed(self.case).decode().splitlines() + replies(self.case)], [])
+        self.assertEqual([line for line in quoted if line not in printed(self.example).decode().splitlines() + replies(self.example)], [])
 
     def test_the_welfare(self):
         welfare = self.outcome()[0].welfare
@@ -67,8 +66,7 @@ class Walk:
 
 
 class SunnyDay(Walk, unittest.TestCase):
-    heading, example = "A day and its result", "sunny-day.csv"
-    case = cases("clear-merit-order")[0]
+    heading, example = "A day and its result", SUNNY
 
     def test_other_selections(self):
         for without, plus, losing in (
@@ -96,8 +94,7 @@ class SunnyDay(Walk, unittest.TestCase):
 
 
 class QuarterHours(Walk, unittest.TestCase):
-    heading, example = "A day of quarter-hours", "quarter-hours.csv"
-    case = QUARTERS
+    heading, example = "A day of quarter-hours", QUARTERS
 
     def test_the_paradoxical_block(self):
         found, losses = self.outcome(plus=["UNIT-7"])

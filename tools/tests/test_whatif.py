@@ -15,7 +15,7 @@ import unittest.mock
 from pathlib import Path
 
 import support
-from support import AUCTION, FIRST, QUARTERS, journal_of, printed, tool
+from support import AUCTION, AUCTION_RESULTS, FIRST, QUARTERS, QUARTERS_RESULTS, journal_of, printed, tool
 
 import compare
 from lib import book, changes, cleared, command, engine, journal, limit_words, limits, tables
@@ -306,7 +306,7 @@ class Tools(unittest.TestCase):
         for word in ("abc", "4000.01", "1e3", "0.001"):
             status, _, err = self.whatif("limit", self.journal, "--participant", "CITY", "--order", "TOWN", "--from", word)
             self.assertEqual((status, word in err), (2, True))
-        days = AUCTION, AUCTION.with_suffix(".stdout"), QUARTERS, QUARTERS.with_suffix(".stdout")
+        days = AUCTION, AUCTION_RESULTS, QUARTERS, QUARTERS_RESULTS
         said = "compare: the days have 24 and 96 periods, so their prices can't be compared\n"
         self.assertEqual(tool("compare", *days), (3, b"", said))
         self.assertEqual(tool("compare", "--participant", "NONE", *days[:2], *days[:2])[2], "compare: NONE has no order in either book\n")
@@ -315,7 +315,7 @@ class Tools(unittest.TestCase):
 
     def test_output_that_can_not_be_written(self):
         for name, words in (
-            ("compare", [AUCTION, AUCTION.with_suffix(".stdout")] * 2),
+            ("compare", [AUCTION, AUCTION_RESULTS] * 2),
             ("whatif", ["limit", "--program", self.program, self.journal, "--participant", "GEN", "--order", "UNIT"]),
             ("whatif", ["scenarios", "--help"]),
         ):

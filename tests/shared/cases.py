@@ -1,0 +1,257 @@
+"""The worked cases of tests/cases/. A file there is a text with several cases, which `read` reads and `written` writes.
+
+It begins with what its cases show, and maybe with the line `-- args` of the cases that have none. A case begins with a
+line `== NAME`, and maybe with what it shows. Then come its parts, each a line `-- PART`, most with lines below it:
+
+    -- args WORD..          the program's arguments
+    -- runs                 further arguments: the program is run once with those of each line
+    -- stdin                the input
+    -- stdout, -- stderr    what the program prints; of several texts for a stream, each is right
+    -- stdout begins        the first line of what it prints
+    -- status N             the status; without it, 0
+    -- table                columns' names, and rows of cells, with two blanks or more between the cells: the case stands
+                            for one case of each row, and in all its lines `{COLUMN}` is replaced by the cell
+
+A text that is left out is empty. `-- PART as in CASE` takes the text of a case above, or of FILE/CASE, and
+`-- PART from PATH` that of a file of the repository. Empty lines at the end of a text don't count. Each other line
+stands for itself and its line end, but for:
+
+    {1..9}, {5 times}       the line stands once for each number, with that number here; or so many times, with nothing here
+    \\n \\r \\x7b \\\\           a line end, a return, the byte 0x7b, a backslash
+    \\ at the end            the line has no line end
+"""
+
+import re
+from itertools import product
+from pathlib import Path
+from typing import NamedTuple
+
+TOP = Path(__file__).resolve().parents[2]
+FOLDER = TOP / "tests" / "cases"
+KINDS = ("args", "runs", "stdin", "stdout begins", "stdout", "stderr begins", "stderr", "status", "table")
+MAY_STAND_TWICE = ("stdout", "stderr")
+PLAIN = re.compile(r"(?:[ -~]*[!-~])?")
+TIMES = re.compile(r"\{(?:(\d+)\.\.(\d+)|(\d+) times)\}")
+BRACE = re.compile(r"\{([^{}]*)\}")
+ESCAPE = re.compile(r"\\(x[0-9a-f]{2}|.?)")
+ESCAPED = {"n": "\n", "r": "\r", "\\": "\\", "": ""}
+# What doesn't stand for itself: the beginning of a heading, a blank at the end, and such bytes.
+UNPLAIN = re.compile(r"^[=-](?=[=-] )| $|[^ -z|}~]|\\")
+
+
+class Fault(Exception):
+    """What is wrong in a file of cases; a first argument is the number of the line."""
+
+
+class Printed(NamedTuple):
+    """What is right on a stream: one of some texts, or a first line."""
+
+    texts: list
+    is_first_line: bool
+
+    def is_right(self, got):
+        return got.split(b"\n")[0] == self.texts[0].split(b"\n")[0] if self.is_first_line else got in self.texts
+
+
+class Case(NamedTuple):
+    name: str  # FILE/NAME
+    words: list  # its arguments
+    runs: list  # the further arguments of each run
+    stdin: bytes
+    stdout: Printed
+    stderr: Printed
+    status: int
+
+    @property
+    def printed(self):
+        """What is right on standard output; the first, if several texts are."""
+        return self.stdout.texts[0]
+
+    def differences(self, status, stdout, stderr):
+        """What of a run isn't right."""
+        found = {"stdout": self.stdout.is_right(stdout), "status": status == self.status, "stderr": self.stderr.is_right(stderr)}
+        return [what for what, is_right in found.items() if not is_right]
+
+
+class Part(NamedTuple):
+    number: int
+    kind: str
+    value: str
+    lines: list  # each with its number
+
+    def filled(self, row):
+        return Part(self.number, self.kind, filled(self.number, self.value, row), [(at, filled(at, line, row)) for at, line in self.lines])
+
+
+class Reader:
+    """Reads a file of cases: `found` has them by their names."""
+
+    def __init__(self, path):
+        self.file, self.found = path.stem, {}
+        first, *blocks = blocks_of(path.read_bytes().decode("latin-1"))
+        usual = parts_of(first)
+        for number, name, lines in blocks:
+            parts = parts_of((number, name, lines))
+            for row in rows_of([it for it in parts if it.kind == "table"]):
+                its = [it.filled(row) for it in parts if it.kind != "table"]
+                its += [it for it in usual if it.kind not in {own.kind for own in its}]
+                self.add(number, filled(number, name, row), its)
+
+    def add(self, number, name, parts):
+        kinds = [it.kind for it in parts]
+        twice = [it for it in kinds if kinds.count(it) > 1 and it not in MAY_STAND_TWICE or f"{it} begins" in kinds]
+        if twice or name in self.found or "args" not in kinds:
+            raise Fault(number, f"{name} has no arguments, is there already, or has a part twice")
+        values = {"status": "0", **{it.kind: it.value for it in parts}}
+        if not values["status"].isdigit():
+            raise Fault(number, f"the status of {name} is no number: {values['status']}")
+        runs = [line.split() for it in parts if it.kind == "runs" for at, text in it.lines for line in repeated(at, text)]
+        stdin = [self.text(it) for it in parts if it.kind == "stdin"] or [b""]
+        out, error = (self.printed([it for it in parts if it.kind.split()[0] == stream]) for stream in ("stdout", "stderr"))
+        self.found[name] = Case(f"{self.file}/{name}", values["args"].split(), runs or [[]], stdin[0], out, error, int(values["status"]))
+
+    def printed(self, parts):
+        return Printed([self.text(it) for it in parts] or [b""], any(it.kind.endswith("begins") for it in parts))
+
+    def text(self, part):
+        """The text of a part."""
+        if not part.value:
+            return b"".join(unescaped(at, line) for at, text in part.lines for line in repeated(at, text))
+        if part.lines:
+            raise Fault(part.number, "a text from elsewhere, with lines below it")
+        how, _, where = part.value.partition(" ")
+        if how == "from" and (TOP / where).is_file():
+            return (TOP / where).read_bytes()
+        file, slash, name = where[len("in ") :].rpartition("/")
+        found = self.found if not slash else named(file) if path_of(file).is_file() else {}
+        if how != "as" or name not in found:
+            raise Fault(part.number, f"there is no text {part.value}")
+        return found[name].stdin if part.kind == "stdin" else getattr(found[name], part.kind.split()[0]).texts[0]
+
+
+def blocks_of(text):
+    """What stands before the first case, and the cases: each the number of its line, its name, and the lines below it."""
+    found = [(0, "", [])]
+    for number, line in enumerate(text.split("\n"), 1):
+        if not PLAIN.fullmatch(line):
+            raise Fault(number, "a byte outside of printable ASCII, or a blank at the end: these have to be escaped")
+        if line.startswith("== "):
+            found.append((number, line[3:], []))
+        else:
+            found[-1][2].append((number, line))
+    return found
+
+
+def parts_of(block):
+    """The parts of a case, without empty lines at their end."""
+    found = []
+    for number, line in block[2]:
+        if line.startswith("-- "):
+            kind = next((it for it in KINDS if f"{line} ".startswith(f"-- {it} ")), None)
+            if not kind:
+                raise Fault(number, f"there is no part {line[3:]}")
+            found.append(Part(number, kind, line[3 + len(kind) :].strip(), []))
+        elif found:
+            found[-1].lines.append((number, line))
+    for part in found:
+        while part.lines and not part.lines[-1][1]:
+            part.lines.pop()
+        if part.lines and part.kind in ("args", "status"):
+            raise Fault(part.number, f"lines below `-- {part.kind}`")
+    return found
+
+
+def rows_of(tables):
+    """The rows of a case's table, each with its cells by their columns; one row without cells, if there is no table."""
+    if not tables:
+        return [{}]
+    (_, columns), *rows = [(number, re.split("  +", line)) for number, line in tables[0].lines] or [(0, [])]
+    if len(tables) > 1 or not rows:
+        raise Fault(tables[-1].number, "a second table, or one without rows")
+    for number, cells in rows:
+        if len(cells) != len(columns):
+            raise Fault(number, f"{len(cells)} cells below {len(columns)} columns")
+    return [dict(zip(columns, cells)) for _, cells in rows]
+
+
+def filled(number, text, row):
+    """The text with a row's cells."""
+
+    def cell(brace):
+        if brace[1] not in row and not TIMES.fullmatch(brace[0]):
+            raise Fault(number, f"neither a column nor a range: {brace[0]}")
+        return row.get(brace[1], brace[0])
+
+    return BRACE.sub(cell, text)
+
+
+def repeated(number, line):
+    """The lines for which a line stands that has ranges and numbers of times."""
+    texts = TIMES.split(line)
+    counts = zip(texts[1::4], texts[2::4], texts[3::4])
+    ranges = [[""] * int(times) if times else range(int(least), int(most) + 1) for least, most, times in counts]
+    if not all(ranges):
+        raise Fault(number, f"a line that stands for none: {line}")
+    for numbers in product(*ranges):
+        yield texts[0] + "".join(f"{number}{text}" for number, text in zip(numbers, texts[4::4]))
+
+
+def unescaped(number, line):
+    """The bytes for which a line stands."""
+
+    def byte(escape):
+        word = escape[1]
+        if word not in ESCAPED and len(word) < 3:
+            raise Fault(number, f"there is no escape {escape[0]}")
+        return ESCAPED[word] if word in ESCAPED else chr(int(word[1:], 16))
+
+    is_cut = (len(line) - len(line.rstrip("\\"))) % 2 == 1
+    return ESCAPE.sub(byte, line).encode("latin-1") + (b"" if is_cut else b"\n")
+
+
+def read(path):
+    """The cases of a file by their names, in its order."""
+    try:
+        return Reader(Path(path)).found
+    except Fault as fault:
+        if len(fault.args) == 1:
+            raise
+        raise Fault(f"{path}:{fault.args[0]}: {fault.args[1]}") from None
+
+
+def named(file):
+    """The cases of a file of tests/cases/, by their names."""
+    return read(path_of(file))
+
+
+def path_of(file):
+    return FOLDER / f"{file}.txt"
+
+
+def files():
+    return sorted(FOLDER.glob("*.txt"))
+
+
+def every():
+    """All cases of tests/cases/."""
+    return [case for path in files() for case in read(path).values()]
+
+
+def written(name, words, stdin, stdout=b"", stderr=b"", status=0):
+    """A case as it stands in a file."""
+    lines = [f"== {name}", f"-- args {' '.join(words)}".rstrip()]
+    for kind, text in ("stdin", stdin), ("stdout", stdout), ("stderr", stderr):
+        if text:
+            lines += [f"-- {kind}", *escaped(text)]
+    return "\n".join([*lines, f"-- status {status}", ""])
+
+
+def escaped(text):
+    """The lines that stand for a text."""
+    *whole, rest = text.decode("latin-1").split("\n")
+    lines = [UNPLAIN.sub(lambda it: "\\\\" if it[0] == "\\" else f"\\x{ord(it[0]):02x}", line) for line in (*whole, rest)]
+    rest = lines.pop()
+    if rest:
+        return [*lines, rest + "\\"]
+    # an empty line at the end wouldn't count
+    return [*lines[:-1], lines[-1] or "\\n\\"]
