@@ -1,10 +1,12 @@
 //! What a person at a terminal reads in addition to a fault of the input, or to the refusal of words that name a file.
 
 ghost use Rattle.std.specs.Prelude.{◌≡◌, ◌≤◌, ◌↔◌, IfSome, IsSome};
+ghost use Rattle.std.specs.List.{list_any};
+ghost use Rattle.std.specs.String.{string_bytes};
 ghost use Rattle.dam_line.specs.Line.{IsSubcommand};
 ghost use Rattle.dam_results.specs.declared.journal.JournalFault.{JournalFault};
 ghost use Rattle.dam_engines.specs.Fault.{fault_status, input_status};
-ghost use Rattle.dam_cli.specs.Advice.{BeginsWithField, NamesItsField};
+ghost use Rattle.dam_cli.specs.Advice.{BeginsWithField, NamesItsField, is_version_word};
 
 use dam_engines::RunFault;
 use dam_results::JournalFault;
@@ -58,7 +60,9 @@ fn rule_of_journal(fault: JournalFault) -> Option<&'static str>
 }
 
 /// The rule of a field of the first record.
-fn rule_of_day(field: usize) -> &'static str {
+fn rule_of_day(field: usize) -> &'static str
+    ensures { field ≡ 2 → BeginsWithField 2 result.now }
+{
     match field {
         2 => "field 2 of the day is its number of periods: 23, 24, 25, 92, 96 or 100",
         _ => "fields 3 to 9 of the day are empty",
@@ -112,12 +116,15 @@ pub fn file_in(words: &[String]) -> Option<(&str, &str)>
 }
 
 /// Whether a word asks for the version, which the program doesn't know.
-pub fn asks_version(words: &[String]) -> bool {
-    for word in words {
-        let word = word.as_str();
-        if word == "--version" || word == "-V" {
-            return true;
-        }
-    }
-    false
+pub fn asks_version(words: &[String]) -> bool
+    ensures { result ≡ list_any (λ word. is_version_word (string_bytes word)) words.now }
+{
+    words.iter().any(|word| is_version_word(word.as_str()))
+}
+
+/// Whether this word does.
+fn is_version_word(word: &str) -> bool
+    ensures { result ≡ is_version_word word.now }
+{
+    word == "--version" || word == "-V"
 }

@@ -149,7 +149,9 @@ fn refuse(rt: &HostRuntime, text: &str, words: &[String]) -> ExitCode
     let _ = eprint!(rt; "command line\n{text}");
     if rt.stderr().is_terminal() {
         if asks_version(words) {
-            let _ = eprintln!(rt; "dam: the launcher prints the version: ./dam --version");
+            let _ = eprintln!(rt;
+                "dam: dam-audit --version prints the version; in a clone, ./dam --version does"
+            );
         } else if let Some((command, file)) = file_in(words) {
             let _ = eprintln!(rt;
                 "dam: a journal is read from standard input: dam {command} < {file}"
