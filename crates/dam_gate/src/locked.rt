@@ -15,7 +15,7 @@ use crate::pass::Pass;
 use crate::version::{NextShown, Shown, Slot, Version, filled};
 use dam_book::{Command, DayLength, Participant, Reply, Seed};
 use left_right::{Absorb, WriteHandle};
-use once_cell::race::{Note, OnceBox};
+use once_cell::race::{Note as CellNote, OnceBox};
 use std::alloc::{AllocError, Global};
 use std::marker::Model;
 use std::sync::{Arc, Wait};
@@ -38,7 +38,7 @@ where
     history: History<J>,
     writer: WriteHandle<Shown<J>, NextShown<J>, R>,
     // what the slot that is shown has in it
-    note: Note<Version<J>>,
+    shown: CellNote<Version<J>>,
     // the slot that a refused call left at the writer
     next: Option<Slot<J>>,
     // how many passes were given
@@ -61,7 +61,7 @@ where
 
     ghost invariant = { λ l. (l.history ≡ l.keeper.journal.entries)
         × (l.keeper.journal.book.periods ≡ J.opening.periods)
-        × IsNoteOf (slot_name (published l.writer).slot) l.keeper.journal l.note
+        × IsNoteOf (slot_name (published l.writer).slot) l.keeper.journal l.shown
         × IsAtMostNext l.next (pending l.writer) };
 }
 
@@ -136,7 +136,7 @@ fn let_go<J: GateName, R: Wait + Drop>(writer: &mut WriteHandle<Shown<J>, NextSh
     let _shown = writer.publish();
 }
 
-/// The history after the step, whose version is then in the slot, as the note shows.
+/// The history after the step, whose version is then in the slot, as the note of its cell shows.
 ///
 /// The next version takes the place of the present one in its box, because no memory may be refused once the history
 /// has gone on.
@@ -148,7 +148,7 @@ fn go_on<J: GateName>(
     ready: &Ready,
     slot: &Slot<J>,
     mut version: Box<Version<J>>,
-) -> Result<(History<J>, Note<Version<J>>), GateFault>
+) -> Result<(History<J>, CellNote<Version<J>>), GateFault>
     requires journal { IsJournal
         (record { entries = history.now ++ ready.now.entry ∷ []; book = ready.now.book }) }
     requires day { ready.now.book.periods ≡ J.opening.periods }
@@ -188,7 +188,7 @@ impl<J: GateName, R: Wait + Drop> Locked<J, R> {
     {
         let keeper = Keeper::for_day(alloc, periods, seed)?;
         let (count, start) = opening.named::<J>();
-        let (slot, note) = filled(alloc, version_of(alloc, &keeper, &start)?)?;
+        let (slot, shown) = filled(alloc, version_of(alloc, &keeper, &start)?)?;
         let writer = writer_from(rt, alloc, &slot)?;
         Ok(Locked {
             alloc,
@@ -197,7 +197,7 @@ impl<J: GateName, R: Wait + Drop> Locked<J, R> {
             start: start.again(),
             history: start,
             writer,
-            note,
+            shown,
             next: None,
             passes: 0,
         })
@@ -277,7 +277,7 @@ impl<J: GateName, R: Wait + Drop> Locked<J, R> {
         let ready = self.keeper.ready_in_room(command)?;
         let version = version_of(self.alloc, &self.keeper, &self.history)?;
         let slot = next_slot(self.alloc, &mut self.writer, &mut self.next)?;
-        let (after, note) = go_on(
+        let (after, shown) = go_on(
             &self.count,
             &self.history,
             seen,
@@ -291,7 +291,7 @@ impl<J: GateName, R: Wait + Drop> Locked<J, R> {
         }
         let_go(&mut self.writer);
         self.next = None;
-        self.note = note;
+        self.shown = shown;
         let entry = ready.entry();
         let answer = (entry.number, entry.reply);
         self.keeper.take(ready);

@@ -6,7 +6,7 @@ ghost use Rattle.dam_gate.specs.inside.Shown.{IsNoteOf, slot_name};
 use crate::history::{GateName, History};
 use dam_book::Book;
 use left_right::Absorb;
-use once_cell::race::{Note, OnceBox};
+use once_cell::race::{Note as CellNote, OnceBox};
 use std::alloc::{AllocError, Global};
 use std::marker::Model;
 use std::sync::Arc;
@@ -58,11 +58,11 @@ impl<J: GateName> Version<J> {
 /// Where looks find a version. A call makes a slot empty, and puts its version there later.
 pub(crate) type Slot<J> = Arc<OnceBox<Version<J>>, Global>;
 
-/// A slot with the version in it, and a note of that.
+/// A slot with the version in it, and the note of its cell that shows it.
 pub(crate) fn filled<J: GateName>(
     alloc: Global,
     version: Box<Version<J>>,
-) -> Result<(Slot<J>, Note<Version<J>>), AllocError>
+) -> Result<(Slot<J>, CellNote<Version<J>>), AllocError>
     ensures { IfOk result (λ filled. IsNoteOf (slot_name filled.0) version.value filled.1) }
 {
     let slot = Arc::new(alloc, OnceBox::new(alloc))?;
