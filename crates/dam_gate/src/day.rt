@@ -5,7 +5,7 @@ ghost use Rattle.dam_book.specs.Book.{commands_of};
 ghost use Rattle.dam_gate.specs.Pass.{Knowledge, PassState, IsPass, holders, knowing_nothing};
 ghost use Rattle.dam_gate.specs.Headline.{IsWholeAccount};
 ghost use Rattle.dam_gate.specs.Day.{AreTaken, IsDayFault, IsSettledDay, givers_of, is_one_of};
-ghost use Rattle.dam_gate.specs.inside.Entering.{AreApart, AreGivers, AreServed, Enters, HasAll, IsClosedDay, IsLateFault, IsRefusalAt, Takes, at_places, share_at};
+ghost use Rattle.dam_gate.specs.inside.Entering.{AreApart, AreGivers, AreServed, Enters, HasAll, IsClosedDay, IsLateFault, IsRefusalAt, IsUnsettled, Takes, at_places, share_at};
 
 use crate::account::Account;
 use crate::gate::{Gate, GateFault, PassFault};
@@ -364,6 +364,7 @@ fn settle_day(alloc: Global, journal: Journal, passes: &[Account]) -> Result<Set
     ensures journal { IfOk result (λ settled. settled ≡ journal) }
     ensures account { IfOk result (λ settled. IsWholeAccount settled passes.now) }
     ensures err { IfErr result IsLateFault }
+    ensures why { IfErr result (IsUnsettled journal passes.now) }
 {
     match settle(alloc, journal, passes) {
         Ok(settled) => Ok(settled),

@@ -96,7 +96,7 @@ impl From<AllocError> for PassFault {
 #[derive(Drop)]
 pub struct Gate<J: GateName, R: Wait + Drop>
 where
-    Shown<J>: Absorb<NextShown<J>, State = u32>,
+    Shown<J>: Absorb<NextShown<J>, State = u64>,
 {
     locked: Mutex<Locked<J, R>>,
 }

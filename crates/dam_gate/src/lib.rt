@@ -29,12 +29,12 @@
 //! Two passes have seen one history ([`laws::one_history`]).
 //!
 //! About the state under the lock, contracts state only facts of any gate that hold whenever the lock is free: the
-//! journal is a legal one of the day of the gate's name, and as many entries are shown as it has. So only tests show
-//! that
+//! journal is a legal one of the day of the gate's name, and the slot that is shown has its version in it. So only tests
+//! show that
 //!
 //! - a gate begins without an entry, and gives nine passes
 //! - a call journals at this gate and just once, or, if it is refused, not at all
-//! - the slot that is shown isn't empty
+//! - a look finds the version that is shown
 //! - calls are refused and looks are `None` only if they should be, and `Memory` comes only if memory ran out
 //! - `finish` returns the journal of these calls
 //!

@@ -4,7 +4,7 @@ ghost use Rattle.dam_gate.specs.Journal.{IsJournal, empty_journal, is_full, jour
 ghost use Rattle.dam_gate.specs.Limits.{most_passes};
 ghost use Rattle.dam_gate.specs.Pass.{knowing_nothing};
 ghost use Rattle.dam_gate.specs.inside.Locked.{IsPassFault, entry_of};
-ghost use Rattle.dam_gate.specs.inside.Shown.{IsAtMostNext, IsNext};
+ghost use Rattle.dam_gate.specs.inside.Shown.{IsAtMostNext, IsNext, IsNoteOf, slot_name};
 ghost use Rattle.left_right.specs.Handles.{pending, published};
 
 use crate::gate::{GateFault, PassFault};
@@ -12,22 +12,23 @@ use crate::history::{EntryCount, GateName, History, Opening};
 use crate::keeper::{Journal, Keeper, Ready};
 use crate::limits::MOST_PASSES;
 use crate::pass::Pass;
-use crate::version::{NextShown, Shown, Slot, Version};
+use crate::version::{NextShown, Shown, Slot, Version, filled};
 use dam_book::{Command, DayLength, Participant, Reply, Seed};
 use left_right::{Absorb, WriteHandle};
+use once_cell::race::{Note as CellNote, OnceBox};
 use std::alloc::{AllocError, Global};
 use std::marker::Model;
-use std::sync::{Arc, OnceLock, Wait};
+use std::sync::{Arc, Wait};
 
 /// What lies under the lock: the keeper, and what publishes its versions.
 ///
 /// A contract sees the journal, and how many passes were given. Whenever the lock is free, the history of the name `J`
-/// that it has is just the journal's entries, the day is that of the name, and the version that is shown has as many
-/// entries as the journal.
+/// that it has is just the journal's entries, the day is that of the name, and the slot that is shown has the journal's
+/// version in it.
 #[derive(Drop)]
 pub(crate) struct Locked<J: GateName, R: Wait + Drop>
 where
-    Shown<J>: Absorb<NextShown<J>, State = u32>,
+    Shown<J>: Absorb<NextShown<J>, State = u64>,
 {
     alloc: Global,
     pub(crate) keeper: Keeper,
@@ -36,7 +37,9 @@ where
     start: History<J>,
     history: History<J>,
     writer: WriteHandle<Shown<J>, NextShown<J>, R>,
-    // the empty slot that a refused call left at the writer
+    // what the slot that is shown has in it
+    shown: CellNote<Version<J>>,
+    // the slot that a refused call left at the writer
     next: Option<Slot<J>>,
     // how many passes were given
     passes: u8,
@@ -45,12 +48,12 @@ where
 
 impl<J: GateName, R: Wait + Drop> Model for Locked<J, R>
 where
-    Shown<J>: Absorb<NextShown<J>, State = u32>,
+    Shown<J>: Absorb<NextShown<J>, State = u64>,
 {
-    ghost use Rattle.std.specs.Prelude.{◌≡◌, length};
+    ghost use Rattle.std.specs.Prelude.{◌≡◌};
     ghost use Rattle.left_right.specs.Handles.{pending, published};
     ghost use Rattle.dam_gate.specs.inside.Locked.{LockedState};
-    ghost use Rattle.dam_gate.specs.inside.Shown.{IsAtMostNext};
+    ghost use Rattle.dam_gate.specs.inside.Shown.{IsAtMostNext, IsNoteOf, slot_name};
 
     ghost Value = { LockedState };
 
@@ -58,63 +61,62 @@ where
 
     ghost invariant = { λ l. (l.history ≡ l.keeper.journal.entries)
         × (l.keeper.journal.book.periods ≡ J.opening.periods)
-        × ((published l.writer).held ≡ length l.keeper.journal.entries)
-        × IsAtMostNext (length l.keeper.journal.entries) l.next (pending l.writer) };
+        × IsNoteOf (slot_name (published l.writer).slot) l.keeper.journal l.shown
+        × IsAtMostNext l.next (pending l.writer) };
 }
 
-/// A slot with the version in it.
-fn shown<J: GateName>(alloc: Global, version: Version<J>) -> Result<Shown<J>, AllocError>
-    ensures { IfOk result (λ shown. shown.held ≡ length version.entries) }
-{
-    let held = version.history().len();
-    Ok(Shown {
-        slot: Arc::new(alloc, OnceLock::from(version))?,
-        held,
-    })
-}
-
-/// The writer of the versions, of which the first has the keeper's book.
-fn writer_from<J: GateName, R: Wait + Drop>(
-    rt: R,
+/// The version with all entries of the journal.
+fn version_of<J: GateName>(
     alloc: Global,
     keeper: &Keeper,
     history: &History<J>,
-) -> Result<WriteHandle<Shown<J>, NextShown<J>, R>, AllocError>
+) -> Result<Box<Version<J>>, AllocError>
     requires history { history.now ≡ keeper.now.journal.entries }
     requires day { keeper.now.journal.book.periods ≡ J.opening.periods }
-    ensures shown { IfOk result (λ writer. (published writer).held ≡ length history.now) }
+    ensures { IfOk result (λ version. version.value ≡ keeper.now.journal) }
+{
+    let version = Version::new(keeper.share()?, history.again());
+    Ok(Box::new(alloc, version)?)
+}
+
+/// The writer of the versions, which shows this slot.
+fn writer_from<J: GateName, R: Wait + Drop>(
+    rt: R,
+    alloc: Global,
+    slot: &Slot<J>,
+) -> Result<WriteHandle<Shown<J>, NextShown<J>, R>, AllocError>
+    ensures shown { IfOk result (λ writer.
+        slot_name (published writer).slot ≡ slot_name slot.now) }
     ensures waiting { IfOk result (λ writer. pending writer ≡ []) }
 {
-    let first = shown(alloc, Version::new(keeper.share()?, history.again()))?;
+    let first = Shown {
+        slot: Arc::try_clone(slot)?,
+    };
     let second = Shown {
-        slot: Arc::try_clone(&first.slot)?,
-        held: first.held,
+        slot: Arc::try_clone(slot)?,
     };
     WriteHandle::new(alloc, rt, first, second, MOST_PASSES as usize)
 }
 
-/// A slot for the next version, still empty: the one that a refused call left at the writer, or else a new one. The
+/// A slot for the next version: the one that a refused call left at the writer, or else a new one, which is empty. The
 /// writer shows it next.
 fn next_slot<J: GateName, R: Wait + Drop>(
     alloc: Global,
     writer: &mut WriteHandle<Shown<J>, NextShown<J>, R>,
     next: &mut Option<Slot<J>>,
-    held: u32,
 ) -> Result<Slot<J>, AllocError>
-    requires few { held < 2 ^ 31 }
-    requires waiting { IsAtMostNext held next.old (pending writer.old) }
+    requires waiting { IsAtMostNext next.old (pending writer.old) }
     ensures published { published writer.new ≡ published writer.old }
-    ensures waiting { IsAtMostNext held next.new (pending writer.new) }
-    ensures ok { OnOk result (IsNext held (pending writer.new)) }
+    ensures waiting { IsAtMostNext next.new (pending writer.new) }
+    ensures ok { IfOk result (λ slot. IsNext (slot_name slot) (pending writer.new)) }
 {
     if let Some(slot) = &*next {
         return Arc::try_clone(slot);
     }
-    let slot = Arc::new(alloc, OnceLock::new())?;
+    let slot = Arc::new(alloc, OnceBox::new(alloc))?;
     let kept = Arc::try_clone(&slot)?;
     let change = NextShown {
         slot: Arc::try_clone(&slot)?,
-        held: held + 1,
     };
     if writer.append(change).is_err() {
         return Err(AllocError);
@@ -127,14 +129,17 @@ fn next_slot<J: GateName, R: Wait + Drop>(
 /// it. It waits for the looks at that version.
 fn let_go<J: GateName, R: Wait + Drop>(writer: &mut WriteHandle<Shown<J>, NextShown<J>, R>)
     requires { pending writer.old ≡ [] }
-    ensures shown { (published writer.new).held ≡ (published writer.old).held }
+    ensures shown { slot_name (published writer.new).slot ≡ slot_name (published writer.old).slot }
     ensures waiting { pending writer.new ≡ [] }
 {
     // Nothing waits, so an `Err` would change nothing either.
     let _shown = writer.publish();
 }
 
-/// The history after the step. Its version is then in the slot.
+/// The history after the step, whose version is then in the slot, as the note of its cell shows.
+///
+/// The next version takes the place of the present one in its box, because no memory may be refused once the history
+/// has gone on.
 fn go_on<J: GateName>(
     count: &EntryCount<J>,
     history: &History<J>,
@@ -142,11 +147,14 @@ fn go_on<J: GateName>(
     learnt: &History<J>,
     ready: &Ready,
     slot: &Slot<J>,
-) -> Result<History<J>, GateFault>
+    mut version: Box<Version<J>>,
+) -> Result<(History<J>, CellNote<Version<J>>), GateFault>
     requires journal { IsJournal
         (record { entries = history.now ++ ready.now.entry ∷ []; book = ready.now.book }) }
     requires day { ready.now.book.periods ≡ J.opening.periods }
-    ensures history { IfOk result (λ after. after ≡ history.now ++ ready.now.entry ∷ []) }
+    ensures history { IfOk result (λ r. r.0 ≡ history.now ++ ready.now.entry ∷ []) }
+    ensures shown { IfOk result (λ r. IsNoteOf (slot_name slot.now)
+        (record { entries = history.now ++ ready.now.entry ∷ []; book = ready.now.book }) r.1) }
     ensures seen { OnOk result (IsPrefix seen.now history.now) }
     ensures learnt { OnOk result (IsPrefix learnt.now history.now) }
     ensures fault { IfErr result (λ fault.
@@ -156,10 +164,12 @@ fn go_on<J: GateName>(
     let Some(after) = count.add(history, seen, learnt, ready.entry()) else {
         return Err(GateFault::NoVersion);
     };
-    if slot.try_set(Version::new(book, after.again())).is_err() {
+    *version = Version::new(book, after.again());
+    let mut note = slot.note();
+    if slot.set_as(version, &mut note).is_err() {
         return Err(GateFault::NoVersion);
     }
-    Ok(after)
+    Ok((after, note))
 }
 
 impl<J: GateName, R: Wait + Drop> Locked<J, R> {
@@ -178,7 +188,8 @@ impl<J: GateName, R: Wait + Drop> Locked<J, R> {
     {
         let keeper = Keeper::for_day(alloc, periods, seed)?;
         let (count, start) = opening.named::<J>();
-        let writer = writer_from(rt, alloc, &keeper, &start)?;
+        let (slot, shown) = filled(alloc, version_of(alloc, &keeper, &start)?)?;
+        let writer = writer_from(rt, alloc, &slot)?;
         Ok(Locked {
             alloc,
             keeper,
@@ -186,6 +197,7 @@ impl<J: GateName, R: Wait + Drop> Locked<J, R> {
             start: start.again(),
             history: start,
             writer,
+            shown,
             next: None,
             passes: 0,
         })
@@ -261,15 +273,25 @@ impl<J: GateName, R: Wait + Drop> Locked<J, R> {
         ensures fault { IfErr result (λ fault.
             (fault ≡ GateFault.Memory) ⊎ (fault ≡ GateFault.NoVersion)) }
     {
-        let held = self.keeper.len(); // for the proof too: what a journal is
+        let _held = self.keeper.len(); // for the proof: what a journal is
         let ready = self.keeper.ready_in_room(command)?;
-        let slot = next_slot(self.alloc, &mut self.writer, &mut self.next, held)?;
-        let after = go_on(&self.count, &self.history, seen, learnt, &ready, &slot)?;
+        let version = version_of(self.alloc, &self.keeper, &self.history)?;
+        let slot = next_slot(self.alloc, &mut self.writer, &mut self.next)?;
+        let (after, shown) = go_on(
+            &self.count,
+            &self.history,
+            seen,
+            learnt,
+            &ready,
+            &slot,
+            version,
+        )?;
         if self.writer.publish().is_err() {
             return Err(GateFault::NoVersion);
         }
         let_go(&mut self.writer);
         self.next = None;
+        self.shown = shown;
         let entry = ready.entry();
         let answer = (entry.number, entry.reply);
         self.keeper.take(ready);

@@ -1,13 +1,15 @@
-ghost use Rattle.std.specs.Prelude.{◌≡◌};
+ghost use Rattle.std.specs.Prelude.{◌≡◌, IfOk};
 ghost use Rattle.std.specs.Arc.{arc_value};
 ghost use Rattle.dam_gate.specs.Journal.{IsJournal};
+ghost use Rattle.dam_gate.specs.inside.Shown.{IsNoteOf, slot_name};
 
 use crate::history::{GateName, History};
 use dam_book::Book;
 use left_right::Absorb;
+use once_cell::race::{Note as CellNote, OnceBox};
 use std::alloc::{AllocError, Global};
 use std::marker::Model;
-use std::sync::{Arc, OnceLock};
+use std::sync::Arc;
 
 /// The book after some number of entries. A contract sees the entries and the book.
 #[derive(Drop)]
@@ -53,32 +55,47 @@ impl<J: GateName> Version<J> {
     }
 }
 
-/// A call makes a slot empty, and puts its version there later.
-pub(crate) type Slot<J> = Arc<OnceLock<Version<J>>, Global>;
+/// Where looks find a version. A call makes a slot empty, and puts its version there later.
+pub(crate) type Slot<J> = Arc<OnceBox<Version<J>>, Global>;
 
-/// What the pair of `left_right` has two of: the slot of the last version, and its number of entries. Of two histories
-/// of one gate, one is a prefix of the other, so the number says which it is.
+/// A slot with the version in it, and the note of its cell that shows it.
+pub(crate) fn filled<J: GateName>(
+    alloc: Global,
+    version: Box<Version<J>>,
+) -> Result<(Slot<J>, CellNote<Version<J>>), AllocError>
+    ensures { IfOk result (λ filled. IsNoteOf (slot_name filled.0) version.value filled.1) }
+{
+    let slot = Arc::new(alloc, OnceBox::new(alloc))?;
+    let mut note = slot.note();
+    // A new slot is empty, though no clause of `OnceBox` says so.
+    if slot.set_as(version, &mut note).is_err() {
+        return Err(AllocError);
+    }
+    Ok((slot, note))
+}
+
+/// What the pair of `left_right` has two of: the slot of the last version.
 #[derive(Drop)]
 pub struct Shown<J: GateName> {
     pub(crate) slot: Slot<J>,
-    pub(crate) held: u32,
 }
 
-/// The version that is to be shown next, with its number of entries.
+/// The slot of the version that is to be shown next.
 #[derive(Drop)]
 pub struct NextShown<J: GateName> {
     pub(crate) slot: Slot<J>,
-    pub(crate) held: u32,
 }
 
 impl<J: GateName> Absorb<NextShown<J>> for Shown<J> {
     ghost use Rattle.std.specs.Prelude.{◌≡◌};
+    ghost use Rattle.dam_gate.specs.inside.Shown.{slot_name};
 
-    type State = u32;
+    /// The name of the slot, which no other slot has.
+    type State = u64;
 
-    ghost state = { λ shown. shown.held };
+    ghost state = { λ shown. slot_name shown.slot };
 
-    ghost applied = { λ _ change. change.held };
+    ghost applied = { λ _ change. slot_name change.slot };
 
     fn absorb_first(
         &mut self,
@@ -86,7 +103,6 @@ impl<J: GateName> Absorb<NextShown<J>> for Shown<J> {
         _other: &Shown<J>,
     ) -> Result<(), AllocError> {
         self.slot = Arc::try_clone(&operation.slot)?;
-        self.held = operation.held;
         Ok(())
     }
 
@@ -95,9 +111,8 @@ impl<J: GateName> Absorb<NextShown<J>> for Shown<J> {
         operation: NextShown<J>,
         _other: &Shown<J>,
     ) -> Result<(), NextShown<J>> {
-        let NextShown { slot, held } = operation;
+        let NextShown { slot } = operation;
         self.slot = slot;
-        self.held = held;
         Ok(())
     }
 }

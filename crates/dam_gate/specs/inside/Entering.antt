@@ -7,6 +7,7 @@ use Rattle.dam_book.specs.declared.command.Command.TheVariants.{Close}
 use Rattle.dam_gate.specs.Pass.{PassState, IsPass}
 use Rattle.dam_gate.specs.Journal.{JournalState, IsJournal}
 use Rattle.dam_gate.specs.Limits.{most_participants}
+use Rattle.dam_gate.specs.Settled.{IsMismatch}
 use Rattle.dam_book.specs.Command.{giver}
 use Rattle.dam_gate.specs.Day.{commands_by, is_one_of, with_any, with_giver}
 use Rattle.dam_gate.specs.declared.day.DayFault.{DayFault}
@@ -92,3 +93,11 @@ IsLateFault (CloseGiven place) = ⊥
 IsLateFault (TooManyParticipants place) = ⊥
 IsLateFault (NotSettled why) = why ≢ MismatchMemory
 IsLateFault Memory = Unit {0}
+
+-- what a day may answer if this journal and these passes aren't found settled: why they aren't, or that memory ran out
+abbrev pub IsUnsettled : JournalState → List PassState → DayFault → Type 0
+IsUnsettled j passes TooManyCommands = ⊥
+IsUnsettled j passes (CloseGiven place) = ⊥
+IsUnsettled j passes (TooManyParticipants place) = ⊥
+IsUnsettled j passes (NotSettled why) = IsMismatch j passes why
+IsUnsettled j passes Memory = Unit {0}

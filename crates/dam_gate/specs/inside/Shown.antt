@@ -1,12 +1,27 @@
--- What waits at the writer of a gate's versions.
-use Rattle.std.specs.Prelude.{◌≡◌, ℕ, ◌+◌, List, [], ◌∷◌, Option, None, Some}
+-- The slots of a gate's versions, and what waits at their writer.
+use Rattle.std.specs.Prelude.{◌≡◌, ℕ, List, [], ◌∷◌, Option, None, Some}
+use Rattle.std.specs.declared.sync.Arc.{Arc}
+use Rattle.std.specs.declared.alloc.Global.{Global}
+use Rattle.std.specs.Arc.{arc_value}
+use Rattle.once_cell.specs.Once.{cell_name}
+use Rattle.once_cell.specs.declared.race.note.Note.{Note}
+use Rattle.dam_gate.specs.Journal.{JournalState}
 use Rattle.dam_gate.specs.declared.version.NextShown.{NextShown}
 
--- just the change that shows one entry more waits
-abbrev pub IsNext : {J : Type 0} → ℕ → List (NextShown J) → Type 0
-IsNext {J} held changes = (change : NextShown J) × (changes ≡ change ∷ []) × (change.held ≡ held + 1)
+-- the name of a slot's cell, which no other cell has
+abbrev pub slot_name : {A : Type 0} → Arc (Global × ℕ) A → ℕ
+slot_name slot = cell_name (arc_value slot)
 
--- nothing waits; or, if there is a place for it, just that change does
-abbrev pub IsAtMostNext : {J P : Type 0} → ℕ → Option P → List (NextShown J) → Type 0
-IsAtMostNext held None changes = changes ≡ []
-IsAtMostNext held (Some place) changes = IsNext held changes
+-- the note shows that the slot of this name has this version in it, for good
+pub record IsNoteOf (slot : ℕ) (version : JournalState) (note : Note JournalState) : Type 0 where
+  pub cell : note.cell ≡ slot
+  pub known : note.known ≡ Some version
+
+-- just the change that shows the slot of this name waits
+abbrev pub IsNext : {J : Type 0} → ℕ → List (NextShown J) → Type 0
+IsNext {J} slot changes = (change : NextShown J) × (changes ≡ change ∷ []) × (slot_name change.slot ≡ slot)
+
+-- nothing waits; or, if a slot was left, just the change that shows it does
+abbrev pub IsAtMostNext : {J A : Type 0} → Option (Arc (Global × ℕ) A) → List (NextShown J) → Type 0
+IsAtMostNext None changes = changes ≡ []
+IsAtMostNext (Some slot) changes = IsNext (slot_name slot) changes
