@@ -79,7 +79,8 @@ class Results(unittest.TestCase):
                 self.assertEqual(row["traded"], "no" if row["volume_mw"] == "0.0" else "yes")
         periods = read(tables.periods(day_of(FIRST, results_of(FIRST, frozenset()))))
         self.assertEqual([row["period"] for row in periods if row["traded"] == "yes"], ["8", "9"])
-        self.assertEqual((periods[0]["price_eur_mwh"], periods[0]["volume_mw"]), ("1750.00", "0.0"))
+        middle = text.cents((rules.LEAST_PRICE + rules.GREATEST_PRICE) // 2)
+        self.assertEqual((periods[0]["price_eur_mwh"], periods[0]["volume_mw"]), (middle, "0.0"))
 
     def test_the_table_of_orders_makes_the_same_book(self):
         for day in self.days():

@@ -18,7 +18,7 @@ import support
 from support import AUCTION, FIRST, QUARTERS, journal_of, printed, tool
 
 import compare
-from lib import book, changes, cleared, command, engine, journal, limit_words, limits, rules, tables
+from lib import book, changes, cleared, command, engine, journal, limit_words, limits, rules, tables, text
 from test_many import ends
 
 FAKE = Path(__file__).with_name("fake_dam.py")
@@ -305,7 +305,7 @@ class Tools(unittest.TestCase):
         self.assertEqual((amended[0], cancelled[0]), (0, 0))
 
     def test_bad_words_and_bad_comparisons(self):
-        for word in ("abc", "4000.01", "1e3", "0.001"):
+        for word in ("abc", text.cents(rules.GREATEST_PRICE + 1), "1e3", "0.001"):
             status, _, err = self.whatif("limit", self.journal, "--participant", "CITY", "--order", "TOWN", "--from", word)
             self.assertEqual((status, word in err), (2, True))
         days = AUCTION, AUCTION.with_suffix(".stdout"), QUARTERS, QUARTERS.with_suffix(".stdout")
