@@ -65,7 +65,8 @@ more_none f xs i x items total at is so_far =
     ∙ so_far
 
 -- ---- the rows with their places
-pub record IsPlacedSoFar (n : ℕ) (all : List Row) (place : ℕ) (rows : List ProblemRow) (hours : List (List Step)) (blocks : ℕ) : Type 0 where
+pub record IsPlacedSoFar (n : ℕ) (all : List Row) (place : ℕ) (rows : List ProblemRow) (hours : List (List Step))
+    (blocks : ℕ) : Type 0 where
   pub sum : rows ++ rows_after (take place all) (drop place all) ≡ rows_after [] all
   pub hours_are : hours ≡ hours_from 1 n (take place all)
   pub block_count : blocks ≡ length (blocks_in (take place all))
@@ -225,7 +226,8 @@ none_more n i lists lists' total l pushed so_far =
     ∙ so_far
 
 -- an hourly order of a book is for a period of the day
-pub in_day : (n : ℕ) (rows : List Row) (i : ℕ) (k : Key) (o : HourTerms) → AreRows n rows → slice_get rows i ≡ Some (k, Hour o) → o.period ≤ n
+pub in_day : (n : ℕ) (rows : List Row) (i : ℕ) (k : Key) (o : HourTerms) → AreRows n rows → slice_get rows i ≡ Some (k, Hour o)
+    → o.period ≤ n
 in_day n [] i k o all at = absurd (cc)
 in_day n (r ∷ rs) zero k o all at =
     let same : r ≡ (k, Hour o) = cc in

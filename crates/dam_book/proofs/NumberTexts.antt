@@ -1,5 +1,6 @@
 -- The text of a number, and the number that its digits say.
-use Rattle.std.proofs.Common.{zero, suc, pos, negsuc, ◌≡◌, ◌≢◌, ◌<◌, ◌≤◌, ◌+◌, ◌-◌, ◌*◌, ◌^◌, ℕ, ℤ, List, ◌∷◌, Option, None, Some, MatchOption, length, get_or, true, false, arith, refl, sym, ap, subst, ◌∙◌, rules}
+use Rattle.std.proofs.Common.{zero, suc, pos, negsuc, ◌≡◌, ◌≢◌, ◌<◌, ◌≤◌, ◌+◌, ◌-◌, ◌*◌, ◌^◌, ℕ, ℤ, List, ◌∷◌, Option, None, Some}
+use Rattle.std.proofs.Common.{MatchOption, length, get_or, true, false, arith, refl, sym, ap, subst, ◌∙◌, rules}
 use Rattle.std.specs.Prelude.{decimal}
 use Rattle.std.specs.Fmt.{signed_decimal}
 use Rattle.std.proofs.lemmas.Int.{ints}

@@ -16,7 +16,8 @@ use Rattle.dam_blocks.proofs.rows.lists_of.Goals.{in-Hour+in_ok-add_step-in-Hour
 pub loop-place-init : goal.loop-place-init
 loop-place-init g c = record {
   placed = nothing_placed c.args.book.now.periods _ _ _ _ c.in_ok-rows.ensures.items
-      (c.in_ok-hourly.ensures ∙ ap (λ (n : ℕ). hours_from 1 n []) (c.get.ensures.value ∙ c.periods.ensures.value)) (ap length c.new-blocks.ensures.items);
+      (c.in_ok-hourly.ensures ∙ ap (λ (n : ℕ). hours_from 1 n []) (c.get.ensures.value ∙ c.periods.ensures.value))
+      (ap length c.new-blocks.ensures.items);
   blocks = ap (λ (bs : List Block). bs ++ blocks_in c.args.book.now.rows) c.new-blocks.ensures.items;
 }
 

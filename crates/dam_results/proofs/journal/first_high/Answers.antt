@@ -10,7 +10,8 @@ none_high : (text : List ℕ) → IsAscii text → None ≡ position (nat_lt 127
 none_high text ascii =
     let place = position_or_len (nat_lt 127) text in
     let low : (k : ℕ) → k < length text → nat_lt 127 (get_or text k 0) ≡ false = λ k within. grind (arith, nat_tests, ascii k) in
-    let past : place ≡ length text = position_or_len_is (nat_lt 127) text (length text) 0 (omega arith) low (λ within. absurd (omega (arith, within))) in
+    let past : place ≡ length text =
+    position_or_len_is (nat_lt 127) text (length text) 0 (omega arith) low (λ within. absurd (omega (arith, within))) in
     let outside : nat_lt place (length text) ≡ false = grind (arith, nat_tests, past) in
     sym (ap (λ (b : Bool). cond b (Some place) None) outside)
 
