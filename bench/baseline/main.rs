@@ -12,10 +12,16 @@ use std::process::ExitCode;
 use std::sync::Mutex;
 use std::thread;
 
+/// The limits, as the code of `dam` has them.
+#[allow(dead_code)]
+mod limits {
+    include!("../../crates/dam_book/src/limits.rt");
+}
+
+use limits::{HIGHEST_PRICE, LOWEST_PRICE, MOST_BLOCKS, MOST_HOURLY};
+
 const MOST_BYTES: usize = 16_777_216;
 const MOST_RECORDS: usize = 10_001;
-const MOST_HOURLY: usize = 4_000;
-const MOST_BLOCKS: usize = 24;
 const LAST_PERIOD: u32 = 100;
 const FIELDS: usize = 9;
 
@@ -251,7 +257,7 @@ fn price(text: &[u8]) -> Option<i32> {
         Some(digits) => -i32::try_from(number(digits).filter(|n| *n > 0)?).ok()?,
         None => i32::try_from(number(text)?).ok()?,
     };
-    Some(value).filter(|cents| (-50_000..=400_000).contains(cents))
+    Some(value).filter(|cents| (LOWEST_PRICE..=HIGHEST_PRICE).contains(cents))
 }
 
 fn pair(text: &[u8]) -> Option<(u8, u32)> {

@@ -2,8 +2,14 @@
 
 use std::collections::HashMap;
 
-pub const LOWEST: i64 = -50_000;
-pub const HIGHEST: i64 = 400_000;
+/// The limits, as the code of `dam` has them.
+#[allow(dead_code)]
+mod limits {
+    include!("../../crates/dam_book/src/limits.rt");
+}
+
+pub const LOWEST: i64 = limits::LOWEST_PRICE as i64;
+pub const HIGHEST: i64 = limits::HIGHEST_PRICE as i64;
 
 #[derive(Clone, Copy, PartialEq)]
 pub enum Side {

@@ -7,6 +7,7 @@ import books
 import laws
 from books import Book, Row
 from laws import Printed
+from lib import rules
 from lib.journal import Order
 
 UNIT = Row("GEN", "UNIT", Order("block", "sell", 4_000, ((1, 20),)))
@@ -133,7 +134,7 @@ class Books(unittest.TestCase):
             self.assertLess(books.better_limit(rng, UNIT.order), 4_000)
             self.assertGreater(books.worse_limit(rng, UNIT.order), 4_000)
             self.assertGreater(books.better_limit(rng, TOWN.order), 5_000)
-            self.assertIsNone(books.better_limit(rng, UNIT.order._replace(price=-50_000)))
+            self.assertIsNone(books.better_limit(rng, UNIT.order._replace(price=rules.LEAST_PRICE)))
 
     def test_drawn_books_have_what_the_laws_are_about(self):
         drawn = [books.draw(random.Random(f"market check {number}")) for number in range(1, 201)]

@@ -12,7 +12,11 @@ import support  # noqa: F401 (it makes lib and the fuzzer's modules found)
 
 import compare
 from shared.printed import Printed, by_participant
-from lib import book, journal, results, selection
+from lib import book, journal, results, rules, selection
+
+# The price of a period without orders, and its line.
+MIDDLE = (rules.LEAST_PRICE + rules.GREATEST_PRICE) // 2
+NOMINAL = b"period,1,%d" % MIDDLE
 
 
 def shuffled(commands):
@@ -54,8 +58,8 @@ def answered(command, words, data, defect):
     answer = day(data) if command == "day" else compare.wanted(command, data)
     if defect == "late" and data:
         time.sleep(60)
-    if defect == "price" and b"period,1,175000" in answer.stdout:
-        answer = answer._replace(stdout=answer.stdout.replace(b"period,1,175000", b"period,1,175001"))
+    if defect == "price" and NOMINAL in answer.stdout:
+        answer = answer._replace(stdout=answer.stdout.replace(NOMINAL, b"period,1,%d" % (MIDDLE + 1)))
     if defect == "lower" and command == "clear" and answer.status == 0:
         answer = answer._replace(stdout=lower(data))
     if defect == "plan" and words == ["--workers", "8", "--cut", "8"]:

@@ -1,9 +1,11 @@
 """The rules once more, by trying everything: the welfare and the prices of a selection of blocks from all executions, and the
-families of a rejected block from all sets of blocks. For small days; nothing of lib is used but the reading of a journal."""
+families of a rejected block from all sets of blocks. For small days; nothing of lib is used but the reading of a journal and the limits
+on prices."""
 
 import itertools
 
-LEAST, GREATEST = -50_000, 400_000
+from lib.rules import GREATEST_PRICE as GREATEST
+from lib.rules import LEAST_PRICE as LEAST
 
 
 class Plain:

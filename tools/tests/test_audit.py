@@ -269,9 +269,10 @@ class Period(unittest.TestCase):
                 self.assertEqual(found.welfare, period.welfare(orders, found.executed))
 
     def test_price_rule(self):
-        self.assertEqual(rules.price_between(-50_000, 5_000)[0], 5_000)
-        self.assertEqual(rules.price_between(6_000, 400_000)[0], 6_000)
-        self.assertEqual(rules.price_between(-50_000, 400_000)[0], 175_000)
+        least, greatest = rules.LEAST_PRICE, rules.GREATEST_PRICE
+        self.assertEqual(rules.price_between(least, 5_000)[0], 5_000)
+        self.assertEqual(rules.price_between(6_000, greatest)[0], 6_000)
+        self.assertEqual(rules.price_between(least, greatest)[0], (least + greatest) // 2)
         self.assertEqual(rules.price_between(-3, 0)[0], -2)
         self.assertEqual(rules.price_between(200, 9_200)[0], 4_700)
 

@@ -7,10 +7,12 @@ import support
 from support import AUCTION, AUCTION_RESULTS, FIRST, cases, journal_of, tool
 
 import days
-from lib import book, command, journal, lint
+from lib import book, command, journal, lint, rules
 
 GOOD = b"day,24,,,,,,,\nsubmit,NORD,WIND-8,hour,sell,1200,8:450,,\nsubmit,GAS,UNIT-1,block,sell,6800,8:200;9:200,,\nclose,,,,,,,,\n"
 HOUR, BLOCK = GOOD.splitlines()[1:3]
+CENTS = f"whole cents per MWh from {rules.LEAST_PRICE} to {rules.GREATEST_PRICE}"
+BEYOND = rules.GREATEST_PRICE + 1
 
 
 def told(data, command="clear"):
@@ -129,11 +131,11 @@ class Hand(unittest.TestCase):
             (HOUR, b"WIND-8", b"wind_8", "order", "'wind_8': it should be 1 to 12 of A to Z, 0 to 9 and -: write WIND-8"),
             (HOUR, b"hour", b"Hour", "kind", "'Hour': it should be hour or block: write hour"),
             (HOUR, b"sell", b"offer", "side", "'offer': it should be buy or sell"),
-            (HOUR, b"1200", b"12.50", "price", "whole cents per MWh from -50000 to 400000: write 1250 for 12.50 EUR/MWh"),
+            (HOUR, b"1200", b"12.50", "price", f"{CENTS}: write 1250 for 12.50 EUR/MWh"),
             (HOUR, b"1200", b'"12,5"', "price", "write 1250 for 12.5 EUR/MWh"),
             (HOUR, b"1200", b"012", "price", "write 12"),
             (HOUR, b"1200", b"-0", "price", "write 0"),
-            (HOUR, b"1200", b"400001", "price", "'400001': it should be whole cents"),
+            (HOUR, b"1200", b"%d" % BEYOND, "price", f"'{BEYOND}': it should be whole cents"),
             (HOUR, b"1200", b"12 EUR", "price", "'12 EUR': it should be whole cents"),
             (HOUR, b"8:450", b"8:45.5", "volumes", "'45.5' in '8:45.5' should be whole tenths of a MW from 1 to 99999: write 455 for"),
             (HOUR, b"8:450", b"8:0", "volumes", "'0' in '8:0' should be whole tenths of a MW from 1 to 99999"),

@@ -60,7 +60,8 @@ class Tables(unittest.TestCase):
             (COMMANDS + "A,stop,,,,,,,,,\n", "line 2, column what: 'stop' should be submit, amend or cancel"),
             (COMMANDS.replace("volume_mw,", "") + "A,amend,GEN,UNIT,,,50,1,,\n", "line 1: there is no column volume_mw; the columns are"),
             (COMMANDS + "A,cancel,GEN,NONE,,,,,,,\n", "line 2: the book refuses cancel,GEN,NONE,,,,,,: the participant has no such order"),
-            (COMMANDS + "A,amend,GEN,UNIT,,,5000,1,2,,\n", "line 2, column price_eur_mwh: '5000' should be from -500.00 to 4000.00"),
+            (COMMANDS + "A,amend,GEN,UNIT,,,50000,1,2,,\n", "line 2, column price_eur_mwh: '50000' should be from "
+             f"{rules.LEAST_PRICE / 100:.2f} to {rules.GREATEST_PRICE / 100:.2f}"),
         ):
             with self.subTest(said), self.assertRaises(engine.Fault) as fault:
                 self.read(table)
@@ -125,7 +126,8 @@ class Samples(unittest.TestCase):
         volumes = {volume for order in rows.values() for _, volume in order.volumes}
         self.assertLessEqual({rules.LEAST_PRICE, rules.GREATEST_PRICE}, prices)
         self.assertLessEqual({1, rules.GREATEST_VOLUME}, volumes)
-        self.assertEqual((min(prices), max(prices), min(volumes), max(volumes)), (-50_000, 400_000, 1, 99_999))
+        self.assertEqual((min(prices), max(prices)), (rules.LEAST_PRICE, rules.GREATEST_PRICE))
+        self.assertEqual((min(volumes), max(volumes)), (1, rules.GREATEST_VOLUME))
         self.assertEqual(self.sampler(price_sd=0, volume_sd=0).rows(7), self.held.rows)
 
 

@@ -8,7 +8,7 @@ from pathlib import Path
 from support import AUCTION, AUCTION_RESULTS, journal_of, printed, tool
 
 import days
-from lib import book, command, journal, sent
+from lib import book, command, journal, rules, sent
 
 
 def audit(published, own, who="A", *words):
@@ -204,7 +204,8 @@ class Worked(unittest.TestCase):
             ),
             (
                 [OWN[0], OWN[1].replace("200", "2.00")],
-                "line 2, price: '2.00': it should be whole cents per MWh from -50000 to 400000: write 200 for 2.00 EUR/MWh",
+                f"line 2, price: '2.00': it should be whole cents per MWh from {rules.LEAST_PRICE} to {rules.GREATEST_PRICE}: "
+                "write 200 for 2.00 EUR/MWh",
             ),
             ([OWN[0], "day,24,,,,,,,"], "line 2: the day appears twice: a journal has one, as its first line"),
             (

@@ -10,11 +10,12 @@ from pathlib import Path
 import support
 from support import AUCTION, AUCTION_RESULTS, FIRST, QUARTERS, QUARTERS_RESULTS, day_of, printed, results_of, tool
 
-from lib import book, command, journal, order_table, sheets, tables, text
+from lib import book, command, journal, order_table, rules, sheets, tables, text
 
 HEADER = "participant,order,kind,side,price_eur_mwh,periods,volume_mw,parent,group"
 HOUR = "NORD,WIND-8,hour,sell,12.5,8,45,,"
 BLOCK = "COAL,PEAK,block,sell,80,8-20,90,,FILL"
+PRICES = f"from {text.cents(rules.LEAST_PRICE)} to {text.cents(rules.GREATEST_PRICE)} EUR/MWh"
 
 
 def read(rows):
@@ -78,7 +79,8 @@ class Results(unittest.TestCase):
                 self.assertEqual(row["traded"], "no" if row["volume_mw"] == "0.0" else "yes")
         periods = read(tables.periods(day_of(FIRST, results_of(FIRST, frozenset()))))
         self.assertEqual([row["period"] for row in periods if row["traded"] == "yes"], ["8", "9"])
-        self.assertEqual((periods[0]["price_eur_mwh"], periods[0]["volume_mw"]), ("1750.00", "0.0"))
+        middle = text.cents((rules.LEAST_PRICE + rules.GREATEST_PRICE) // 2)
+        self.assertEqual((periods[0]["price_eur_mwh"], periods[0]["volume_mw"]), (middle, "0.0"))
 
     def test_the_table_of_orders_makes_the_same_book(self):
         for day in self.days():
@@ -134,8 +136,8 @@ class Orders(unittest.TestCase):
             ("12.5", "", "price_eur_mwh", "a number of EUR/MWh"),
             ("12.5", "1e2", "price_eur_mwh", "a number of EUR/MWh"),
             ("12.5", "12.505", "price_eur_mwh", "more than 2 digits"),
-            ("12.5", "4000.01", "price_eur_mwh", "from -500.00 to 4000.00 EUR/MWh"),
-            ("12.5", "-500.01", "price_eur_mwh", "from -500.00 to 4000.00 EUR/MWh"),
+            ("12.5", text.cents(rules.GREATEST_PRICE + 1), "price_eur_mwh", PRICES),
+            ("12.5", text.cents(rules.LEAST_PRICE - 1), "price_eur_mwh", PRICES),
             (",8,", ",,", "periods", "it should name a period"),
             (",8,", ",0,", "periods", "periods and runs of them"),
             (",8,", ",101,", "periods", "from 1 to 100"),
@@ -192,6 +194,7 @@ class Orders(unittest.TestCase):
 
     def test_what_is_quoted_stands_in_the_table(self):
         header = HEADER.replace(",", ";")
+        beyond = text.cents(rules.GREATEST_PRICE + 1).replace(".", ",")
         for row, words in (
             ("A;H;hour;buy;68,005;1;5;;", "'68,005' has more than 2 digits after the decimal point"),
             ("A;H;hour;buy;68,00;1;5,25;;", "'5,25' has more than 1 digit after the decimal point"),
@@ -199,7 +202,7 @@ class Orders(unittest.TestCase):
             ("A;H;hour;buy;2,000;1;5;;", "'2,000' has more than 2 digits after the decimal point: write thousands without a separator"),
             ("A;H;hour;buy;20;1;1.000;;", "'1.000' has more than 1 digit after the decimal point: write thousands without a separator"),
             ("A;H;hour;buy;20;1;5,00;;", "'5,00' has more than 1 digit after the decimal point"),
-            ("A;H;hour;buy;4000,01;1;5;;", "'4000,01' should be from -500.00 to 4000.00 EUR/MWh"),
+            (f"A;H;hour;buy;{beyond};1;5;;", f"'{beyond}' should be {PRICES}"),
             ("A;H;hour;buy;1,2,3;1;5;;", "'1,2,3' should be a number of EUR/MWh"),
         ):
             self.assertIn(words, self.wrong(row, header=header))

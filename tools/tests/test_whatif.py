@@ -18,7 +18,7 @@ import support
 from support import AUCTION, AUCTION_RESULTS, FIRST, QUARTERS, QUARTERS_RESULTS, journal_of, printed, tool
 
 import compare
-from lib import book, changes, cleared, command, engine, journal, limit_words, limits, tables
+from lib import book, changes, cleared, command, engine, journal, limit_words, limits, rules, tables, text
 from test_many import ends
 
 FAKE = Path(__file__).with_name("fake_dam.py")
@@ -64,21 +64,23 @@ class Limits(unittest.TestCase):
     def test_no_limit_is_enough(self):
         one = search(*NEVER, key=("GEN", "B"))
         found = one.worst()
-        self.assertEqual((found.limit, found.at, found.past_limit), (None, None, -50_000))
-        self.assertIn("No limit of the range is enough: with the best, -500.00 EUR/MWh, it can never be accepted, because",
+        self.assertEqual((found.limit, found.at, found.past_limit), (None, None, rules.LEAST_PRICE))
+        self.assertIn(f"No limit of the range is enough: with the best, {rules.LEAST_PRICE / 100:.2f} EUR/MWh, it can never be accepted, because",
                       "\n".join(limit_words.lines(one, found)))
         self.assertIsNone(limit_words.record(one, found)["worst_limit_eur_mwh"])
 
     def test_every_limit_is_enough(self):
-        one = search("submit,CITY,TOWN,hour,buy,400000,1:30,,", "submit,GEN,UNIT,block,sell,4000,1:20,,", key=("GEN", "UNIT"))
+        dearest = f"submit,CITY,TOWN,hour,buy,{rules.GREATEST_PRICE},1:30,,"
+        one = search(dearest, "submit,GEN,UNIT,block,sell,4000,1:20,,", key=("GEN", "UNIT"))
         found = one.worst()
-        self.assertEqual((found.limit, found.past, found.past_limit), (400_000, None, None))
-        self.assertIn("Every limit of the range is enough, up to the worst, 4,000.00 EUR/MWh.", limit_words.lines(one, found))
+        self.assertEqual((found.limit, found.past, found.past_limit), (rules.GREATEST_PRICE, None, None))
+        self.assertIn(f"Every limit of the range is enough, up to the worst, {rules.GREATEST_PRICE / 100:,.2f} EUR/MWh.", limit_words.lines(one, found))
 
     def test_the_most_clearings(self):
         """Whatever the worst limit is, 19 clearings find it."""
         held, _ = book.run(journal.read_journal(journal_of(*SMALL)))
-        for worst in (None, -50_000, -49_999, 0, 1, 3_999, 4_000, 4_001, 123_456, 399_999, 400_000):
+        least, greatest = rules.LEAST_PRICE, rules.GREATEST_PRICE
+        for worst in (None, least, least + 1, 0, 1, 3_999, 4_000, 4_001, 123_456, greatest - 1, greatest):
             with self.subTest(worst):
                 one = limits.Search(held, ("GEN", "UNIT"), None)
                 one.clear = lambda text: self.answered(text, worst)
@@ -303,7 +305,7 @@ class Tools(unittest.TestCase):
         self.assertEqual((amended[0], cancelled[0]), (0, 0))
 
     def test_bad_words_and_bad_comparisons(self):
-        for word in ("abc", "4000.01", "1e3", "0.001"):
+        for word in ("abc", text.cents(rules.GREATEST_PRICE + 1), "1e3", "0.001"):
             status, _, err = self.whatif("limit", self.journal, "--participant", "CITY", "--order", "TOWN", "--from", word)
             self.assertEqual((status, word in err), (2, True))
         days = AUCTION, AUCTION_RESULTS, QUARTERS, QUARTERS_RESULTS

@@ -9,10 +9,11 @@ use Rattle.std.proofs.lemmas.List.{take_more, append-nil, map-set, get_or-map}
 use Rattle.std.proofs.lemmas.List.Elements.{filter_map-append}
 use Rattle.std.proofs.lemmas.Option.{slice_get_within, get_or_from_slice_get}
 use Rattle.std.proofs.Math.ListN.{set}
-use Rattle.dam_book.specs.Limits.{last_period, most_hourly}
+use Rattle.dam_book.specs.Limits.{most_hourly}
 use Rattle.dam_book.specs.declared.order.Side.{Side}
 use Rattle.dam_book.specs.Terms.{HourTerms, BlockTerms}
-use Rattle.dam_book.specs.Book.{Key, Row, hourly_count}
+use Rattle.dam_book.specs.Book.{Key, Row, AreRows, hourly_count}
+use Rattle.dam_book.specs.Order.{is_beyond}
 use Rattle.dam_book.specs.declared.order.Order.TheVariants.{Hour, Block as BlockVariant}
 use Rattle.dam_hour.specs.declared.step.Step.{Step}
 use Rattle.dam_blocks.specs.declared.problem.Block.{Block}
@@ -64,9 +65,10 @@ more_none f xs i x items total at is so_far =
     ∙ so_far
 
 -- ---- the rows with their places
-pub record IsPlacedSoFar (all : List Row) (place : ℕ) (rows : List ProblemRow) (hours : List (List Step)) (blocks : ℕ) : Type 0 where
+pub record IsPlacedSoFar (n : ℕ) (all : List Row) (place : ℕ) (rows : List ProblemRow) (hours : List (List Step))
+    (blocks : ℕ) : Type 0 where
   pub sum : rows ++ rows_after (take place all) (drop place all) ≡ rows_after [] all
-  pub hours_are : hours ≡ hours_from 1 last_period (take place all)
+  pub hours_are : hours ≡ hours_from 1 n (take place all)
   pub block_count : blocks ≡ length (blocks_in (take place all))
 
 rows_more : (all : List Row) (place : ℕ) (r : Row) (rows rows' : List ProblemRow) (q : ProblemRow) → slice_get all place ≡ Some r
@@ -161,51 +163,51 @@ hours_kept t (suc n) front k o =
     (steps-append t front ((k, BlockVariant o) ∷ []) ∙ append-nil (steps_in t front)) (hours_kept (suc t) n front k o)
 
 -- an hourly order has its place among those of its period
-pub hour_placed : (all : List Row) (place : ℕ) (k : Key) (o : HourTerms) (rows rows' : List ProblemRow)
-    (hours hours' : List (List Step)) (blocks blocks' n : ℕ) (q : ProblemRow)
-    → slice_get all place ≡ Some (k, Hour o) → 1 ≤ o.period → o.period ≤ last_period
-    → q ≡ record { who = k.0; name = k.1; at = AtHour o.period n } → n ≡ length (get_or hours (o.period - 1) [])
+pub hour_placed : (n : ℕ) (all : List Row) (place : ℕ) (k : Key) (o : HourTerms) (rows rows' : List ProblemRow)
+    (hours hours' : List (List Step)) (blocks blocks' at_place : ℕ) (q : ProblemRow)
+    → slice_get all place ≡ Some (k, Hour o) → 1 ≤ o.period → o.period ≤ n
+    → q ≡ record { who = k.0; name = k.1; at = AtHour o.period at_place } → at_place ≡ length (get_or hours (o.period - 1) [])
     → rows' ≡ rows ++ q ∷ [] → hours' ≡ with_step hours o → blocks' ≡ blocks
-    → IsPlacedSoFar all place rows hours blocks → IsPlacedSoFar all (place + 1) rows' hours' blocks'
-hour_placed all place k o rows rows' hours hours' blocks blocks' n q at least most is count pushed grown kept so_far =
+    → IsPlacedSoFar n all place rows hours blocks → IsPlacedSoFar n all (place + 1) rows' hours' blocks'
+hour_placed n all place k o rows rows' hours hours' blocks blocks' at_place q at least most is count pushed grown kept so_far =
     let front = take place all in
     let index : (o.period - 1) + 1 ≡ o.period = omega (arith, least) in
     let own : get_or hours (o.period - 1) [] ≡ steps_in o.period front =
     ap (λ (hs : List (List Step)). get_or hs (o.period - 1) []) so_far.hours_are
-    ∙ get_or_from_slice_get (hours_from 1 last_period front) (o.period - 1) (steps_in ((o.period - 1) + 1) front) []
-    (hour_stands 1 last_period (o.period - 1) front (omega (arith, least, most)))
+    ∙ get_or_from_slice_get (hours_from 1 n front) (o.period - 1) (steps_in ((o.period - 1) + 1) front) []
+    (hour_stands 1 n (o.period - 1) front (omega (arith, least, most)))
     ∙ ap (λ (m : ℕ). steps_in m front) index in
     record {
       sum = rows_more all place (k, Hour o) rows rows' q at
           (is ∙ ap (λ (m : ℕ). record { who = k.0; name = k.1; at = AtHour o.period m }) (count ∙ ap length own)) pushed so_far.sum;
       hours_are = grown
           ∙ ap₂ (λ (hs : List (List Step)) (ss : List Step). set hs (o.period - 1) (ss ++ hourly_step o ∷ [])) so_far.hours_are own
-          ∙ sym (hours_more 1 last_period (o.period - 1) front k o index)
-          ∙ ap (λ (rs : List Row). hours_from 1 last_period rs) (sym (take_at all place (k, Hour o) at));
+          ∙ sym (hours_more 1 n (o.period - 1) front k o index)
+          ∙ ap (λ (rs : List Row). hours_from 1 n rs) (sym (take_at all place (k, Hour o) at));
       block_count = kept ∙ so_far.block_count ∙ sym (blocks_kept all place k o at);
     }
 
 -- and a block among the blocks
-pub block_placed : (all : List Row) (place : ℕ) (k : Key) (o : BlockTerms) (rows rows' : List ProblemRow)
+pub block_placed : (n : ℕ) (all : List Row) (place : ℕ) (k : Key) (o : BlockTerms) (rows rows' : List ProblemRow)
     (hours hours' : List (List Step)) (blocks blocks' : ℕ) (q : ProblemRow)
     → slice_get all place ≡ Some (k, BlockVariant o) → q ≡ record { who = k.0; name = k.1; at = AtBlock blocks }
     → rows' ≡ rows ++ q ∷ [] → hours' ≡ hours → blocks' ≡ blocks + 1
-    → IsPlacedSoFar all place rows hours blocks → IsPlacedSoFar all (place + 1) rows' hours' blocks'
-block_placed all place k o rows rows' hours hours' blocks blocks' q at is pushed kept counted so_far =
+    → IsPlacedSoFar n all place rows hours blocks → IsPlacedSoFar n all (place + 1) rows' hours' blocks'
+block_placed n all place k o rows rows' hours hours' blocks blocks' q at is pushed kept counted so_far =
     record {
       sum = rows_more all place (k, BlockVariant o) rows rows' q at
-          (is ∙ ap (λ (n : ℕ). record { who = k.0; name = k.1; at = AtBlock n }) so_far.block_count) pushed so_far.sum;
+          (is ∙ ap (λ (m : ℕ). record { who = k.0; name = k.1; at = AtBlock m }) so_far.block_count) pushed so_far.sum;
       hours_are = kept ∙ so_far.hours_are
-          ∙ sym (hours_kept 1 last_period (take place all) k o)
-          ∙ ap (λ (rs : List Row). hours_from 1 last_period rs) (sym (take_at all place (k, BlockVariant o) at));
+          ∙ sym (hours_kept 1 n (take place all) k o)
+          ∙ ap (λ (rs : List Row). hours_from 1 n rs) (sym (take_at all place (k, BlockVariant o) at));
       block_count = counted
           ∙ (let more = blocks_more all place k o at in let before = so_far.block_count in omega (arith, more, before));
     }
 
 -- before the first row
-pub nothing_placed : (all : List Row) (rows : List ProblemRow) (hours : List (List Step)) (blocks : ℕ) → rows ≡ []
-    → hours ≡ hours_from 1 last_period [] → blocks ≡ 0 → IsPlacedSoFar all 0 rows hours blocks
-nothing_placed all rows hours blocks e f g = record {
+pub nothing_placed : (n : ℕ) (all : List Row) (rows : List ProblemRow) (hours : List (List Step)) (blocks : ℕ) → rows ≡ []
+    → hours ≡ hours_from 1 n [] → blocks ≡ 0 → IsPlacedSoFar n all 0 rows hours blocks
+nothing_placed n all rows hours blocks e f g = record {
   sum = ap (λ (qs : List ProblemRow). qs ++ rows_after [] all) e;
   hours_are = f;
   block_count = g;
@@ -223,11 +225,15 @@ none_more n i lists lists' total l pushed so_far =
     ∙ ap (λ (m : ℕ). lists ++ hours_from (i + 1) m []) (sym left)
     ∙ so_far
 
--- the first periods of a longer day
-pub take_hours : (t n m : ℕ) (rows : List Row) → n ≤ m → take n (hours_from t m rows) ≡ hours_from t n rows
-take_hours t zero m rows l = refl
-take_hours t (suc n) zero rows l = absurd (omega arith)
-take_hours t (suc n) (suc m) rows l = ap (λ (hs : List (List Step)). steps_in t rows ∷ hs) (take_hours (suc t) n m rows (omega arith))
+-- an hourly order of a book is for a period of the day
+pub in_day : (n : ℕ) (rows : List Row) (i : ℕ) (k : Key) (o : HourTerms) → AreRows n rows → slice_get rows i ≡ Some (k, Hour o)
+    → o.period ≤ n
+in_day n [] i k o all at = absurd (cc)
+in_day n (r ∷ rs) zero k o all at =
+    let same : r ≡ (k, Hour o) = cc in
+    let within : is_beyond n (Hour o) ≡ false = subst (λ (row : Row). is_beyond n row.1 ≡ false) same all.0.in_day in
+    grind (arith, nat_tests, within)
+in_day n (r ∷ rs) (suc i) k o all at = in_day n rs i k o all.1 at
 
 -- no period has more orders than all of them together
 one_of_hours : (hours : List (List Step)) (i : ℕ) (ss : List Step) → slice_get hours i ≡ Some ss → length ss ≤ hourly_orders hours

@@ -134,15 +134,13 @@ impl<A: Allocator + Copy> Problem<A> {
             (λ problem. (book.now.closed ≡ true) × (problem ≡ problem_of book.now)) }
         ensures still_open { IsErrOf result ProblemFault.StillOpen ↔ (book.now.closed ≡ false) }
     {
-        dam_book::laws::days_are_short();
         if !book.is_closed() {
             return Err(ProblemFault::StillOpen);
         }
-        let periods = book.periods();
         let lists = lists_of(alloc, book)?;
         Ok(Problem {
-            periods,
-            hours: hours_of(alloc, &lists.hourly, periods.get())?,
+            periods: book.periods(),
+            hours: hours_of(alloc, &lists.hourly)?,
             hindrances: all_hindrances(alloc, &lists.blocks)?,
             blocks: lists.blocks,
             rows: lists.rows,

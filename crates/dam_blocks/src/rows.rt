@@ -1,11 +1,11 @@
 //! The making of a problem: one pass over the rows of a book, in book order.
 
-ghost use Rattle.std.specs.Prelude.{◌≡◌, ◌-◌, ◌<◌, ◌≤◌, [], Some, length, map, take, slice_get, slice_index_or, IfOk, OnOk};
-ghost use Rattle.dam_book.specs.Limits.{last_period, most_hourly};
+ghost use Rattle.std.specs.Prelude.{◌≡◌, ◌-◌, ◌<◌, ◌≤◌, [], Some, length, map, slice_get, slice_index_or, IfOk, OnOk};
+ghost use Rattle.dam_book.specs.Limits.{most_hourly};
 ghost use Rattle.dam_blocks.specs.Problem.{hours_from, hourly_orders, blocks_in, rows_after};
 ghost use Rattle.dam_blocks.specs.inside.Making.{with_step};
 
-use crate::problem::{Block, MOST_PERIODS, Place, ProblemRow};
+use crate::problem::{Block, Place, ProblemRow};
 use dam_book::{Book, HourOrder, Name, Order, Participant};
 use dam_hour::{Hour, Step};
 use std::alloc::{AllocError, Allocator};
@@ -22,19 +22,19 @@ fn row_at<B: Allocator + Copy>(book: &Book<B>, place: usize) -> (Participant, Na
 /// places of their orders.
 #[derive(Drop)]
 pub(crate) struct Lists<A: Allocator> {
-    /// Those of each period that a day can have, from the first one on.
+    /// Those of each period of the day, from the first one on.
     pub(crate) hourly: Vec<Vec<Step, A>, A>,
     pub(crate) blocks: Vec<Block, A>,
     pub(crate) rows: Vec<ProblemRow, A>,
 }
 
-/// An empty list for each period that a day can have.
-fn no_steps<A: Allocator + Copy>(alloc: A) -> Result<Vec<Vec<Step, A>, A>, AllocError>
+/// An empty list for each of the periods.
+fn no_steps<A: Allocator + Copy>(alloc: A, periods: u8) -> Result<Vec<Vec<Step, A>, A>, AllocError>
     ensures { IfOk result (λ hourly.
-        map (λ steps. steps.items) hourly.items ≡ hours_from 1 last_period []) }
+        map (λ steps. steps.items) hourly.items ≡ hours_from 1 periods []) }
 {
-    let mut hourly = Vec::with_capacity(alloc, MOST_PERIODS)?;
-    for _ in 0..MOST_PERIODS {
+    let mut hourly = Vec::with_capacity(alloc, usize::from(periods))?;
+    for _ in 0..periods {
         hourly.push(Vec::new(alloc))?;
     }
     Ok(hourly)
@@ -45,7 +45,7 @@ fn add_step<A: Allocator>(
     hourly: &mut Vec<Vec<Step, A>, A>,
     order: &HourOrder,
 ) -> Result<usize, AllocError>
-    requires { length hourly.old.items ≡ last_period }
+    requires { order.now.period ≤ length hourly.old.items }
     ensures place { IfOk result (λ place. place ≡ length
         (slice_index_or (map (λ steps. steps.items) hourly.old.items) (order.now.period - 1) [])) }
     ensures added { OnOk result (map (λ steps. steps.items) hourly.new.items
@@ -67,12 +67,12 @@ pub(crate) fn lists_of<A: Allocator + Copy, B: Allocator + Copy>(
     book: &Book<B>,
 ) -> Result<Lists<A>, AllocError>
     ensures hourly { IfOk result (λ lists. map (λ steps. steps.items) lists.hourly.items
-        ≡ hours_from 1 last_period book.now.rows) }
+        ≡ hours_from 1 book.now.periods book.now.rows) }
     ensures blocks { IfOk result (λ lists. lists.blocks.items ≡ blocks_in book.now.rows) }
     ensures rows { IfOk result (λ lists. lists.rows.items ≡ rows_after [] book.now.rows) }
 {
     let mut rows = Vec::with_capacity(alloc, book.len())?;
-    let mut hourly = no_steps(alloc)?;
+    let mut hourly = no_steps(alloc, book.periods().get())?;
     let mut blocks = Vec::new(alloc);
     for place in 0..book.len() {
         let (who, name, order) = row_at(book, place);
@@ -93,20 +93,16 @@ pub(crate) fn lists_of<A: Allocator + Copy, B: Allocator + Copy>(
     })
 }
 
-/// The hours of a day's periods, each of its hourly orders.
+/// The hours of the periods, each of its hourly orders.
 pub(crate) fn hours_of<A: Allocator + Copy>(
     alloc: A,
     hourly: &[Vec<Step, A>],
-    periods: u8,
 ) -> Result<Vec<Hour<A>, A>, AllocError>
-    requires periods { periods ≤ length hourly.now }
-    requires few { hourly_orders (map (λ steps. steps.items) hourly.now) ≤ most_hourly }
-    ensures { IfOk result (λ hours.
-        hours.items ≡ take periods (map (λ steps. steps.items) hourly.now)) }
+    requires { hourly_orders (map (λ steps. steps.items) hourly.now) ≤ most_hourly }
+    ensures { IfOk result (λ hours. hours.items ≡ map (λ steps. steps.items) hourly.now) }
 {
-    let mut hours = Vec::with_capacity(alloc, usize::from(periods))?;
-    for number in 0..periods {
-        let steps = &hourly[usize::from(number)];
+    let mut hours = Vec::with_capacity(alloc, hourly.len())?;
+    for steps in hourly {
         hours.push(Hour::build(alloc, steps)?)?;
     }
     Ok(hours)

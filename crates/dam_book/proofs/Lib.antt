@@ -11,3 +11,4 @@ pub mod LinkFacts
 pub mod StepFacts
 pub mod RowLess
 pub mod FieldTexts
+pub mod NumberTexts

@@ -14,7 +14,7 @@ use crate::line::Line;
 use crate::row::height;
 use crate::supply::{Demand, Supply};
 use dam_book::Price;
-use dam_hour::{Step, highest_price, laws};
+use dam_hour::{Step, laws};
 use std::alloc::{AllocError, Allocator, Global};
 use std::marker::Model;
 use std::mem;
@@ -140,7 +140,7 @@ fn write_lines<A: Allocator>(lines: &mut Vec<Line, A>, steps: &[Step]) -> Result
         before += volume;
         cost += u64::from(height(step.price)) * volume;
     }
-    lines.push(line_of(demand, highest_price(), before, cost))?;
+    lines.push(line_of(demand, Price::highest(), before, cost))?;
     Ok(())
 }
 

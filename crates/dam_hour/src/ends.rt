@@ -52,8 +52,8 @@ impl Edge {
         ensures small { result.volume ≤ most_steps * greatest_volume }
     {
         let buys = hour.side(Side::Buy);
-        let mut last = highest_price();
-        let mut next = lowest_price();
+        let mut last = Price::highest();
+        let mut next = Price::lowest();
         let mut from = 0;
         let mut to = buys.len();
         while from < to {
@@ -117,10 +117,10 @@ fn limit_of_sell<A: Allocator>(hour: &Hour<A>, unit: i64) -> Price
 {
     let sells = hour.side(Side::Sell);
     if unit < 1 {
-        return lowest_price();
+        return Price::lowest();
     }
     if unit as u64 > sells.all().volume {
-        return highest_price();
+        return Price::highest();
     }
     let (limit, _) = sells.rung(sells.holding(unit as u64));
     limit
@@ -143,20 +143,6 @@ fn middle(low: Price, high: Price) -> Price
     ensures { result ≡ int_div_euclid (low +ℤ high) (pos 2) }
 {
     Price::new((low.get() + high.get()).div_euclid(2)).unwrap()
-}
-
-/// The least price that an order or a period can have.
-pub fn lowest_price() -> Price
-    ensures { result ≡ lowest_price }
-{
-    Price::new(LOWEST_PRICE).unwrap()
-}
-
-/// The greatest price that an order or a period can have.
-pub fn highest_price() -> Price
-    ensures { result ≡ highest_price }
-{
-    Price::new(HIGHEST_PRICE).unwrap()
 }
 
 /// The clearing price between the ends: if just one of them is an end of the range, the other one; else

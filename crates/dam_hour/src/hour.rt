@@ -358,29 +358,10 @@ impl<A: Allocator> Hour<A> {
         Some(step.volume().min(left) as u32)
     }
 
-    /// The executed volumes of all steps in book order, in tenths of a MW: the best execution, as `clear`
-    /// and `executed` have it, found in one pass over the steps.
+    /// What `clear` answers, with the executed volumes of all steps in book order, in tenths of a MW. One look finds
+    /// where the best execution ends, and one pass over the steps their volumes.
     ///
     /// `None` exactly if `clear` is `None`. The error is out of memory.
-    pub fn execution<B: Allocator>(
-        &self,
-        alloc: B,
-        net: i64,
-    ) -> Result<Option<Vec<u32, B>>, AllocError>
-        requires { IsNetVolume net }
-        ensures { IfOk result (λ found. MatchOption found (IsUnbalanced self.now net)
-            (λ volumes. IsBest self.now net volumes.items)) }
-    {
-        let Some(matched) = self.matched(net) else {
-            return Ok(None);
-        };
-        let volumes = self.filled(alloc, &matched)?;
-        Ok(Some(volumes))
-    }
-
-    /// What `clear` and `execution` give together, with one look for where the best execution ends.
-    ///
-    /// `None` exactly if they are `None`. The error is out of memory.
     pub fn clear_and_execute<B: Allocator>(
         &self,
         alloc: B,

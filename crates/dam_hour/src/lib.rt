@@ -29,6 +29,6 @@ pub mod market;
 mod step;
 mod volumes;
 
-pub use ends::{highest_price, lowest_price, price_between};
+pub use ends::price_between;
 pub use hour::{Cleared, GREATEST_NET, Hour, MOST_STEPS};
 pub use step::Step;

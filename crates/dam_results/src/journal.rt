@@ -89,6 +89,9 @@ impl From<AllocError> for JournalFault {
 fn first_high(text: &[u8]) -> Option<usize>
     ensures { result ≡ Journal.first_high text.now }
 {
+    if text.is_ascii() {
+        return None;
+    }
     text.iter().position(|byte| *byte > 127)
 }
 

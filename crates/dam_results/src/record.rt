@@ -11,10 +11,9 @@ ghost use Rattle.dam_results.specs.Rules.{OneOf, Periods, OneVolume, NameOrEmpty
 
 use crate::nine_fields::NineFields;
 use dam_book::{
-    BlockOrder, Command, DayLength, HourOrder, Name, Order, Participant, Period, Qty, Side, laws,
-    read_pair, read_price, read_volumes,
+    BlockOrder, Command, DayLength, HourOrder, Name, Order, Participant, Period, Qty, Side,
+    read_day_length, read_pair, read_price, read_volumes,
 };
-use itoa::Buffer;
 
 // Each reader of a record answers what it says, or the number of the least field that breaks its
 // rule.
@@ -49,33 +48,12 @@ fn check_no_order(row: &NineFields) -> Result<(), usize>
     check_no_family(row)
 }
 
-/// The number whose text in decimal, without leading zeros, the field is.
-fn read_number(field: &[u8]) -> Option<u8>
-    ensures { MatchOption result
-        ((n : ℕ) → n < 2 ^ 8 → field.now ≢ decimal n)
-        (λ n. (n < 2 ^ 8) × (field.now ≡ decimal n)) }
-{
-    let Ok(text) = str::from_utf8(field) else {
-        return None;
-    };
-    let Ok(number) = text.parse::<u8>() else {
-        return None;
-    };
-    if Buffer::new().format(number) == text {
-        Some(number)
-    } else {
-        None
-    }
-}
-
 fn read_periods(field: &[u8]) -> Option<DayLength>
     ensures { MatchOption result
         (¬ (Obeys Periods field.now))
         (λ periods. (is_day periods ≡ true) × (field.now ≡ decimal periods)) }
 {
-    laws::days_are_short();
-    let periods = read_number(field)?;
-    DayLength::new(periods)
+    read_day_length(field)
 }
 
 fn read_side(field: &[u8]) -> Option<Side>
@@ -141,8 +119,11 @@ fn read_hour(row: &NineFields) -> Result<Command, usize>
     let price = read_price(row.price).ok_or(6usize)?;
     let (period, qty) = read_one_volume(row.volumes).ok_or(7usize)?;
     check_no_family(row)?;
-    let order = Order::Hour(HourOrder::new(side, price, period, qty));
-    Ok(Command::Submit { who, name, order })
+    Ok(Command::Submit {
+        who,
+        name,
+        order: Order::Hour(HourOrder::new(side, price, period, qty)),
+    })
 }
 
 fn read_block(row: &NineFields) -> Result<Command, usize>
@@ -181,12 +162,10 @@ fn read_submit(row: &NineFields) -> Result<Command, usize>
     requires { row.now.kind.now ≡ codes "submit" }
     ensures { ReadsCommand (submit_rules (fields_in row.now)) row.now result }
 {
-    if row.form == b"hour".as_slice() {
-        read_hour(row)
-    } else if row.form == b"block".as_slice() {
-        read_block(row)
-    } else {
-        read_no_form(row)
+    match row.form {
+        b"hour" => read_hour(row),
+        b"block" => read_block(row),
+        _ => read_no_form(row),
     }
 }
 
@@ -233,15 +212,11 @@ fn read_close(row: &NineFields) -> Result<Command, usize>
 pub(crate) fn read_command(row: &NineFields) -> Result<Command, usize>
     ensures { ReadsCommand (command_rules (fields_in row.now)) row.now result }
 {
-    if row.kind == b"submit".as_slice() {
-        read_submit(row)
-    } else if row.kind == b"amend".as_slice() {
-        read_amend(row)
-    } else if row.kind == b"cancel".as_slice() {
-        read_cancel(row)
-    } else if row.kind == b"close".as_slice() {
-        read_close(row)
-    } else {
-        Err(1)
+    match row.kind {
+        b"submit" => read_submit(row),
+        b"amend" => read_amend(row),
+        b"cancel" => read_cancel(row),
+        b"close" => read_close(row),
+        _ => Err(1),
     }
 }

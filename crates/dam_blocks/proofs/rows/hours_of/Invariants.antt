@@ -2,5 +2,5 @@
 use Rattle.std.proofs.Common.{◌≡◌, take, map}
 use Rattle.dam_blocks.proofs.rows.hours_of.Given as goal
 
-abbrev pub invariant-loop-number : goal.invariant-loop-number
-invariant-loop-number g l = l.hours.items ≡ take l.number (map (λ steps. steps.items) l.hourly)
+abbrev pub invariant-loop-steps : goal.invariant-loop-steps
+invariant-loop-steps g l = l.hours.items ≡ take l.steps-index (map (λ steps. steps.items) l.hourly)

@@ -6,6 +6,7 @@ use Rattle.dam_blocks.proofs.rows.lists_of.Given as goal
 
 abbrev pub invariant-loop-place : goal.invariant-loop-place
 invariant-loop-place g l = record {
-  placed : IsPlacedSoFar l.book.rows l.place l.rows.items (map (λ steps. steps.items) l.hourly.items) (length l.blocks.items);
+  placed : IsPlacedSoFar l.book.periods l.book.rows l.place l.rows.items
+      (map (λ steps. steps.items) l.hourly.items) (length l.blocks.items);
   blocks : l.blocks.items ++ blocks_in (drop l.place l.book.rows) ≡ blocks_in l.book.rows;
 }

@@ -1,7 +1,6 @@
 -- An empty list more.
 use Rattle.std.proofs.Common.{Vec, List, ◌∷◌, ◌++◌, [], map, ap, ◌∙◌}
 use Rattle.std.proofs.lemmas.List.{map-append}
-use Rattle.dam_book.specs.Limits.{last_period}
 use Rattle.dam_hour.specs.declared.step.Step.{Step}
 use Rattle.dam_blocks.proofs.RowByRow.{none_more}
 use Rattle.dam_blocks.proofs.rows.no_steps.Goals as goal
@@ -10,7 +9,7 @@ pub loop-preserved : goal.loop-preserved
 loop-preserved g c =
     let items = λ (steps : Vec Step g.row.A.Denot). steps.items in
     let lists = c.loop.hourly.items in
-    none_more last_period c.loop.counter (map items lists) (map items c.push.new.self.items) _ c.loop-test.true
+    none_more c.args.periods c.loop.counter (map items lists) (map items c.push.new.self.items) _ c.loop-test.true
     (ap (λ (vs : List (Vec Step g.row.A.Denot)). map items vs) c.in_ok-push.ensures.items
     ∙ map-append items lists (c.new.result ∷ [])
     ∙ ap (λ (ss : List Step). map items lists ++ ss ∷ []) c.new.ensures.items)

@@ -1,9 +1,8 @@
 -- The lists so far, and those that are left.
 use Rattle.std.proofs.Common.{◌≡◌, ◌+◌, ◌-◌, ◌++◌, [], map}
-use Rattle.dam_book.specs.Limits.{last_period}
 use Rattle.dam_blocks.specs.Problem.{hours_from}
 use Rattle.dam_blocks.proofs.rows.no_steps.Given as goal
 
 abbrev pub invariant-loop : goal.invariant-loop
 invariant-loop g l =
-    map (λ steps. steps.items) l.hourly.items ++ hours_from (l.counter + 1) (last_period - l.counter) [] ≡ hours_from 1 last_period []
+    map (λ steps. steps.items) l.hourly.items ++ hours_from (l.counter + 1) (l.periods - l.counter) [] ≡ hours_from 1 l.periods []

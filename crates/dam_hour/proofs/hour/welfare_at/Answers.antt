@@ -10,8 +10,8 @@ use Rattle.dam_hour.specs.Execution.{IsNetVolume}
 use Rattle.dam_book.specs.Price.{IsPrice}
 use Rattle.dam_hour.proofs.hour.welfare_at.Goals as goal
 
--- a price times a net volume is below 2 ^ 40
-value_small : (p n : ℤ) → IsPrice p → IsNetVolume n → unsigned_abs (p *ℤ n) < 2 ^ 40
+-- a price times a net volume is below 2 ^ 50
+value_small : (p n : ℤ) → IsPrice p → IsNetVolume n → unsigned_abs (p *ℤ n) < 2 ^ 50
 value_small p n r w =
     let a : unsigned_abs p ≤ greatest_price = omega (arith, ints, r.at_least, r.at_most) in
     let b : unsigned_abs n ≤ greatest_net = omega (arith, ints, w.at_least, w.at_most) in

@@ -10,8 +10,8 @@ loop-from-init g c =
     record {
       ordered = omega arith;
       within = omega (arith, long);
-      around = around_all c.args.hour.now c.side-buys.result.now _ c.highest_price-last.result c.lowest_price-next.result c.len-to.result
-          c.side-buys.ensures.side c.highest_price-last.ensures c.lowest_price-next.ensures long;
+      around = around_all c.args.hour.now c.side-buys.result.now _ c.highest-last.result c.lowest-next.result c.len-to.result
+          c.side-buys.ensures.side c.highest-last.ensures c.lowest-next.ensures long;
     }
 
 pub is_served-requires-clause-before : goal.is_served-requires-clause-before

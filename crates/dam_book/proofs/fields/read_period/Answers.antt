@@ -1,0 +1,9 @@
+-- Texts of different numbers differ.
+use Rattle.std.proofs.Common.{arith}
+use Rattle.dam_book.specs.Period.{IsPeriod}
+use Rattle.dam_book.proofs.FieldTexts.{number_of}
+use Rattle.dam_book.proofs.fields.read_period.Goals as goal
+
+pub returns : goal.returns
+returns c = number_of IsPeriod (λ p h. omega arith) c.new.result _ _ (omega (arith, c.in_ok-number.ensures.0)) c.in_ok-number.ensures.1
+    c.new.ensures
