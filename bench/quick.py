@@ -7,7 +7,7 @@ participant and one `Mutex`; it settles and prints the day, and clears nothing. 
 receipt, both packed, and whole in the journal. The input is freed before the commands are entered, and the room for journal and receipts is
 made once. A settlement is compared with a plain pass that compares each receipt with its entry. An hour finds the end of the best execution
 by one bisection over the buys' own limits, with one over the sells inside, and then both ends of the price by two look-ups among the sells.
-These tables keep no losses; a search of more than 65,536 nodes makes others that do, at most 750,000 losses of 8 bytes.
+These tables keep no losses; a search that its trial doesn't end makes others that do, at most 750,000 losses of 8 bytes.
 
 A day of `dam` takes as many instructions as one of the baseline (116 and 118 million), but writes 2.5 MiB more: the whole entries of the
 journal, and the orders of two books. That is 690 more page faults, 3 of the 7 ms between the two, and a third more misses of the last
