@@ -38,6 +38,28 @@ def called(line, folder=None, seconds=0):
     return ran.stdout
 
 
+# The control files of the Debian package that have a few lines: which package has the library, that `ldconfig` runs after it is installed
+# or removed, and how the Python modules are compiled and what was compiled of them is removed, as dh_python3 has it.
+SHORT = {
+    "shlibs": "libdam 1 dam (>= VERSION)\n",
+    "triggers": "activate-noawait ldconfig\n",
+    "postinst": """#!/bin/sh
+# Compiles the Python modules, as dh_python3 has it.
+set -e
+if [ "$1" = configure ] && command -v py3compile > /dev/null; then
+    py3compile -p dam
+fi
+""",
+    "prerm": """#!/bin/sh
+# Removes what was compiled of the Python modules, as dh_python3 has it.
+set -e
+if command -v py3clean > /dev/null; then
+    py3clean -p dam
+fi
+""",
+}
+
+
 def debian_name(version):
     return f"dam_{version}_amd64.deb"
 
@@ -63,8 +85,7 @@ def control(root, clone, room):
     folder.mkdir(mode=0o755)
     words = {"VERSION": clone.version, "SIZE": str(size), "DEPENDS": depends(root, room)}
     texts = {"md5sums": sums}
-    for name in ("control", "shlibs", "triggers", "postinst", "prerm"):
-        text = (HERE / name).read_text(encoding="utf-8")
+    for name, text in {"control": (HERE / "control").read_text(encoding="utf-8"), **SHORT}.items():
         texts[name] = re.sub("|".join(words), lambda found: words[found[0]], text) if name in ("control", "shlibs") else text
     for name, text in texts.items():
         (folder / name).write_text(text, encoding="utf-8")

@@ -44,8 +44,8 @@ class Crates(unittest.TestCase):
         self.assertEqual((TOP / "docs" / "crates.svg").read_text(), draw_crates.drawing(used, programs))
 
     def test_the_files_that_notes_name_are_there(self):
-        notes = sorted((TOP / "crates").glob("*/NOTES.md"))
-        self.assertGreater(len(notes), 9)
+        notes = sorted(path for path in (TOP / "crates").glob("*/*.md") if "The files of `src/`" in path.read_text())
+        self.assertGreater(len(notes), 13)
         for path in notes:
             files = re.search(r"^The files of `src/`: (.*?)\n\n|\Z", path.read_text() + "\n", re.MULTILINE | re.DOTALL)[1] or ""
             for name in re.findall(r"(?:^|; |, |and )`(\w+)`", re.sub(r"\([^)]*\)", "", files).replace("\n", " ")):
