@@ -69,8 +69,8 @@ struct dam_answer dam_replay(const uint8_t *text, size_t text_length, uint8_t *b
  *
  * The calling thread searches alone and can't be stopped; `nodes` is the only limit on its time. The search ends with status 3 if it
  * would visit more nodes. Any number will do: 0 ends the search of each closed book, and DAM_MOST_NODES or more never ends a search. If it
- * is above 65,536, a trial of 65,536 nodes comes first. A node takes longer the more the volumes of the blocks differ from period to
- * period. */
+ * allows more, a trial of 4,096 to 46,875 nodes comes first, which it doesn't count. A node takes longer the more the volumes of the blocks
+ * differ from period to period. */
 struct dam_answer dam_clear(const uint8_t *text, size_t text_length, uint32_t nodes, uint8_t *buffer, size_t buffer_length);
 
 /* The same two, for journals from people who are not trusted. Names are hashed with the first 16 bytes of the secret. For the two above

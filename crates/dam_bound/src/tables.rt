@@ -441,8 +441,8 @@ impl<A: Allocator + Copy> Tables<A> {
 }
 
 impl Tables {
-    /// How many losses the tables made by `with_losses` keep at most: a measure of what it costs to make them, of which
-    /// nothing is promised. Takes no memory.
+    /// How many losses the tables made by `with_losses` keep at most, from 0 to 750,000. It measures the cost of making
+    /// them; no contract says anything of it. Takes no memory.
     pub fn losses_of<A: Allocator>(problem: &Problem<A>) -> u64 {
         room_of(problem).losses
     }

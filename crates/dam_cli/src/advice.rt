@@ -122,7 +122,7 @@ pub fn asks_version(words: &[String]) -> bool
     words.iter().any(|word| is_version_word(word.as_str()))
 }
 
-/// Whether this word does.
+/// Whether this word asks for the version.
 fn is_version_word(word: &str) -> bool
     ensures { result ≡ is_version_word word.now }
 {

@@ -116,7 +116,7 @@ pub(crate) fn value_of(line: Line, net: i64) -> i64
 
 /// The place of the line that holds at the net volume, looked for from a place near by, and the joint welfare there.
 #[inline(always)]
-pub(crate) fn value_in(lines: &[Line], net: i64, near: usize) -> (usize, i64)
+fn value_in(lines: &[Line], net: i64, near: usize) -> (usize, i64)
     requires curve { (periods : List (List Step)) × (least : ℤ) × (most : ℤ)
         × IsCurve periods least most lines.now }
     requires some { 0 < length lines.now }

@@ -1,10 +1,10 @@
 //! The losses of each side of a choice at each net volume.
 
-ghost use Rattle.std.specs.Prelude.{◌≡◌, ◌<◌, ◌≤◌, ◌+◌, ◌^◌, ℕ, ℤ, pos, neg_ℤ, ◌+ℤ◌, ◌-ℤ◌, ◌≤ℤ◌, Option, Some, None, List, length, slice_index_or, take, IfOk, OnOk, IfSome, MatchOption};
+ghost use Rattle.std.specs.Prelude.{◌≡◌, ◌<◌, ◌≤◌, ◌+◌, ◌^◌, ℕ, ℤ, pos, neg_ℤ, ◌+ℤ◌, ◌-ℤ◌, ◌≤ℤ◌, Option, Some, None, List, length, slice_index_or, take, IfOk, OnOk, MatchOption};
 ghost use Rattle.dam_hour.specs.declared.step.Step.{Step};
-ghost use Rattle.dam_curve.specs.Curve.{joint_welfare, lines_at, greatest_joint_welfare};
-ghost use Rattle.dam_curve.specs.Losses.{IsKept, IsLoss, IsLossAt, AreLosses, IsChoice, IsChoiceAt, Keeps, welfare_left, welfare_taken};
-ghost use Rattle.dam_curve.specs.inside.Reading.{IsOnLines, AreReadAt};
+ghost use Rattle.dam_curve.specs.Curve.{joint_welfare, lines_at};
+ghost use Rattle.dam_curve.specs.Losses.{IsLossAt, AreLosses, IsChoice, IsChoiceAt, Keeps, welfare_left, welfare_taken};
+ghost use Rattle.dam_curve.specs.inside.Reading.{AreReadAt};
 
 use crate::curves::{Curve, Curves, narrow};
 use crate::line::Line;
@@ -54,8 +54,8 @@ fn lines_of(lines: &[Line], curve: Curve) -> &[Line]
     &lines[first..first + curve.count as usize]
 }
 
-/// Writes the losses of a choice between the curves of these lines, one for each net volume from the least to the most.
-/// The error is out of memory. The losses that stood there before the call stay.
+/// Writes the losses of a choice between the curves of these lines, one for each net volume from the least to the
+/// greatest. The error is out of memory. The losses that stood there before the call stay.
 fn write_losses<A: Allocator>(
     losses: &mut Vec<Loss, A>,
     before: &[Line],
@@ -87,8 +87,9 @@ fn write_losses<A: Allocator>(
 }
 
 impl<A: Allocator> Curves<A> {
-    /// Keeps the loss of a choice at each net volume from the least to the most, and returns the offset from a net
-    /// volume to the place of its loss. The error is out of memory. Takes 8 bytes for each.
+    /// Keeps the loss of a choice at each net volume from the least to the greatest, and returns the offset from a net
+    /// volume to the place of its loss; if the greatest is less than the least, it keeps none and returns 0. The error is
+    /// out of memory. Takes 8 bytes for each.
     pub fn keep_losses(&mut self, choice: &Choice, least: i64, most: i64) -> Result<i64, AllocError>
         requires choice { (before : List (List Step)) × (after : List (List Step))
             × IsChoice self.old choice.now before after least most }

@@ -1,8 +1,8 @@
 //! Losses along straight lines, which are written without looking anything up.
 
-ghost use Rattle.std.specs.Prelude.{◌≡◌, ℕ, ◌+◌, ◌≤◌, ◌^◌, ℤ, pos, neg_ℤ, ◌+ℤ◌, ◌-ℤ◌, ◌≤ℤ◌, Some, length, IfSome, vec_len, vec_capacity};
+ghost use Rattle.std.specs.Prelude.{◌≡◌, ℕ, ◌+◌, ◌≤◌, ◌^◌, ℤ, pos, neg_ℤ, ◌+ℤ◌, ◌≤ℤ◌, Some, IfSome, vec_len, vec_capacity};
 ghost use Rattle.dam_book.specs.Limits.{last_period};
-ghost use Rattle.dam_curve.specs.Curve.{both, line_at, IsSmallLine};
+ghost use Rattle.dam_curve.specs.Curve.{both, IsSmallLine};
 ghost use Rattle.dam_curve.specs.Losses.{IsKept};
 ghost use Rattle.dam_curve.specs.inside.Ramp.{kept_number, line_value, ramp_at, IsSteady, AreWritten};
 

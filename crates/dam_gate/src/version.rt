@@ -55,7 +55,7 @@ impl<J: GateName> Version<J> {
     }
 }
 
-/// Where looks find a version. A call makes a slot empty, and puts its version there later.
+/// Where looks find a version. A call makes a new slot, which is still empty, and puts its version there later.
 pub(crate) type Slot<J> = Arc<OnceBox<Version<J>>, Global>;
 
 /// A slot with the version in it, and the note of its cell that shows it.
@@ -74,7 +74,7 @@ pub(crate) fn filled<J: GateName>(
     Ok((slot, note))
 }
 
-/// What the pair of `left_right` has two of: the slot of the last version.
+/// One of the two copies that `left_right` keeps: the slot of a version.
 #[derive(Drop)]
 pub struct Shown<J: GateName> {
     pub(crate) slot: Slot<J>,
@@ -90,7 +90,7 @@ impl<J: GateName> Absorb<NextShown<J>> for Shown<J> {
     ghost use Rattle.std.specs.Prelude.{◌≡◌};
     ghost use Rattle.dam_gate.specs.inside.Shown.{slot_name};
 
-    /// The name of the slot, which no other slot has.
+    /// The name of the slot's cell. No other cell has it.
     type State = u64;
 
     ghost state = { λ shown. slot_name shown.slot };

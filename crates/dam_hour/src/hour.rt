@@ -358,8 +358,8 @@ impl<A: Allocator> Hour<A> {
         Some(step.volume().min(left) as u32)
     }
 
-    /// What `clear` answers, with the executed volumes of all steps in book order, in tenths of a MW. One look finds
-    /// where the best execution ends, and one pass over the steps their volumes.
+    /// The answer of `clear`, and the executed volumes of all steps in book order, in tenths of a MW, as `executed` has
+    /// them. One search finds the end of the best execution, and one pass over the steps finds the volumes.
     ///
     /// `None` exactly if `clear` is `None`. The error is out of memory.
     pub fn clear_and_execute<B: Allocator>(

@@ -71,8 +71,7 @@ pub fn price()
         → price_between low highest_price ≡ low }
     ensures inside { (low high : ℤ) → lowest_price <ℤ low → high <ℤ highest_price
         → price_between low high ≡ int_div_euclid (low +ℤ high) (pos 2) }
-    ensures all_open { price_between lowest_price highest_price
-        ≡ int_div_euclid (lowest_price +ℤ highest_price) (pos 2) }
+    ensures all_open { price_between lowest_price highest_price ≡ pos 175000 }
 {}
 
 /// The greatest welfare as a function of the net volume is the best execution's, and there is none

@@ -13,9 +13,13 @@ use std::alloc::Global;
 /// trial takes about as long as making the losses.
 const LOSSES_A_NODE: u64 = 16;
 
-/// How many nodes a trial visits at most.
+/// How many nodes a trial visits at least. In their time the curves of the tables can be made again.
+const LEAST_NODES: u64 = 4_096;
+
+/// How many nodes a trial visits, if the search doesn't end before.
 fn trial_nodes(problem: &Problem) -> u32 {
-    u32::try_from(Tables::losses_of(problem) / LOSSES_A_NODE).unwrap_or(u32::MAX)
+    let nodes = (Tables::losses_of(problem) / LOSSES_A_NODE).max(LEAST_NODES);
+    u32::try_from(nodes).unwrap_or(u32::MAX)
 }
 
 /// Tables for a search whose pieces visit at most `nodes` nodes each, if this welfare is offered before it.
