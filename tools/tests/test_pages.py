@@ -23,14 +23,14 @@ OTHER_WORDS = re.compile(r"\b(anew|beside|dear|so many|want of|whoever)\b", re.I
 OTHER_PAGES = {"CONTRIBUTING.md", "CHECK.md", "OPERATING.md", "DEFINITIONS.md", "READING.md"}
 # The most bytes of a page, without the parts that a script writes. A page that grows beyond is split, or says things twice.
 MOST_BYTES = {
-    "README.md": 7_900,
-    "ARCHITECTURE.md": 7_000,
+    "README.md": 7_100,
+    "ARCHITECTURE.md": 6_100,
     "ASSURANCE.md": 22_000,
     "DECISIONS.md": 15_000,
     "MEASURED.md": 8_000,
     "OPERATING.md": 6_000,
     "READING.md": 4_500,
-    "TESTED.md": 13_000,
+    "TESTED.md": 12_100,
     "THEOREM.md": 10_000,
     "TRUST.md": 8_000,
     "USING.md": 14_000,
