@@ -40,8 +40,9 @@ PICTURES = {"growth": "![Nodes of each family by the number of blocks, compared 
 UNITS = {"ns": 1e-9, "us": 1e-6, "ms": 1e-3}  # of a second
 HEAD = """# Measured figures
 
-`bench/run` measures, and `bench/page.py` writes this page. A figure is the median of several runs; runs that are compared take turns. The
-head of each part's script says how it measures. On a busy machine, as the load of the minute before shows, a figure says little.
+`bench/run` measures, and `bench/page.py` writes this page. A figure is the median of several runs; runs that are compared take turns. `A
+compared with B` is A's time divided by B's. The head of each part's script says how it measures. On a busy machine, as the load of the
+minute before shows, a figure says little.
 
 Every figure is in a CSV file, with its target and, for a comparison, both figures; some stand here too. Missed targets stand here by kind:
 how many of a kind are missed, their figures, and the worst. `grep MISSED bench/measured/*.csv` prints each.
@@ -179,7 +180,9 @@ def missed(rows):
 
 
 def section(part):
-    return "\n".join(filter(None, [f"## `bench/run {part}`\n", f"{about(part)}\n", shown(part, read(KEPT / f"{part}.csv")), PICTURES.get(part)]))
+    """The figures that the page shows of a part; a table by books begins with the words that say which books these are."""
+    words = f"{about(part)}\n" if part in CELLS else None
+    return "\n".join(filter(None, [f"## `bench/run {part}`\n", words, shown(part, read(KEPT / f"{part}.csv")), PICTURES.get(part)]))
 
 
 def counted(part, date, commit, load, notes):
