@@ -56,7 +56,7 @@ ONCE = {
     r"[Bb]est family\* is": ["RULES.md"],
     r"whole cents from the least, `low`, to the greatest": ["RULES.md"],
     r"\| `HasChildren` \|": ["RULES.md"],
-    r"names that agree in the bits": ["DECISIONS.md"],
+    r"names whose hashes collide in the map": ["DECISIONS.md"],
     r"helgrind and drd report": ["TESTED.md"],
 }
 
