@@ -100,8 +100,7 @@ fn surplus_of_family<A: Allocator, B: Allocator>(
 /// What the block at the place gains at the prices of the day, on which every block is decided, with
 /// those blocks of the selection that descend from it.
 ///
-/// Nothing is asked of the others, so that a book without links has no more to do than its blocks'
-/// own gains.
+/// It doesn't look at other blocks, so a book without links costs only each block's own gain.
 pub(crate) fn gain_of<A: Allocator, B: Allocator>(
     problem: &Problem<A>,
     tables: &Tables<B>,

@@ -1,5 +1,5 @@
-//! What the walk reads: the welfare of each class of periods at each depth as a curve over the net volume, and each
-//! block in each of its classes.
+//! The tables of the walk: for each class of periods, at each depth, its welfare as a curve over the net volume (a
+//! *table* of `docs/ARCHITECTURE.md`), and each block in each of its classes.
 
 ghost use Rattle.std.specs.Prelude.{◌≡◌, ◌<◌, ◌≤◌, ◌+◌, pos, neg_ℤ, ◌*ℤ◌, ◌≤ℤ◌, ℕ, ℤ, Some, List, [], length, slice_get, IfOk, IsPermutation};
 ghost use Rattle.dam_book.specs.Limits.{last_period, most_blocks};

@@ -13,9 +13,9 @@ pub(crate) struct Touch {
     pub(crate) from: u32,
     /// The slot in which it stands afterwards.
     pub(crate) to: u32,
-    /// To take it is to accept the block. The curves are the joint welfare of the class with this block and the later
-    /// ones undecided, and with the later ones alone, without what accepted blocks are worth. The value is what the
-    /// block is worth in all of the class's periods.
+    /// Taking the choice is accepting the block. The curve `before` is the class's table with this block and the later
+    /// ones undecided; `after`, with only the later ones undecided. Neither counts the value of accepted blocks. The
+    /// value is the block's, in all of the class's periods.
     pub(crate) choice: Choice,
     /// The loss by accepting the block at about the prices at a net volume of 0; below 0 if it is a gain.
     pub(crate) stake: i64,

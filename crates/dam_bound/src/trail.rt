@@ -91,7 +91,7 @@ impl Extensions {
     }
 }
 
-/// The least total that isn't under what is asked for.
+/// `least` as an `i64`: no total is greater than `i64::MAX`, so a greater `least` becomes `i64::MAX`.
 fn floor_of(least: u64) -> i64
     ensures floor { (total : ℤ) → IsWithin (last_period * greatest_period_bound) total
         → (total <ℤ result) ↔ (total <ℤ pos least) }
@@ -112,7 +112,7 @@ fn reached(total: i64, floor: i64) -> Option<i64>
     Some(total)
 }
 
-/// Whether the greatest loss that is kept brings the total under the floor.
+/// Whether 2^32 - 1, the greatest number that a kept loss can be, brings the total under the floor.
 fn is_near(total: i64, floor: i64) -> bool
     requires { IsWithin (last_period * greatest_period_bound) total }
     ensures { IsTrue result ↔ ((total -ℤ pos greatest_loss) <ℤ floor) }
@@ -120,7 +120,8 @@ fn is_near(total: i64, floor: i64) -> bool
     total - i64::from(u32::MAX) < floor
 }
 
-/// What is left of a total after a loss. A total under the floor is of no use, and stays under it.
+/// What is left of a total after a loss. A total under the floor stays as it is. Without a welfare afterwards (`None`)
+/// it is -1, which is under every floor.
 fn lowered(total: i64, loss: Option<i64>, floor: i64) -> i64
     requires { floor ≤ℤ total → IfSome loss (λ fall. (neg_ℤ (pos (2 ^ 63)) ≤ℤ (total -ℤ fall))
         × ((total -ℤ fall) <ℤ pos (2 ^ 63))) }
@@ -135,7 +136,7 @@ fn lowered(total: i64, loss: Option<i64>, floor: i64) -> i64
 }
 
 /// The bounds of both extensions of a prefix by the block at the place, from the curves. `total` is the relaxed welfare
-/// of the prefix. A bound under the floor is of no use.
+/// of the prefix. A bound under the floor is returned as `None`.
 #[inline(never)]
 fn exact_bounds<A: Allocator>(
     tables: &Tables<A>,
@@ -174,7 +175,7 @@ fn exact_bounds<A: Allocator>(
 }
 
 /// The bounds of both extensions of a prefix by the block at the place, from the losses that are kept. `total` is the
-/// relaxed welfare of the prefix; it is so near the floor that the greatest loss that is kept brings it under.
+/// relaxed welfare of the prefix; it is so near the floor that a loss of 2^32 - 1 brings it under.
 #[inline(always)]
 fn kept_bounds<A: Allocator>(
     tables: &Tables<A>,
@@ -278,8 +279,8 @@ pub(crate) fn write_block<A: Allocator>(
     }
 }
 
-/// The day of a prefix that decides every block, whose relaxed welfare this is: where each class stands. Each class has
-/// a welfare there, since the prefix has a relaxed welfare.
+/// The day of a prefix that decides every block: where each class stands. `total` is the prefix's relaxed welfare; each
+/// class has a welfare there, since the prefix has one.
 pub(crate) fn day_of<A: Allocator>(tables: &Tables<A>, trail: &Trail, total: i64) -> Day
     requires { (problem : ProblemState) × (prefix : List Bool) × AreTablesOf problem tables.now
         × (length prefix ≡ length problem.blocks) × IsDayIn problem prefix trail.now total }

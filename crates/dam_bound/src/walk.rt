@@ -133,8 +133,8 @@ impl<'a, A: Allocator, B: Allocator> Walk<'a, A, B> {
         copy_classes(from, to, tables.count);
     }
 
-    /// Turns the decision on the block at the place round into this one, on a day on which every block
-    /// is decided; whether it did. `false` if some period doesn't balance with the new decision;
+    /// Reverses the decision on the block at the place, to `accept`, on a day on which every block is
+    /// decided, and returns `true`. Returns `false` if some period doesn't balance with the new decision;
     /// nothing is then promised of the day.
     ///
     /// Only the classes of periods in which the block has a volume are changed. Takes no memory.

@@ -66,8 +66,8 @@ fn equals(bound: i64, value: u64) -> bool
 }
 
 impl<A: Allocator, B: Allocator> SearchSpace<'_, A, B> {
-    /// Whether some accepted block loses at the prices of a prefix that decides every block, with the accepted ones
-    /// that descend from it. The day of the prefix is in the slots, with this relaxed welfare.
+    /// Whether some accepted block, together with its accepted descendants, loses at the prices of a prefix that
+    /// decides every block. The day of the prefix is in the slots, and `total` is its relaxed welfare.
     ///
     /// It isn't inlined, since few prefixes come so far, and its day takes room on the stack.
     #[inline(never)]
@@ -83,8 +83,8 @@ impl<A: Allocator, B: Allocator> SearchSpace<'_, A, B> {
         prefix.has_loss(self.walk, &day)
     }
 
-    /// Makes the day of the extension of a prefix by a decision on its next block, if `total` is the bound of the
-    /// extension; there is none if it has no bound, or one that needn't be known.
+    /// Makes the day of the extension of a prefix by a decision on its next block, if there is a `total`: the bound of
+    /// the extension. `total` is `None` if the extension has no bound, or one below the incumbent that was read.
     #[inline(always)]
     fn enter(&self, prefix: &Prefix, accept: bool, trail: &mut Trail, total: Option<i64>)
         requires depth { length prefix.now < length self.now.walk.now.blocks }
@@ -104,8 +104,8 @@ impl<A: Allocator, B: Allocator> SearchSpace<'_, A, B> {
     /// and offers its welfare, if it is eligible and the best so far.
     ///
     /// The welfare is the bound, and that is looked at first; prices are asked for only if it may be the
-    /// best, and only in the periods of accepted blocks. If there is no total, the welfare is below the
-    /// incumbent that was read.
+    /// best, and only in the periods of accepted blocks. If there is no total, the selection has no welfare,
+    /// or one below the incumbent that was read.
     fn try_selection<I: Incumbent>(
         &self,
         prefix: &Prefix,

@@ -195,8 +195,8 @@ impl Prefix {
         turned
     }
 
-    /// Whether some accepted block loses at the prices of the prefix's day, on which every block is
-    /// decided, with the accepted ones that descend from it.
+    /// Whether some accepted block, together with its accepted descendants, loses at the prices of the
+    /// prefix's day, on which every block is decided.
     pub(crate) fn has_loss<A: Allocator, B: Allocator>(&self, walk: &Walk<A, B>, day: &Day) -> bool
         requires full { length self.now ≡ length walk.now.blocks }
         requires day { IsDay walk.now self.now day.now }
@@ -213,8 +213,8 @@ impl Prefix {
     }
 
     /// The prefix's bound, if it is at least the value; `None` if it has no bound or a lesser one, and so
-    /// each of its completions has less welfare than the value. If there is no total, the bound is
-    /// below the incumbent that was read.
+    /// each of its completions has less welfare than the value. `total` is the bound; it is `None` if the
+    /// prefix has no bound, or one known to be below some value that is at most `least`.
     pub(crate) fn open_bound(&self, total: Option<i64>, least: u64) -> Option<i64>
         ensures { (relaxed : ProblemState) (trail : Trail) (low : ℕ) → low ≤ least
             → IsBoundIn relaxed self.now low trail total
