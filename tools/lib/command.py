@@ -278,19 +278,19 @@ def is_debians():
     return os.path.realpath(sys.executable) == os.path.realpath(DEBIAN_PYTHON)
 
 
-def elsewhere(module):
-    """Whether Debian's Python is a different one and has a module."""
+def elsewhere(*modules):
+    """Whether Debian's Python is a different one and has the modules."""
     if is_debians():
         return False
     try:
-        return subprocess.run([DEBIAN_PYTHON, "-c", f"import {module}"], stderr=subprocess.DEVNULL).returncode == 0
+        return subprocess.run([DEBIAN_PYTHON, "-c", f"import {', '.join(modules)}"], stderr=subprocess.DEVNULL).returncode == 0
     except OSError:
         return False
 
 
-def python_with(module):
-    """Starts the tool again with Debian's Python, if this one lacks a module that Debian's has."""
-    if not has(module) and elsewhere(module):
+def python_with(*modules):
+    """Starts the tool again with Debian's Python, if that has the modules and this one lacks some."""
+    if not all(map(has, modules)) and elsewhere(*modules):
         os.execv(DEBIAN_PYTHON, [DEBIAN_PYTHON, *sys.argv])
 
 
@@ -309,14 +309,16 @@ def need_zone(name):
         raise Stop("it needs the world's time zones, which Debian has in the package tzdata: apt-get install tzdata", FAILED)
 
 
-def missing(module):
-    """What is said of a module that is missing."""
-    package = PACKAGES[module]
-    return f"it needs {module}, which Debian has in the package {package}: apt-get install {package}"
+def missing(*modules):
+    """The message that modules are missing."""
+    packages = [PACKAGES[module] for module in modules]
+    noun = "package" if len(packages) == 1 else "packages"
+    which = f"which Debian has in the {noun} {' and '.join(packages)}"
+    return f"it needs {' and '.join(modules)}, {which}: apt-get install {' '.join(packages)}"
 
 
-def need(module):
+def need(*modules):
     """Ends the tool if a module is missing."""
-    python_with(module)
-    if not has(module):
-        raise Stop(missing(module), FAILED)
+    python_with(*modules)
+    if lacking := [module for module in modules if not has(module)]:
+        raise Stop(missing(*lacking), FAILED)

@@ -24,11 +24,14 @@ class Missing(unittest.TestCase):
     @unittest.skipUnless(command.is_debians(), "this isn't Debian's Python")
     def test_a_missing_package_is_named(self):
         without = sys.executable, "-S"  # leaves out Debian's packages
-        package = "python3-matplotlib"
-        for name in ("plot", "report"):
+        both = (
+            "matplotlib and jinja2, which Debian has in the packages python3-matplotlib and python3-jinja2: "
+            "apt-get install python3-matplotlib python3-jinja2"
+        )
+        for name, words in (("plot", self.words("matplotlib")), ("report", both)):
             status, out, err = tool(name, AUCTION, python=without)
             self.assertEqual((status, out), (command.FAILED, b""))
-            self.assertEqual(err, f"{name}: it needs {self.words('matplotlib')}\n")
+            self.assertEqual(err, f"{name}: it needs {words}\n")
         blocks = [f"submit,A,K{number},block,sell,1,1:1,," for number in range(24)]
         day = journal_of(*blocks)
         text = day + b"results\n" + results_of(day, frozenset())
