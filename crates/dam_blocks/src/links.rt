@@ -34,8 +34,8 @@ pub(crate) fn permits(other: &Block, is_accepted: bool, block: &Block) -> bool
 /// has one, and no other block of its group is accepted. A selection is admissible if each place that it
 /// accepts is allowed.
 ///
-/// It looks only at the parent and the others of the group, by their places, since a search calls it at the
-/// majority of its nodes.
+/// It looks only at the parent and the others of the group, by their places, since a search calls it for each
+/// decision to accept a block.
 pub fn is_allowed<A: Allocator>(problem: &Problem<A>, selection: Selection, place: usize) -> bool
     requires { accepts selection place ≡ true }
     ensures { IsTrue result ↔ IsAllowed problem.now.blocks selection place }

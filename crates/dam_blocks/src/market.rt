@@ -202,9 +202,9 @@ pub fn a_rejected_block_withdrawn()
 /// A better limit keeps a block: if the result accepts a block, then with a better limit and everything
 /// else the same, the result accepts it too.
 ///
-/// Better is higher for a block that buys and lower for one that sells. No price depends on a block's limit
-/// (`outcome`). So among the limits of the range there is a worst one at which a block is accepted, or none
-/// at all.
+/// Better is higher for a block that buys and lower for one that sells. The prices of a given selection don't depend
+/// on a block's limit (`outcome`). So among the limits of the range there is a worst one at which a block is
+/// accepted, or none at all.
 pub fn a_better_limit_keeps_a_block()
     ensures accepted { (problem other : ProblemState) (place : ℕ) (block : Block) (limit : ℤ)
         (selection other_selection : List Bool) (welfare other_welfare : ℤ)

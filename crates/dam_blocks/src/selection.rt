@@ -5,7 +5,8 @@ ghost use Rattle.dam_blocks.specs.Selection.{accepts, padded, empty_selection, c
 use dam_book::MOST_BLOCKS;
 use std::marker::Model;
 
-/// A set of blocks of a problem, by their places among its blocks, from 0 in book order.
+/// A set of places under 24, for the blocks of a problem, counted from 0 in book order. Whether a block stands at
+/// each is for the problem to say.
 ///
 /// A contract sees the list of its acceptances, one for each place that a block of a book may have.
 #[derive(Clone, Copy, PartialEq, Eq, Debug)]
@@ -71,8 +72,8 @@ impl Selection {
         let _bits = self.accepted;
     }
 
-    /// The choice of this number over the first `count` places, of which there are 2 to the power
-    /// `count`: the first half of them accepts the first place, and so on within each half.
+    /// The choice of this number over the first `count` places. There are 2 to the power `count` choices:
+    /// the first half of them accepts the first place, and so on within each half.
     pub fn choice(count: usize, number: u32) -> Selection
         requires count { count ≤ most_blocks }
         requires number { number < 2 ^ count }

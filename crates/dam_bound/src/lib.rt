@@ -21,7 +21,8 @@
 //! with a volume there. It is proved to be the definition's welfare, which [`Relaxed::bound`] finds by clearing
 //! each period. The tables before and after a block give its losses in a class: by how much the welfare falls at a net
 //! volume if the block is rejected, and if it is accepted. In tables for a long search (`with_losses`) the last blocks
-//! keep their losses for each net volume that the earlier ones can make, and one look-up then finds both.
+//! keep their losses for each net volume that the earlier ones can make, and one look-up then finds the losses of both
+//! decisions, unless the bound is too far above what is asked for to need them.
 //!
 //! A walk down the tree of prefixes keeps the days of those on its way, the net volume of each class, in the slots of
 //! a [`Trail`]. It begins with the day of the prefix that decides nothing (`begin`). The losses of the next block, one

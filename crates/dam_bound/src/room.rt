@@ -1,4 +1,4 @@
-//! Which blocks keep their losses for each net volume. Losses that are kept are the faster to look up and take memory,
+//! Which blocks keep their losses for each net volume. Losses that are kept are faster to look up, but take memory,
 //! so they are those of the last blocks, which a search decides most often.
 
 use dam_blocks::{Block, MOST_PERIODS};

@@ -390,7 +390,7 @@ impl<A: Allocator + Copy> Tables<A> {
         Tables::made(alloc, problem, problem.block_count())
     }
 
-    /// The tables of a problem, which keep the losses of as many of the last blocks as there is room for, in some MiB.
+    /// The tables of a problem, which keep the losses of as many of the last blocks as 750,000 losses (6 MB) allow.
     /// They are for a long walk. The error is out of memory.
     pub fn with_losses<B: Allocator>(
         alloc: A,

@@ -19,13 +19,13 @@
 //! sum.add(&supply)?;
 //! let after = curves.add(&sum)?;
 //! let choice = Choice { net: 50, value: -200_000, before, after }; // taking it sells 5 MW
-//! let offset = curves.keep_losses(&choice, -450, 450)?; // takes more memory, and is the faster to look up
+//! let offset = curves.keep_losses(&choice, -450, 450)?; // faster to look up, but takes memory
 //! let loss = curves.loss(offset, 120); // how far the welfare falls if it is left, and if it is taken
 //! ```
 //!
-//! A contract sees the lines of all curves and all losses. It asks of a curve which periods it is of, and between which
-//! net volumes.
-//! Tests alone show that a call reports out of memory only if memory was refused.
+//! A contract sees the lines of all curves and all losses. It asks of a curve which periods it is of, and between
+//! which net volumes. Tests alone show that a call reports out of memory only if memory was refused, or if more than
+//! 2^32 - 1 lines, hints or losses would be held.
 //!
 //! The crate knows nothing of blocks and books.
 #![tactic(auto)]

@@ -89,7 +89,7 @@ fn write_losses<A: Allocator>(
 impl<A: Allocator> Curves<A> {
     /// Keeps the loss of a choice at each net volume from the least to the greatest, and returns the offset from a net
     /// volume to the place of its loss; if the greatest is less than the least, it keeps none and returns 0. The error is
-    /// out of memory. Takes 8 bytes for each.
+    /// out of memory. Takes 8 bytes for each net volume.
     pub fn keep_losses(&mut self, choice: &Choice, least: i64, most: i64) -> Result<i64, AllocError>
         requires choice { (before : List (List Step)) × (after : List (List Step))
             × IsChoice self.old choice.now before after least most }

@@ -29,7 +29,8 @@ pub trait Incumbent {
         ensures kept { kept self.new ≡ kept self.old };
 
     /// Takes the welfare of an eligible selection that was found, in cents per MWh times tenths of
-    /// a MW. A walk offers each that ranks above those that it found before.
+    /// a MW. A walk offers each that ranks above those that it found before and
+    /// has at least the welfare that was read.
     fn offer(&mut self, welfare: u64)
         ensures greatest_read { greatest_read self.new ≡ greatest_read self.old }
         ensures greatest_offer { greatest_offer self.new ≡ max (greatest_offer self.old) welfare }

@@ -10,7 +10,7 @@ use dam_bound::{Tables, Walk};
 use std::alloc::Global;
 
 /// How many losses can be made, as measured, in the time in which a walk by tables without losses visits a node. So a
-/// trial takes about as long as making the losses.
+/// trial takes about as long as making the losses, unless these are few.
 const LOSSES_A_NODE: u64 = 16;
 
 /// How many nodes a trial visits at least. In their time the curves of the tables can be made again.
@@ -24,9 +24,10 @@ fn trial_nodes(problem: &Problem) -> u32 {
 
 /// Tables for a search whose pieces visit at most `nodes` nodes each, if this welfare is offered before it.
 ///
-/// A walk tries the given tables for as many nodes as could be visited while the losses are made, unless the search is
-/// limited to fewer. If it isn't done, new tables that keep losses take their place. If there is no memory for these, the
-/// given ones serve. The selection that the trial finds isn't used.
+/// If a piece may visit no more nodes than a trial, the given tables serve, untried. Otherwise a walk tries them for
+/// as many nodes as could be visited while the losses are made, but for 4,096 at least. If it isn't done, new tables
+/// that keep losses take their place. If there is no memory for these, the given ones serve. The selection that the
+/// trial finds isn't used.
 pub(crate) fn tables_for(
     alloc: Global,
     problem: &Problem,

@@ -195,17 +195,17 @@ pub(crate) fn explore_all<R: Threads + Sync, T: Turnstile + Sync>(
     Ok(Explored { answers, totals })
 }
 
-/// The result of a problem (`IsResult`): the eligible selection that no eligible one ranks above. Ties go to the one that
-/// accepts the block at the first place where two differ. No plan and no order in which the workers
-/// happen to run changes it.
+/// The result of a problem (`IsResult`): the eligible selection that no eligible one ranks above. Ties go to the one
+/// that accepts the block at the first place where two differ. No plan and no order in which the workers happen to
+/// run changes it.
 ///
-/// The search first finds a good selection, and offers its welfare before any worker starts. If the plan allows
-/// more, it then tries 4,096 to 46,875 nodes, one for every 16 losses that tables could keep, to see whether it is long: a
-/// long one is given tables of some MiB, which are quicker to read. The limit on nodes doesn't count the trial. The cutting
-/// decides as many of the first blocks as the plan says, or all of them if there are fewer. The workers,
-/// each on a thread of its own, draw its pieces as they come free, and prune by the greatest welfare
-/// that any of them has found. If a thread can't be made, the calling one does its work. Of the faults,
-/// `Memory` comes first, then `Collected`, and then `Unfinished`.
+/// The search first finds a good selection, and offers its welfare before any worker starts. If a piece may visit
+/// more nodes than a trial (4,096 to 46,875, one for every 16 losses that tables could keep), a trial comes next. If
+/// it doesn't end the search, tables of some MiB are made, which are quicker to read, if there is memory. The limit
+/// on nodes doesn't count the trial. The cutting decides as many of the first blocks as the plan says, or all of them
+/// if there are fewer. The workers, each on a thread of its own, draw its pieces as they come free, and prune by the
+/// greatest welfare that any of them has found. If a thread can't be made, the calling one does its work. Of the
+/// faults, `Memory` comes first, then `Collected`, and then `Unfinished`.
 pub fn search<R: Threads + Sync, T: Turnstile + Sync>(
     rt: &R,
     alloc: Global,
