@@ -18,7 +18,7 @@
  *
  * Other statuses never occur. The line of a fault is there even if memory ran out.
  *
- * `length` is the length of the whole answer in bytes; no zero byte follows it.
+ * `length` is the length of the whole answer in bytes; a zero byte doesn't follow it.
  *
  * Stack: 512 KiB are enough for a call. Memory: a call takes a few tens of MB at most, by malloc, and frees all of it. A program that is
  * linked with the static library, and defines rattle_alloc, rattle_realloc and rattle_dealloc, gives the library its own memory instead
@@ -27,7 +27,7 @@
  * Preconditions, which the caller must satisfy, since a proof can't see them:
  *
  *   - `text` and `secret` point to as many readable bytes as their lengths say, and `buffer` to as many writable bytes
- *   - none of them is NULL, even if a length is 0
+ *   - the three pointers aren't NULL, even if a length is 0
  *   - the buffer doesn't overlap the others
  *   - other threads don't write to any of them during the call
  *
