@@ -65,8 +65,8 @@ struct dam_answer {
  * Use dam_replay_seeded and dam_clear_seeded below, unless you trust everyone who chose a name in the journal. */
 struct dam_answer dam_replay(const uint8_t *text, size_t text_length, uint8_t *buffer, size_t buffer_length);
 
-/* The text of `dam clear`: the price and volume of each period, and the result of each order of the book. A refused order doesn't have a line;
- * dam_replay gives the reason.
+/* The text of `dam clear`: the price and volume of each period, and the result of each order of the book. dam_replay gives the
+ * reason for a refused order, which doesn't have a line here.
  *
  * Prices are in whole cents per MWh, volumes in whole tenths of a MW, the welfare and surpluses in cents per MWh times tenths of a MW
  * (docs/FORMATS.md; docs/TABLES.md for EUR and MW).
