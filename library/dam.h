@@ -46,7 +46,7 @@
 extern "C" {
 #endif
 
-/* The calls, the struct and the statuses change only with the first of these numbers. */
+/* The calls, the struct and the statuses change only with a new major version. */
 #define DAM_VERSION "1.0.0"
 
 /* Enough nodes for every book. Greater limits are allowed too: 0xFFFFFFFF is always enough. */
