@@ -111,6 +111,28 @@ class ReadingList(unittest.TestCase):
         with self.assertRaisesRegex(Exception, "^crates/lower/specs/Limits.antt says nothing above most$"):
             self.few(["most"])
 
+    def test_the_lines_of_clauses(self):
+        text = """pub fn one(n: u8) -> u8
+    requires { n < 3 }
+    ensures { IfOk result
+        (λ done. done ≡ n) }
+{
+    n
+}
+
+trait Two {
+    fn two(&self)
+        ensures { result };
+
+    fn three(&self);
+}
+
+pub fn law()
+    ensures { ⊥ → ⊥ }
+{}
+"""
+        self.assertEqual(loaded("reading-list").clause_lines(text), 5)
+
     def theorem(self, listed, named):
         """The tool's theorem with these definitions in the repository of this test."""
         module = loaded("reading-list")
