@@ -16,9 +16,9 @@ use crate::input::read_input;
 use crate::output::write_text;
 use crate::packed::PackedJournal;
 use crate::watch::Watch;
-use dam_book::{DayLength, Seed};
-use dam_gate::{DayFault, Hooks, Journal, PackedCommand, Settled, run_packed};
-use dam_results::{journal_text, read_into};
+use dam_book::{DayLength, PackedCommand, Seed};
+use dam_gate::{DayFault, Hooks, Journal, Settled, run_packed};
+use dam_results::{packed_journal_text, read_into};
 use dam_search::{Plan, Turnstile};
 use std::alloc::Global;
 use std::io::{Read, Write};
@@ -169,7 +169,7 @@ fn print_day<H: Threads + Sync, T: Watch + Sync>(
     ensures fault { IfErr result (IsBookFault plan journal.now.book) }
 {
     let results = clear_book(rt, alloc, journal.book(), plan, turnstile)?;
-    let mut text = journal_text(alloc, journal.periods(), journal.entries())?;
+    let mut text = packed_journal_text(alloc, journal.periods(), journal.entries())?;
     text.extend_from_slice(b"results\n")?;
     text.extend_from_slice(results.as_slice())?;
     Ok(text)

@@ -1,8 +1,7 @@
 ghost use Rattle.std.specs.Prelude.{◌≡◌, ℕ, List};
 ghost use Rattle.dam_book.specs.declared.command.Command.{Command};
 
-use dam_book::{Command, DayLength, Seed};
-use dam_gate::PackedCommand;
+use dam_book::{Command, DayLength, PackedCommand, Seed};
 use dam_results::FromJournal;
 use std::alloc::{AllocError, Global};
 

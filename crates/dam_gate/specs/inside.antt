@@ -5,4 +5,3 @@ pub mod Books
 pub mod Shown
 pub mod Tally
 pub mod Entering
-pub mod Packed

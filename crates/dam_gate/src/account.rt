@@ -2,8 +2,7 @@ ghost use Rattle.std.specs.Prelude.{◌≡◌};
 ghost use Rattle.std.specs.Option.{option_copied};
 ghost use Rattle.dam_gate.specs.Pass.{IsPass, same_giver};
 
-use crate::packed::Receipt;
-use dam_book::Participant;
+use dam_book::{PackedEntry, Participant};
 use std::marker::Model;
 
 /// The record of a pass after its day: its holder, how many entries of the journal it had seen, and a receipt of each
@@ -15,7 +14,7 @@ use std::marker::Model;
 pub struct Account {
     holder: Option<Participant>,
     seen: u32,
-    receipts: Vec<Receipt>,
+    receipts: Vec<PackedEntry>,
 }
 
 impl Model for Account {
@@ -50,7 +49,7 @@ pub(crate) fn copy_of(holder: &Option<Participant>) -> Option<Participant>
 }
 
 impl Account {
-    pub(crate) fn new(holder: Option<Participant>, seen: u32, receipts: Vec<Receipt>) -> Account
+    pub(crate) fn new(holder: Option<Participant>, seen: u32, receipts: Vec<PackedEntry>) -> Account
         requires { IsPass (record { holder = holder; seen = seen; receipts = receipts.items }) }
         ensures { result ≡ record { holder = holder; seen = seen; receipts = receipts.items } }
     {
@@ -76,7 +75,7 @@ impl Account {
     }
 
     /// The entries that its calls were answered with, by increasing number.
-    pub fn receipts(&self) -> &[Receipt]
+    pub fn receipts(&self) -> &[PackedEntry]
         ensures value { result.now ≡ self.now.receipts }
         ensures valid { IsPass self.now }
     {

@@ -3,7 +3,7 @@ ghost use Rattle.std.specs.Arc.{arc_value};
 ghost use Rattle.dam_book.specs.Book.{book_after, refusal};
 ghost use Rattle.dam_gate.specs.inside.Books.{AreSteps};
 
-use dam_book::{Book, Entry, Outcome};
+use dam_book::{Book, Outcome, PackedEntry};
 use std::alloc::{AllocError, Allocator, Global};
 use std::marker::Model;
 use std::mem::replace;
@@ -68,7 +68,7 @@ impl<A: Allocator + Copy> Books<A> {
     }
 
     /// An equal book that nobody else has: the one before it, if nobody shares that any more, and else a copy.
-    pub(crate) fn another(&mut self, entries: &[Entry]) -> Result<Book<A>, AllocError>
+    pub(crate) fn another(&mut self, entries: &[PackedEntry<A>]) -> Result<Book<A>, AllocError>
         requires { AreSteps entries.now self.old }
         ensures book { IfOk result (λ book. book ≡ self.old.book) }
         ensures same { self.new.book ≡ self.old.book }
@@ -82,7 +82,7 @@ impl<A: Allocator + Copy> Books<A> {
             } = earlier;
             if let Some(entry) = entries.get(place) {
                 if let Ok(mut book) = Arc::try_unwrap(book) {
-                    let _done = book.carry_out(&entry.command, &outcome)?;
+                    let _done = book.carry_out(&entry.command().command(), &outcome)?;
                     return Ok(book);
                 }
             }
@@ -95,7 +95,7 @@ impl<A: Allocator + Copy> Books<A> {
     pub(crate) fn follow(
         &mut self,
         book: Arc<Book<A>, A>,
-        entry: &Entry,
+        entry: &PackedEntry<A>,
         place: usize,
         outcome: Outcome,
     )

@@ -13,12 +13,11 @@ use crate::history::{GateName, Opening};
 use crate::hooks::Hooks;
 use crate::keeper::Journal;
 use crate::limits::MOST_PARTICIPANTS;
-use crate::packed::{PackedCommand, pack};
 use crate::pass::Pass;
 use crate::settlement::{Mismatch, Settled, settle};
 use crate::shares::{Share, share_of, shares_of};
 use crate::version::{NextShown, Shown};
-use dam_book::{Command, DayLength, MOST_ENTRIES, Participant, Seed};
+use dam_book::{Command, DayLength, MOST_ENTRIES, PackedCommand, Participant, Seed};
 use left_right::Absorb;
 use std::alloc::{AllocError, AllocFailed, Global};
 use std::marker::Brand;
@@ -115,7 +114,7 @@ fn enter<J: GateName, H: Wait + Drop>(
         let Some(given) = commands.get(*place) else {
             continue;
         };
-        let Ok(_answer) = gate.enter(rt, pass, &given.command()) else {
+        let Ok(_answer) = gate.enter(rt, pass, given) else {
             return;
         };
     }
@@ -193,7 +192,7 @@ fn take_giver(
     ensures giver { OnOk result (Takes command.now participants.old.items participants.new.items) }
     ensures refused { IfErr result (IsRefusalAt place participants.old.items command.now) }
 {
-    let Some(who) = command.giver() else {
+    let Some(who) = command.participant() else {
         return Err(DayFault::CloseGiven(place));
     };
     if is_one_of(participants, who) {
@@ -322,7 +321,7 @@ fn ends_with_a_close(journal: &Journal) -> bool
     ensures { result ≡ true → IsClosedDay journal.now }
 {
     match journal.entries() {
-        [.., last] => matches!(last.command, Command::Close),
+        [.., last] => matches!(last.entry().command, Command::Close),
         [] => false,
     }
 }
@@ -373,6 +372,17 @@ fn settle_day(alloc: Global, journal: Journal, passes: &[Account]) -> Result<Set
             why => Err(DayFault::NotSettled(why)),
         },
     }
+}
+
+/// The commands, packed.
+fn pack(alloc: Global, commands: &[Command]) -> Result<Vec<PackedCommand>, AllocError>
+    ensures { IfOk result (λ packed. packed.items ≡ commands.now) }
+{
+    let mut packed = Vec::with_capacity(alloc, commands.len())?;
+    for command in commands {
+        packed.push(PackedCommand::of(alloc, command)?)?;
+    }
+    Ok(packed)
 }
 
 /// Runs a day of given commands: each participant enters its own, in their order, through a pass of its own and on a

@@ -10,7 +10,7 @@ use crate::keeper::{BeginFault, Journal, KeeperFault};
 use crate::locked::Locked;
 use crate::pass::Pass;
 use crate::version::{NextShown, Shown};
-use dam_book::{Command, DayLength, Entry, Participant, Reply, Seed};
+use dam_book::{Command, DayLength, Entry, PackedCommand, Participant, Reply, Seed};
 use left_right::Absorb;
 use std::alloc::{AllocError, Global};
 use std::sync::{Mutex, Wait};
@@ -177,7 +177,12 @@ impl<J: GateName, R: Wait + Drop> Gate<J, R> {
         ensures err { OnErr result (pass.new ≡ pass.old) }
         ensures fault { IfErr result (IsGateFault pass.old.account command) }
     {
-        let (number, reply) = self.enter(rt, pass, &command)?;
+        if !pass.owns(command.participant()) {
+            return Err(GateFault::NotYours);
+        }
+        let mut locked = self.locked.lock(rt);
+        let packed = locked.pack(&command)?;
+        let (number, reply) = pass.step(&mut locked, &packed)?;
         Ok(Entry {
             number,
             command,
@@ -185,12 +190,12 @@ impl<J: GateName, R: Wait + Drop> Gate<J, R> {
         })
     }
 
-    /// Makes the call of a command that its caller keeps. It answers the number and the reply of the entry.
+    /// Makes the call of a packed command, which its caller keeps. It answers the number and the reply of the entry.
     pub(crate) fn enter(
         &self,
         rt: &impl Wait,
         pass: &mut Pass<J>,
-        command: &Command,
+        command: &PackedCommand,
     ) -> Result<(u32, Reply), GateFault>
         ensures answered { IfOk result (λ answer.
             IsCalled J.opening.periods pass.old pass.new (entry_of command.now answer)) }
@@ -198,7 +203,7 @@ impl<J: GateName, R: Wait + Drop> Gate<J, R> {
         ensures err { OnErr result (pass.new ≡ pass.old) }
         ensures fault { IfErr result (IsGateFault pass.old.account command.now) }
     {
-        if !pass.owns(command) {
+        if !pass.owns(command.participant()) {
             return Err(GateFault::NotYours);
         }
         pass.step(&mut self.locked.lock(rt), command)

@@ -2,14 +2,14 @@ ghost use Rattle.std.specs.Prelude.{◌≡◌, ◌<◌, ◌^◌, ◌++◌, ◌�
 ghost use mathlib.Core.List.{IsPrefix};
 ghost use Rattle.dam_gate.specs.inside.History.{count_of};
 
-use dam_book::Entry;
+use dam_book::PackedEntry;
 use logbook::{Gain, Offer, Plain, Play, Rule, Seen, Start, Word};
 use std::marker::{Brand, Model, PhantomData};
 
 /// The rule of the word that counts a gate's entries.
 pub(crate) struct CountRule;
 
-impl Rule<Entry, u64> for CountRule {
+impl Rule<PackedEntry, u64> for CountRule {
     ghost use Rattle.std.specs.Prelude.{[]};
     ghost use base.Fml.{ftrue};
     ghost use Rattle.dam_gate.specs.inside.History.{IsKept};
@@ -30,7 +30,7 @@ impl Rule<Entry, u64> for CountRule {
 /// Callers trade nothing.
 pub(crate) struct Nothing;
 
-impl Gain<Entry, u64> for Nothing {
+impl Gain<PackedEntry, u64> for Nothing {
     ghost use base.Fml.{ftrue};
 
     ghost after = { λ names about answer. ftrue };
@@ -39,13 +39,13 @@ impl Gain<Entry, u64> for Nothing {
 /// A step that adds an entry.
 pub(crate) struct Add;
 
-impl Play<Entry, u64> for Add {
+impl Play<PackedEntry, u64> for Add {
     ghost use Rattle.dam_gate.specs.inside.History.{Adds};
 
     ghost then = { Adds };
 }
 
-impl Plain<Entry, Entry, u64> for Add {
+impl Plain<PackedEntry, PackedEntry, u64> for Add {
     ghost use Rattle.std.specs.Prelude.{None};
 
     ghost ask = { λ entry. entry };
@@ -71,8 +71,8 @@ impl GateName for Brand {
 #[derive(Drop)]
 pub struct Opening {
     periods: u8,
-    word: Word<Entry, u64, CountRule>,
-    seen: Seen<Entry, u64, CountRule>,
+    word: Word<PackedEntry, u64, CountRule>,
+    seen: Seen<PackedEntry, u64, CountRule>,
     ghost empty: { seen.log ≡ [] },
     ghost count_is: { word ≡ count_of seen.book },
 }
@@ -128,7 +128,7 @@ impl Opening {
 /// The word that counts the entries.
 #[derive(Drop)]
 pub(crate) struct EntryCount<J: GateName> {
-    word: Word<Entry, u64, CountRule>,
+    word: Word<PackedEntry, u64, CountRule>,
     of: PhantomData<J>,
     ghost count_is: { word ≡ count_of J.opening.history },
 }
@@ -137,7 +137,7 @@ pub(crate) struct EntryCount<J: GateName> {
 #[derive(Drop)]
 pub(crate) struct History<J: GateName> {
     held: u32,
-    seen: Seen<Entry, u64, CountRule>,
+    seen: Seen<PackedEntry, u64, CountRule>,
     of: PhantomData<J>,
 }
 
@@ -207,7 +207,7 @@ impl<J: GateName> EntryCount<J> {
         history: &History<J>,
         seen: &History<J>,
         learnt: &History<J>,
-        entry: &Entry,
+        entry: &PackedEntry,
     ) -> Option<History<J>>
         requires few { length history.now < 2 ^ 31 }
         ensures added { IfSome result (λ after. after ≡ history.now ++ entry.now ∷ []) }
@@ -217,9 +217,11 @@ impl<J: GateName> EntryCount<J> {
         let mut all = history.seen.again();
         all.learn(&seen.seen);
         all.learn(&learnt.seen);
-        let mut offer: Offer<Entry, u64, CountRule, Nothing> = all.plain::<Nothing, Entry, Add>(
-            entry,
-        );
+        let mut offer: Offer<PackedEntry, u64, CountRule, Nothing> = all.plain::<
+            Nothing,
+            PackedEntry,
+            Add,
+        >(entry);
         let mut pen = all.no_pen();
         let held = history.held as u64;
         let found = self

@@ -1,12 +1,17 @@
-ghost use Rattle.std.specs.Prelude.{◌≡◌, ◌<◌, ◌+◌, true, false, length, IfOk, IfErr, OnOk, OnErr};
+ghost use Rattle.std.specs.Prelude.{◌≡◌, ◌<◌, ◌+◌, ◌-◌, true, false, is_some, length, nat_le, if◌then◌else◌, IfOk, IfErr, OnOk, OnErr};
+ghost use Rattle.std.specs.Option.{option_copied};
 ghost use Rattle.std.specs.Arc.{arc_value};
 ghost use Rattle.dam_book.specs.Book.{book_after, is_day, refusal};
+ghost use Rattle.dam_book.specs.Limits.{most_entries};
 ghost use Rattle.dam_gate.specs.Journal.{IsJournal, empty_journal, is_full, journal_after, next_entry};
 ghost use Rattle.dam_gate.specs.Keeper.{IsReadyFor};
 ghost use Rattle.dam_gate.specs.Gate.{IsBeginFault, IsKeeperFault};
 
 use crate::books::Books;
-use dam_book::{Book, Command, DayLength, Entry, MOST_ENTRIES, Outcome, Seed};
+use dam_book::{
+    Book, Command, DayLength, Entry, MOST_ENTRIES, Outcome, PackedCommand, PackedEntry,
+    Participant, Seed,
+};
 use std::alloc::{AllocError, AllocFailed, Allocator, Global};
 use std::marker::Model;
 use std::sync::Arc;
@@ -56,7 +61,7 @@ pub enum BeginFault {
 #[derive(Debug, Drop)]
 pub struct Keeper<A: Allocator = Global> {
     books: Books<A>,
-    entries: Vec<Entry, A>,
+    entries: Vec<PackedEntry<A>, A>,
 }
 
 impl<A: Allocator> Model for Keeper<A> {
@@ -80,7 +85,7 @@ impl<A: Allocator> Model for Keeper<A> {
 /// A step of a keeper that can't be refused any more: its entry, and the book after it.
 #[derive(Debug, Drop)]
 pub struct Ready<A: Allocator = Global> {
-    entry: Entry,
+    entry: PackedEntry<A>,
     book: Arc<Book<A>, A>,
     // what the entry's reply says, for the book before
     outcome: Outcome,
@@ -101,7 +106,7 @@ impl<A: Allocator> Model for Ready<A> {
 
 impl<A: Allocator> Ready<A> {
     /// The entry that the step is to add.
-    pub fn entry(&self) -> &Entry
+    pub fn entry(&self) -> &PackedEntry<A>
         ensures { result.now ≡ self.now.entry }
     {
         &self.entry
@@ -153,18 +158,48 @@ impl<A: Allocator + Copy> Keeper<A> {
         ensures fault { IfErr result
             (IsKeeperFault (length self.old.journal.entries) command.now) }
     {
-        let held = self.len();
-        if is_full(held, command) {
-            return Err(KeeperFault::JournalFull { held });
-        }
-        Ok(self.ready_in_room(command)?)
+        let packed = self.pack(command)?;
+        Ok(self.ready_with(packed, command)?)
     }
 
-    /// Takes all memory of a command's step, as `ready` does, for which the journal isn't full.
+    /// The command as its entry has it, if the journal isn't full for it.
+    pub(crate) fn pack(&self, command: &Command) -> Result<PackedCommand<A>, KeeperFault>
+        ensures packed { IfOk result (λ packed. packed ≡ command.now) }
+        ensures room { OnOk result
+            (is_full (length self.now.journal.entries) command.now ≡ false) }
+        ensures fault { IfErr result
+            (IsKeeperFault (length self.now.journal.entries) command.now) }
+    {
+        let held = self.len();
+        if is_full(held, command.participant()) {
+            return Err(KeeperFault::JournalFull { held });
+        }
+        Ok(PackedCommand::of(*self.entries.allocator(), command)?)
+    }
+
+    /// Takes all memory of a packed command's step, as `ready` does, for which the journal isn't full.
+    pub(crate) fn ready_in_room(
+        &mut self,
+        command: &PackedCommand<A>,
+    ) -> Result<Ready<A>, AllocError>
+        requires { is_full (length self.old.journal.entries) command.now ≡ false }
+        ensures ready { IfOk result (IsReadyFor self.new command.now) }
+        ensures journal { self.new.journal ≡ self.old.journal }
+    {
+        let packed = command.clone()?;
+        self.ready_with(packed, &command.command())
+    }
+
+    /// Takes the memory of a step that packing the command has left to take.
     ///
     /// The command is decided once, for the reply, for the book after it and for the book before.
-    pub(crate) fn ready_in_room(&mut self, command: &Command) -> Result<Ready<A>, AllocError>
-        requires { is_full (length self.old.journal.entries) command.now ≡ false }
+    fn ready_with(
+        &mut self,
+        packed: PackedCommand<A>,
+        command: &Command,
+    ) -> Result<Ready<A>, AllocError>
+        requires packed { packed ≡ command.now }
+        requires room { is_full (length self.old.journal.entries) command.now ≡ false }
         ensures ready { IfOk result (IsReadyFor self.new command.now) }
         ensures journal { self.new.journal ≡ self.old.journal }
     {
@@ -173,11 +208,7 @@ impl<A: Allocator + Copy> Keeper<A> {
         let outcome = self.books.book().outcome(command);
         let book = self.book_after(command, &outcome)?;
         Ok(Ready {
-            entry: Entry {
-                number,
-                command: command.copy(),
-                reply: outcome.reply(),
-            },
+            entry: PackedEntry::new(number, packed, outcome.reply()),
             book,
             outcome,
         })
@@ -212,12 +243,12 @@ impl<A: Allocator + Copy> Keeper<A> {
         ensures step { self.new.journal ≡ journal_after self.old.journal ready.entry.command }
         ensures day { self.new.journal.book.periods ≡ self.old.journal.book.periods }
     {
-        let entry = ready.entry().copy();
+        let entry = ready.entry().entry();
         self.take(ready);
         entry
     }
 
-    /// Takes the step as `put` does, and answers no copy of its entry.
+    /// Takes the step as `put` does, and doesn't answer its entry.
     pub(crate) fn take(&mut self, ready: Ready<A>)
         requires { IsReadyFor self.old ready.entry.command ready }
         ensures step { self.new.journal ≡ journal_after self.old.journal ready.entry.command }
@@ -257,7 +288,7 @@ impl<A: Allocator + Copy> Keeper<A> {
     }
 
     /// The entries, numbered from 1.
-    pub fn entries(&self) -> &[Entry]
+    pub fn entries(&self) -> &[PackedEntry<A>]
         ensures value { result.now ≡ self.now.journal.entries }
         ensures valid { IsJournal self.now.journal }
     {
@@ -298,12 +329,13 @@ impl<A: Allocator + Copy> Keeper<A> {
     }
 }
 
-/// Whether a journal of `held` entries has no room for the command.
-pub(crate) fn is_full(held: u32, command: &Command) -> bool
-    ensures { result ≡ is_full held command.now }
+/// Whether a journal of `held` entries has no room for a command of this giver.
+pub(crate) fn is_full(held: u32, giver: Option<&Participant>) -> bool
+    ensures { result ≡ nat_le
+        (if is_some (option_copied giver.entry) then most_entries - 1 else most_entries) held }
 {
     let held = held as usize;
-    match command.participant() {
+    match giver {
         Some(_) => held >= MOST_ENTRIES - 1,
         None => held >= MOST_ENTRIES,
     }
@@ -315,7 +347,7 @@ pub(crate) fn is_full(held: u32, command: &Command) -> bool
 #[derive(Debug, Drop)]
 pub struct Journal<A: Allocator = Global> {
     book: Arc<Book<A>, A>,
-    entries: Vec<Entry, A>,
+    entries: Vec<PackedEntry<A>, A>,
 }
 
 impl<A: Allocator> Model for Journal<A> {
@@ -339,7 +371,7 @@ impl<A: Allocator + Copy> Journal<A> {
     }
 
     /// The entries, numbered from 1.
-    pub fn entries(&self) -> &[Entry]
+    pub fn entries(&self) -> &[PackedEntry<A>]
         ensures value { result.now ≡ self.now.entries }
         ensures valid { IsJournal self.now }
     {

@@ -24,7 +24,6 @@
 //! - a [`Keeper`]: its journal and the room in it
 //! - a [`Pass`]: its account (its holder, the number of entries that it has seen, and its receipts), the history that
 //!   it has seen, the longest that it has learnt of, and the one that its last call made
-//! - a [`PackedCommand`]: the command; a [`Receipt`]: the entry
 //!
 //! Two passes have seen one history ([`laws::one_history`]).
 //!
@@ -51,7 +50,6 @@ mod keeper;
 pub mod laws;
 mod limits;
 mod locked;
-mod packed;
 mod pass;
 mod settlement;
 mod shares;
@@ -65,7 +63,6 @@ pub use history::{GateName, Opening};
 pub use hooks::{Hooks, NoHooks};
 pub use keeper::{BeginFault, Journal, Keeper, KeeperFault, Ready};
 pub use limits::{MOST_PARTICIPANTS, MOST_PASSES};
-pub use packed::{PackedCommand, Receipt};
 pub use pass::{Look, Note, Pass};
 pub use settlement::{Mismatch, Settled, Unsettled, settle};
 pub use version::{NextShown, Shown};

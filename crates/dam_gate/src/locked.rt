@@ -1,5 +1,7 @@
-ghost use Rattle.std.specs.Prelude.{◌≡◌, ◌⊎◌, ◌<◌, ◌+◌, ◌^◌, ◌∷◌, ◌++◌, [], true, false, length, IfOk, IfErr, OnOk, OnErr};
+ghost use Rattle.std.specs.Prelude.{◌≡◌, ◌⊎◌, ◌<◌, ◌≤◌, ◌+◌, ◌^◌, ◌∷◌, ◌++◌, [], true, false, length, IfOk, IfErr, OnOk, OnErr};
 ghost use mathlib.Core.List.{IsPrefix};
+ghost use Rattle.dam_book.specs.Limits.{most_entries};
+ghost use Rattle.dam_gate.specs.Gate.{IsKeeperFault};
 ghost use Rattle.dam_gate.specs.Journal.{IsJournal, empty_journal, is_full, journal_after, next_entry};
 ghost use Rattle.dam_gate.specs.Limits.{most_passes};
 ghost use Rattle.dam_gate.specs.Pass.{knowing_nothing};
@@ -9,11 +11,11 @@ ghost use Rattle.left_right.specs.Handles.{pending, published};
 
 use crate::gate::{GateFault, PassFault};
 use crate::history::{EntryCount, GateName, History, Opening};
-use crate::keeper::{Journal, Keeper, Ready};
+use crate::keeper::{Journal, Keeper, KeeperFault, Ready};
 use crate::limits::MOST_PASSES;
 use crate::pass::Pass;
 use crate::version::{NextShown, Shown, Slot, Version, filled};
-use dam_book::{Command, DayLength, Participant, Reply, Seed};
+use dam_book::{Command, DayLength, PackedCommand, Participant, Reply, Seed};
 use left_right::{Absorb, WriteHandle};
 use once_cell::race::{Note as CellNote, OnceBox};
 use std::alloc::{AllocError, Global};
@@ -212,6 +214,17 @@ impl<J: GateName, R: Wait + Drop> Locked<J, R> {
         self.keeper.len()
     }
 
+    /// The command as its entry will have it, if the journal isn't full for it.
+    pub(crate) fn pack(&self, command: &Command) -> Result<PackedCommand, KeeperFault>
+        ensures packed { IfOk result (λ packed. packed ≡ command.now) }
+        ensures fault { IfErr result
+            (IsKeeperFault (length self.now.journal.entries) command.now) }
+        ensures few { length self.now.journal.entries ≤ most_entries }
+    {
+        let _held = self.keeper.len(); // for the proof: what a journal is
+        self.keeper.pack(command)
+    }
+
     /// Makes room in the journal for this number of entries more.
     pub(crate) fn make_room(&mut self, entries: usize) -> Result<(), AllocError>
         ensures { self.new ≡ self.old }
@@ -257,7 +270,7 @@ impl<J: GateName, R: Wait + Drop> Locked<J, R> {
         &mut self,
         seen: &History<J>,
         learnt: &History<J>,
-        command: &Command,
+        command: &PackedCommand,
     ) -> Result<((u32, Reply), History<J>), GateFault>
         requires { is_full (length self.old.journal.entries) command.now ≡ false }
         ensures entry { IfOk result (λ r.
@@ -293,7 +306,7 @@ impl<J: GateName, R: Wait + Drop> Locked<J, R> {
         self.next = None;
         self.shown = shown;
         let entry = ready.entry();
-        let answer = (entry.number, entry.reply);
+        let answer = (entry.number(), entry.reply());
         self.keeper.take(ready);
         self.history = after.again();
         Ok((answer, after))

@@ -3,7 +3,7 @@ ghost use Rattle.std.specs.Option.{option_copied};
 ghost use mathlib.Core.List.{IsPrefix};
 ghost use Rattle.dam_book.specs.Limits.{most_entries};
 ghost use Rattle.dam_gate.specs.Journal.{journal_after, next_entry};
-ghost use Rattle.dam_gate.specs.Pass.{IsKnowledge, after_learning, after_look, is_own, knowing_nothing};
+ghost use Rattle.dam_gate.specs.Pass.{IsKnowledge, after_learning, after_look, is_own, knowing_nothing, same_giver};
 ghost use Rattle.dam_gate.specs.Gate.{BeginsWithAll, IsCalled, IsLook};
 ghost use Rattle.dam_gate.specs.inside.Locked.{IsFaultAt, entry_of};
 
@@ -12,9 +12,8 @@ use crate::gate::GateFault;
 use crate::history::{GateName, History};
 use crate::keeper::is_full;
 use crate::locked::Locked;
-use crate::packed::{PackedCommand, Receipt};
 use crate::version::{NextShown, Shown};
-use dam_book::{Command, Name, Order, Participant, Reply};
+use dam_book::{Name, Order, PackedCommand, PackedEntry, Participant, Reply};
 use left_right::{Absorb, ReadHandle};
 use std::alloc::{AllocError, Global};
 use std::marker::Model;
@@ -53,7 +52,7 @@ impl<J: GateName> Note<J> {
 #[derive(Drop)]
 pub struct Pass<J: GateName> {
     holder: Option<Participant>,
-    receipts: Vec<Receipt>,
+    receipts: Vec<PackedEntry>,
     history: History<J>,
     learnt: History<J>,
     note: Option<Note<J>>,
@@ -129,18 +128,19 @@ impl<J: GateName> Pass<J> {
     }
 
     /// The entries that its calls were answered with, by increasing number.
-    pub fn receipts(&self) -> &[Receipt]
+    pub fn receipts(&self) -> &[PackedEntry]
         ensures value { result.now ≡ self.now.account.receipts }
         ensures valid { IsKnowledge self.now }
     {
         &self.receipts
     }
 
-    /// Whether the command is for the holder to give: a participant's own commands, or the operator's close.
-    pub(crate) fn owns(&self, command: &Command) -> bool
-        ensures { result ≡ is_own self.now.account.holder command.now }
+    /// Whether a command of this giver is for the holder to give: a participant's own commands, or the operator's
+    /// close.
+    pub(crate) fn owns(&self, giver: Option<&Participant>) -> bool
+        ensures { result ≡ same_giver self.now.account.holder (option_copied giver.entry) }
     {
-        owns(&self.holder, command.participant())
+        owns(&self.holder, giver)
     }
 
     /// The participant's order of that name, and whether the book is closed, in the version that is shown. It takes no
@@ -208,7 +208,7 @@ impl<J: GateName> Pass<J> {
     pub(crate) fn step<R: Wait + Drop>(
         &mut self,
         locked: &mut Locked<J, R>,
-        command: &Command,
+        command: &PackedCommand,
     ) -> Result<(u32, Reply), GateFault>
         requires { is_own self.old.account.holder command.now ≡ true }
         ensures entry { IfOk result (λ answer.
@@ -224,14 +224,14 @@ impl<J: GateName> Pass<J> {
         ensures few { length locked.old.journal.entries ≤ most_entries }
     {
         let held = locked.len();
-        if is_full(held, command) {
+        if is_full(held, command.participant()) {
             return Err(GateFault::JournalFull { held });
         }
         self.receipts.reserve(1)?;
-        let packed = PackedCommand::of(*self.receipts.allocator(), command)?;
+        let packed = command.clone()?;
         let (answer, after) = locked.enter(&self.history, &self.learnt, command)?;
         self.receipts
-            .push_reserved(Receipt::new(answer.0, packed, answer.1));
+            .push_reserved(PackedEntry::new(answer.0, packed, answer.1));
         self.note = Some(Note {
             history: after.again(),
         });

@@ -3,8 +3,7 @@ ghost use Rattle.dam_book.specs.declared.command.Command.{Command};
 ghost use Rattle.dam_gate.specs.Day.{is_one_of};
 ghost use Rattle.dam_gate.specs.inside.Entering.{AreApart, AreShares, share_at};
 
-use crate::packed::PackedCommand;
-use dam_book::Participant;
+use dam_book::{PackedCommand, Participant};
 use std::alloc::{AllocError, Global};
 use std::marker::Model;
 
@@ -91,7 +90,7 @@ fn add_place(
         → AreShares all front participants.now shares.old → OnOk result
         (AreShares all (front ++ command.now ∷ []) participants.now shares.new) }
 {
-    let Some(who) = command.giver() else {
+    let Some(who) = command.participant() else {
         return Ok(());
     };
     let Some(at) = place_of(participants, who) else {

@@ -7,10 +7,8 @@ ghost use Rattle.dam_gate.specs.Settled.{receipts_of};
 ghost use Rattle.dam_gate.specs.inside.Tally.{IsFirstFault, IsTally, first_fault, mark_with, lesser};
 
 use crate::account::Account;
-use crate::packed::Receipt;
 use crate::settlement::Mismatch;
-use dam_book::Entry;
-use dam_book::laws::equality;
+use dam_book::PackedEntry;
 use std::alloc::{AllocError, Allocator};
 
 /// What the receipts of an entry's number are so far.
@@ -46,13 +44,6 @@ pub(crate) struct Tally<A: Allocator> {
     extra: Option<u32>,
 }
 
-fn is_same(receipt: &Receipt, entry: &Entry) -> bool
-    ensures { MatchBool result (receipt.now ≡ entry.now) (receipt.now ≢ entry.now) }
-{
-    equality();
-    receipt.entry() == *entry
-}
-
 fn lesser(extra: Option<u32>, number: u32) -> Option<u32>
     ensures { result ≡ lesser extra number }
 {
@@ -64,7 +55,7 @@ fn lesser(extra: Option<u32>, number: u32) -> Option<u32>
 
 impl<A: Allocator> Tally<A> {
     /// The tally of no receipts.
-    fn new(alloc: A, entries: &[Entry]) -> Result<Tally<A>, AllocError>
+    fn new<B: Allocator>(alloc: A, entries: &[PackedEntry<B>]) -> Result<Tally<A>, AllocError>
         ensures as_long { IfOk result (λ tally. length tally.found.items ≡ length entries.now) }
         ensures tally { IfOk result (λ tally.
             IsTally entries.now tally.found.items tally.extra []) }
@@ -77,7 +68,7 @@ impl<A: Allocator> Tally<A> {
     }
 
     /// Counts one receipt.
-    fn count(&mut self, entries: &[Entry], receipt: &Receipt)
+    fn count<B: Allocator>(&mut self, entries: &[PackedEntry<B>], receipt: &PackedEntry)
         requires positive { 0 < receipt.now.number }
         requires as_long { length self.old.found.items ≡ length entries.now }
         ensures as_long { length self.new.found.items ≡ length entries.now }
@@ -89,13 +80,13 @@ impl<A: Allocator> Tally<A> {
         let number = receipt.number();
         let place = number as usize - 1;
         match entries.get(place) {
-            Some(entry) => self.found[place] = self.found[place].with(is_same(receipt, entry)),
+            Some(entry) => self.found[place] = self.found[place].with(receipt.equals(entry)),
             None => self.extra = lesser(self.extra, number),
         }
     }
 
     /// Counts the receipts of one pass.
-    fn count_pass(&mut self, entries: &[Entry], receipts: &[Receipt])
+    fn count_pass<B: Allocator>(&mut self, entries: &[PackedEntry<B>], receipts: &[PackedEntry])
         requires positive { (seen : ℕ) × AreInOrder 0 seen receipts.now }
         requires as_long { length self.old.found.items ≡ length entries.now }
         ensures as_long { length self.new.found.items ≡ length entries.now }
@@ -109,9 +100,9 @@ impl<A: Allocator> Tally<A> {
     }
 
     /// The tally of the receipts of all passes.
-    pub(crate) fn of(
+    pub(crate) fn of<B: Allocator>(
         alloc: A,
-        entries: &[Entry],
+        entries: &[PackedEntry<B>],
         passes: &[Account],
     ) -> Result<Tally<A>, AllocError>
         ensures as_long { IfOk result (λ tally. length tally.found.items ≡ length entries.now) }
@@ -126,7 +117,7 @@ impl<A: Allocator> Tally<A> {
     }
 
     /// The least number whose receipts aren't its entry, with what is wrong with it.
-    pub(crate) fn fault(&self, entries: &[Entry]) -> Option<Mismatch>
+    pub(crate) fn fault<B: Allocator>(&self, entries: &[PackedEntry<B>]) -> Option<Mismatch>
         requires legal { (periods : ℕ) × IsLegalHistory periods entries.now }
         requires few { length self.now.found.items ≤ most_entries }
         ensures { (receipts : List Entry)

@@ -5,7 +5,7 @@ ghost use Rattle.dam_refusals.specs.Printed.{IsDay};
 
 use crate::answer::{Answer, Stop, TRIES, Told};
 use crate::round::Round;
-use dam_book::{Command, DayLength, Seed};
+use dam_book::{Command, DayLength, PackedEntry, Seed};
 use dam_gate::{
     Account, DayFault, Gate, GateName, Journal, Keeper, MOST_PASSES, Mismatch, NoHooks, Opening,
     Settled, run_commands, settle,
@@ -40,6 +40,15 @@ pub fn settle_again(
     Err(Stop::Wrong)
 }
 
+/// Whether these are the same entries.
+fn are_equal(entries: &[PackedEntry], others: &[PackedEntry]) -> bool {
+    entries.len() == others.len()
+        && entries
+            .iter()
+            .zip(others.iter())
+            .all(|(entry, other)| entry.equals(other))
+}
+
 /// The day at a gate of this opening, whose book hashes names by the seed, and whose journal has to be the keeper's.
 fn hold_named<J: GateName, R: Wait>(
     rt: &R,
@@ -55,13 +64,14 @@ fn hold_named<J: GateName, R: Wait>(
     let mut round = Round::<J>::new(alloc)?;
     let gate = Gate::<J, &R>::begin_seeded(rt, alloc, opening, seed)?;
     for entry in keeper.entries() {
-        round.enter(rt, &gate, &entry.command, entry.number.wrapping_sub(1))?;
+        let command = entry.command().command();
+        round.enter(rt, &gate, &command, entry.number().wrapping_sub(1))?;
     }
     let journal = gate.finish();
     let refused = round.refused;
     let accounts = round.into_accounts(accounts)?;
     let (settled, again) = settle_again(alloc, journal, &accounts)?;
-    if settled.journal().entries() != keeper.entries() {
+    if !are_equal(settled.journal().entries(), keeper.entries()) {
         return Err(Stop::Wrong);
     }
     Ok(Told {

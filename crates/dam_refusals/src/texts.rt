@@ -1,12 +1,12 @@
 //! A journal read and written, each again if memory was refused to it.
-ghost use Rattle.std.specs.Prelude.{◌≤◌, length};
+ghost use Rattle.std.specs.Prelude.{◌≡◌, ◌≤◌, length, IfOk};
 ghost use Rattle.dam_book.specs.Limits.{most_entries};
 
 use crate::answer::{Answer, Stop, TRIES, Told};
-use dam_book::{DayLength, Entry, Seed};
+use dam_book::{DayLength, Entry, PackedEntry, Seed};
 use dam_engines::RunFault;
 use dam_gate::Keeper;
-use dam_results::{JournalFault, JournalRead, journal_text, read_journal};
+use dam_results::{JournalFault, JournalRead, journal_text, packed_journal_text, read_journal};
 use std::alloc::{AllocError, Global};
 
 /// A keeper that has taken the journal's commands.
@@ -60,19 +60,35 @@ pub fn read_again(alloc: Global, text: &[u8]) -> Result<Told, Stop> {
     Err(Stop::Wrong)
 }
 
-/// Writes the journal of these entries until memory isn't refused: it has to be this text.
+/// The entries, unpacked.
+fn unpacked(alloc: Global, packed: &[PackedEntry]) -> Result<Vec<Entry>, AllocError>
+    ensures { IfOk result (λ entries. entries.items ≡ packed.now) }
+{
+    let mut entries = Vec::with_capacity(alloc, packed.len())?;
+    for entry in packed {
+        entries.push(entry.entry())?;
+    }
+    Ok(entries)
+}
+
+/// Writes the journal of these entries, packed and unpacked, until memory isn't refused: both have to be this text.
 fn write_again(
     alloc: Global,
     periods: DayLength,
-    entries: &[Entry],
+    packed: &[PackedEntry],
     wanted: &[u8],
 ) -> Result<Told, Stop>
-    requires { length entries.now ≤ most_entries }
+    requires { length packed.now ≤ most_entries }
 {
+    let entries = unpacked(alloc, packed)?;
     for refused in 0..TRIES {
-        if let Ok(found) = journal_text(alloc, periods, entries) {
+        let written = (
+            journal_text(alloc, periods, &entries),
+            packed_journal_text(alloc, periods, packed),
+        );
+        if let (Ok(one), Ok(other)) = &written {
             let answer = Answer::Entries(entries.len());
-            return if found.as_slice() == wanted {
+            return if one.as_slice() == wanted && other.as_slice() == wanted {
                 Ok(Told { answer, refused })
             } else {
                 Err(Stop::Wrong)

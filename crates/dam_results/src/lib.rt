@@ -4,7 +4,7 @@
 //! many commands that refused (`run_of_text`), the replies to its commands (`replay_text`), or what else is
 //! made of its commands one by one (`read_into`), each with the first fault if the text is no journal.
 //! `results` finds what is published of an eligible selection;
-//! `results_text`, `replies_text` and `journal_text` write.
+//! `results_text`, `replies_text`, `journal_text` and `packed_journal_text` write.
 //!
 //! ```
 //! let book = book_of_text(alloc, Seed::fixed(), text)?;
@@ -47,4 +47,4 @@ pub use published::{PeriodResult, Results, RowResult};
 pub use replay::{Run, book_of_text, replay_text, run_of_text, run_text};
 pub use replies::replies_text;
 pub use text::results_text;
-pub use writer::journal_text;
+pub use writer::{journal_text, packed_journal_text};

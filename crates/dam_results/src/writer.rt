@@ -15,8 +15,8 @@ ghost use Rattle.dam_results.specs.inside.Writer.{Wrote, PutsCommand, PutsComman
 
 use csv::{Writer, WriterBuilder};
 use dam_book::{
-    BlockOrder, Command, DayLength, Entry, HourOrder, Name, Order, Participant, Price, Side,
-    Volumes, write_pair, write_price, write_volumes,
+    BlockOrder, Command, DayLength, Entry, HourOrder, Name, Order, PackedEntry, Participant, Price,
+    Side, Volumes, write_pair, write_price, write_volumes,
 };
 use itoa::Buffer;
 use std::alloc::{AllocError, Global};
@@ -199,6 +199,41 @@ fn put_entries(
     Ok(())
 }
 
+fn put_packed(
+    alloc: Global,
+    out: &mut Writer<Vec<u8>>,
+    entries: &[PackedEntry],
+) -> Result<(), AllocError>
+    ensures { OnOk result (PutsCommands out.old out.new (commands_of entries.now)) }
+{
+    for entry in entries {
+        let command = entry.command().command();
+        put_command(alloc, out, &command)?;
+    }
+    Ok(())
+}
+
+/// A writer that has written the record of the day.
+fn begun(alloc: Global, periods: DayLength) -> Result<Writer<Vec<u8>>, AllocError>
+    ensures day { IfOk result (λ out. Wrote out (row_line (day_row periods))) }
+    ensures valid { is_day periods ≡ true }
+{
+    let mut out = WriterBuilder::new().from_writer(Vec::new(alloc));
+    put_day(&mut out, periods)?;
+    Ok(out)
+}
+
+/// What was written.
+fn text_of(out: Writer<Vec<u8>>) -> Result<Vec<u8>, AllocError>
+    ensures { IfOk result (λ text. (written : List ℕ) → Wrote out written
+        → text.items ≡ written) }
+{
+    match out.into_inner() {
+        Ok(text) => Ok(text),
+        Err(_) => Err(AllocError),
+    }
+}
+
 /// The written journal: the record of the day, and then that of each entry's command, refused ones
 /// too. The fields of a record are joined by commas, with no quotes, and each record ends in one LF.
 ///
@@ -212,11 +247,22 @@ pub fn journal_text(
     ensures text { IfOk result (λ text. text.items ≡ Written.journal_text periods entries.now) }
     ensures reads { IfOk result (λ text. ReadsAs text.items periods (commands_of entries.now)) }
 {
-    let mut out = WriterBuilder::new().from_writer(Vec::new(alloc));
-    put_day(&mut out, periods)?;
+    let mut out = begun(alloc, periods)?;
     put_entries(alloc, &mut out, entries)?;
-    match out.into_inner() {
-        Ok(text) => Ok(text),
-        Err(_) => Err(AllocError),
-    }
+    text_of(out)
+}
+
+/// The written journal of packed entries, as `journal_text` writes it.
+pub fn packed_journal_text(
+    alloc: Global,
+    periods: DayLength,
+    entries: &[PackedEntry],
+) -> Result<Vec<u8>, AllocError>
+    requires { length entries.now ≤ most_entries }
+    ensures text { IfOk result (λ text. text.items ≡ Written.journal_text periods entries.now) }
+    ensures reads { IfOk result (λ text. ReadsAs text.items periods (commands_of entries.now)) }
+{
+    let mut out = begun(alloc, periods)?;
+    put_packed(alloc, &mut out, entries)?;
+    text_of(out)
 }

@@ -34,10 +34,9 @@ loop-place-preserved g c =
     let within : place < length cs = omega (arith, c.in-Some.ensures.lookup.3.0) in
     let stands : slice_get cs place ≡ Some given = slice_get-get_or cs place given within
     ∙ ap (λ (d : Command). Some d) (sym c.in-Some.ensures.lookup.1) in
-    let e = entry_of c.command.result c.in-Ok._answer in
+    let e = entry_of given c.in-Ok._answer in
     let more : at_places cs (take (i + 1) ps) ≡ at_places cs (take i ps) ++ e.command ∷ [] =
-    next-place cs ps i (Some given) c.loop-place-test.true stands
-    ∙ ap (λ (d : Command). at_places cs (take i ps) ++ d ∷ []) (sym c.command.ensures) in
+    next-place cs ps i (Some given) c.loop-place-test.true stands in
     record {
       holder = ap (λ (k : Knowledge). k.account.holder) c.in-Ok.ensures.answered.receipt ∙ c.loop-place.invariant.holder;
       entered = ap (λ (k : Knowledge). commands_of k.account.receipts) c.in-Ok.ensures.answered.receipt

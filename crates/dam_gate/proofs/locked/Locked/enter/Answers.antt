@@ -2,6 +2,7 @@
 use Rattle.std.proofs.Common.{◌≡◌, ℕ, false, length, Result, Ok, Err, OnErr, sym, ap, ap₂, ◌∙◌}
 use Rattle.dam_book.specs.Book.{BookState, book_after}
 use Rattle.dam_book.specs.declared.command.Entry.{Entry}
+use Rattle.dam_book.specs.declared.command.Reply.{Reply}
 use Rattle.dam_gate.specs.Journal.{JournalState, is_full, journal_after, next_entry}
 use Rattle.dam_gate.specs.inside.Locked.{LockedState, entry_of}
 use Rattle.dam_gate.proofs.Histories.{book_after-periods, journal_after_is}
@@ -31,13 +32,22 @@ go_on-requires-clause-day g c =
 pub returns-clause-entry : goal.returns-clause-entry
 returns-clause-entry g c =
     let command = c.args.command.now in
-    ap (λ (e : Entry). entry_of command (e.number, e.reply))
+    ap₂ (λ (n : ℕ) (r : Reply). entry_of command (n, r)) c.number.ensures c.reply.ensures
+    ∙ ap (λ (e : Entry). entry_of command (e.number, e.reply))
     (c.entry-entry.ensures ∙ (c.in_ok-ready.ensures.ready.entry
     ∙ ap (λ (x : JournalState). next_entry x command) (c.ready_in_room.ensures.journal ∙ ap (λ (d : LockedState). d.journal) c.self.view_is)))
 
 pub returns-clause-history : goal.returns-clause-history
 returns-clause-history g c =
-    rw (← c.self.view_is, c.in_ok-after.ensures.history, c.self.invariant.0, c.entry-entry.ensures, c.in_ok-ready.ensures.ready.entry)
+    rw (
+      ← c.self.view_is,
+      c.in_ok-after.ensures.history,
+      c.self.invariant.0,
+      c.number.ensures,
+      c.reply.ensures,
+      c.entry-entry.ensures,
+      c.in_ok-ready.ensures.ready.entry,
+    )
 
 pub returns-clause-journal : goal.returns-clause-journal
 returns-clause-journal g c =

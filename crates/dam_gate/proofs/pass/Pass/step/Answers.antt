@@ -1,6 +1,10 @@
 -- The receipt of a call, and what the pass then knows.
-use Rattle.std.proofs.Common.{◌≡◌, ◌-◌, ◌++◌, ◌∷◌, [], ℕ, true, false, length, refl, sym, ap, subst, ◌∙◌, arith, length-append}
+use Rattle.std.proofs.Common.{◌≡◌, ◌-◌, ◌++◌, ◌∷◌, [], ℕ, List, Option, true, false, length, refl, sym, ap, subst, ◌∙◌, arith, length-append}
+use Rattle.std.specs.Prelude.{is_some, nat_le, if◌then◌else◌}
 use mathlib.Core.List.{IsPrefix}
+use Rattle.dam_book.specs.Command.{giver}
+use Rattle.dam_book.specs.Limits.{most_entries}
+use Rattle.dam_book.specs.declared.command.Command.{Command}
 use Rattle.dam_book.specs.declared.command.Entry.{Entry}
 use Rattle.dam_gate.specs.Journal.{IsHistory, is_full, next_entry}
 use Rattle.dam_gate.specs.Pass.{Knowledge, AreInOrder, is_own}
@@ -9,6 +13,11 @@ use Rattle.dam_gate.proofs.Beginnings.{prefix_length}
 use Rattle.dam_gate.proofs.Receipts.{AreInOrder-snoc, AreOwn-snoc}
 use Rattle.dam_gate.proofs.Histories.{history-after}
 use Rattle.dam_gate.proofs.pass.Pass.step.Goals as goal
+
+-- the room for a command of its giver is the room for it
+full_for : (held : ℕ) (who : Option (List ℕ)) (c : Command) → who ≡ giver c
+    → nat_le (if is_some who then most_entries - 1 else most_entries) held ≡ is_full held c
+full_for held who c same = ap (λ (w : Option (List ℕ)). nat_le (if is_some w then most_entries - 1 else most_entries) held) same
 
 pub invariant_of-self-2 : goal.invariant_of-self-2
 invariant_of-self-2 g c =
@@ -23,10 +32,12 @@ invariant_of-self-2 g c =
     let mine : is_own holder e.command ≡ true =
     ap (λ (k : Knowledge). is_own k.account.holder c.args.command.now) c.self.view_is ∙ c.requires in
     let left : is_full (length held) c.args.command.now ≡ false =
-    ap (λ (n : ℕ). is_full n c.args.command.now) (sym c.len-held.ensures.value) ∙ (sym c.is_full.ensures ∙ c.if-is_full.false) in
+    ap (λ (n : ℕ). is_full n c.args.command.now) (sym c.len-held.ensures.value)
+    ∙ (sym (full_for c.len-held.result _ c.args.command.now c.participant.ensures) ∙ (sym c.is_full.ensures ∙ c.if-is_full.false)) in
     let room : is_full (e.number - 1) e.command ≡ false = ap (λ (n : ℕ). is_full n c.args.command.now) before ∙ left in
     let earlier = prefix_length c.self.inside.history held c.in_ok-answer.ensures.seen in
-    rw (c.push_reserved.ensures.items, c.reserve.ensures.items, c.new.ensures, c.in_ok-packed.ensures)
+    let copied : c.in_ok-packed.packed ≡ c.args.command.now = c.in_ok-packed.ensures.cases in
+    rw (c.push_reserved.ensures.items, c.reserve.ensures.items, c.new.ensures, copied)
     (record {
       account = record {
         in_order = subst (λ (n : ℕ). AreInOrder 0 n (receipts ++ e ∷ [])) whole
@@ -48,9 +59,11 @@ returns-clause-answered g c =
     omega (arith, number, ap length c.in_ok-answer.ensures.history, length-append j.entries (e ∷ [])) in
     let earlier = prefix_length c.self.inside.history j.entries c.in_ok-answer.ensures.seen in
     let left : is_full (length j.entries) c.args.command.now ≡ false =
-    ap (λ (n : ℕ). is_full n c.args.command.now) (sym c.len-held.ensures.value) ∙ (sym c.is_full.ensures ∙ c.if-is_full.false) in
+    ap (λ (n : ℕ). is_full n c.args.command.now) (sym c.len-held.ensures.value)
+    ∙ (sym (full_for c.len-held.result _ c.args.command.now c.participant.ensures) ∙ (sym c.is_full.ensures ∙ c.if-is_full.false)) in
     let last : after ≡ j.entries ++ next_entry j c.args.command.now ∷ [] =
     c.in_ok-answer.ensures.history ∙ ap (λ (x : Entry). j.entries ++ x ∷ []) c.in_ok-answer.ensures.entry in
+    let copied : c.in_ok-packed.packed ≡ c.args.command.now = c.in_ok-packed.ensures.cases in
     record {
       later = omega (arith, number, earlier, ap (λ (k : Knowledge). k.account.seen) c.self.view_is);
       receipt = rw (
@@ -58,7 +71,7 @@ returns-clause-answered g c =
         c.push_reserved.ensures.items,
         c.reserve.ensures.items,
         c.new.ensures,
-        c.in_ok-packed.ensures,
+        copied,
         c.again.ensures,
         whole,
       );

@@ -13,10 +13,10 @@ returns-in-Some-clause-tally g c = λ before tally.
     let mark_is = rw c.number-number.ensures at c.index.ensures in
     rw (c.number-number.ensures, c.with.ensures)
     (tally-some c.args.entries.now fs c.args.self.now.extra before c.args.receipt.now c.in-Some.entry.now c.index.result.now
-    c.is_same.result c.requires.positive
+    c.equals.result c.requires.positive
     (slice_get-get_or c.args.entries.now place c.in-Some.entry.now within ∙ ap Some (sym entry_is))
     (slice_get-get_or fs place c.index.result.now (omega (arith, within, c.requires.as_long)) ∙ ap Some (sym mark_is))
-    c.is_same.ensures tally)
+    c.equals.ensures tally)
 
 pub returns-in-None-clause-tally : goal.returns-in-None-clause-tally
 returns-in-None-clause-tally g c = λ before tally.

@@ -1,0 +1,233 @@
+ghost use Rattle.std.specs.Prelude.{◌≡◌, ◌≢◌, IfOk, MatchBool};
+ghost use Rattle.std.specs.Option.{option_copied};
+ghost use Rattle.dam_book.specs.Command.{giver};
+ghost use Rattle.dam_book.specs.inside.Packed.{command_of};
+
+use crate::command::{Command, Entry, Reply};
+use crate::laws::equality;
+use crate::name::{Name, Participant};
+use crate::order::{HourOrder, Order};
+use std::alloc::{AllocError, Allocator, Global};
+use std::marker::Model;
+
+/// A command without the room that a `Command` has for the volumes of a block: 40 bytes for a submit of an hourly
+/// order, a cancel or a close. Any other command is in an allocation of its own.
+///
+/// A contract sees the command.
+#[derive(Debug, Drop)]
+pub struct PackedCommand<A: Allocator = Global> {
+    form: Form<A>,
+}
+
+/// The forms of a command.
+#[derive(Debug, Drop)]
+enum Form<A: Allocator> {
+    /// A submit of an hourly order.
+    Hour {
+        who: Participant,
+        name: Name,
+        order: HourOrder,
+    },
+    Cancel {
+        who: Participant,
+        name: Name,
+    },
+    Close,
+    /// Any other command.
+    Whole(Box<Command, A>),
+}
+
+impl<A: Allocator> Model for PackedCommand<A> {
+    ghost use Rattle.dam_book.specs.declared.command.Command.{Command};
+    ghost use Rattle.dam_book.specs.inside.Packed.{command_of};
+
+    ghost Value = { Command };
+
+    ghost view = { λ p. command_of p.form };
+}
+
+impl<A: Allocator> PackedCommand<A> {
+    /// The command, packed. Only a block or an amend takes memory.
+    pub fn of(alloc: A, command: &Command) -> Result<PackedCommand<A>, AllocError>
+        ensures { IfOk result (λ packed. packed ≡ command.now) }
+    {
+        let form = match command {
+            Command::Submit {
+                who,
+                name,
+                order: Order::Hour(order),
+            } => hour(who, name, order),
+            Command::Cancel { who, name } => cancel(who, name),
+            Command::Close => Form::Close,
+            Command::Submit { .. } | Command::Amend { .. } => whole(alloc, command)?,
+        };
+        Ok(PackedCommand { form })
+    }
+
+    /// The command; it can't fail.
+    pub fn command(&self) -> Command
+        ensures { result ≡ self.now }
+    {
+        match &self.form {
+            Form::Hour { who, name, order } => Command::Submit {
+                who: who.copy(),
+                name: name.copy(),
+                order: Order::Hour(*order),
+            },
+            Form::Cancel { who, name } => Command::Cancel {
+                who: who.copy(),
+                name: name.copy(),
+            },
+            Form::Close => Command::Close,
+            Form::Whole(command) => command.copy(),
+        }
+    }
+
+    /// The participant who gives it; `None` for a close, which is the operator's.
+    pub fn participant(&self) -> Option<&Participant>
+        ensures { option_copied result ≡ giver self.now }
+    {
+        match &self.form {
+            Form::Hour { who, .. } | Form::Cancel { who, .. } => Some(who),
+            Form::Close => None,
+            Form::Whole(command) => command.participant(),
+        }
+    }
+
+    /// Whether the other is the same command. Neither is unpacked if both are of one form.
+    pub fn equals<B: Allocator>(&self, other: &PackedCommand<B>) -> bool
+        ensures { MatchBool result (self.now ≡ other.now) (self.now ≢ other.now) }
+    {
+        equality();
+        match (&self.form, &other.form) {
+            (
+                Form::Hour { who, name, order },
+                Form::Hour {
+                    who: other_who,
+                    name: other_name,
+                    order: other_order,
+                },
+            ) => *who == *other_who && *name == *other_name && *order == *other_order,
+            (
+                Form::Cancel { who, name },
+                Form::Cancel {
+                    who: other_who,
+                    name: other_name,
+                },
+            ) => *who == *other_who && *name == *other_name,
+            (Form::Close, Form::Close) => true,
+            _ => self.command() == other.command(),
+        }
+    }
+}
+
+fn hour<A: Allocator>(who: &Participant, name: &Name, order: &HourOrder) -> Form<A>
+    ensures { command_of result ≡ Command.Submit who.now name.now (Order.Hour order.now) }
+{
+    Form::Hour {
+        who: who.copy(),
+        name: name.copy(),
+        order: *order,
+    }
+}
+
+fn cancel<A: Allocator>(who: &Participant, name: &Name) -> Form<A>
+    ensures { command_of result ≡ Command.Cancel who.now name.now }
+{
+    Form::Cancel {
+        who: who.copy(),
+        name: name.copy(),
+    }
+}
+
+fn whole<A: Allocator>(alloc: A, command: &Command) -> Result<Form<A>, AllocError>
+    ensures { IfOk result (λ form. command_of form ≡ command.now) }
+{
+    Ok(Form::Whole(Box::new(alloc, command.copy())?))
+}
+
+impl<A: Allocator + Copy> Clone for PackedCommand<A> {
+    ghost is_clone = { λ x y. y ≡ x };
+
+    fn clone(&self) -> Result<PackedCommand<A>, AllocError> {
+        let form = match &self.form {
+            Form::Hour { who, name, order } => hour(who, name, order),
+            Form::Cancel { who, name } => cancel(who, name),
+            Form::Close => Form::Close,
+            Form::Whole(command) => whole(*Box::allocator(command), command)?,
+        };
+        Ok(PackedCommand { form })
+    }
+}
+
+/// An entry of a journal, whose command is packed: 48 bytes if that takes no memory of its own.
+///
+/// A contract sees the entry.
+#[derive(Debug, Drop)]
+pub struct PackedEntry<A: Allocator = Global> {
+    number: u32,
+    command: PackedCommand<A>,
+    reply: Reply,
+}
+
+impl<A: Allocator> Model for PackedEntry<A> {
+    ghost use Rattle.dam_book.specs.declared.command.Entry.{Entry};
+
+    ghost Value = { Entry };
+
+    ghost view = { λ e. record { number = e.number; command = e.command; reply = e.reply } };
+}
+
+impl<A: Allocator> PackedEntry<A> {
+    /// The entry of a command with this number, counted from 1, and this reply.
+    pub fn new(number: u32, command: PackedCommand<A>, reply: Reply) -> PackedEntry<A>
+        ensures { result ≡ record { number = number; command = command; reply = reply } }
+    {
+        PackedEntry {
+            number,
+            command,
+            reply,
+        }
+    }
+
+    /// The entry; it can't fail.
+    pub fn entry(&self) -> Entry
+        ensures { result ≡ self.now }
+    {
+        Entry {
+            number: self.number,
+            command: self.command.command(),
+            reply: self.reply,
+        }
+    }
+
+    /// Its number, counted from 1.
+    pub fn number(&self) -> u32
+        ensures { result ≡ self.now.number }
+    {
+        self.number
+    }
+
+    /// Its command, packed.
+    pub fn command(&self) -> &PackedCommand<A>
+        ensures { result.now ≡ self.now.command }
+    {
+        &self.command
+    }
+
+    /// The book's reply to its command.
+    pub fn reply(&self) -> Reply
+        ensures { result ≡ self.now.reply }
+    {
+        self.reply
+    }
+
+    /// Whether the other is the same entry.
+    pub fn equals<B: Allocator>(&self, other: &PackedEntry<B>) -> bool
+        ensures { MatchBool result (self.now ≡ other.now) (self.now ≢ other.now) }
+    {
+        self.number == other.number
+            && self.reply == other.reply
+            && self.command.equals(&other.command)
+    }
+}
