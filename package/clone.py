@@ -8,7 +8,7 @@ import subprocess
 from pathlib import Path
 
 from lib import command, sources
-from lib.version import VERSION
+from lib.rules import VERSION
 
 TOP = Path(sources.TOP)
 PROGRAM = "crates/dam_cli/out/dam_cli"

@@ -18,10 +18,10 @@ mod limits {
     include!("../../crates/dam_book/src/limits.rt");
 }
 
-use limits::{HIGHEST_PRICE, LOWEST_PRICE, MOST_BLOCKS, MOST_HOURLY};
+use limits::{HIGHEST_PRICE, LOWEST_PRICE, MOST_BLOCKS, MOST_ENTRIES, MOST_HOURLY};
 
 const MOST_BYTES: usize = 16_777_216;
-const MOST_RECORDS: usize = 10_001;
+const MOST_RECORDS: usize = MOST_ENTRIES + 1;
 const LAST_PERIOD: u32 = 100;
 const FIELDS: usize = 9;
 

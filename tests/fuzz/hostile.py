@@ -8,7 +8,8 @@ SPECIAL = [b",", b'"', b"\r", b"\n", b"\r\n", b";", b":", b"-", b"+", b"0", b" "
 NUMBER = re.compile(rb"-?[0-9]+")
 LIMITS = [rules.LEAST_PRICE, rules.GREATEST_PRICE, rules.GREATEST_VOLUME, *rules.DAYS, rules.GREATEST_PERIOD, 0]
 FIELDS = [
-    b"", b"-0", b"+1", b"007", b"00", b"0", b"-", b"1", b"26", b"96", b"101", b"400000", b"400001", b"-50000", b"-50001",
+    b"", b"-0", b"+1", b"007", b"00", b"0", b"-", b"1", b"26", b"96", b"101",
+    *(b"%d" % cents for cents in (rules.GREATEST_PRICE, rules.GREATEST_PRICE + 1, rules.LEAST_PRICE, rules.LEAST_PRICE - 1)),
     b"99999999999999999999", b"9" * 5_000, b"1:1;1:1", b"2:1;1:1", b"1:1;", b";1:1", b"1:", b":1", b"1:0", b"0:1", b"26:1", b"101:1", b"100:99999", b"1:100000", b"1:1:1",
     b"1:01", b"day", b"submit", b"amend", b"cancel", b"close", b"Close", b"hour", b"block", b"buy", b"sell", b"SELL", b"ABCDEFGH",
     b"ABCDEFGHI", b"ABCDEFGHIJKL", b"ABCDEFGHIJKLM", b"A1", b"a", b"A B", b"A-1", b'"', b'""', b'"x"y', b'a"b', b'"a,b"', b'"a\nb"',

@@ -10,9 +10,10 @@ import shutil
 import subprocess
 
 from again import REFUSALS
-from preload import Program, Refusal
+from preload import Program, Refusal  # by which `lib` is found
+from lib import rules
 
-ORDERS = 4_000  # the most that a book holds
+ORDERS = rules.MOST_HOURLY
 TIMES = 3  # names that collide take less than 3 times the instructions of others; with the fixed seed 50 times or more
 SECONDS = 1_200  # for a run of some seconds, on a machine that has much else to do
 DRAWN = Refusal("random")

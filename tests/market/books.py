@@ -13,6 +13,7 @@ from lib import book, journal, rules
 from lib.journal import Close, Journal, Order, Submit
 
 MOST_BLOCKS = 8
+SPAN = rules.GREATEST_PRICE - rules.LEAST_PRICE
 
 
 class Row(NamedTuple):
@@ -108,4 +109,4 @@ def moved(rng, order, sign):
     """A limit in that direction, often near; None if the order's own is at the end of the range."""
     end = rules.GREATEST_PRICE if sign > 0 else rules.LEAST_PRICE
     room = abs(end - order.price)
-    return order.price + sign * rng.randint(1, min(room, rng.choice([1, 300, 450_000]))) if room else None
+    return order.price + sign * rng.randint(1, min(room, rng.choice([1, 300, SPAN]))) if room else None

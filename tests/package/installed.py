@@ -8,7 +8,7 @@ import subprocess
 import tempfile
 from pathlib import Path
 
-from lib.version import VERSION
+from lib.rules import VERSION
 
 TOP = Path(__file__).resolve().parents[2]
 RESULTS = TOP / "tests/cases/sunny-day.stdout"

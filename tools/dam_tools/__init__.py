@@ -30,7 +30,7 @@ from .lib import book, command, engine, journal, order_table, shapes, tables
 from .lib.command import Day
 from .lib.engine import Fault, TimedOut, where
 from .lib.journal import Journal
-from .lib.version import VERSION as __version__
+from .lib.rules import VERSION as __version__
 
 __all__ = [
     "Day",

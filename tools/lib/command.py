@@ -12,7 +12,7 @@ from pathlib import Path
 
 from . import book, ending, journal, kinds, lint, place, results, selection, text
 
-from .version import VERSION
+from .rules import VERSION
 
 DEBIAN_PYTHON = "/usr/bin/python3"
 LONGEST_PATH = 400  # characters of the name of a file in a message

@@ -8,6 +8,8 @@ from .cleared import Cleared, book_text
 from .engine import Fault
 
 COUNT = rules.GREATEST_PRICE - rules.LEAST_PRICE + 1  # of limits
+# A bisection over the limits on one side of a block's own, and none of them, needs at most as many clearings.
+MOST_CLEARINGS = (COUNT - 1).bit_length()
 LAW = "a better limit keeps a block: proved, see docs/MARKET.md"
 NO_LAW = "no law says that a better limit keeps an hourly order, see docs/MARKET.md"
 

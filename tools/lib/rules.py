@@ -3,6 +3,9 @@ changes them here, and the other modules take them from here."""
 
 from fractions import Fraction
 
+# The version of these rules, and of everything that follows them: other rules are a new major version (docs/USING.md, CHANGELOG.md).
+VERSION = "1.0.0"
+
 # The periods that a delivery day may have, and the length of one in hours: hours or their quarters, of 24 hours, or of one less or
 # more where the clocks change.
 HOURS = (23, 24, 25)

@@ -6,7 +6,7 @@ import time
 from . import better, book, check, command, journal, kinds, lines, place, results, selection, sent, sums, text
 from .faults import Fault
 from .progress import Progress
-from .version import VERSION
+from .rules import VERSION
 
 RIGHT, WRONG, ENCODING, UNREAD, UNDECIDED, FAILED = "right", "wrong", "encoding", "unread", "undecided", "failed"
 # Of each status, the verdict.

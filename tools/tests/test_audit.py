@@ -382,7 +382,7 @@ class CommandLine(unittest.TestCase):
             self.assertEqual(tool("audit", "-", data=other)[:2], (command.NO_INPUT, b""))
 
     def test_the_most_blocks(self):
-        blocks = [f"submit,A,K{number},block,sell,1,1:1,," for number in range(24)]
+        blocks = [f"submit,A,K{number},block,sell,1,1:1,," for number in range(rules.MOST_BLOCKS)]
         data = journal_of(*blocks)
         text = results_of(data, frozenset())
         wanted = command.DONE if command.has("numpy") or command.elsewhere("numpy") else command.FAILED

@@ -143,8 +143,9 @@ class Enumeration(unittest.TestCase):
         """No sum of the fullest book is as far from 0 as what stands for a period that doesn't balance."""
         from lib import enumeration
 
-        volumes = 4_000 + 24 * rules.GREATEST_PERIOD
-        self.assertLess(2 * volumes * rules.GREATEST_VOLUME * rules.GREATEST_PRICE, -enumeration.NEVER)
+        volumes = rules.MOST_HOURLY + rules.MOST_BLOCKS * rules.GREATEST_PERIOD
+        price = max(rules.GREATEST_PRICE, -rules.LEAST_PRICE)
+        self.assertLess(2 * volumes * rules.GREATEST_VOLUME * price, -enumeration.NEVER)
         self.assertLess((rules.GREATEST_PERIOD + 1) * -enumeration.NEVER, 2**63)
         with mock.patch.object(enumeration, "NEVER", -(2**30)), self.assertRaises(AssertionError):
             enumeration.Selections(problem(family("market", "500")))

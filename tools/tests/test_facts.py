@@ -13,11 +13,19 @@ PAGES = [TOP / "README.md", TOP / "CHANGELOG.md", TOP / "library" / "dam.h", *so
 PAGES += sorted((TOP / "crates").glob("*/*.md"))
 FORMATS = (TOP / "docs" / "FORMATS.md").read_text()
 NUMBER = r"(-?\d[\d,]*)"
+CONSTANT = re.compile(r"^pub const (\w+): \w+ = (-?[\d_]+);$", re.MULTILINE)
 # How a limit is said, and its numbers. At the first two words of a line a comment may begin.
 LIMITS = {
     rf"{NUMBER} hourly orders and {NUMBER} blocks": (rules.MOST_HOURLY, rules.MOST_BLOCKS),
     rf"(?:up to|at most|has|have) {NUMBER} hourly orders": (rules.MOST_HOURLY,),
     rf"whole cents(?: per MWh,)? from {NUMBER} to {NUMBER}": (rules.LEAST_PRICE, rules.GREATEST_PRICE),
+    rf"\| {NUMBER} \| below {NUMBER} \| `high`": (rules.LEAST_PRICE, rules.GREATEST_PRICE),
+    rf"\| above {NUMBER} \| {NUMBER} \| `low`": (rules.LEAST_PRICE, rules.GREATEST_PRICE),
+    rf"ask is {NUMBER} or the highest bid {NUMBER}, every price": (rules.GREATEST_PRICE, rules.LEAST_PRICE),
+    rf"the middle of the range, {NUMBER}": ((rules.LEAST_PRICE + rules.GREATEST_PRICE) // 2,),
+    rf"fixed, from {NUMBER} to {NUMBER} EUR/MWh": (rules.LEAST_PRICE // 100, rules.GREATEST_PRICE // 100),
+    rf"`HourlyFull` \| submit of an hourly order: the book holds {NUMBER} \|": (rules.MOST_HOURLY,),
+    rf"`BlocksFull` \| submit of a block: the book holds {NUMBER} \|": (rules.MOST_BLOCKS,),
     rf"whole tenths of a MW, from 1 to {NUMBER}": (rules.GREATEST_VOLUME,),
     rf"at most {NUMBER} bytes": (rules.MOST_BYTES,),
     rf"more than {NUMBER} bytes": (rules.MOST_BYTES,),
@@ -82,6 +90,22 @@ class Facts(unittest.TestCase):
                             self.assertIn(number, right if isinstance(right, set) else {right})
             with self.subTest(said=said):
                 self.assertGreater(counted, 0)
+
+    def test_the_tools_have_the_limits_of_the_code(self):
+        texts = [path.read_text() for path in sorted((TOP / "crates" / "dam_book" / "src").glob("*.rt"))]
+        found = {name: int(number) for text in texts for name, number in CONSTANT.findall(text)}
+        wanted = {
+            "LOWEST_PRICE": rules.LEAST_PRICE,
+            "HIGHEST_PRICE": rules.GREATEST_PRICE,
+            "GREATEST_VOLUME": rules.GREATEST_VOLUME,
+            "LAST_PERIOD": rules.GREATEST_PERIOD,
+            "MOST_HOURLY": rules.MOST_HOURLY,
+            "MOST_BLOCKS": rules.MOST_BLOCKS,
+            "MOST_ENTRIES": rules.MOST_RECORDS - 1,
+            "LONGEST_NAME": rules.LONGEST_NAME,
+            "LONGEST_PARTICIPANT": rules.LONGEST_PARTICIPANT,
+        }
+        self.assertEqual({name: found.get(name) for name in wanted}, wanted)
 
     def test_explanations_stand_once(self):
         for said, homes in ONCE.items():

@@ -13,6 +13,7 @@ GOOD = b"day,24,,,,,,,\nsubmit,NORD,WIND-8,hour,sell,1200,8:450,,\nsubmit,GAS,UN
 HOUR, BLOCK = GOOD.splitlines()[1:3]
 CENTS = f"whole cents per MWh from {rules.LEAST_PRICE} to {rules.GREATEST_PRICE}"
 BEYOND = rules.GREATEST_PRICE + 1
+TENTHS = f"should be whole tenths of a MW from 1 to {rules.GREATEST_VOLUME}"
 
 
 def told(data, command="clear"):
@@ -137,8 +138,8 @@ class Hand(unittest.TestCase):
             (HOUR, b"1200", b"-0", "price", "write 0"),
             (HOUR, b"1200", b"%d" % BEYOND, "price", f"'{BEYOND}': it should be whole cents"),
             (HOUR, b"1200", b"12 EUR", "price", "'12 EUR': it should be whole cents"),
-            (HOUR, b"8:450", b"8:45.5", "volumes", "'45.5' in '8:45.5' should be whole tenths of a MW from 1 to 99999: write 455 for"),
-            (HOUR, b"8:450", b"8:0", "volumes", "'0' in '8:0' should be whole tenths of a MW from 1 to 99999"),
+            (HOUR, b"8:450", b"8:45.5", "volumes", f"'45.5' in '8:45.5' {TENTHS}: write 455 for"),
+            (HOUR, b"8:450", b"8:0", "volumes", f"'0' in '8:0' {TENTHS}"),
             (HOUR, b"8:450", b"450", "volumes", "'450' should be period:volume, such as 8:450"),
             (HOUR, b"8:450", b"0:450", "volumes", "'0' in '0:450' should be a period from 1 to 100"),
             (HOUR, b"8:450", b"8:450;9:450", "volumes", "an hourly order has one pair, such as 8:450, not 2"),
@@ -170,14 +171,15 @@ class Hand(unittest.TestCase):
         both = child + b"UNIT-1,\ncancel,GAS,UNIT-1,,,,,,\n"
         self.check(GOOD.replace(b"close", both + b"close"), ("line 5, order", "UNIT-2 of line 4 names UNIT-1 as its parent: cancel UNIT-2 first"))
         self.check(GOOD + HOUR, ("line 5", "the book is closed by line 4: put the command before it"))
-        blocks = b"".join(b"submit,A,K%d,block,sell,1,1:1,,\n" % number for number in range(24))
-        self.check(GOOD.replace(b"close", blocks + b"close"), ("line 27", "a book holds at most 24 blocks"))
+        blocks = b"".join(b"submit,A,K%d,block,sell,1,1:1,,\n" % number for number in range(rules.MOST_BLOCKS))
+        found = f"line {3 + rules.MOST_BLOCKS}", f"a book holds at most {rules.MOST_BLOCKS} blocks"
+        self.check(GOOD.replace(b"close", blocks + b"close"), found)
 
     def test_a_journal_that_is_too_long_is_not_called_open(self):
-        cancels = b"cancel,NORD,WIND-8,,,,,,\n" * 10_000
+        cancels = b"cancel,NORD,WIND-8,,,,,,\n" * (rules.MOST_RECORDS - 1)
         self.assertEqual(
             [fault for fault in told(b"day,24,,,,,,,\n" + cancels + b"close,,,,,,,,\n") if "WIND-8" not in fault],
-            ["line 10002: a journal has at most 10000 commands: remove the rest"],
+            [f"line {rules.MOST_RECORDS + 1}: a journal has at most {rules.MOST_RECORDS - 1} commands: remove the rest"],
         )
 
     def test_one_fault_is_not_told_of_as_many(self):

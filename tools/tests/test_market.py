@@ -4,11 +4,12 @@ import re
 import unittest
 
 from support import TOP, cases, journal
-from lib import best, book, results, selection
+from lib import best, book, results, rules, selection
 
 PAGE = TOP / "docs" / "MARKET.md"
 MOST = 8_192  # bytes
 FUNCTION = re.compile(r"^pub fn (\w+)\(\)\n(.*?)^\{", re.M | re.S)
+MIDDLE = (rules.LEAST_PRICE + rules.GREATEST_PRICE) // 2  # the price of a period without orders
 CITED = re.compile(r"`((?:\w+::)*)(\w+)`(?: \(([^)]*)\))?")
 
 CASES = [  # what is printed before and after each change
@@ -19,7 +20,11 @@ CASES = [  # what is printed before and after each change
         ["welfare,68000", "block,GEN,UNIT,accepted,-2000", "block,GEN,NEXT,accepted,20000", "block,GAS,START,rejected,30000"],
         ["welfare,80000", "block,GEN,UNIT,accepted,0", "block,GEN,NEXT,rejected,20000", "block,GAS,START,accepted,30000"],
     ),
-    ("cancelled-unexecuted", ["period,1,5000,10", "hour,WIND,PARK,0"], ["period,1,175000,0", "block,STEEL,OVEN,rejected,-1670000"]),
+    (
+        "cancelled-unexecuted",
+        ["period,1,5000,10", "hour,WIND,PARK,0"],
+        [f"period,1,{MIDDLE},0", f"block,STEEL,OVEN,rejected,{10 * (8_000 - MIDDLE)}"],
+    ),
     ("better-block-limit", ["block,GEN,UNIT,accepted,30000"], ["block,GEN,UNIT,rejected,30000", "block,GAS,START,accepted,35000"]),
     (
         "better-accepted-limit",
@@ -110,7 +115,7 @@ class Market(unittest.TestCase):
             self.assertLessEqual({"welfare,240000", "period,1,4000,120"}, set(lines))
             self.assertLessEqual({f"hour,GEN,ONE,{executed[0]}", f"hour,COAL,TWO,{executed[1]}"}, set(lines))
         unit, city = "GEN,UNIT,block,sell,1000,1:10,,", "CITY,TOWN,hour,buy,4000,1:10,,"
-        for limit, welfare, word in (3000, 30_000, "rejected"), (400_000, 30_000, "rejected"), (500, 35_000, "accepted"):
+        for limit, welfare, word in (3000, 30_000, "rejected"), (rules.GREATEST_PRICE, 30_000, "rejected"), (500, 35_000, "accepted"):
             lines = cleared(unit, f"GAS,START,block,sell,{limit},1:10,,", city)
             self.assertIn(f"welfare,{welfare}", lines)
             self.assertTrue(any(line.startswith(f"block,GAS,START,{word},") for line in lines))

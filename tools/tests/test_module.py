@@ -244,8 +244,6 @@ class Module(unittest.TestCase):
         for name, folder in (("dam_tools", "tools/dam_tools"), ("dam_tools.lib", "tools/lib")):
             self.assertIn(f'"{name}" = "{folder}"', text)
             self.assertTrue(Path(TOP, folder, "__init__.py").is_file())
-        version = next(line for line in (TOP / "CHANGELOG.md").read_text().splitlines() if line.startswith("## "))
-        self.assertIn(f'version = "{version[3:]}"', text)
 
 
 if __name__ == "__main__":

@@ -8,7 +8,7 @@ from pathlib import Path
 import support
 from support import AUCTION, AUCTION_RESULTS, FIRST, QUARTERS, day_of, journal_of, results_of, tool
 
-from lib import command, trades
+from lib import command, rules, trades
 
 PICTURES = ["day", "prices", "blocks"]
 
@@ -32,7 +32,7 @@ class Missing(unittest.TestCase):
             status, out, err = tool(name, AUCTION, python=without)
             self.assertEqual((status, out), (command.FAILED, b""))
             self.assertEqual(err, f"{name}: it needs {words}\n")
-        blocks = [f"submit,A,K{number},block,sell,1,1:1,," for number in range(24)]
+        blocks = [f"submit,A,K{number},block,sell,1,1:1,," for number in range(rules.MOST_BLOCKS)]
         day = journal_of(*blocks)
         text = day + b"results\n" + results_of(day, frozenset())
         status, out, err = tool("audit", "--best", "-", data=text, python=without)

@@ -166,8 +166,8 @@ class Orders(unittest.TestCase):
         self.assertEqual(line, "line 2, column parent: A has no order K1 in a line above (UnknownParent)")
         said = "line 3, column parent: WIND-8 of line 2 is an hourly order, not a block (ParentNotBlock)"
         self.assertEqual(said, self.wrong(HOUR, "NORD,K,block,buy,1,1,5,WIND-8,"))
-        blocks = [f"A,K{number},block,buy,1,1,5,," for number in range(25)]
-        self.assertIn("line 26, a book holds at most 24 blocks (BlocksFull)", self.wrong(*blocks))
+        blocks = [f"A,K{number},block,buy,1,1,5,," for number in range(rules.MOST_BLOCKS + 1)]
+        self.assertIn(f"line {len(blocks) + 1}, a book holds at most {rules.MOST_BLOCKS} blocks (BlocksFull)", self.wrong(*blocks))
 
     def test_a_bad_line_makes_no_other_one_wrong(self):
         """What names its order isn't wrong, and what else is wrong in it is said too."""

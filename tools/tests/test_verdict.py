@@ -7,7 +7,7 @@ import unittest
 
 from support import AUCTION, TOP, audit, cleared_cases, journal_of, printed, results_of, tool
 
-from lib import command, faults, verdict, version
+from lib import command, faults, rules, verdict
 
 DATA, TEXT = AUCTION.read_bytes(), printed(AUCTION)
 MARK = b"\xef\xbb\xbf"
@@ -72,7 +72,7 @@ class Record(unittest.TestCase):
         status, out, err = audit(data, text, "--json", *words)
         made = json.loads(out)
         self.assertEqual((made["status"], made["verdict"]), (status, verdict.OF_STATUS[status]))
-        self.assertEqual((made["version"], made["seconds"] >= 0), (version.VERSION, True))
+        self.assertEqual((made["version"], made["seconds"] >= 0), (rules.VERSION, True))
         return made, err
 
     def test_right_results(self):
@@ -139,10 +139,12 @@ class Record(unittest.TestCase):
 class Version(unittest.TestCase):
     def test_it_is_that_of_the_changelog_and_of_the_package(self):
         heads = re.findall(r"^## (\S+)$", (TOP / "CHANGELOG.md").read_text(), re.MULTILINE)
-        self.assertEqual(heads[0], version.VERSION)
-        self.assertIn(f'version = "{version.VERSION}"', (TOP / "pyproject.toml").read_text())
+        self.assertEqual(heads[0], rules.VERSION)
+        text = (TOP / "pyproject.toml").read_text()
+        self.assertIn('\ndynamic = ["version"]\n', text)
+        self.assertIn('\nversion = { attr = "tools.lib.rules.VERSION" }\n', text)
         for name in ("audit", "lint", "plot", "report", "table"):
-            self.assertEqual(tool(name, "--version"), (0, f"{name} {version.VERSION}\n".encode(), ""))
+            self.assertEqual(tool(name, "--version"), (0, f"{name} {rules.VERSION}\n".encode(), ""))
 
 
 if __name__ == "__main__":

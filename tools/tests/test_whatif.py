@@ -2,6 +2,7 @@
 
 import csv
 import io
+import itertools
 import json
 import os
 import re
@@ -51,7 +52,7 @@ class Limits(unittest.TestCase):
         found = one.worst()
         self.assertEqual((found.limit, found.past_limit, found.at.surplus(one.key), found.past.surplus(one.key)), (5000, 5001, 0, -20))
         self.assertEqual((found.at.welfare, found.past.welfare, found.at.prices[0]), (0, 0, 5000))
-        self.assertLessEqual(found.clearings, 19)
+        self.assertLessEqual(found.clearings, limits.MOST_CLEARINGS)
         self.assertEqual(limit_words.others(one, found), [("CITY", "TOWN")])
 
     def test_a_block_that_buys(self):
@@ -77,16 +78,20 @@ class Limits(unittest.TestCase):
         self.assertIn(f"Every limit of the range is enough, up to the worst, {rules.GREATEST_PRICE / 100:,.2f} EUR/MWh.", limit_words.lines(one, found))
 
     def test_the_most_clearings(self):
-        """Whatever the worst limit is, 19 clearings find it."""
-        held, _ = book.run(journal.read_journal(journal_of(*SMALL)))
+        """No worst limit needs more clearings than the most, and some needs as many."""
         least, greatest = rules.LEAST_PRICE, rules.GREATEST_PRICE
-        for worst in (None, least, least + 1, 0, 1, 3_999, 4_000, 4_001, 123_456, greatest - 1, greatest):
-            with self.subTest(worst):
+        needed = set()
+        worsts = (None, least, least + 1, 0, 1, 3_999, 4_000, 4_001, 123_456, greatest - 1, greatest)
+        for own, worst in itertools.product((least, 4_000), worsts):
+            with self.subTest(own=own, worst=worst):
+                lines = SMALL[0], SMALL[1].replace("4000", str(own))
+                held, _ = book.run(journal.read_journal(journal_of(*lines)))
                 one = limits.Search(held, ("GEN", "UNIT"), None)
                 one.clear = lambda text: self.answered(text, worst)
                 found = one.worst()
                 self.assertEqual(found.limit, worst)
-                self.assertLessEqual(found.clearings, 19)
+                needed.add(found.clearings)
+        self.assertEqual(max(needed), limits.MOST_CLEARINGS)
 
     def answered(self, text, worst):
         price = int(text.decode().split("GEN,UNIT,block,sell,")[1].split(",")[0])

@@ -3,9 +3,10 @@
 //!
 //! A caller that needs one of them in a proof calls the function, at no cost.
 
-ghost use Rattle.std.specs.Prelude.{◌≡◌, ◌≢◌, ◌↔◌, true, ◌<◌, ◌^◌, ◌+ℤ◌, ◌≤ℤ◌, ◌<ℤ◌, ◌⊎◌, ℕ, ℤ, pos, Some, List, ◌++◌, Bool, ◌&&◌, length, drop};
+ghost use Rattle.std.specs.Prelude.{◌≡◌, ◌≢◌, ◌↔◌, true, ◌+◌, ◌*◌, ◌<◌, ◌^◌, ◌+ℤ◌, ◌≤ℤ◌, ◌<ℤ◌, ◌⊎◌, ℕ, ℤ, pos, Some, List, ◌++◌, Bool, ◌&&◌, length, drop};
 ghost use Rattle.dam_book.specs.Terms.{BlockTerms};
-ghost use Rattle.dam_book.specs.Limits.{last_period, most_blocks};
+ghost use Rattle.dam_book.specs.Limits.{greatest_volume, last_period, most_hourly, most_blocks};
+ghost use Rattle.dam_hour.specs.Limits.{greatest_price, price_span};
 ghost use Rattle.dam_blocks.specs.declared.problem.Block.{Block};
 ghost use Rattle.dam_blocks.specs.declared.scoring.Verdict.{Verdict};
 ghost use Rattle.dam_blocks.specs.declared.scoring.Verdict.TheVariants.{Eligible};
@@ -19,15 +20,19 @@ ghost use Rattle.dam_blocks.specs.Result.{accepts_first, RanksAbove, RanksAtOrBe
 
 use crate::problem::MOST_PERIODS;
 
-/// The exported constant is the number of its limit, and the greatest value of all hourly orders and
-/// of all blocks, surplus of one block and welfare of a selection are these numbers of cents per MWh
-/// times tenths of a MW.
+/// The exported constant is the number of its limit. The greatest value of all hourly orders and of all
+/// blocks, surplus of one block and welfare of a selection follow from the limits on a book, and a
+/// welfare and the surpluses of all blocks fit in an `i64`.
 pub fn limits()
     ensures periods { MOST_PERIODS ≡ last_period }
-    ensures hourly_value { greatest_hourly_value ≡ 159998400000000 }
-    ensures block_value { greatest_block_value ≡ 95999040000000 }
-    ensures surplus { greatest_surplus ≡ 4499955000000 }
-    ensures selection_welfare { greatest_selection_welfare ≡ 255997440000000 }
+    ensures hourly_value { greatest_hourly_value ≡ most_hourly * (greatest_price * greatest_volume) }
+    ensures block_value { greatest_block_value
+        ≡ (most_blocks * last_period) * (greatest_price * greatest_volume) }
+    ensures surplus { greatest_surplus ≡ last_period * (price_span * greatest_volume) }
+    ensures selection_welfare { greatest_selection_welfare
+        ≡ (most_hourly + most_blocks * last_period) * (greatest_price * greatest_volume) }
+    ensures welfare_fits { greatest_selection_welfare < 2 ^ 63 }
+    ensures surpluses_fit { most_blocks * greatest_surplus < 2 ^ 63 }
 {}
 
 /// The empty selection is eligible.

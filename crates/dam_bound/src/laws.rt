@@ -70,9 +70,8 @@ pub fn completions()
         → IsAdmissible problem.blocks sel → sel ≡ padded prefix }
 {}
 
-/// How large a relaxed welfare can be: as large as the welfare of a selection, 4,000 hourly orders,
-/// and 24 blocks in 100 periods, each counting at most 400,000 cents per MWh times 99,999 tenths of a
-/// MW.
+/// How large a relaxed welfare can be: as large as the welfare of a selection. Every hourly order, and
+/// every block in every period, counts at most the greatest price times the greatest volume.
 pub fn magnitude()
     ensures { (problem : ProblemState) (prefix : List Bool) (w : ℤ) → IsProblem problem
         → relaxed_welfare problem prefix ≡ Some w → IsWithin greatest_selection_welfare w }

@@ -1,8 +1,18 @@
 -- What the rule that a person reads at a terminal says about the fault.
-use Rattle.std.specs.Prelude.{◌≡◌, ◌≤◌, ◌+◌, ◌||◌, ℕ, Bool, List, ◌∷◌, ◌++◌, take, codes}
+use Rattle.std.specs.Prelude.{◌≡◌, ◌≢◌, ◌≤◌, ◌+◌, ◌||◌, ℕ, ℤ, pos, Bool, List, ◌∷◌, ◌++◌, take, codes}
+use Rattle.std.specs.Fmt.{signed_decimal}
 use Rattle.std.specs.Str.{bytes_eq}
+use Rattle.dam_book.specs.Limits.{lowest_price, highest_price, greatest_volume}
 use Rattle.dam_results.specs.declared.journal.JournalFault.{JournalFault}
 use Rattle.dam_results.specs.declared.journal.JournalFault.TheVariants.{BadField}
+use Rattle.dam_cli.specs.declared.advice.Rule.{Rule}
+use Rattle.dam_cli.specs.declared.advice.Rule.TheVariants.{Plain, Within}
+
+-- a rule as a person reads it: its text, or one text, the least and the greatest allowed number, and another text
+abbrev pub rule_text : Rule → List ℕ
+rule_text (Plain text) = text.now
+rule_text (Within before least greatest after) =
+    before.now ++ (codes " from " ++ (signed_decimal least ++ (codes " to " ++ (signed_decimal greatest ++ after.now))))
 
 -- the text begins with the name of this field of a record: that is `field n `, with n of one digit, whose byte is 48 + n
 abbrev pub BeginsWithField : ℕ → List ℕ → Type 0
@@ -12,6 +22,17 @@ BeginsWithField field text = take 8 text ≡ codes "field " ++ ((48 + field) ∷
 abbrev pub NamesItsField : JournalFault → List ℕ → Type 0
 NamesItsField (BadField at field) rule = (at ≡ 1 → field ≡ 2) → 1 ≤ field → field ≤ 9 → BeginsWithField field rule
 NamesItsField fault rule = Unit {0}
+
+-- the rule shows these two as the least and the greatest allowed number
+abbrev pub ShowsRange : ℤ → ℤ → Rule → Type 0
+ShowsRange least greatest (Plain text) = ⊥
+ShowsRange least greatest (Within before shown_least shown_greatest after) = (shown_least ≡ least) × (shown_greatest ≡ greatest)
+
+-- of a bad price or bad volumes in a command's record, the rule shows the limits on them
+abbrev pub ShowsItsLimits : JournalFault → Rule → Type 0
+ShowsItsLimits (BadField at field) rule = at ≢ 1 → (field ≡ 6 → ShowsRange lowest_price highest_price rule)
+    × (field ≡ 7 → ShowsRange (pos 1) (pos greatest_volume) rule)
+ShowsItsLimits fault rule = Unit {0}
 
 -- whether a word asks for the version
 abbrev pub is_version_word : List ℕ → Bool

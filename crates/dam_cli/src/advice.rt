@@ -1,23 +1,61 @@
 //! What a person at a terminal reads in addition to a fault of the input, or to the refusal of words that name a file.
 
-ghost use Rattle.std.specs.Prelude.{◌≡◌, ◌≤◌, ◌↔◌, IfSome, IsSome};
+ghost use Rattle.std.specs.Prelude.{◌≡◌, ◌≤◌, ◌↔◌, pos, IfSome, IsSome};
 ghost use Rattle.std.specs.List.{list_any};
 ghost use Rattle.std.specs.String.{string_bytes};
 ghost use Rattle.dam_line.specs.Line.{IsSubcommand};
 ghost use Rattle.dam_results.specs.declared.journal.JournalFault.{JournalFault};
 ghost use Rattle.dam_engines.specs.Fault.{fault_status, input_status};
-ghost use Rattle.dam_cli.specs.Advice.{BeginsWithField, NamesItsField, is_version_word};
+ghost use Rattle.dam_book.specs.Limits.{lowest_price, highest_price, greatest_volume};
+ghost use Rattle.dam_cli.specs.Advice.{BeginsWithField, NamesItsField, ShowsRange, ShowsItsLimits, rule_text, is_version_word};
 
+use dam_book::{GREATEST_VOLUME, HIGHEST_PRICE, LOWEST_PRICE};
 use dam_engines::RunFault;
 use dam_results::JournalFault;
+use std::fmt;
+
+/// A rule that an input can break, as a person at a terminal reads it.
+#[derive(Clone, Copy)]
+pub enum Rule {
+    /// This text.
+    Plain(&'static str),
+    /// The text before the least and the greatest allowed number, these two, and the text after them.
+    Within {
+        before: &'static str,
+        least: i64,
+        greatest: i64,
+        after: &'static str,
+    },
+}
+
+impl fmt::Display for Rule {
+    ghost use Rattle.std.specs.Prelude.{Some};
+    ghost use Rattle.dam_cli.specs.Advice.{rule_text};
+
+    ghost output = { λ rule. Some (rule_text rule) };
+
+    fn fmt<W: fmt::Write>(&self, f: &mut fmt::Formatter<W>) -> fmt::Result {
+        match self {
+            Rule::Plain(text) => f.write_str(text),
+            Rule::Within {
+                before,
+                least,
+                greatest,
+                after,
+            } => write!(f, "{before} from {least} to {greatest}{after}"),
+        }
+    }
+}
 
 /// Which rule the input breaks, and what to do; nothing for a fault that isn't the input's.
-pub fn rule_of(fault: &RunFault) -> Option<&'static str>
+pub fn rule_of(fault: &RunFault) -> Option<Rule>
     ensures input { IsSome result ↔ (fault_status fault.now ≡ 1) }
     ensures field { (given : JournalFault) → fault.now ≡ RunFault.Input given
-        → IfSome result (λ rule. NamesItsField given rule.now) }
+        → IfSome result (λ rule. NamesItsField given (rule_text rule)) }
+    ensures limits { (given : JournalFault) → fault.now ≡ RunFault.Input given
+        → IfSome result (λ rule. ShowsItsLimits given rule) }
 {
-    let rule = match fault {
+    let text = match fault {
         RunFault::Input(fault) => return rule_of_journal(*fault),
         RunFault::TooManyCommands => "a day takes 9,999 commands at most",
         RunFault::CloseGiven(_) =>
@@ -32,15 +70,16 @@ pub fn rule_of(fault: &RunFault) -> Option<&'static str>
         | RunFault::Memory
         | RunFault::Write { .. } => return None,
     };
-    Some(rule)
+    Some(Rule::Plain(text))
 }
 
 /// The same of a journal's fault.
-fn rule_of_journal(fault: JournalFault) -> Option<&'static str>
+fn rule_of_journal(fault: JournalFault) -> Option<Rule>
     ensures input { IsSome result ↔ (input_status fault ≡ 1) }
-    ensures field { IfSome result (λ rule. NamesItsField fault rule.now) }
+    ensures field { IfSome result (λ rule. NamesItsField fault (rule_text rule)) }
+    ensures limits { IfSome result (λ rule. ShowsItsLimits fault rule) }
 {
-    let rule = match fault {
+    let text = match fault {
         JournalFault::TooLong => "a journal has 16,777,216 bytes at most",
         JournalFault::NotAscii(0) => {
             "a journal is plain ASCII: save it without a byte order mark"
@@ -53,10 +92,10 @@ fn rule_of_journal(fault: JournalFault) -> Option<&'static str>
         JournalFault::FieldCount(_) =>
             "a record has nine fields, and so eight commas, as in close,,,,,,,,",
         JournalFault::BadField(1, field) => rule_of_day(field),
-        JournalFault::BadField(_, field) => rule_of_command(field),
+        JournalFault::BadField(_, field) => return Some(rule_of_command(field)),
         JournalFault::Memory => return None,
     };
-    Some(rule)
+    Some(Rule::Plain(text))
 }
 
 /// The rule of a field of the first record.
@@ -70,25 +109,50 @@ fn rule_of_day(field: usize) -> &'static str
 }
 
 /// The rule of a field of a command's record.
-fn rule_of_command(field: usize) -> &'static str
-    ensures { 1 ≤ field → field ≤ 9 → BeginsWithField field result.now }
+fn rule_of_command(field: usize) -> Rule
+    ensures field { 1 ≤ field → field ≤ 9 → BeginsWithField field (rule_text result) }
+    ensures price { field ≡ 6 → ShowsRange lowest_price highest_price result }
+    ensures volumes { field ≡ 7 → ShowsRange (pos 1) (pos greatest_volume) result }
 {
-    match field {
+    let text = match field {
         1 => "field 1 is what the record is: submit, amend, cancel or close",
         2 => "field 2 is the participant: 1 to 8 capitals; empty in a close",
         3 => "field 3 is the order's name: 1 to 12 capitals, digits and dashes; empty in a close",
         4 => "field 4 is hour or block in a submit, and empty in any other record",
         5 => "field 5 is buy or sell in a submit, and empty in any other record",
-        6 => {
-            "field 6 is the limit price: whole cents from -50000 to 400000, without leading zeros; empty in a cancel and a close"
-        }
-        7 => {
-            "field 7 is the volumes, period:volume, for a block by increasing period, separated by ;, each from 1 to 99999 tenths of a MW; empty in a cancel and a close"
-        }
+        6 => return rule_of_price(),
+        7 => return rule_of_volumes(),
         8 =>
             "field 8 is the parent of a block, an order's name or empty; empty in any other record",
         _ =>
             "field 9 is the exclusive group of a block, a name or empty; empty in any other record",
+    };
+    Rule::Plain(text)
+}
+
+/// The rule of a limit price.
+fn rule_of_price() -> Rule
+    ensures field { BeginsWithField 6 (rule_text result) }
+    ensures range { ShowsRange lowest_price highest_price result }
+{
+    Rule::Within {
+        before: "field 6 is the limit price: whole cents",
+        least: i64::from(LOWEST_PRICE),
+        greatest: i64::from(HIGHEST_PRICE),
+        after: ", without leading zeros; empty in a cancel and a close",
+    }
+}
+
+/// The rule of the volumes.
+fn rule_of_volumes() -> Rule
+    ensures field { BeginsWithField 7 (rule_text result) }
+    ensures range { ShowsRange (pos 1) (pos greatest_volume) result }
+{
+    Rule::Within {
+        before: "field 7 is the volumes, period:volume, for a block by increasing period, separated by ;, each",
+        least: 1,
+        greatest: i64::from(GREATEST_VOLUME),
+        after: " tenths of a MW; empty in a cancel and a close",
     }
 }
 

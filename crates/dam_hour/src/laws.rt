@@ -71,7 +71,8 @@ pub fn price()
         → price_between low highest_price ≡ low }
     ensures inside { (low high : ℤ) → lowest_price <ℤ low → high <ℤ highest_price
         → price_between low high ≡ int_div_euclid (low +ℤ high) (pos 2) }
-    ensures all_open { price_between lowest_price highest_price ≡ pos 175000 }
+    ensures all_open { price_between lowest_price highest_price
+        ≡ int_div_euclid (lowest_price +ℤ highest_price) (pos 2) }
 {}
 
 /// The greatest welfare as a function of the net volume is the best execution's, and there is none
@@ -101,8 +102,8 @@ pub fn surplus()
         → execution_surplus p steps ys ≤ℤ execution_surplus p steps xs }
 {}
 
-/// How large the executed volumes and the welfare of any execution can be: for each step at most
-/// 99,999 tenths of a MW, and 39,999,600,000 cents per MWh times tenths of a MW.
+/// How large the executed volumes and the welfare of any execution can be: for each step at most the
+/// greatest volume, and the greatest price times the greatest volume.
 pub fn magnitude()
     ensures { (steps : List Step) (xs : List ℕ) → AreInRange steps → IsExecution steps xs
         → AreSmall (length steps) (executed_volume Buy steps xs) (executed_volume Sell steps xs)

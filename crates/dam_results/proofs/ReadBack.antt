@@ -178,12 +178,15 @@ line_length (n ∷ m ∷ ns) (x ∷ y ∷ xs) h =
     let more = line_length (m ∷ ns) (y ∷ xs) h.1 in
     omega (arith, length-append x (44 ∷ join_with_byte 44 (y ∷ xs)))
 
-short_line : (row : Fields) → AreFields limits row → length (row_line row) ≤ 1075
+abbrev longest_line : ℕ
+longest_line = line_limit limits
+
+short_line : (row : Fields) → AreFields limits row → length (row_line row) ≤ longest_line
 unfolding limits
 short_line row h = let f = line_length limits row h in omega (arith, length-append (join_with_byte 44 row) (10 ∷ []))
 
 short_lines : (commands : List Command) → AllByRecursion IsCommand commands → length
-    (flat_map command_line commands) ≤ 1075 * length commands
+    (flat_map command_line commands) ≤ longest_line * length commands
 short_lines [] h = omega arith
 short_lines (c ∷ cs) h =
     let first = short_line (row_of c) (command_fields c h.0) in
@@ -192,6 +195,7 @@ short_lines (c ∷ cs) h =
 
 short_written : (periods : ℕ) (commands : List Command) → is_day periods ≡ true → AllByRecursion IsCommand commands
     → length commands ≤ most_entries → length (written periods commands) ≤ most_bytes
+unfolding limits
 short_written periods commands day valid few =
     let first = short_line (day_row periods) (day_fields periods day) in
     let more = short_lines commands valid in
