@@ -68,24 +68,24 @@ bought_volume blocks selection t = over_accepted (bought_volume_of t) blocks sel
 abbrev pub block_value : List Block → List Bool → ℕ → ℤ
 block_value blocks selection t = over_accepted (value_of t) blocks selection
 
--- both name one group
+-- whether both name one group
 abbrev pub same_group : Option (List ℕ) → Option (List ℕ) → Bool
 same_group (Some group) (Some other) = same_text group other
 same_group _ _ = false
 
--- both are in one exclusive group of one participant
+-- whether both are in one exclusive group of one participant
 abbrev pub are_of_one_group : Block → Block → Bool
 are_of_one_group a b = same_text a.who b.who && same_group a.order.group b.order.group
 
--- the number of accepted blocks of a block's group, itself among them; 0 if it is in none
+-- how many accepted blocks are of this one's group, itself among them; 0 if it has no group
 abbrev pub accepted_of_group : Block → List Block → List Bool → ℕ
 accepted_of_group block (b ∷ bs) (true ∷ selection) =
     (if are_of_one_group block b then 1 else 0) + accepted_of_group block bs selection
 accepted_of_group block (b ∷ bs) (false ∷ selection) = accepted_of_group block bs selection
 accepted_of_group block _ _ = 0
 
--- a block stands at the place, its parent is accepted, and so are at most as many blocks of its group
--- as may be
+-- a block stands at the place, its parent is accepted if it has one, and so are at most
+-- `most_of_group` blocks of its group
 pub record IsAllowed (blocks : List Block) (selection : List Bool) (i : ℕ) : Type 0 where
   pub block : Block
   pub stands : slice_get blocks i ≡ Some block
@@ -93,7 +93,7 @@ pub record IsAllowed (blocks : List Block) (selection : List Bool) (i : ℕ) : T
       → accepts selection j ≡ true
   pub group : accepted_of_group block blocks selection ≤ most_of_group
 
--- only blocks are accepted, each with its parent, and of each group at most `most_of_group`; a problem's
--- parents all stand among its blocks, so that none is missing
+-- only blocks are accepted, each with its parent, and at most `most_of_group` of each group; a
+-- problem's parents all stand among its blocks, so that none is missing
 pub record IsAdmissible (blocks : List Block) (selection : List Bool) : Type 0 where
   pub each : (i : ℕ) → accepts selection i ≡ true → IsAllowed blocks selection i
