@@ -1,17 +1,19 @@
 -- In whatever order the blocks stand, each eligible selection has its counterpart, which accepts the same blocks.
-use Rattle.std.proofs.Common.{◌≡◌, inl, inr, ℕ, zero, suc, ◌<◌, ◌≤◌, ℤ, pos, ◌+ℤ◌, ◌≤ℤ◌, Bool, true, false, ◌&&◌, Option, Some}
-use Rattle.std.proofs.Common.{List, [], ◌∷◌, length, ap, ap₂, ◌∙◌, sym, subst, refl, arith}
+use Rattle.std.proofs.Common.{◌≡◌, inl, inr, ℕ, zero, suc, ◌+◌, ◌<◌, ◌≤◌, ℤ, pos, ◌+ℤ◌, ◌≤ℤ◌, Bool, true, false, ◌&&◌, cond, Option}
+use Rattle.std.proofs.Common.{Some, List, [], ◌∷◌, length, ap, ap₂, ◌∙◌, sym, subst, refl, arith}
 use Rattle.std.specs.List.{slice_get}
 use Rattle.std.specs.Option.{option_map, unwrap_or}
 use Rattle.std.proofs.lemmas.Int.{ints}
 use Rattle.std.proofs.lemmas.Bool.{cases_lt}
 use Rattle.std.proofs.lemmas.Option.{slice_get_within}
 use Rattle.std.proofs.lemmas.List.Sorted.{IsPermutation-sym}
+use Rattle.dam_book.specs.Limits.{most_of_group}
 use Rattle.dam_book.specs.Terms.{BlockTerms}
 use Rattle.dam_hour.specs.declared.step.Step.{Step}
 use Rattle.dam_blocks.specs.declared.problem.Block.{Block}
 use Rattle.dam_blocks.specs.Problem.{ProblemState, IsProblem, IsParent}
-use Rattle.dam_blocks.specs.Selection.{accepts, over_accepted, net_volume_of, value_of, Permits, IsAllowed, IsAdmissible}
+use Rattle.dam_blocks.specs.Selection.{accepts, over_accepted, net_volume_of, value_of, are_of_one_group, accepted_of_group}
+use Rattle.dam_blocks.specs.Selection.{IsAllowed, IsAdmissible}
 use Rattle.dam_blocks.specs.Family.{descends, accepted_where, accepted_descendants, IsChildAt, Descends, Child, OfChild}
 use Rattle.dam_blocks.specs.Eligible.{ArePrices, surplus_of, surplus_at, HasNoLoss, welfare_from, IsEligible}
 use Rattle.dam_blocks.specs.Result.{IsResult}
@@ -32,6 +34,7 @@ record Matches (bs cs : List Block) (xs ys : List Bool) : Type 0 where
   as_many : length cs ≡ length bs
   as_long : length ys ≡ length xs
   sum : (f : BlockTerms → ℤ) → over_accepted f bs xs ≡ over_accepted f cs ys
+  count : (g : Block) → accepted_of_group g bs xs ≡ accepted_of_group g cs ys
   forth : (i : ℕ) (b : Block) → slice_get bs i ≡ Some b → StandsToo cs ys (accepts xs i) b
   back : (j : ℕ) (b : Block) → slice_get cs j ≡ Some b → StandsToo bs xs (accepts ys j) b
   beyond : (j : ℕ) → length bs ≤ j → accepts ys j ≡ accepts xs j
@@ -54,6 +57,18 @@ swap_here f true false b c bs xs = refl
 swap_here f false true b c bs xs = refl
 swap_here f false false b c bs xs = refl
 
+count_here : (g : Block) (d : Bool) (b : Block) (bs cs : List Block) (xs ys : List Bool) → accepted_of_group g bs xs ≡ accepted_of_group g cs ys
+    → accepted_of_group g (b ∷ bs) (d ∷ xs) ≡ accepted_of_group g (b ∷ cs) (d ∷ ys)
+count_here g true b bs cs xs ys e = ap (λ (n : ℕ). cond (are_of_one_group g b) 1 0 + n) e
+count_here g false b bs cs xs ys e = e
+
+count_swapped : (g : Block) (d e : Bool) (b c : Block) (bs : List Block) (xs : List Bool)
+    → accepted_of_group g (b ∷ c ∷ bs) (d ∷ e ∷ xs) ≡ accepted_of_group g (c ∷ b ∷ bs) (e ∷ d ∷ xs)
+count_swapped g true true b c bs xs = omega arith
+count_swapped g true false b c bs xs = refl
+count_swapped g false true b c bs xs = refl
+count_swapped g false false b c bs xs = refl
+
 matched : (bs cs : List Block) → Reordered bs cs → (xs : List Bool) → length bs ≤ length xs → (ys : List Bool) × Matches bs cs xs ys
 matched _ _ (Same bs) xs l = (
   xs,
@@ -61,6 +76,7 @@ matched _ _ (Same bs) xs l = (
     as_many = refl;
     as_long = refl;
     sum = λ f. refl;
+    count = λ g. refl;
     forth = λ i b at. (i, at, refl);
     back = λ i b at. (i, at, refl);
     beyond = λ j past. refl;
@@ -76,6 +92,7 @@ matched _ _ (Kept b bs cs rest) (d ∷ xs) l =
         as_many = omega (arith, many);
         as_long = omega (arith, long);
         sum = λ f. add_here f d b bs cs xs found.0 (m.sum f);
+        count = λ g. count_here g d b bs cs xs found.0 (m.count g);
         forth = kept_stands bs cs xs found.0 b d m.forth;
         back = kept_stands cs bs found.0 xs b d m.back;
         beyond = past_first bs xs found.0 d m.beyond;
@@ -100,6 +117,7 @@ matched _ _ (Exchanged b c bs) (d ∷ e ∷ xs) l = (
     as_many = refl;
     as_long = refl;
     sum = λ f. swap_here f d e b c bs xs;
+    count = λ g. count_swapped g d e b c bs xs;
     forth = swapped_stands b c d e bs xs;
     back = swapped_stands c b e d bs xs;
     beyond = past_two d e (length bs) xs;
@@ -127,6 +145,7 @@ matched _ _ (Then bs cs ds first second) xs l =
         as_many = b.as_many ∙ many;
         as_long = b.as_long ∙ long;
         sum = λ f. a.sum f ∙ b.sum f;
+        count = λ g. a.count g ∙ b.count g;
         forth = λ i c at. (let s = a.forth i c at in let t = b.forth s.0 c s.1 in (t.0, t.1, s.2 ∙ t.2));
         back = λ i c at. (let s = b.back i c at in let t = a.back s.0 c s.1 in (t.0, t.1, s.2 ∙ t.2));
         beyond = λ j past. b.beyond j (omega (arith, many, past)) ∙ a.beyond j past;
@@ -228,13 +247,11 @@ counterpart_allowed problem other xs ys j b two m is at acc =
     record {
       block = b;
       stands = at;
-      others = λ k fellow apart at_k.
+      parent = λ k fellow at_k is_parent.
           (let there = m.back k fellow at_k in
-          let differs : there.0 ≡ own.0 → ⊥ = λ e.
-          (let is_b : fellow ≡ b = same_block fellow b (sym there.1 ∙ ap (λ (n : ℕ). slice_get problem.blocks n) e ∙ own.1) in
-          apart (one_place other k j b two.is_other (at_k ∙ ap (λ (z : Block). Some z) is_b) at)) in
-          subst (λ (z : Block). Permits fellow (accepts ys k) z) same
-          (subst (λ (x : Bool). Permits fellow x allowed.block) (sym there.2) (allowed.others there.0 fellow differs there.1)));
+          there.2 ∙ allowed.parent there.0 fellow there.1 (subst (λ (z : Block). IsParent fellow z) (sym same) is_parent));
+      group = subst (λ (z : Block). accepted_of_group z other.blocks ys ≤ most_of_group) same
+          (subst (λ (n : ℕ). n ≤ most_of_group) (m.count allowed.block) allowed.group);
     }
 
 counterpart_admissible : (problem other : ProblemState) (xs ys : List Bool) → AreTwo problem other

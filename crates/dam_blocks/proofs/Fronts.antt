@@ -7,6 +7,7 @@ use Rattle.dam_blocks.specs.Problem.{ProblemState, IsParent, IsProblem}
 use Rattle.dam_blocks.specs.Selection.{accepts, padded, IsAllowed, IsAdmissible}
 use Rattle.dam_blocks.proofs.Choices.{accepts-replicate}
 use Rattle.dam_blocks.proofs.AdmissionDecided.{accepted_within}
+use Rattle.dam_blocks.proofs.GroupCounts.{count_at_most}
 
 -- what the front accepts the whole accepts ..
 whole_accepts : (xs ys : List Bool) (i : ℕ) → accepts xs i ≡ true → accepts (xs ++ ys) i ≡ true
@@ -44,16 +45,16 @@ front_allowed : (problem : ProblemState) (xs ys : List Bool) (i : ℕ) → IsPro
 front_allowed problem xs ys i is e allowed = record {
   block = allowed.block;
   stands = allowed.stands;
-  others = λ j other apart at.
-      (let whole = allowed.others j other apart at in
-      record {
-        parent = λ p.
-            (let before = parent_before problem i j allowed.block other is allowed.stands at p in
-            let inside = accepted_within xs i e in
-            whole_accepts xs (replicate (most_blocks - length xs) false) j
-            (front_accepts xs ys j (omega (arith, before, inside)) (whole.parent p)));
-        group = λ a. whole.group (whole_accepts xs ys j (padded_accepts xs j a));
-      });
+  parent = λ j other at p.
+      (let before = parent_before problem i j allowed.block other is allowed.stands at p in
+      let inside = accepted_within xs i e in
+      whole_accepts xs (replicate (most_blocks - length xs) false) j
+      (front_accepts xs ys j (omega (arith, before, inside)) (allowed.parent j other at p)));
+  group =
+      (let fewer = count_at_most allowed.block problem.blocks (padded xs) (xs ++ ys)
+      (λ j other at one a. whole_accepts xs ys j (padded_accepts xs j a)) in
+      let most = allowed.group in
+      omega (arith, fewer, most));
 }
 
 pub front_admissible : (problem : ProblemState) (xs ys : List Bool) → IsProblem problem

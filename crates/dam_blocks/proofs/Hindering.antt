@@ -1,165 +1,66 @@
 -- The blocks that may keep another from being accepted, found place by place, and what they come to.
-use Rattle.std.proofs.Common.{◌≡◌, ◌≢◌, ◌⊎◌, ℕ, zero, suc, ◌+◌, ◌<◌, ◌≤◌, Bool, true, false, not, IsTrue, Some, inl, inr}
-use Rattle.std.proofs.Common.{List, [], ◌∷◌, ◌++◌, length, length-append, take, ap, ◌∙◌, sym, subst, refl, arith}
-use Rattle.std.specs.List.{slice_get, slice_index_or, Contains}
-use Rattle.std.proofs.lemmas.List.{take_more}
-use Rattle.std.proofs.lemmas.Bool.{cases_eq}
-use mathlib.Core.Bool.{beq}
-use Rattle.std.proofs.lemmas.List.Elements.{Contains-append_left, Contains-push, Contains-push_cases}
-use Rattle.std.proofs.lemmas.Option.{slice_get_within}
+use Rattle.std.proofs.Common.{◌≡◌, ◌⊎◌, ℕ, zero, suc, ◌+◌, ◌≤◌, Bool, true, false, cond, Some, inl, inr, List, [], ◌∷◌, ◌++◌, length}
+use Rattle.std.proofs.Common.{length-append, append_assoc, drop, ap, ap₂, ◌∙◌, sym, subst, refl, arith}
+use Rattle.std.specs.List.{slice_get}
+use Rattle.std.proofs.lemmas.List.{append-nil, drop_all}
+use Rattle.dam_book.specs.Limits.{most_of_group}
 use Rattle.dam_blocks.specs.declared.problem.Block.{Block}
-use Rattle.dam_blocks.specs.Selection.{accepts, Permits, IsAllowed}
-use Rattle.dam_blocks.specs.inside.Hindrances.{AreHindering, AreHindrances}
 use Rattle.dam_blocks.specs.declared.hindrances.Hindrances.{Hindrances}
+use Rattle.dam_blocks.specs.Problem.{IsParent}
+use Rattle.dam_blocks.specs.Family.{names}
+use Rattle.dam_blocks.specs.Selection.{accepts, are_of_one_group, accepted_of_group, IsAllowed}
+use Rattle.dam_blocks.specs.inside.Hindrances.{places_where, group_of, accepted_among, AreHindrances}
+use Rattle.dam_blocks.proofs.Descending.{named}
+use Rattle.dam_blocks.proofs.GroupCounts.{count_none}
+use Rattle.dam_blocks.proofs.RowByRow.{drop_at}
 
--- those below a place
-pub record AreHinderingSoFar (blocks : List Block) (i : ℕ) (block : Block) (decided : Bool) (at : ℕ) (places : List ℕ) : Type 0 where
+-- ---- places, found one by one
+-- those found so far, and those of the blocks that are left
+pub record AreFoundSoFar (test : Block → Bool) (blocks : List Block) (at : ℕ) (places : List ℕ) : Type 0 where
   pub few : length places ≤ at
-  pub each : (j : ℕ) (other : Block) → j < at → slice_get blocks j ≡ Some other → j ≢ i → Contains places j ⊎ Permits other decided block
-  pub inside : (j : ℕ) → Contains places j → j < at
-  pub apart : (j : ℕ) → Contains places j → j ≢ i
-  pub only : (j : ℕ) (other : Block) → Contains places j → slice_get blocks j ≡ Some other → ¬ (Permits other decided block)
+  pub found : places ++ places_where test at (drop at blocks) ≡ places_where test 0 blocks
 
-same_block : (a b : Block) → Some a ≡ Some b → a ≡ b
-same_block a b e = cc
+pub found_none : (test : Block → Bool) (blocks : List Block) → AreFoundSoFar test blocks 0 []
+found_none test blocks = record { few = omega arith; found = refl }
 
--- two blocks that stand at one place are one
-one_at : (blocks : List Block) (i j : ℕ) (a b : Block) → slice_get blocks i ≡ Some a → slice_get blocks j ≡ Some b → i ≡ j → a ≡ b
-one_at blocks i j a b e f same = same_block a b (sym e ∙ ap (λ (n : ℕ). slice_get blocks n) same ∙ f)
+-- what is left, with the block at the place
+left_over : (test : Block → Bool) (blocks : List Block) (at : ℕ) (b : Block) (x : Bool) → slice_get blocks at ≡ Some b → test b ≡ x
+    → cond x (at ∷ places_where test (at + 1) (drop (at + 1) blocks)) (places_where test (at + 1) (drop (at + 1) blocks))
+    ≡ places_where test at (drop at blocks)
+left_over test blocks at b x stands is =
+    ap (λ (y : Bool). cond y (at ∷ places_where test (at + 1) (drop (at + 1) blocks)) (places_where test (at + 1) (drop (at + 1) blocks)))
+    (sym is)
+    ∙ ap (λ (bs : List Block). places_where test at bs) (sym (drop_at blocks at b stands))
 
-none_held : (j : ℕ) → Contains [] j → ⊥
-none_held j h = let less = h.1 in omega (arith, less)
+pub found_more : (test : Block → Bool) (blocks : List Block) (at : ℕ) (b : Block) (places after : List ℕ) → slice_get blocks at ≡ Some b
+    → test b ≡ true → after ≡ places ++ at ∷ [] → AreFoundSoFar test blocks at places → AreFoundSoFar test blocks (at + 1) after
+found_more test blocks at b places after stands is pushed s =
+    let few = s.few in
+    record {
+      few = omega (arith, few, ap length pushed, length-append places (at ∷ []));
+      found = ap (λ (xs : List ℕ). xs ++ places_where test (at + 1) (drop (at + 1) blocks)) pushed
+          ∙ append_assoc places (at ∷ []) (places_where test (at + 1) (drop (at + 1) blocks))
+          ∙ ap (λ (xs : List ℕ). places ++ xs) (left_over test blocks at b true stands is)
+          ∙ s.found;
+    }
 
-pub hindering_none : (blocks : List Block) (i : ℕ) (block : Block) (decided : Bool) → AreHinderingSoFar blocks i block decided 0 []
-hindering_none blocks i block decided = record {
-  few = omega arith;
-  each = λ j other less. absurd (omega (arith, less));
-  inside = λ j h. absurd (none_held j h);
-  apart = λ j h. absurd (none_held j h);
-  only = λ j other h. absurd (none_held j h);
-}
-
--- the block at the place permits it, or is it
-pub hindering_kept : (blocks : List Block) (i : ℕ) (block : Block) (decided : Bool) (at : ℕ) (places : List ℕ) (b : Block)
-    → slice_get blocks at ≡ Some b → (at ≢ i → Permits b decided block)
-    → AreHinderingSoFar blocks i block decided at places → AreHinderingSoFar blocks i block decided (at + 1) places
-hindering_kept blocks i block decided at places b here permits s =
+pub found_same : (test : Block → Bool) (blocks : List Block) (at : ℕ) (b : Block) (places : List ℕ) → slice_get blocks at ≡ Some b
+    → test b ≡ false → AreFoundSoFar test blocks at places → AreFoundSoFar test blocks (at + 1) places
+found_same test blocks at b places stands is s =
     let few = s.few in
     record {
       few = omega (arith, few);
-      each = λ j other less stands ne. elim (cases_eq j at) [
-        | inl same ↦
-            (let is = one_at blocks at j b other here stands (sym same) in
-            inr (subst (λ (c : Block). Permits c decided block) is (permits (λ e. ne (same ∙ e)))))
-        | inr other_place ↦ s.each j other (omega (arith, less, other_place)) stands ne
-      ];
-      inside = λ j h. (let less = s.inside j h in omega (arith, less));
-      apart = s.apart;
-      only = s.only;
+      found = ap (λ (xs : List ℕ). places ++ xs) (left_over test blocks at b false stands is) ∙ s.found;
     }
 
--- the block at the place doesn't permit it
-pub hindering_pushed : (blocks : List Block) (i : ℕ) (block : Block) (decided : Bool) (at : ℕ) (places after : List ℕ) (b : Block)
-    → slice_get blocks at ≡ Some b → at ≢ i → ¬ (Permits b decided block) → after ≡ places ++ at ∷ []
-    → AreHinderingSoFar blocks i block decided at places → AreHinderingSoFar blocks i block decided (at + 1) after
-hindering_pushed blocks i block decided at places after b here ne not_permitted is s =
-    subst (λ (xs : List ℕ). AreHinderingSoFar blocks i block decided (at + 1) xs) (sym is) pushed
-  where
-    pushed : AreHinderingSoFar blocks i block decided (at + 1) (places ++ at ∷ [])
-    pushed = let few = s.few in record {
-      few = omega (arith, few, length-append places (at ∷ []));
-      each = λ j other less stands apart. elim (cases_eq j at) [
-        | inl same ↦ inl (subst (λ (n : ℕ). Contains (places ++ at ∷ []) n) (sym same) (Contains-push places at))
-        | inr other_place ↦ elim (s.each j other (omega (arith, less, other_place)) stands apart) [
-          | inl held ↦ inl (Contains-append_left places (at ∷ []) j held)
-          | inr permitted ↦ inr permitted
-        ]
-      ];
-      inside = λ j h. elim (Contains-push_cases places at j h) [
-        | inl held ↦ (let less = s.inside j held in omega (arith, less))
-        | inr same ↦ omega (arith, same)
-      ];
-      apart = λ j h. elim (Contains-push_cases places at j h) [
-        | inl held ↦ s.apart j held
-        | inr same ↦ λ e. ne (same ∙ e)
-      ];
-      only = λ j other h stands. elim (Contains-push_cases places at j h) [
-        | inl held ↦ s.only j other held stands
-        | inr same ↦ λ permitted.
-            not_permitted (subst (λ (c : Block). Permits c decided block) (one_at blocks j at other b stands here (sym same)) permitted)
-      ];
-    }
+pub found_all : (test : Block → Bool) (blocks : List Block) (at : ℕ) (places : List ℕ) → length blocks ≤ at
+    → AreFoundSoFar test blocks at places → places ≡ places_where test 0 blocks
+found_all test blocks at places all s =
+    sym (append-nil places)
+    ∙ ap (λ (bs : List Block). places ++ places_where test at bs) (sym (drop_all at blocks all))
+    ∙ s.found
 
--- those below every place are all
-pub hindering_all : (blocks : List Block) (i : ℕ) (block : Block) (decided : Bool) (at : ℕ) (places : List ℕ)
-    → length blocks ≤ at → at ≤ length blocks → slice_get blocks i ≡ Some block
-    → AreHinderingSoFar blocks i block decided at places → AreHindering blocks i decided places
-hindering_all blocks i block decided at places all most here s = record {
-  each = λ j own other stands stands' ne.
-      (let inside = slice_get_within blocks j other stands' in
-      subst (λ (c : Block). Contains places j ⊎ Permits other decided c) (same_block block own (sym here ∙ stands))
-      (s.each j other (omega (arith, inside, all)) stands' ne));
-  inside = λ j h. (let less = s.inside j h in omega (arith, less, most));
-  apart = s.apart;
-  only = λ j own other h stands stands'.
-      subst (λ (c : Block). ¬ (Permits other decided c)) (same_block block own (sym here ∙ stands)) (s.only j other h stands');
-}
-
--- ---- what they come to
-
-permits_so : (t : Bool) (needed rival : Type 0) (other block : Block) → (needed → t ≡ true) → (rival → t ≡ false)
-    → needed ⊎ Permits other false block → rival ⊎ Permits other true block → Permits other t block
-permits_so true needed rival other block f g p q = elim q [ inl r ↦ absurd (let e = g r in cc) | inr permitted ↦ permitted ]
-permits_so false needed rival other block f g p q = elim p [ inl n ↦ absurd (let e = f n in cc) | inr permitted ↦ permitted ]
-
-allowed_by : (blocks : List Block) (sel : List Bool) (i : ℕ) (block : Block) (parents rivals : List ℕ) → slice_get blocks i ≡ Some block
-    → AreHindering blocks i false parents → AreHindering blocks i true rivals
-    → ((j : ℕ) → Contains parents j → accepts sel j ≡ true) → ((j : ℕ) → Contains rivals j → accepts sel j ≡ false) → IsAllowed blocks sel i
-allowed_by blocks sel i block parents rivals here p r f g = record {
-  block = block;
-  stands = here;
-  others = λ j other ne stands.
-      permits_so (accepts sel j) (Contains parents j) (Contains rivals j) other block (f j) (g j)
-      (p.each j block other here stands ne) (r.each j block other here stands ne);
-}
-
-stands_at : (bs : List Block) (i : ℕ) → i < length bs → (b : Block) × (slice_get bs i ≡ Some b)
-stands_at [] i l = absurd (omega (arith, l))
-stands_at (b ∷ bs) zero l = (b, refl)
-stands_at (b ∷ bs) (suc i) l = stands_at bs i (omega (arith, l))
-
--- if a block is allowed, none that hinders it is decided so
-not_so : (blocks : List Block) (sel : List Bool) (i j : ℕ) (decided : Bool) (places : List ℕ)
-    → AreHindering blocks i decided places → IsAllowed blocks sel i → Contains places j → accepts sel j ≡ decided → ⊥
-not_so blocks sel i j decided places hindering allowed h e =
-    let found = stands_at blocks j (hindering.inside j h) in
-    let permitted = allowed.others j found.0 (hindering.apart j h) found.1 in
-    hindering.only j allowed.block found.0 h allowed.stands found.1 (subst (λ (t : Bool). Permits found.0 t allowed.block) e permitted)
-
--- ---- going through them
-
-pub refused : (r : Bool) (P : Type 0) → r ≡ false → (P → IsTrue r) → ¬ P
-refused true P e f = absurd (cc)
-refused false P e f = λ p. absurd (let wrong = f p in cc)
-
-pub differs : (a b : Bool) → beq a b ≡ false → a ≡ not b
-differs true true ne = absurd (cc)
-differs true false ne = refl
-differs false true ne = refl
-differs false false ne = absurd (cc)
-
--- one place more that isn't decided so
-pub none_more : (sel : List Bool) (places : List ℕ) (i at : ℕ) (decided : Bool)
-    → i < length places → at ≡ slice_index_or places i at → accepts sel at ≡ not decided
-    → ((j : ℕ) → Contains (take i places) j → accepts sel j ≡ not decided)
-    → (j : ℕ) → Contains (take (i + 1) places) j → accepts sel j ≡ not decided
-none_more sel places i at decided inside is apart before j h =
-    let one_more = take_more places i at inside ∙ ap (λ (n : ℕ). take i places ++ n ∷ []) (sym is) in
-    elim (Contains-push_cases (take i places) at j (subst (λ (xs : List ℕ). Contains xs j) one_more h)) [
-      | inl held ↦ before j held
-      | inr same ↦ ap (λ (n : ℕ). accepts sel n) (sym same) ∙ apart
-    ]
-
+-- ---- those of one block more
 pushed_at : (xs : List Hindrances) (x : Hindrances) (i : ℕ) (own : Hindrances) → slice_get (xs ++ x ∷ []) i ≡ Some own
     → (slice_get xs i ≡ Some own) ⊎ ((i ≡ length xs) × (x ≡ own))
 pushed_at [] x zero own e = inr (refl, cc)
@@ -168,7 +69,6 @@ pushed_at (y ∷ xs) x zero own e = inl e
 pushed_at (y ∷ xs) x (suc i) own e =
     elim (pushed_at xs x i own e) [ inl before ↦ inl before | inr last ↦ inr (omega (arith, last.0), last.1) ]
 
--- the hindrances of one block more
 pub all_more : (blocks : List Block) (xs : List Hindrances) (x : Hindrances) → AreHindrances blocks (length xs) x
     → ((i : ℕ) (own : Hindrances) → slice_get xs i ≡ Some own → AreHindrances blocks i own)
     → (i : ℕ) (own : Hindrances) → slice_get (xs ++ x ∷ []) i ≡ Some own → AreHindrances blocks i own
@@ -179,40 +79,137 @@ all_more blocks xs x last before i own e = elim (pushed_at xs x i own e) [
       subst (λ (n : ℕ). AreHindrances blocks n own) (sym here.0) there)
 ]
 
--- ---- the verdict of the two looks
+-- ---- how many of them are accepted
+among_at_most : (sel : List Bool) (places : List ℕ) → accepted_among sel places ≤ length places
+among_at_most sel [] = omega arith
+among_at_most sel (j ∷ places) = one_at_most (accepts sel j) (accepted_among sel places) (length places) (among_at_most sel places)
+  where
+    one_at_most : (x : Bool) (m n : ℕ) → m ≤ n → cond x 1 0 + m ≤ suc n
+    one_at_most true m n l = omega (arith, l)
+    one_at_most false m n l = omega (arith, l)
 
--- a parent is rejected
-pub refused_by : (blocks : List Block) (sel : List Bool) (i : ℕ) (own : Hindrances) (places : List ℕ) (found : Bool)
-    → AreHindrances blocks i own → places ≡ own.parents.items → found ≡ true
-    → (found ≡ true → (j : ℕ) × Contains places j × (accepts sel j ≡ false))
-    → (IsTrue (not found) → IsAllowed blocks sel i) × (IsAllowed blocks sel i → IsTrue (not found))
-refused_by blocks sel i own places found is e f any = (
-  λ t. absurd (cc),
-  λ allowed.
-      (let w = any f in
-      let held = subst (λ (xs : List ℕ). Contains xs w.0) e w.1 in
-      absurd (not_so blocks sel i w.0 false own.parents.items is.parents allowed held w.2)),
-)
+-- all of them are accepted: the first, and the others
+first_too : (x : Bool) (m n : ℕ) → m ≤ n → cond x 1 0 + m ≡ suc n → (x ≡ true) × (m ≡ n)
+first_too true m n l e = (refl, omega (arith, e))
+first_too false m n l e = absurd (omega (arith, l, e))
 
--- no parent is rejected: it is allowed unless a rival is accepted
-pub allowed_unless : (blocks : List Block) (sel : List Bool) (i : ℕ) (own : Hindrances) (parents rivals : List ℕ) (found : Bool)
-    → i < length blocks → AreHindrances blocks i own → parents ≡ own.parents.items → rivals ≡ own.rivals.items
-    → ((j : ℕ) → Contains parents j → accepts sel j ≡ true)
-    → (found ≡ true → (j : ℕ) × Contains rivals j × (accepts sel j ≡ true))
-    → (found ≡ false → (j : ℕ) → Contains rivals j → accepts sel j ≡ false)
-    → (IsTrue (not found) → IsAllowed blocks sel i) × (IsAllowed blocks sel i → IsTrue (not found))
-allowed_unless blocks sel i own parents rivals true inside is e f with_parents any none = (
-  λ t. absurd (cc),
-  λ allowed.
-      (let w = any refl in
-      let held = subst (λ (xs : List ℕ). Contains xs w.0) f w.1 in
-      absurd (not_so blocks sel i w.0 true own.rivals.items is.rivals allowed held w.2)),
-)
-allowed_unless blocks sel i own parents rivals false inside is e f with_parents any none = (
-  λ t.
-      (let here = stands_at blocks i inside in
-      allowed_by blocks sel i here.0 own.parents.items own.rivals.items here.1 is.parents is.rivals
-      (subst (λ (xs : List ℕ). (j : ℕ) → Contains xs j → accepts sel j ≡ true) e with_parents)
-      (subst (λ (xs : List ℕ). (j : ℕ) → Contains xs j → accepts sel j ≡ false) f (none refl))),
-  λ allowed. refl,
-)
+rest_too : (test : Bool) (sel : List Bool) (at : ℕ) (rest : List ℕ)
+    → accepted_among sel (cond test (at ∷ rest) rest) ≡ length (cond test (at ∷ rest) rest) → accepted_among sel rest ≡ length rest
+rest_too true sel at rest e = (first_too (accepts sel at) (accepted_among sel rest) (length rest) (among_at_most sel rest) e).1
+rest_too false sel at rest e = e
+
+this_too : (test : Bool) (sel : List Bool) (at : ℕ) (rest : List ℕ) → test ≡ true
+    → accepted_among sel (cond test (at ∷ rest) rest) ≡ length (cond test (at ∷ rest) rest) → accepts sel at ≡ true
+this_too true sel at rest is e = (first_too (accepts sel at) (accepted_among sel rest) (length rest) (among_at_most sel rest) e).0
+this_too false sel at rest is e = absurd (cc)
+
+each_accepted : (test : Block → Bool) (bs : List Block) (at : ℕ) (sel : List Bool)
+    → accepted_among sel (places_where test at bs) ≡ length (places_where test at bs)
+    → (j : ℕ) (b : Block) → slice_get bs j ≡ Some b → test b ≡ true → accepts sel (at + j) ≡ true
+each_accepted test [] at sel e j b stands is = absurd (cc)
+each_accepted test (c ∷ bs) at sel e zero b stands is =
+    let same : c ≡ b = cc in
+    ap (λ (n : ℕ). accepts sel n) (let same_place : at + 0 ≡ at = omega arith in same_place)
+    ∙ this_too (test c) sel at (places_where test (at + 1) bs) (ap test same ∙ is) e
+each_accepted test (c ∷ bs) at sel e (suc j) b stands is =
+    ap (λ (n : ℕ). accepts sel n) (let same_place : at + suc j ≡ (at + 1) + j = omega arith in same_place)
+    ∙ each_accepted test bs (at + 1) sel (rest_too (test c) sel at (places_where test (at + 1) bs) e) j b stands is
+
+one_counted : (test x : Bool) (sel : List Bool) (at : ℕ) (rest : List ℕ) (n : ℕ) → accepts sel at ≡ x → accepted_among sel rest ≡ n
+    → accepted_among sel (cond test (at ∷ rest) rest) ≡ cond x (cond test 1 0) 0 + n
+one_counted true true sel at rest n e r = ap₂ (λ (y : Bool) (m : ℕ). cond y 1 0 + m) e r
+one_counted true false sel at rest n e r = ap₂ (λ (y : Bool) (m : ℕ). cond y 1 0 + m) e r
+one_counted false true sel at rest n e r = omega (arith, r)
+one_counted false false sel at rest n e r = omega (arith, r)
+
+one_of_all : (test : Bool) (sel : List Bool) (at : ℕ) (rest : List ℕ) → (test ≡ true → accepts sel at ≡ true)
+    → accepted_among sel rest ≡ length rest → accepted_among sel (cond test (at ∷ rest) rest) ≡ length (cond test (at ∷ rest) rest)
+one_of_all true sel at rest e r =
+    let one = ap₂ (λ (y : Bool) (m : ℕ). cond y 1 0 + m) (e refl) r in
+    omega (arith, one)
+one_of_all false sel at rest e r = r
+
+all_accepted : (test : Block → Bool) (bs : List Block) (at : ℕ) (sel : List Bool)
+    → ((j : ℕ) (b : Block) → slice_get bs j ≡ Some b → test b ≡ true → accepts sel (at + j) ≡ true)
+    → accepted_among sel (places_where test at bs) ≡ length (places_where test at bs)
+all_accepted test [] at sel h = refl
+all_accepted test (c ∷ bs) at sel h =
+    one_of_all (test c) sel at (places_where test (at + 1) bs)
+    (λ is. ap (λ (n : ℕ). accepts sel n) (let same_place : at ≡ at + 0 = omega arith in same_place) ∙ h 0 c refl is)
+    (all_accepted test bs (at + 1) sel (λ j b stands is.
+    ap (λ (n : ℕ). accepts sel n) (let same_place : (at + 1) + j ≡ at + suc j = omega arith in same_place) ∙ h (suc j) b stands is))
+
+-- the accepted blocks of a group, counted by their places
+next_places : (at : ℕ) (sel xs : List Bool) → ((k : ℕ) → accepts sel (at + suc k) ≡ accepts xs k)
+    → (k : ℕ) → accepts sel ((at + 1) + k) ≡ accepts xs k
+next_places at sel xs h k =
+    ap (λ (n : ℕ). accepts sel n) (let same_place : (at + 1) + k ≡ at + suc k = omega arith in same_place) ∙ h k
+
+here : (at : ℕ) (sel : List Bool) (x : Bool) → accepts sel (at + 0) ≡ x → accepts sel at ≡ x
+here at sel x e = ap (λ (n : ℕ). accepts sel n) (let same_place : at ≡ at + 0 = omega arith in same_place) ∙ e
+
+counted : (g : Block) (bs : List Block) (at : ℕ) (sel xs : List Bool) → ((k : ℕ) → accepts sel (at + k) ≡ accepts xs k)
+    → accepted_among sel (places_where (λ b. are_of_one_group g b) at bs) ≡ accepted_of_group g bs xs
+counted g [] at sel xs h = refl
+counted g (c ∷ bs) at sel [] h =
+    one_counted (are_of_one_group g c) false sel at (places_where (λ b. are_of_one_group g b) (at + 1) bs) (accepted_of_group g bs [])
+    (here at sel false (h 0)) (counted g bs (at + 1) sel [] (next_places at sel [] (λ k. h (suc k))))
+    ∙ rest_none (accepted_of_group g bs []) (count_none g bs)
+  where
+    rest_none : (n : ℕ) → n ≡ 0 → 0 + n ≡ 0
+    rest_none n e = omega (arith, e)
+counted g (c ∷ bs) at sel (true ∷ xs) h =
+    one_counted (are_of_one_group g c) true sel at (places_where (λ b. are_of_one_group g b) (at + 1) bs) (accepted_of_group g bs xs)
+    (here at sel true (h 0)) (counted g bs (at + 1) sel xs (next_places at sel xs (λ k. h (suc k))))
+counted g (c ∷ bs) at sel (false ∷ xs) h =
+    one_counted (are_of_one_group g c) false sel at (places_where (λ b. are_of_one_group g b) (at + 1) bs) (accepted_of_group g bs xs)
+    (here at sel false (h 0)) (counted g bs (at + 1) sel xs (next_places at sel xs (λ k. h (suc k))))
+    ∙ none_here (accepted_of_group g bs xs)
+  where
+    none_here : (n : ℕ) → 0 + n ≡ n
+    none_here n = omega arith
+
+-- counted from the first place
+from_first : (sel : List Bool) (k : ℕ) → accepts sel (0 + k) ≡ accepts sel k
+from_first sel k = ap (λ (n : ℕ). accepts sel n) (let same_place : 0 + k ≡ k = omega arith in same_place)
+
+counted_group : (g : Block) (bs : List Block) (sel : List Bool) → accepted_among sel (group_of g bs) ≡ accepted_of_group g bs sel
+counted_group g bs sel = counted g bs 0 sel sel (from_first sel)
+
+-- ---- what they come to
+pub allowed_by : (blocks : List Block) (sel : List Bool) (i : ℕ) (own : Hindrances) (parents group : List ℕ) → AreHindrances blocks i own
+    → parents ≡ own.parents.items → group ≡ own.group.items → accepted_among sel parents ≡ length parents
+    → accepted_among sel group ≤ most_of_group → IsAllowed blocks sel i
+allowed_by blocks sel i own parents group is e f all few =
+    let counts = counted_group is.block blocks sel in
+    let place = ap (λ (xs : List ℕ). accepted_among sel xs) (f ∙ is.are.group) in
+    record {
+      block = is.block;
+      stands = is.stands;
+      parent = λ j other at p.
+          sym (from_first sel j)
+          ∙ each_accepted (λ b. names b is.block) blocks 0 sel
+          (subst (λ (xs : List ℕ). accepted_among sel xs ≡ length xs) (e ∙ is.are.parents) all) j other at ((named other is.block).1 p);
+      group = omega (arith, few, counts, place);
+    }
+
+pub parents_accepted : (blocks : List Block) (sel : List Bool) (i : ℕ) (own : Hindrances) (parents : List ℕ) → AreHindrances blocks i own
+    → parents ≡ own.parents.items → IsAllowed blocks sel i → accepted_among sel parents ≡ length parents
+parents_accepted blocks sel i own parents is e allowed =
+    let stands = is.stands in let here = allowed.stands in
+    let same : is.block ≡ allowed.block = cc in
+    subst (λ (xs : List ℕ). accepted_among sel xs ≡ length xs) (sym (e ∙ is.are.parents))
+    (all_accepted (λ b. names b is.block) blocks 0 sel (λ j other at n.
+    from_first sel j
+    ∙ allowed.parent j other at (subst (λ (b : Block). IsParent other b) same ((named other is.block).0 n))))
+
+pub group_within : (blocks : List Block) (sel : List Bool) (i : ℕ) (own : Hindrances) (group : List ℕ) → AreHindrances blocks i own
+    → group ≡ own.group.items → IsAllowed blocks sel i → accepted_among sel group ≤ most_of_group
+group_within blocks sel i own group is f allowed =
+    let stands = is.stands in let here = allowed.stands in
+    let same : allowed.block ≡ is.block = cc in
+    let most = allowed.group in
+    let counts = counted_group is.block blocks sel in
+    let place = ap (λ (xs : List ℕ). accepted_among sel xs) (f ∙ is.are.group) in
+    let number = ap (λ (b : Block). accepted_of_group b blocks sel) same in
+    omega (arith, most, counts, place, number)

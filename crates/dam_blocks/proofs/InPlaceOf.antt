@@ -23,6 +23,7 @@ use Rattle.dam_blocks.specs.Result.{IsResult}
 use Rattle.dam_blocks.specs.Market.{StandsAlone}
 use Rattle.dam_blocks.specs.Changes.{with_limit}
 use Rattle.dam_blocks.proofs.Families.{accepts_descendant}
+use Rattle.dam_blocks.proofs.GroupCounts.{count_at_most, count_alone, other_has_group}
 use Rattle.dam_blocks.proofs.Descending.{descends_is}
 use Rattle.dam_blocks.proofs.WelfareAtLeastZero.{added_some, raised_some}
 use Rattle.dam_blocks.proofs.Sums.{over_accepted-nil}
@@ -266,38 +267,41 @@ more_welfare problem i j b c xs v two d e =
     )
 
 -- ---- eligible
+-- what is accepted is the better block, or was accepted before
+was_accepted : (xs : List Bool) (i j k : ℕ) → AreDecided xs i j → (k ≡ i → ⊥) → accepts (exchanged xs i j) k ≡ true → accepts xs k ≡ true
+was_accepted xs i j k d from_i on =
+    sym (as_before xs i j k from_i (λ e. (let off = ap (λ (n : ℕ). accepts (exchanged xs i j) n) e ∙ now_off xs i j d in absurd (cc)))) ∙ on
+
+-- a block of a group is accepted only if it was before
+was_on : (problem : ProblemState) (i j m : ℕ) (b c other : Block) (xs : List Bool) → AreTwo problem i j b c → AreDecided xs i j
+    → slice_get problem.blocks m ≡ Some other → (other.order.group ≡ None → ⊥) → accepts (exchanged xs i j) m ≡ true → accepts xs m ≡ true
+was_on problem i j m b c other xs two d at grouped on = elim (cases_eq m i) [
+  | inl e ↦
+      (let same = same_block other b (sym at ∙ ap (λ (n : ℕ). slice_get problem.blocks n) e ∙ two.first) in
+      absurd (grouped (ap (λ (q : Block). q.order.group) same ∙ two.alone.no_group)))
+  | inr from_i ↦ was_accepted xs i j m d from_i on
+]
+
 allowed_too : (problem : ProblemState) (i j k : ℕ) (b c : Block) (xs : List Bool) → AreTwo problem i j b c → AreDecided xs i j
     → IsAllowed problem.blocks xs k → IsAllowed problem.blocks (exchanged xs i j) k
 allowed_too problem i j k b c xs two d allowed = record {
   block = allowed.block;
   stands = allowed.stands;
-  others = λ m other apart at.
-      (let permits = allowed.others m other apart at in
-      let bs = problem.blocks in
+  parent = λ m other at is.
       elim (cases_eq m i) [
-        | inl e ↦
-            (let same = same_block other b (sym at ∙ ap (λ (n : ℕ). slice_get bs n) e ∙ two.first) in record {
-              parent = λ is. ap (λ (n : ℕ). accepts (exchanged xs i j) n) e ∙ now_on xs i j d;
-              group = λ on one.
-                  (let no : None ≡ Some one.group =
-                  sym two.alone.no_group ∙ ap (λ (q : Block). q.order.group) (sym same) ∙ one.second in absurd (cc));
-            })
+        | inl e ↦ ap (λ (n : ℕ). accepts (exchanged xs i j) n) e ∙ now_on xs i j d
         | inr from_i ↦ elim (cases_eq m j) [
           | inl e ↦
-              (let same = same_block other c (sym at ∙ ap (λ (n : ℕ). slice_get bs n) e ∙ two.second) in record {
-                parent = λ is.
-                    absurd (two.other.no_child k allowed.block allowed.stands (subst (λ (q : Block). IsParent q allowed.block) same is));
-                group = λ on one.
-                    (let no : None ≡ Some one.group =
-                    sym two.other.no_group ∙ ap (λ (q : Block). q.order.group) (sym same) ∙ one.second in absurd (cc));
-              })
-          | inr from_j ↦
-              (let kept = as_before xs i j m from_i from_j in record {
-                parent = λ is. kept ∙ permits.parent is;
-                group = λ on. permits.group (sym kept ∙ on);
-              })
+              (let same = same_block other c (sym at ∙ ap (λ (n : ℕ). slice_get problem.blocks n) e ∙ two.second) in
+              absurd (two.other.no_child k allowed.block allowed.stands (subst (λ (q : Block). IsParent q allowed.block) same is)))
+          | inr from_j ↦ as_before xs i j m from_i from_j ∙ allowed.parent m other at is
         ]
-      ]);
+      ];
+  group =
+      (let fewer = count_at_most allowed.block problem.blocks (exchanged xs i j) xs (λ m other at one on.
+      was_on problem i j m b c other xs two d at (λ none. other_has_group allowed.block other one none) on) in
+      let most = allowed.group in
+      omega (arith, fewer, most));
 }
 
 own_allowed : (problem : ProblemState) (i : ℕ) (b : Block) (ys : List Bool) → slice_get problem.blocks i ≡ Some b
@@ -305,16 +309,9 @@ own_allowed : (problem : ProblemState) (i : ℕ) (b : Block) (ys : List Bool) �
 own_allowed problem i b ys at alone = record {
   block = b;
   stands = at;
-  others = λ m other apart there. record {
-    parent = λ is. (let no : None ≡ Some other.name = sym alone.no_parent ∙ is.name in absurd (cc));
-    group = λ on one. (let no : None ≡ Some one.group = sym alone.no_group ∙ one.first in absurd (cc));
-  };
+  parent = λ m other there is. (let no : None ≡ Some other.name = sym alone.no_parent ∙ is.name in absurd (cc));
+  group = (let none = count_alone b problem.blocks ys alone.no_group in omega (arith, none));
 }
-
--- what is accepted is the better block, or was accepted before
-was_accepted : (xs : List Bool) (i j k : ℕ) → AreDecided xs i j → (k ≡ i → ⊥) → accepts (exchanged xs i j) k ≡ true → accepts xs k ≡ true
-was_accepted xs i j k d from_i on =
-    sym (as_before xs i j k from_i (λ e. (let off = ap (λ (n : ℕ). accepts (exchanged xs i j) n) e ∙ now_off xs i j d in absurd (cc)))) ∙ on
 
 admissible_too : (problem : ProblemState) (i j : ℕ) (b c : Block) (xs : List Bool) → AreTwo problem i j b c → AreDecided xs i j
     → IsAdmissible problem.blocks xs → IsAdmissible problem.blocks (exchanged xs i j)

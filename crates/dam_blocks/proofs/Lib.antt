@@ -2,6 +2,7 @@
 pub mod Bits
 pub mod Sums
 pub mod Families
+pub mod GroupCounts
 pub mod WelfareAtLeastZero
 pub mod Descending
 pub mod Magnitudes

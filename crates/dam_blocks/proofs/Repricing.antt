@@ -1,12 +1,13 @@
 -- A block with another limit: no price reads it, and a better one raises what the block and its ancestors gain, and the
 -- welfare of the selections that accept it.
-use Rattle.std.proofs.Common.{◌≡◌, ◌⊎◌, inl, inr, ℕ, zero, suc, ◌+◌, ◌*◌, ◌<◌, ℤ, pos, negsuc, ◌+ℤ◌, ◌-ℤ◌, ◌*ℤ◌, ◌≤ℤ◌, Bool, true, false}
+use Rattle.std.proofs.Common.{◌≡◌, ◌⊎◌, inl, inr, ℕ, zero, suc, ◌+◌, ◌*◌, ◌<◌, ◌≤◌, ℤ, pos, negsuc, ◌+ℤ◌, ◌-ℤ◌, ◌*ℤ◌, ◌≤ℤ◌, Bool, true, false}
 use Rattle.std.proofs.Common.{◌&&◌, ◌||◌, ◌==◌, cond, not, nat_lt, Option, Some, None, List, [], ◌∷◌, length, slice_set, ap, ap₂, ◌∙◌, sym, subst, refl, arith}
 use Rattle.std.specs.List.{slice_get, position_or_len}
 use Rattle.std.specs.Option.{option_map, unwrap_or}
 use Rattle.std.proofs.lemmas.Int.{ints}
 use Rattle.std.proofs.lemmas.Bool.{cases_eq}
 use borrow.Author.Differences.{up, down}
+use Rattle.dam_book.specs.Limits.{most_of_group}
 use Rattle.dam_book.specs.Terms.{BlockTerms}
 use Rattle.dam_book.specs.declared.order.Side.{Side}
 use Rattle.dam_book.specs.declared.order.Side.TheVariants.{Buy, Sell}
@@ -14,9 +15,9 @@ use Rattle.dam_hour.specs.declared.step.Step.{Step}
 use Rattle.dam_hour.specs.Price.{IsBetter, IsWorse}
 use Rattle.dam_hour.specs.Best.{signed, greatest_welfare}
 use Rattle.dam_blocks.specs.declared.problem.Block.{Block}
-use Rattle.dam_blocks.specs.Problem.{ProblemState}
-use Rattle.dam_blocks.specs.Selection.{accepts, volume_in, over_accepted, net_volume_of, value_of, net_volume, block_value, Permits}
-use Rattle.dam_blocks.specs.Selection.{IsAdmissible}
+use Rattle.dam_blocks.specs.Problem.{ProblemState, IsParent}
+use Rattle.dam_blocks.specs.Selection.{accepts, volume_in, over_accepted, net_volume_of, value_of, net_volume, block_value, are_of_one_group}
+use Rattle.dam_blocks.specs.Selection.{accepted_of_group, IsAdmissible}
 use Rattle.dam_blocks.specs.Family.{names, parent_among, parent_place, leads_to, descends, accepted_descendants}
 use Rattle.dam_blocks.specs.Eligible.{ArePrices, surplus_from, surplus_of, surplus_at, family_surplus, HasNoLoss, added, period_welfare}
 use Rattle.dam_blocks.specs.Eligible.{welfare_from, IsEligible}
@@ -24,6 +25,7 @@ use Rattle.dam_blocks.specs.Result.{RanksAtOrBelow, IsResult}
 use Rattle.dam_blocks.specs.Market.{IsOutcome, AreBestExecutions}
 use Rattle.dam_blocks.specs.Changes.{with_limit, IsWithLimit}
 use Rattle.dam_blocks.proofs.Families.{accepts_descendant}
+use Rattle.dam_blocks.proofs.GroupCounts.{same_count}
 use Rattle.dam_blocks.proofs.WelfareAtLeastZero.{added_some, raised_some}
 use Rattle.dam_blocks.proofs.Participants.{over_accepted-agree}
 use Rattle.dam_blocks.proofs.Ranks.{same_rank}
@@ -172,19 +174,21 @@ stands_limited (c ∷ bs) zero (suc j) limit b at = (b, at, record { who = refl;
 stands_limited (c ∷ bs) (suc i) zero limit b at = (b, at, record { who = refl; name = refl; parent = refl; group = refl })
 stands_limited (c ∷ bs) (suc i) (suc j) limit b at = stands_limited bs i j limit b at
 
-permits_alike : (x y b c : Block) (acc : Bool) → AreAlike x y → AreAlike b c → Permits x acc b → Permits y acc c
-permits_alike x y b c acc first second p = record {
-  parent = λ is. p.parent (record {
-    who = first.who ∙ is.who ∙ sym second.who;
-    name = second.parent ∙ is.name ∙ ap (λ (n : List ℕ). Some n) (sym first.name);
-  });
-  group = λ is one. p.group is (record {
-    who = second.who ∙ one.who ∙ sym first.who;
-    group = one.group;
-    first = second.group ∙ one.first;
-    second = first.group ∙ one.second;
-  });
+parent_alike : (x y b c : Block) → AreAlike x y → AreAlike b c → IsParent y c → IsParent x b
+parent_alike x y b c first second is = record {
+  who = first.who ∙ is.who ∙ sym second.who;
+  name = second.parent ∙ is.name ∙ ap (λ (n : List ℕ). Some n) (sym first.name);
 }
+
+same_number : (g : Block) (bs : List Block) (sel : List Bool) (i : ℕ) (limit : ℤ)
+    → accepted_of_group g (repriced bs i limit) sel ≡ accepted_of_group g bs sel
+same_number g [] sel i limit = refl
+same_number g (c ∷ bs) [] zero limit = refl
+same_number g (c ∷ bs) [] (suc i) limit = refl
+same_number g (c ∷ bs) (true ∷ sel) zero limit = refl
+same_number g (c ∷ bs) (false ∷ sel) zero limit = refl
+same_number g (c ∷ bs) (true ∷ sel) (suc i) limit = ap (λ (n : ℕ). cond (are_of_one_group g c) 1 0 + n) (same_number g bs sel i limit)
+same_number g (c ∷ bs) (false ∷ sel) (suc i) limit = same_number g bs sel i limit
 
 limited_admissible : (bs : List Block) (sel : List Bool) (i : ℕ) (limit : ℤ) → IsAdmissible bs sel → IsAdmissible (repriced bs i limit) sel
 limited_admissible bs sel i limit is = record {
@@ -194,9 +198,11 @@ limited_admissible bs sel i limit is = record {
       record {
         block = own.0;
         stands = own.1;
-        others = λ k other apart at.
+        parent = λ k other at is_parent.
             (let was = alike_at bs i k limit other at in
-            permits_alike was.0 other allowed.block own.0 (accepts sel k) was.2 own.2 (allowed.others k was.0 apart was.1));
+            allowed.parent k was.0 was.1 (parent_alike was.0 other allowed.block own.0 was.2 own.2 is_parent));
+        group = subst (λ (n : ℕ). n ≤ most_of_group)
+            (same_count allowed.block own.0 own.2.who own.2.group bs sel ∙ sym (same_number own.0 bs sel i limit)) allowed.group;
       });
 }
 

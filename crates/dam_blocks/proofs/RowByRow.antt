@@ -23,7 +23,7 @@ use Rattle.dam_blocks.specs.Problem.{step_in, steps_in, hours_from, block_under,
 use Rattle.dam_blocks.specs.inside.Making.{hourly_step, with_step}
 use Rattle.dam_blocks.proofs.FromBook.{hour_stands, few_hours}
 
-drop_at : {X : Type 0} (xs : List X) (i : ℕ) (x : X) → slice_get xs i ≡ Some x → drop i xs ≡ x ∷ drop (i + 1) xs
+pub drop_at : {X : Type 0} (xs : List X) (i : ℕ) (x : X) → slice_get xs i ≡ Some x → drop i xs ≡ x ∷ drop (i + 1) xs
 drop_at xs i x e = go xs i x e ∙ ap (λ (n : ℕ). x ∷ drop n xs) (let one : suc i ≡ i + 1 = omega arith in one)
   where
     go : {X : Type 0} (xs : List X) (i : ℕ) (x : X) → slice_get xs i ≡ Some x → drop i xs ≡ x ∷ drop (suc i) xs

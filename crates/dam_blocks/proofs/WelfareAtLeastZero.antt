@@ -126,10 +126,7 @@ are_chains problem sel is admissible = record {
   with_parent = λ j p acc e. (let found = parent_found problem.blocks j p e in
       let allowed = admissible.each j acc in
       let block : found.child ≡ allowed.block = same_block_in _ _ (sym found.child_stands ∙ allowed.stands) in
-      let less = parent_stands_before problem j p is e in
-      let permits = allowed.others p found.parent (λ same. (let wrong : 0 < 0 = omega (arith, less, same) in omega (arith, wrong)))
-      found.parent_stands in
-      permits.parent (subst (λ (b : Block). IsParent found.parent b) block found.is_parent));
+      allowed.parent p found.parent found.parent_stands (subst (λ (b : Block). IsParent found.parent b) block found.is_parent));
   within = λ j acc. (let allowed = admissible.each j acc in (allowed.block, allowed.stands));
 }
 

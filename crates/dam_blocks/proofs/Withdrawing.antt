@@ -1,6 +1,6 @@
 -- A problem without one of its blocks: its selections are those of the whole that reject the block.
-use Rattle.std.proofs.Common.{◌≡◌, ◌⊎◌, inl, inr, ℕ, zero, suc, ◌-◌, ◌<◌, ℤ, pos, ◌+ℤ◌, ◌≤ℤ◌, Bool, true, false, ◌&&◌, Option, Some}
-use Rattle.std.proofs.Common.{List, [], ◌∷◌, ◌++◌, length, length-append, ap, ap₂, ◌∙◌, sym, subst, refl, arith}
+use Rattle.std.proofs.Common.{◌≡◌, ◌⊎◌, inl, inr, ℕ, zero, suc, ◌-◌, ◌<◌, ℤ, pos, ◌+ℤ◌, ◌≤ℤ◌, Bool, true, false, ◌&&◌, cond, Option}
+use Rattle.std.proofs.Common.{Some, ◌+◌, ◌≤◌, List, [], ◌∷◌, ◌++◌, length, length-append, ap, ap₂, ◌∙◌, sym, subst, refl, arith}
 use Rattle.std.specs.List.{slice_get, insert, remove}
 use Rattle.std.specs.Option.{option_map, unwrap_or}
 use Rattle.std.proofs.lemmas.Int.{ints}
@@ -8,11 +8,12 @@ use Rattle.std.proofs.lemmas.Bool.{false_from_ne_true}
 use Rattle.std.proofs.lemmas.Option.{slice_get_within}
 use Rattle.std.proofs.lemmas.List.Edits.{length-remove}
 use Rattle.dam_book.specs.Terms.{BlockTerms}
-use Rattle.dam_book.specs.Limits.{most_blocks}
+use Rattle.dam_book.specs.Limits.{most_blocks, most_of_group}
 use Rattle.dam_hour.specs.declared.step.Step.{Step}
 use Rattle.dam_blocks.specs.declared.problem.Block.{Block}
 use Rattle.dam_blocks.specs.Problem.{ProblemState, IsProblem, IsParent}
-use Rattle.dam_blocks.specs.Selection.{accepts, over_accepted, net_volume_of, value_of, net_volume, Permits, IsAllowed, IsAdmissible}
+use Rattle.dam_blocks.specs.Selection.{accepts, over_accepted, net_volume_of, value_of, net_volume, are_of_one_group, accepted_of_group}
+use Rattle.dam_blocks.specs.Selection.{IsAllowed, IsAdmissible}
 use Rattle.dam_blocks.specs.Family.{descends, accepted_descendants, IsChildAt, Descends, Child, OfChild}
 use Rattle.dam_blocks.specs.Eligible.{ArePrices, surplus_of, family_surplus, HasNoLoss, welfare_from, selection_welfare, IsEligible}
 use Rattle.dam_blocks.specs.Result.{accepts_first, RanksAtOrBelow, IsResult}
@@ -20,6 +21,7 @@ use Rattle.dam_blocks.specs.Market.{IsOutcome, AreBestExecutions}
 use Rattle.dam_blocks.specs.Changes.{without_place, IsWithoutBlock}
 use Rattle.dam_blocks.proofs.Sums.{over_accepted-nil}
 use Rattle.dam_blocks.proofs.Families.{accepts_descendant}
+use Rattle.dam_blocks.proofs.GroupCounts.{count_none}
 use Rattle.dam_blocks.proofs.Descending.{descends_is}
 use Rattle.dam_blocks.proofs.Participants.{over_accepted-agree}
 use Rattle.dam_blocks.proofs.Transfer.{prices_transfer, executions_transfer, welfare_transfer}
@@ -35,13 +37,6 @@ up_apart : (i j : ℕ) → up i j ≡ i → ⊥
 up_apart zero j e = absurd (omega (arith, e))
 up_apart (suc i) zero e = absurd (omega (arith, e))
 up_apart (suc i) (suc j) e = up_apart i j (omega (arith, e))
-
-up_once : (i j k : ℕ) → up i j ≡ up i k → j ≡ k
-up_once zero j k e = omega (arith, e)
-up_once (suc i) zero zero e = refl
-up_once (suc i) zero (suc k) e = absurd (omega (arith, e))
-up_once (suc i) (suc j) zero e = absurd (omega (arith, e))
-up_once (suc i) (suc j) (suc k) e = ap suc (up_once i j k (omega (arith, e)))
 
 -- every other place is one of the rest
 from_rest : (i j : ℕ) → (j ≡ i) ⊎ ((k : ℕ) × (up i k ≡ j))
@@ -92,6 +87,21 @@ over_rest f (b ∷ bs) (false ∷ zs) (suc i) = over_rest f bs zs i
 over_both : (f : BlockTerms → ℤ) (bs : List Block) (zs : List Bool) (i : ℕ)
     → over_accepted f bs (insert zs i false) ≡ over_accepted f (remove bs i) (zs ++ false ∷ [])
 over_both f bs zs i = over_rest f bs zs i ∙ sym (over_padded f (remove bs i) zs)
+
+count_padded : (g : Block) (bs : List Block) (zs : List Bool) → accepted_of_group g bs (zs ++ false ∷ []) ≡ accepted_of_group g bs zs
+count_padded g [] zs = refl
+count_padded g (b ∷ bs) [] = count_none g bs
+count_padded g (b ∷ bs) (true ∷ zs) = ap (λ (n : ℕ). cond (are_of_one_group g b) 1 0 + n) (count_padded g bs zs)
+count_padded g (b ∷ bs) (false ∷ zs) = count_padded g bs zs
+
+count_rest : (g : Block) (bs : List Block) (zs : List Bool) (i : ℕ)
+    → accepted_of_group g bs (insert zs i false) ≡ accepted_of_group g (remove bs i) (zs ++ false ∷ [])
+count_rest g [] zs zero = refl
+count_rest g [] zs (suc i) = refl
+count_rest g (b ∷ bs) zs zero = sym (count_padded g bs zs)
+count_rest g (b ∷ bs) [] (suc i) = count_none g bs ∙ sym (count_none g (remove bs i))
+count_rest g (b ∷ bs) (true ∷ zs) (suc i) = ap (λ (n : ℕ). cond (are_of_one_group g b) 1 0 + n) (count_rest g bs zs i)
+count_rest g (b ∷ bs) (false ∷ zs) (suc i) = count_rest g bs zs i
 
 length_whole : (zs : List Bool) (i : ℕ) → length (insert zs i false) ≡ suc (length zs)
 length_whole zs zero = refl
@@ -219,14 +229,20 @@ same_families whole rest i gone a b both =
     (λ e. (descends_is whole (up i a) (up i b) both.is_whole).1 (descends_up whole rest i gone a b both ((descends_is rest a b both.is_rest).0 e)))
 
 -- ---- admissible
+count_both : (whole rest : ProblemState) (i : ℕ) (gone g : Block) (zs : List Bool) → IsWithoutBlock whole rest i gone
+    → accepted_of_group g whole.blocks (insert zs i false) ≡ accepted_of_group g rest.blocks (zs ++ false ∷ [])
+count_both whole rest i gone g zs w =
+    count_rest g whole.blocks zs i ∙ ap (λ (bs : List Block). accepted_of_group g bs (zs ++ false ∷ [])) (sym w.blocks)
+
 rest_allowed : (whole rest : ProblemState) (i : ℕ) (gone : Block) (zs : List Bool) (j : ℕ) → AreBoth whole rest i gone
     → IsAllowed whole.blocks (insert zs i false) (up i j) → IsAllowed rest.blocks (zs ++ false ∷ []) j
 rest_allowed whole rest i gone zs j both allowed = record {
   block = allowed.block;
   stands = stands_down whole rest i gone j allowed.block both.without allowed.stands;
-  others = λ k other apart at.
-      subst (λ (x : Bool). Permits other x allowed.block) (accepts_rest zs i k ∙ sym (accepts_padded zs k))
-      (allowed.others (up i k) other (λ e. apart (up_once i k j e)) (stands_up whole rest i gone k other both.without at));
+  parent = λ k other at is.
+      accepts_padded zs k ∙ sym (accepts_rest zs i k)
+      ∙ allowed.parent (up i k) other (stands_up whole rest i gone k other both.without at) is;
+  group = subst (λ (n : ℕ). n ≤ most_of_group) (count_both whole rest i gone allowed.block zs both.without) allowed.group;
 }
 
 rest_admissible : (whole rest : ProblemState) (i : ℕ) (gone : Block) (zs : List Bool) → AreBoth whole rest i gone
@@ -240,24 +256,18 @@ whole_allowed : (whole rest : ProblemState) (i : ℕ) (gone : Block) (zs : List 
 whole_allowed whole rest i gone zs j both allowed = record {
   block = allowed.block;
   stands = stands_up whole rest i gone j allowed.block both.without allowed.stands;
-  others = λ k other apart at.
-      elim (from_rest i k) as (λ _. Permits other (accepts (insert zs i false) k) allowed.block) [
+  parent = λ k other at p.
+      elim (from_rest i k) as (λ _. accepts (insert zs i false) k ≡ true) [
         | inl same ↦
             (let is : other ≡ gone = same_block other gone
             (sym at ∙ ap (λ (m : ℕ). slice_get whole.blocks m) same ∙ both.without.stands) in
-            let off : accepts (insert zs i false) k ≡ false =
-            ap (λ (m : ℕ). accepts (insert zs i false) m) same ∙ accepts_gone zs i in
-            record {
-              parent = λ p. absurd (no_child whole rest i gone j allowed.block both allowed.stands
-                  (subst (λ (c : Block). IsParent c allowed.block) is p));
-              group = λ acc. absurd (cc);
-            })
+            absurd (no_child whole rest i gone j allowed.block both allowed.stands (subst (λ (c : Block). IsParent c allowed.block) is p)))
         | inr up_k ↦
-            subst (λ (x : Bool). Permits other x allowed.block)
-            (accepts_padded zs up_k.0 ∙ sym (accepts_rest zs i up_k.0) ∙ ap (λ (m : ℕ). accepts (insert zs i false) m) up_k.1)
-            (allowed.others up_k.0 other (λ e. apart (sym up_k.1 ∙ ap (λ (m : ℕ). up i m) e))
-            (stands_down whole rest i gone up_k.0 other both.without (ap (λ (m : ℕ). slice_get whole.blocks m) up_k.1 ∙ at)))
+            ap (λ (m : ℕ). accepts (insert zs i false) m) (sym up_k.1) ∙ accepts_rest zs i up_k.0 ∙ sym (accepts_padded zs up_k.0)
+            ∙ allowed.parent up_k.0 other
+            (stands_down whole rest i gone up_k.0 other both.without (ap (λ (m : ℕ). slice_get whole.blocks m) up_k.1 ∙ at)) p
       ];
+  group = subst (λ (n : ℕ). n ≤ most_of_group) (sym (count_both whole rest i gone allowed.block zs both.without)) allowed.group;
 }
 
 -- what the whole accepts is of the rest

@@ -1,9 +1,10 @@
 -- Selections of blocks: what they take part in, and which of them the links and the groups admit.
-use Rattle.std.specs.Prelude.{◌≡◌, ◌≢◌, ℕ, zero, suc, ◌-◌, ◌^◌, ℤ, pos, neg_ℤ, ◌+ℤ◌, ◌*ℤ◌, Bool, true, false, nat_lt, ◌==◌, Some, List, []}
-use Rattle.std.specs.Prelude.{◌∷◌, ◌++◌, length, replicate, slice_get, slice_index_or, if◌then◌else◌}
+use Rattle.std.specs.Prelude.{◌≡◌, ℕ, zero, suc, ◌+◌, ◌-◌, ◌^◌, ◌≤◌, ℤ, pos, neg_ℤ, ◌+ℤ◌, ◌*ℤ◌, Bool, true, false, ◌&&◌, nat_lt, ◌==◌}
+use Rattle.std.specs.Prelude.{Option, Some, List, [], ◌∷◌, ◌++◌, length, replicate, slice_get, slice_index_or, if◌then◌else◌}
+use Rattle.dam_book.specs.Name.{same_text}
 use Rattle.dam_book.specs.Terms.{BlockTerms}
 use Rattle.dam_book.specs.Volumes.{Pair}
-use Rattle.dam_book.specs.Limits.{most_blocks}
+use Rattle.dam_book.specs.Limits.{most_blocks, most_of_group}
 use Rattle.dam_book.specs.declared.order.Side.TheVariants.{Buy}
 use Rattle.dam_hour.specs.Execution.{volume_on}
 use Rattle.dam_hour.specs.Best.{signed}
@@ -67,26 +68,32 @@ bought_volume blocks selection t = over_accepted (bought_volume_of t) blocks sel
 abbrev pub block_value : List Block → List Bool → ℕ → ℤ
 block_value blocks selection t = over_accepted (value_of t) blocks selection
 
--- both are in one exclusive group of one participant
-pub record AreOfOneGroup (a b : Block) : Type 0 where
-  pub who : a.who ≡ b.who
-  pub group : List ℕ
-  pub first : a.order.group ≡ Some group
-  pub second : b.order.group ≡ Some group
+-- whether both name one group
+abbrev pub same_group : Option (List ℕ) → Option (List ℕ) → Bool
+same_group (Some group) (Some other) = same_text group other
+same_group _ _ = false
 
--- a parent is accepted with its child, and of one group no other
-pub record Permits (other : Block) (is_accepted : Bool) (block : Block) : Type 0 where
-  pub parent : IsParent other block → is_accepted ≡ true
-  pub group : is_accepted ≡ true → ¬ (AreOfOneGroup block other)
+-- whether both are in one exclusive group of one participant
+abbrev pub are_of_one_group : Block → Block → Bool
+are_of_one_group a b = same_text a.who b.who && same_group a.order.group b.order.group
 
--- a block stands at the place, and each other block permits it
+-- how many accepted blocks are of this one's group, itself among them; 0 if it has no group
+abbrev pub accepted_of_group : Block → List Block → List Bool → ℕ
+accepted_of_group block (b ∷ bs) (true ∷ selection) =
+    (if are_of_one_group block b then 1 else 0) + accepted_of_group block bs selection
+accepted_of_group block (b ∷ bs) (false ∷ selection) = accepted_of_group block bs selection
+accepted_of_group block _ _ = 0
+
+-- a block stands at the place, its parent is accepted if it has one, and so are at most
+-- `most_of_group` blocks of its group
 pub record IsAllowed (blocks : List Block) (selection : List Bool) (i : ℕ) : Type 0 where
   pub block : Block
   pub stands : slice_get blocks i ≡ Some block
-  pub others : (j : ℕ) (other : Block) → j ≢ i → slice_get blocks j ≡ Some other
-      → Permits other (accepts selection j) block
+  pub parent : (j : ℕ) (other : Block) → slice_get blocks j ≡ Some other → IsParent other block
+      → accepts selection j ≡ true
+  pub group : accepted_of_group block blocks selection ≤ most_of_group
 
--- only blocks are accepted, each with its parent, and at most one of each group; a problem's parents
--- all stand among its blocks, so that none is missing
+-- only blocks are accepted, each with its parent, and at most `most_of_group` of each group; a
+-- problem's parents all stand among its blocks, so that none is missing
 pub record IsAdmissible (blocks : List Block) (selection : List Bool) : Type 0 where
   pub each : (i : ℕ) → accepts selection i ≡ true → IsAllowed blocks selection i

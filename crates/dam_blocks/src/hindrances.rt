@@ -1,34 +1,47 @@
-ghost use Rattle.std.specs.Prelude.{◌≡◌, ◌<◌, ◌≤◌, ℕ, true, false, not, length, Contains, IfOk};
+ghost use Rattle.std.specs.Prelude.{◌≡◌, ◌≤◌, length, IfOk};
 ghost use Rattle.dam_book.specs.Limits.{most_blocks};
-ghost use Rattle.dam_blocks.specs.Selection.{accepts};
-ghost use Rattle.dam_blocks.specs.inside.Hindrances.{AreHindering, AreAllHindrances};
+ghost use Rattle.dam_blocks.specs.inside.Hindrances.{parents_of, group_of, accepted_among, AreAllHindrances};
 
-use crate::links::permits;
+use crate::family::is_parent;
+use crate::links::are_of_one_group;
 use crate::problem::Block;
 use crate::selection::Selection;
 use arrayvec::ArrayVec;
 use dam_book::MOST_BLOCKS;
 use std::alloc::{AllocError, Allocator};
 
-/// The other blocks that may keep a block from being accepted, as places from 0 in book order.
+/// The blocks that may keep a block from being accepted, as places from 0 in book order.
 #[derive(Drop)]
 pub(crate) struct Hindrances {
     /// Its parent, if it has one, which hinders it while rejected.
     pub(crate) parents: ArrayVec<u8, MOST_BLOCKS>,
-    /// The others of its group, each of which hinders it while accepted.
-    pub(crate) rivals: ArrayVec<u8, MOST_BLOCKS>,
+    /// The blocks of its group, itself among them, if it has one. They hinder it while too many of them are
+    /// accepted.
+    pub(crate) group: ArrayVec<u8, MOST_BLOCKS>,
 }
 
-/// The places of the other blocks that don't permit the one at a place if they are decided so.
-fn places_of(blocks: &[Block], place: usize, decided: bool) -> ArrayVec<u8, MOST_BLOCKS>
-    requires place { place < length blocks.now }
-    requires few { length blocks.now ≤ most_blocks }
-    ensures { AreHindering blocks.now place decided result.items }
+/// The place of the block's parent, if it has one.
+fn parents_of(blocks: &[Block], block: &Block) -> ArrayVec<u8, MOST_BLOCKS>
+    requires { length blocks.now ≤ most_blocks }
+    ensures { result.items ≡ parents_of block.now blocks.now }
 {
-    let block = &blocks[place];
     let mut places = ArrayVec::new();
     for (at, other) in blocks.iter().enumerate() {
-        if at != place && !permits(other, decided, block) {
+        if is_parent(other, block) {
+            places.push(at as u8);
+        }
+    }
+    places
+}
+
+/// The places of the blocks of the block's group, its own among them.
+fn group_of(blocks: &[Block], block: &Block) -> ArrayVec<u8, MOST_BLOCKS>
+    requires { length blocks.now ≤ most_blocks }
+    ensures { result.items ≡ group_of block.now blocks.now }
+{
+    let mut places = ArrayVec::new();
+    for (at, other) in blocks.iter().enumerate() {
+        if are_of_one_group(block, other) {
             places.push(at as u8);
         }
     }
@@ -45,24 +58,23 @@ pub(crate) fn all_hindrances<A: Allocator>(
 {
     let mut all = Vec::with_capacity(alloc, blocks.len())?;
     for place in 0..blocks.len() {
-        let parents = places_of(blocks, place, false);
-        let rivals = places_of(blocks, place, true);
-        all.push(Hindrances { parents, rivals })?;
+        let block = &blocks[place];
+        let parents = parents_of(blocks, block);
+        let group = group_of(blocks, block);
+        all.push(Hindrances { parents, group })?;
     }
     Ok(all)
 }
 
-/// Whether the selection decides the block at one of the places so.
-pub(crate) fn decides_any(selection: Selection, places: &[u8], decided: bool) -> bool
-    ensures any { result ≡ true
-        → (j : ℕ) × Contains places.now j × (accepts selection j ≡ decided) }
-    ensures none { result ≡ false
-        → (j : ℕ) → Contains places.now j → accepts selection j ≡ not decided }
+/// How many of the places the selection accepts.
+pub(crate) fn accepted_among(selection: Selection, places: &[u8]) -> usize
+    ensures { result ≡ accepted_among selection places.now }
 {
+    let mut accepted = 0;
     for place in places {
-        if selection.has(usize::from(*place)) == decided {
-            return true;
+        if selection.has(usize::from(*place)) {
+            accepted += 1;
         }
     }
-    false
+    accepted
 }

@@ -1,16 +1,15 @@
 ghost use Rattle.std.specs.Prelude.{◌≡◌, ◌↔◌, true, IsTrue};
-ghost use Rattle.dam_blocks.specs.Selection.{accepts, AreOfOneGroup, Permits, IsAllowed, IsAdmissible};
+ghost use Rattle.dam_blocks.specs.Selection.{accepts, are_of_one_group, IsAllowed, IsAdmissible};
 
-use crate::family::is_parent;
-use crate::hindrances::decides_any;
+use crate::hindrances::accepted_among;
 use crate::problem::{Block, Problem};
 use crate::selection::Selection;
-use dam_book::MOST_BLOCKS;
+use dam_book::{MOST_BLOCKS, MOST_OF_GROUP};
 use std::alloc::Allocator;
 
 /// Whether both are in one exclusive group of one participant.
-fn are_of_one_group(first: &Block, second: &Block) -> bool
-    ensures { IsTrue result ↔ AreOfOneGroup first.now second.now }
+pub(crate) fn are_of_one_group(first: &Block, second: &Block) -> bool
+    ensures { result ≡ are_of_one_group first.now second.now }
 {
     match (first.order.group(), second.order.group()) {
         (Some(group), Some(other)) => first.who == second.who && *group == *other,
@@ -18,23 +17,11 @@ fn are_of_one_group(first: &Block, second: &Block) -> bool
     }
 }
 
-/// Whether a block lets another be accepted: if it is accepted itself, the two aren't of one group; else it
-/// isn't the other's parent.
-pub(crate) fn permits(other: &Block, is_accepted: bool, block: &Block) -> bool
-    ensures { IsTrue result ↔ Permits other.now is_accepted block.now }
-{
-    if is_accepted {
-        !are_of_one_group(block, other)
-    } else {
-        !is_parent(other, block)
-    }
-}
-
 /// Whether a place that the selection accepts is allowed: a block stands there, its parent is accepted if it
-/// has one, and no other block of its group is accepted. A selection is admissible if each place that it
-/// accepts is allowed.
+/// has one, and of its group no more than `MOST_OF_GROUP` are accepted. A selection is admissible if each place
+/// that it accepts is allowed.
 ///
-/// It looks only at the parent and the others of the group, by their places, since a search calls it for each
+/// It looks only at the parent and the blocks of the group, by their places, since a search calls it for each
 /// decision to accept a block.
 pub fn is_allowed<A: Allocator>(problem: &Problem<A>, selection: Selection, place: usize) -> bool
     requires { accepts selection place ≡ true }
@@ -43,12 +30,14 @@ pub fn is_allowed<A: Allocator>(problem: &Problem<A>, selection: Selection, plac
     let Some(hindrances) = problem.hindrances(place) else {
         return false;
     };
-    !decides_any(selection, hindrances.parents.as_slice(), false)
-        && !decides_any(selection, hindrances.rivals.as_slice(), true)
+    let parents = hindrances.parents.as_slice();
+    let group = hindrances.group.as_slice();
+    accepted_among(selection, parents) == parents.len()
+        && accepted_among(selection, group) <= MOST_OF_GROUP
 }
 
 /// Whether the links and the exclusive groups admit the selection: it accepts blocks of the problem
-/// alone, each with its parent, and at most one of each group of a participant.
+/// alone, each with its parent, and at most `MOST_OF_GROUP` of each group of a participant.
 ///
 /// (EUPHEMIA Public Description, "Linked Block Orders" and "Block Orders in an Exclusive group".)
 pub fn admissible<A: Allocator>(problem: &Problem<A>, selection: Selection) -> bool

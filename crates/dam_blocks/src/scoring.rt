@@ -15,7 +15,7 @@ use std::alloc::Allocator;
 /// The welfare of a selection, or the first reason why it isn't eligible.
 #[derive(Clone, Copy, PartialEq, Eq, Debug)]
 pub enum Verdict {
-    /// A child without its parent, two blocks of one group, or a place that is no block of the problem.
+    /// A child without its parent, too many blocks of one group, or a place that is no block of the problem.
     NotAdmissible,
     /// No execution balances with the selection in this period, the first such.
     Unbalanced(Period),

@@ -1,33 +1,38 @@
 -- One block more that a selection accepts: what admits the selection looks at that block alone.
-use Rattle.std.proofs.Common.{◌≡◌, ◌≢◌, ℕ, zero, suc, ◌-◌, ◌<◌, inl, inr, Bool, true, false, List, [], ◌∷◌, ◌++◌, length, length-append}
+use Rattle.std.proofs.Common.{◌≡◌, ℕ, zero, suc, ◌-◌, ◌<◌, ◌≤◌, inl, inr, Bool, true, false, List, [], ◌∷◌, ◌++◌, length, length-append}
 use Rattle.std.proofs.Common.{replicate, set, take, slice_get, Some, ◌∙◌, ap, sym, subst, refl, arith}
 use Rattle.std.proofs.lemmas.Bool.{cases_eq}
 use Rattle.std.proofs.lemmas.List.{get_or-set_same, get_or-set_other, length-replicate, length-take-le}
-use Rattle.dam_book.specs.Limits.{most_blocks}
+use Rattle.dam_book.specs.Limits.{most_blocks, most_of_group}
 use Rattle.dam_blocks.specs.declared.problem.Block.{Block}
-use Rattle.dam_blocks.specs.Selection.{accepts, padded, AreOfOneGroup, Permits, IsAllowed, IsAdmissible}
+use Rattle.dam_blocks.specs.Selection.{accepts, padded, are_of_one_group, accepted_of_group, IsAllowed, IsAdmissible}
+use Rattle.dam_blocks.proofs.GroupCounts.{same_participant, group_is, same_count, count_at_most}
 use Rattle.dam_search.proofs.Prefixes.{padded-accepted, padded-rejected}
 
 same_block : (blocks : List Block) (i : ℕ) (b other : Block) → slice_get blocks i ≡ Some b → slice_get blocks i ≡ Some other → b ≡ other
 same_block blocks i b other e f = cc
 
-turned : (a b : Block) → AreOfOneGroup a b → AreOfOneGroup b a
-turned a b h = record { who = sym h.who; group = h.group; first = h.second; second = h.first }
+-- what the newly accepted selection accepts of another group was accepted before
+was_accepted : (blocks : List Block) (sel : List Bool) (at : ℕ) (b last : Block) → slice_get blocks at ≡ Some last
+    → (are_of_one_group b last ≡ true → ⊥) → (j : ℕ) (other : Block) → slice_get blocks j ≡ Some other → are_of_one_group b other ≡ true
+    → accepts (set sel at true) j ≡ true → accepts sel j ≡ true
+was_accepted blocks sel at b last here apart j other stands one acc = elim (cases_eq j at) [
+  | inl e ↦
+      (let same = same_block blocks at other last (subst (λ (k : ℕ). slice_get blocks k ≡ Some other) e stands) here in
+      absurd (apart (ap (λ (x : Block). are_of_one_group b x) (sym same) ∙ one)))
+  | inr ne ↦ sym (get_or-set_other sel at j true false ne) ∙ acc
+]
 
--- an accepted block still lets another one be accepted, if the newly accepted one is allowed itself
-still_permits : (blocks : List Block) (sel : List Bool) (at i j : ℕ) (b other : Block) → at < length sel → i ≢ at → accepts sel i ≡ true
-    → slice_get blocks i ≡ Some b → slice_get blocks j ≡ Some other
-    → Permits other (accepts sel j) b → IsAllowed blocks (set sel at true) at → Permits other (accepts (set sel at true) j) b
-still_permits blocks sel at i j b other inside apart acc stands here permits last =
-    elim (cases_eq j at) [
-      | inl e ↦ record {
-        parent = λ p. ap (λ (k : ℕ). accepts (set sel at true) k) e ∙ get_or-set_same sel at true false inside;
-        group = λ a one. (last.others i b apart stands).group (get_or-set_other sel at i true false apart ∙ acc)
-            (subst (λ (x : Block). AreOfOneGroup x b) (same_block blocks at other last.block
-            (subst (λ (k : ℕ). slice_get blocks k ≡ Some other) e here) last.stands) (turned b other one));
-      }
-      | inr ne ↦ subst (λ (t : Bool). Permits other t b) (sym (get_or-set_other sel at j true false ne)) permits
-    ]
+-- a group has no more accepted blocks than may be, if those of the newly accepted block's group haven't
+still_few : (blocks : List Block) (sel : List Bool) (at : ℕ) (b : Block) (one : Bool) → accepted_of_group b blocks sel ≤ most_of_group
+    → (last : IsAllowed blocks (set sel at true) at) → are_of_one_group b last.block ≡ one
+    → accepted_of_group b blocks (set sel at true) ≤ most_of_group
+still_few blocks sel at b true few last is =
+    subst (λ (n : ℕ). n ≤ most_of_group)
+    (sym (same_count b last.block (same_participant b last.block is) (group_is b last.block is) blocks (set sel at true))) last.group
+still_few blocks sel at b false few last is =
+    let fewer = count_at_most b blocks (set sel at true) sel (was_accepted blocks sel at b last.block last.stands (λ e. absurd (cc))) in
+    omega (arith, fewer, few)
 
 still_set : (blocks : List Block) (sel : List Bool) (at : ℕ) → at < length sel → IsAdmissible blocks sel
     → IsAllowed blocks (set sel at true) at → IsAdmissible blocks (set sel at true)
@@ -35,14 +40,15 @@ still_set blocks sel at inside admissible last = record {
   each = λ i acc.
       (elim (cases_eq i at) [
         | inl e ↦ subst (λ (k : ℕ). IsAllowed blocks (set sel at true) k) (sym e) last
-        | inr ne ↦ (let was : accepts sel i ≡ true = sym (get_or-set_other sel at i true false ne) ∙ acc in
-            let allowed = admissible.each i was in
+        | inr ne ↦ (let allowed = admissible.each i (sym (get_or-set_other sel at i true false ne) ∙ acc) in
             record {
               block = allowed.block;
               stands = allowed.stands;
-              others = λ j other apart here.
-                  still_permits blocks sel at i j allowed.block other inside ne was allowed.stands here
-                  (allowed.others j other apart here) last;
+              parent = λ j other here p. elim (cases_eq j at) [
+                | inl e ↦ ap (λ (k : ℕ). accepts (set sel at true) k) e ∙ get_or-set_same sel at true false inside
+                | inr apart ↦ get_or-set_other sel at j true false apart ∙ allowed.parent j other here p
+              ];
+              group = still_few blocks sel at allowed.block (are_of_one_group allowed.block last.block) allowed.group last refl;
             })
       ]);
 }

@@ -1,23 +1,40 @@
 -- The places of the blocks that may keep another from being accepted, as a problem keeps them.
-use Rattle.std.specs.Prelude.{◌≡◌, ◌≢◌, ◌⊎◌, ℕ, ◌<◌, Bool, true, false, Some, List, length, Contains, slice_get}
+use Rattle.std.specs.Prelude.{◌≡◌, ℕ, ◌+◌, Bool, Some, List, [], ◌∷◌, length, slice_get, if◌then◌else◌}
 use Rattle.dam_blocks.specs.declared.problem.Block.{Block}
 use Rattle.dam_blocks.specs.declared.hindrances.Hindrances.{Hindrances}
-use Rattle.dam_blocks.specs.Selection.{Permits}
+use Rattle.dam_blocks.specs.Family.{names}
+use Rattle.dam_blocks.specs.Selection.{accepts, are_of_one_group}
 
--- the places of the other blocks that don't permit the one at place i if they are decided so: its parent
--- if rejected, those of its group if accepted
-pub record AreHindering (blocks : List Block) (i : ℕ) (decided : Bool) (places : List ℕ) : Type 0 where
-  pub each : (j : ℕ) (block other : Block) → slice_get blocks i ≡ Some block
-      → slice_get blocks j ≡ Some other → j ≢ i → Contains places j ⊎ Permits other decided block
-  pub inside : (j : ℕ) → Contains places j → j < length blocks
-  pub apart : (j : ℕ) → Contains places j → j ≢ i
-  pub only : (j : ℕ) (block other : Block) → Contains places j → slice_get blocks i ≡ Some block
-      → slice_get blocks j ≡ Some other → ¬ (Permits other decided block)
+-- the places, counted from this one, of the blocks that pass the test
+abbrev pub places_where : (Block → Bool) → ℕ → List Block → List ℕ
+places_where test at [] = []
+places_where test at (b ∷ bs) =
+    if test b then at ∷ places_where test (at + 1) bs else places_where test (at + 1) bs
+
+-- the place of the block's parent, if it has one
+abbrev pub parents_of : Block → List Block → List ℕ
+parents_of block blocks = places_where (λ b. names b block) 0 blocks
+
+-- the places of the blocks of its group, its own among them
+abbrev pub group_of : Block → List Block → List ℕ
+group_of block blocks = places_where (λ b. are_of_one_group block b) 0 blocks
+
+-- how many of the places the selection accepts
+abbrev pub accepted_among : List Bool → List ℕ → ℕ
+accepted_among selection [] = 0
+accepted_among selection (j ∷ places) =
+    (if accepts selection j then 1 else 0) + accepted_among selection places
+
+-- those of the block
+pub record AreHindrancesOf (block : Block) (blocks : List Block) (own : Hindrances) : Type 0 where
+  pub parents : own.parents.items ≡ parents_of block blocks
+  pub group : own.group.items ≡ group_of block blocks
 
 -- those of the block at place i
 pub record AreHindrances (blocks : List Block) (i : ℕ) (own : Hindrances) : Type 0 where
-  pub parents : AreHindering blocks i false own.parents.items
-  pub rivals : AreHindering blocks i true own.rivals.items
+  pub block : Block
+  pub stands : slice_get blocks i ≡ Some block
+  pub are : AreHindrancesOf block blocks own
 
 -- those of each block
 pub record AreAllHindrances (blocks : List Block) (all : List Hindrances) : Type 0 where

@@ -1,6 +1,7 @@
 -- A block more.
-use Rattle.std.proofs.Common.{◌≡◌, ℕ, List, Some, [], ◌∷◌, ◌++◌, length, length-append, ap, subst, sym, arith}
+use Rattle.std.proofs.Common.{◌≡◌, ℕ, List, Some, [], ◌∷◌, ◌++◌, length, length-append, ap, subst, sym, refl, arith}
 use Rattle.std.specs.List.{slice_get}
+use Rattle.std.proofs.lemmas.Option.{slice_get_read}
 use Rattle.dam_blocks.specs.inside.Hindrances.{AreHindrances}
 use Rattle.dam_blocks.specs.declared.hindrances.Hindrances.{Hindrances}
 use Rattle.dam_blocks.proofs.Hindering.{all_more}
@@ -8,12 +9,16 @@ use Rattle.dam_blocks.proofs.hindrances.all_hindrances.Goals as goal
 
 pub loop-place-preserved : goal.loop-place-preserved
 loop-place-preserved g c =
-    let blocks = c.args.blocks.now in let before = c.loop-place.all.items in
-    let own : Hindrances = record { parents = c.places_of-parents.result; rivals = c.places_of-rivals.result } in
+    let blocks = c.args.blocks.now in let before = c.loop-place.all.items in let place = c.loop-place.place in
+    let block = c.index-blocks-place.result in
+    let own : Hindrances = record { parents = c.parents_of-parents.result; group = c.group_of-group.result } in
     let is : c.push.new.self.items ≡ before ++ own ∷ [] = c.in_ok-push.ensures.items in
     let many = c.loop-place.invariant.as_many in
-    let here : AreHindrances blocks c.loop-place.place own =
-    record { parents = c.places_of-parents.ensures; rivals = c.places_of-rivals.ensures } in
+    let here : AreHindrances blocks place own = record {
+      block = block;
+      stands = slice_get_read blocks _ place block refl c.loop-place-test.true c.index-blocks-place.is;
+      are = record { parents = c.parents_of-parents.ensures; group = c.group_of-group.ensures };
+    } in
     let last = subst (λ (n : ℕ). AreHindrances blocks n own) (sym many) here in
     record {
       as_many = omega (arith, ap (λ (xs : List Hindrances). length xs) is, length-append before (own ∷ []), many);

@@ -1,16 +1,30 @@
--- Neither its parent is rejected nor another of its group accepted.
-use Rattle.dam_blocks.proofs.Hindering.{refused_by, allowed_unless}
+-- Its parent is accepted if it has one, and no more of its group than may be.
+use Rattle.std.proofs.Common.{◌∙◌, sym, arith}
+use Rattle.std.proofs.lemmas.Bool.Decides.{nat_tests}
+use Rattle.dam_blocks.proofs.Hindering.{allowed_by, parents_accepted, group_within}
 use Rattle.dam_blocks.proofs.links.is_allowed.Goals as goal
 
-pub returns-then-not-decides_any : goal.returns-then-not-decides_any
-returns-then-not-decides_any g c =
-    let parents = c.as_slice.result.now in let rivals = c.as_slice-then-not-decides_any.result.now in
-    let found = c.decides_any-then-not-decides_any in
-    allowed_unless c.args.problem.now.blocks c.args.selection c.args.place c.in-Some.hindrances.now parents rivals found.result
-    c.in-Some.ensures.some.0 c.in-Some.ensures.some.1 c.as_slice.ensures.value c.as_slice-then-not-decides_any.ensures.value
-    (c.decides_any.ensures.none c.if-not-decides_any.true) found.ensures.any found.ensures.none
+pub returns-then-accepted_among-parents : goal.returns-then-accepted_among-parents
+returns-then-accepted_among-parents g c =
+    let blocks = c.args.problem.now.blocks in let own = c.in-Some.hindrances.now in
+    let parents = c.as_slice-parents in let group = c.as_slice-group in
+    let all = c.accepted_among.ensures in let some = c.accepted_among-then-accepted_among-parents.ensures in
+    let as_many = c.if-accepted_among-parents.true in (
+      λ t. allowed_by blocks c.args.selection c.args.place own parents.result.now group.result.now c.in-Some.ensures.some.1
+          parents.ensures.value group.ensures.value (sym all ∙ as_many) (grind (arith, nat_tests, some, t)),
+      λ allowed.
+          (let few = group_within blocks c.args.selection c.args.place own group.result.now c.in-Some.ensures.some.1 group.ensures.value allowed in
+          grind (arith, nat_tests, some, few)),
+    )
 
-pub returns-else-not-decides_any : goal.returns-else-not-decides_any
-returns-else-not-decides_any g c =
-    refused_by c.args.problem.now.blocks c.args.selection c.args.place c.in-Some.hindrances.now c.as_slice.result.now c.decides_any.result
-    c.in-Some.ensures.some.1 c.as_slice.ensures.value c.if-not-decides_any.false c.decides_any.ensures.any
+pub returns-else-accepted_among-parents : goal.returns-else-accepted_among-parents
+returns-else-accepted_among-parents g c =
+    let blocks = c.args.problem.now.blocks in let own = c.in-Some.hindrances.now in
+    let parents = c.as_slice-parents in
+    let all = c.accepted_among.ensures in let fewer = c.if-accepted_among-parents.false in (
+      λ t. absurd (grind (arith, nat_tests, fewer, t)),
+      λ allowed.
+          (let as_many = parents_accepted blocks c.args.selection c.args.place own parents.result.now c.in-Some.ensures.some.1
+          parents.ensures.value allowed in
+          absurd (fewer (all ∙ as_many))),
+    )
