@@ -4,7 +4,7 @@ ghost use Rattle.atomic_table.specs.Seated.{TableId};
 ghost use Rattle.dam_blocks.specs.Result.{IsResult};
 ghost use Rattle.dam_bound.specs.Relaxed.{without_rows};
 ghost use Rattle.dam_plan.specs.Limits.{most_workers, most_cut};
-ghost use Rattle.dam_search.specs.Search.{IsUnfinished};
+ghost use Rattle.dam_search.specs.Search.{IsUnfinished, IsLimitEnough};
 ghost use Rattle.dam_search.specs.Words.{view_of};
 ghost use Rattle.dam_search.specs.inside.Share.{IsNewSeat, IsShare, AreJoined, AreWhole};
 
@@ -218,6 +218,8 @@ pub fn search<R: Threads + Sync, T: Turnstile + Sync>(
         → IsErrOf result (SearchFault.Unfinished piece visited)
         → IsUnfinished problem.now (min plan.cut (length problem.now.blocks))
         plan.nodes piece visited }
+    ensures enough { IfOk result (λ best. IsLimitEnough problem.now
+        (min plan.cut (length problem.now.blocks)) plan.nodes best.welfare) }
 
     // It never ends in the fault of a piece that lacks its answer or has two.
     ensures whole { (piece : ℕ) → ¬ (IsErrOf result (SearchFault.Collected piece)) }

@@ -1,8 +1,9 @@
 -- The answers of the workers are the ones that are collected, and they are one about each piece.
-use Rattle.std.proofs.Common.{◌≡◌, ℕ, min, List, length, ◌∙◌, ap, sym, subst}
+use Rattle.std.proofs.Common.{◌≡◌, ℕ, min, List, length, IfOk, ◌∙◌, ap, sym, subst}
 use Rattle.std.specs.List.{All}
 use Rattle.dam_search.specs.declared.answer.PieceAnswer.{PieceAnswer}
-use Rattle.dam_search.specs.Search.{IsUnfinished}
+use Rattle.dam_blocks.specs.declared.selection.Best.{Best}
+use Rattle.dam_search.specs.Search.{IsUnfinished, IsLimitEnough}
 use Rattle.dam_search.specs.inside.Collect.{IsWorked, IsCollected}
 use Rattle.dam_search.proofs.Shares.{first_reached, all_worked, one_each, none_faulty}
 use Rattle.dam_search.proofs.workers.search.Goals as goal
@@ -23,6 +24,15 @@ returns-clause-unfinished g c piece visited e =
     subst (λ (n : ℕ). IsUnfinished problem n c.args.plan.nodes piece visited) depth
     (subst (λ (n : ℕ). IsUnfinished problem c.depth.result n piece visited) c.nodes-2.ensures.value
     (c.collected.ensures.unfinished piece visited e))
+
+pub returns-clause-enough : goal.returns-clause-enough
+returns-clause-enough g c =
+    let problem = c.args.problem.now in let result = c.collected.result in
+    let depth : c.depth.result ≡ min c.args.plan.cut (length problem.blocks) = c.depth.ensures.value
+    ∙ ap (λ (n : ℕ). min c.args.plan.cut n) c.block_count.ensures.value in
+    subst (λ (n : ℕ). IfOk result (λ (best : Best). IsLimitEnough problem n c.args.plan.nodes best.welfare)) depth
+    (subst (λ (n : ℕ). IfOk result (λ (best : Best). IsLimitEnough problem c.depth.result n best.welfare)) c.nodes-2.ensures.value
+    c.collected.ensures.enough)
 
 pub returns-clause-whole : goal.returns-clause-whole
 returns-clause-whole g c piece e =
