@@ -218,6 +218,8 @@ pub fn search<R: Threads + Sync, T: Turnstile + Sync>(
         → IsErrOf result (SearchFault.Unfinished piece visited)
         → IsUnfinished problem.now (min plan.cut (length problem.now.blocks))
         plan.nodes piece visited }
+
+    // Without as many nodes as a piece needs there is no result.
     ensures enough { IfOk result (λ best. IsLimitEnough problem.now
         (min plan.cut (length problem.now.blocks)) plan.nodes best.welfare) }
 
