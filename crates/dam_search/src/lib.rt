@@ -23,6 +23,7 @@ mod fault;
 mod first;
 mod incumbent;
 pub mod laws;
+mod only;
 mod piece;
 mod prefix;
 mod shared;
