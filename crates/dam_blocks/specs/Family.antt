@@ -39,7 +39,8 @@ accepted_where test j (a ∷ selection) = (a && test j) ∷ accepted_where test 
 abbrev pub accepted_descendants : List Block → List Bool → ℕ → List Bool
 accepted_descendants blocks selection i = accepted_where (descends blocks i) 0 selection
 
--- What the two above come to in a problem (a law of the crate): the block at place j is a child of the one at place i
+-- the block at place j is a child of the one at place i: in a problem exactly if `parent_place` gives i for j (the law
+-- `families` of the crate)
 pub record IsChildAt (blocks : List Block) (i j : ℕ) : Type 0 where
   pub parent : Block
   pub child : Block
@@ -47,7 +48,8 @@ pub record IsChildAt (blocks : List Block) (i j : ℕ) : Type 0 where
   pub child_stands : slice_get blocks j ≡ Some child
   pub is_parent : IsParent parent child
 
--- it is a child of that one, or of a block that descends from it
+-- the block at a place descends from the one at place i: it is its child, or the child of a block that descends from it. In
+-- a problem this holds exactly if `descends` says so (the same law)
 pub data Descends (blocks : List Block) (i : ℕ) : ℕ → Type 0 where
   Child : (j : ℕ) → IsChildAt blocks i j → Descends blocks i j
   OfChild : (k j : ℕ) → Descends blocks i k → IsChildAt blocks k j → Descends blocks i j

@@ -9,7 +9,7 @@ ghost use Rattle.dam_bound.specs.Relaxed.{relaxed_welfare};
 ghost use Rattle.dam_bound.specs.inside.Levels.{greatest_period_bound};
 ghost use Rattle.dam_bound.specs.Trail.{slot_count, IsDayIn, IsBoundOf, bound_by};
 ghost use Rattle.dam_curve.specs.Losses.{greatest_loss};
-ghost use Rattle.dam_bound.specs.inside.Change.{IsDecision, IsBoundFrom};
+ghost use Rattle.dam_bound.specs.inside.Change.{IsDecision, IsAtBlock, AreBoundsFrom};
 ghost use Rattle.dam_bound.specs.Tables.{AreTablesOf};
 
 use crate::day::{Day, Position};
@@ -145,16 +145,9 @@ fn exact_bounds<A: Allocator>(
     total: i64,
     floor: i64,
 ) -> Extensions
-    requires day { (problem : ProblemState) × (before : List Bool)
-        × AreTablesOf problem tables.now × (place < length problem.blocks)
-        × ((accept : Bool) → IsDecision problem place accept before)
-        × IsDayIn problem before trail.now total }
+    requires day { IsAtBlock tables.now trail.now place total }
     requires floor { pos 0 ≤ℤ floor }
-    ensures bounds { (problem : ProblemState) (before : List Bool) (accept : Bool)
-        → AreTablesOf problem tables.now → place < length problem.blocks
-        → ((choice : Bool) → IsDecision problem place choice before)
-        → IsDayIn problem before trail.now total
-        → IsBoundFrom problem (before ++ accept ∷ []) floor (bound_by accept result) }
+    ensures bounds { AreBoundsFrom tables.now trail.now place total floor result }
 {
     dam_hour::laws::joining();
     dam_hour::laws::welfare();
@@ -184,18 +177,11 @@ fn kept_bounds<A: Allocator>(
     total: i64,
     floor: i64,
 ) -> Extensions
-    requires day { (problem : ProblemState) × (before : List Bool)
-        × AreTablesOf problem tables.now × (place < length problem.blocks)
-        × ((accept : Bool) → IsDecision problem place accept before)
-        × IsDayIn problem before trail.now total }
+    requires day { IsAtBlock tables.now trail.now place total }
     requires kept { tables.now.kept ≤ place }
     requires near { (total -ℤ pos greatest_loss) <ℤ floor }
     requires size { IsWithin (last_period * greatest_period_bound) total }
-    ensures bounds { (problem : ProblemState) (before : List Bool) (accept : Bool)
-        → AreTablesOf problem tables.now → place < length problem.blocks
-        → ((choice : Bool) → IsDecision problem place choice before)
-        → IsDayIn problem before trail.now total
-        → IsBoundFrom problem (before ++ accept ∷ []) floor (bound_by accept result) }
+    ensures bounds { AreBoundsFrom tables.now trail.now place total floor result }
 {
     let mut rejected = total;
     let mut accepted = total;
@@ -223,10 +209,7 @@ pub(crate) fn bounds_of<A: Allocator>(
     total: i64,
     least: u64,
 ) -> Extensions
-    requires { (problem : ProblemState) × (before : List Bool)
-        × AreTablesOf problem tables.now × (place < length problem.blocks)
-        × ((accept : Bool) → IsDecision problem place accept before)
-        × IsDayIn problem before trail.now total }
+    requires { IsAtBlock tables.now trail.now place total }
     ensures bounds { (problem : ProblemState) (before : List Bool) (accept : Bool)
         → AreTablesOf problem tables.now → place < length problem.blocks
         → ((choice : Bool) → IsDecision problem place choice before)

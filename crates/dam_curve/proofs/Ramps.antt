@@ -11,7 +11,7 @@ use Rattle.dam_curve.specs.declared.losses.Loss.{Loss}
 use Rattle.dam_curve.specs.declared.ramp.Ramp.{Ramp}
 use Rattle.dam_curve.specs.Curve.{both, line_at, IsSmallLine}
 use Rattle.dam_curve.specs.Losses.{greatest_loss, IsKept}
-use Rattle.dam_curve.specs.inside.Ramp.{kept_number, line_value, ramp_at, IsSteady, loss_on, AreWritten}
+use Rattle.dam_curve.specs.inside.Ramp.{kept_number, line_value, ramp_at, FitsIn64Bits, loss_on, AreWritten}
 use Rattle.dam_curve.proofs.LookingUp.{small_at_net}
 
 -- ---- along two lines
@@ -83,12 +83,12 @@ small_value l net small low high =
     let a = at.product_at_least in let b = at.product_at_most in let s = at.surplus_at_least in let t = at.surplus_at_most in
     record { at_least = omega (arith, ints, a, s); at_most = omega (arith, ints, b, t) }
 
-pub steady_between : (b a : Line) (loss step net added value : ℤ) → loss ≡ line_at b net -ℤ (value +ℤ line_at a (net +ℤ added))
+pub fits_between : (b a : Line) (loss step net added value : ℤ) → loss ≡ line_at b net -ℤ (value +ℤ line_at a (net +ℤ added))
     → step ≡ b.price -ℤ a.price → IsSmallLine last_period b → IsSmallLine last_period a
     → neg_ℤ (pos 4611686018427387904) ≤ℤ value → value ≤ℤ pos 4611686018427387904 → neg_ℤ (pos 2147483648) ≤ℤ net
     → neg_ℤ (pos 2147483648) ≤ℤ (net +ℤ added) → (i : ℕ) → (net +ℤ pos i) ≤ℤ pos 2147483648
-    → ((net +ℤ pos i) +ℤ added) ≤ℤ pos 2147483648 → IsSteady (loss +ℤ step *ℤ pos i)
-steady_between b a loss step net added value e f small small2 least most low low2 i high high2 =
+    → ((net +ℤ pos i) +ℤ added) ≤ℤ pos 2147483648 → FitsIn64Bits (loss +ℤ step *ℤ pos i)
+fits_between b a loss step net added value e f small small2 least most low low2 i high high2 =
     let is = ramp_is b a (record { loss = loss; step = step }) net added value i e f in
     let here = small_value b (net +ℤ pos i) small (omega (arith, ints, low)) high in
     let there = small_value a ((net +ℤ pos i) +ℤ added) small2 (omega (arith, ints, low2)) high2 in
@@ -119,22 +119,22 @@ written_more old losses left taken count loss e are =
 
 -- ---- in the numbers of the machine
 pub value_fits : (value left : ℤ) → neg_ℤ (pos 4611686018427387904) ≤ℤ value → value ≤ℤ pos 4611686018427387904 → IsSmallValue left
-    → IsSteady (value +ℤ left)
+    → FitsIn64Bits (value +ℤ left)
 value_fits value left low high small =
     let p = small.at_least in let q = small.at_most in
     record { at_least = omega (arith, ints, low, p); at_most = omega (arith, ints, high, q) }
 
 pub loss_fits : (welfare value left : ℤ) → neg_ℤ (pos 4611686018427387904) ≤ℤ value → value ≤ℤ pos 4611686018427387904
-    → IsSmallValue welfare → IsSmallValue left → IsSteady (welfare -ℤ (value +ℤ left))
+    → IsSmallValue welfare → IsSmallValue left → FitsIn64Bits (welfare -ℤ (value +ℤ left))
 loss_fits welfare value left low high small small2 =
     let p = small.at_least in let q = small.at_most in let r = small2.at_least in let s = small2.at_most in
     record { at_least = omega (arith, ints, low, high, p, q, r, s); at_most = omega (arith, ints, low, high, p, q, r, s) }
 
-pub wide : (z : ℤ) → IsSteady z → to_z w64 (of_z w64 z) ≡ z
+pub wide : (z : ℤ) → FitsIn64Bits z → to_z w64 (of_z w64 z) ≡ z
 wide z s = let low = s.at_least in let high = s.at_most in omega (arith, ints, low, high)
 
-pub loss_in_machine : (welfare value left w v l : ℤ) → w ≡ welfare → v ≡ value → l ≡ left → IsSteady (value +ℤ left)
-    → IsSteady (welfare -ℤ (value +ℤ left)) → to_z w64 (of_z w64 (w -ℤ to_z w64 (of_z w64 (v +ℤ l)))) ≡ welfare -ℤ (value +ℤ left)
+pub loss_in_machine : (welfare value left w v l : ℤ) → w ≡ welfare → v ≡ value → l ≡ left → FitsIn64Bits (value +ℤ left)
+    → FitsIn64Bits (welfare -ℤ (value +ℤ left)) → to_z w64 (of_z w64 (w -ℤ to_z w64 (of_z w64 (v +ℤ l)))) ≡ welfare -ℤ (value +ℤ left)
 loss_in_machine welfare value left w v l e f g sum all =
     let inner : to_z w64 (of_z w64 (v +ℤ l)) ≡ value +ℤ left = ap₂ (λ (x y : ℤ). to_z w64 (of_z w64 (x +ℤ y))) f g ∙ wide (value +ℤ left) sum in
     ap₂ (λ (x y : ℤ). to_z w64 (of_z w64 (x -ℤ y))) e inner ∙ wide (welfare -ℤ (value +ℤ left)) all

@@ -157,7 +157,7 @@ pub record AreSteady (earlier before_end taken_lines : List Line) (choice : Choi
 pub losses_from : (earlier later moved : List Line) (choice : Choice) (own left taken : Option Line) (r s : Ramp) (old losses : List Loss)
     (net last : ℤ) (count : ℕ) → pos count ≡ (last -ℤ net) +ℤ pos 1 → AreSteady earlier later moved choice own left taken r s net last
     → AreWritten old losses r s count → AreLossesFrom earlier later moved choice old losses net last
-losses_from earlier later moved choice own left taken r s old losses net last count e steady written =
+losses_from earlier later moved choice own left taken r s old losses net last count e along written =
     let long = written.long in
     record {
       long = omega (arith, ints, long, e);
@@ -172,9 +172,9 @@ losses_from earlier later moved choice own left taken r s old losses net last co
             loss_is = λ d.
                 subst (IsLoss before after choice at)
                 (sym (ap (λ (n : ℕ). get_or losses n d) (sym stands) ∙ written.each i d inside))
-                (loss_of_lines before after choice own left taken r s net at i further (steady.own_is before after at read low high)
-                (steady.left_is before after at read low high) (steady.taken_is before after at read low high) (steady.left_kept i)
-                (steady.taken_kept i));
+                (loss_of_lines before after choice own left taken r s net at i further (along.own_is before after at read low high)
+                (along.left_is before after at read low high) (along.taken_is before after at read low high) (along.left_kept i)
+                (along.taken_kept i));
           });
     }
 

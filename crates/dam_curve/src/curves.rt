@@ -1,4 +1,4 @@
-ghost use Rattle.std.specs.Prelude.{◌≡◌, ◌+◌, ◌-◌, ◌^◌, ◌≤◌, ◌<◌, ℕ, ℤ, pos, neg_ℤ, ◌+ℤ◌, ◌-ℤ◌, ◌≤ℤ◌, ◌<ℤ◌, Some, List, [], length, take, IfOk, OnOk, OnErr, IfSome, slice_index_or};
+ghost use Rattle.std.specs.Prelude.{◌≡◌, ◌+◌, ◌-◌, ◌^◌, ◌≤◌, ◌<◌, ℕ, ℤ, pos, neg_ℤ, ◌+ℤ◌, ◌-ℤ◌, ◌≤ℤ◌, ◌<ℤ◌, Some, List, [], length, take, IsOk, IfOk, OnOk, OnErr, IfSome, slice_index_or};
 ghost use Rattle.dam_book.specs.Limits.{last_period};
 ghost use Rattle.dam_hour.specs.declared.step.Step.{Step};
 ghost use Rattle.dam_curve.specs.declared.line.Line.{Line};
@@ -59,7 +59,8 @@ impl<A: Allocator> Model for Curves<A> {
 /// The number in 32 bits. If it doesn't fit, there are more lines, hints or losses than can be kept, which is reported as
 /// out of memory.
 pub(crate) fn narrow(number: usize) -> Result<u32, AllocError>
-    ensures { IfOk result (λ narrow. narrow ≡ number) }
+    ensures value { IfOk result (λ narrow. narrow ≡ number) }
+    ensures fits { number < 2 ^ 32 → IsOk result }
 {
     let Ok(narrow) = u32::try_from(number) else {
         return Err(AllocError);

@@ -1,6 +1,6 @@
 //! The losses of each side of a choice at each net volume.
 
-ghost use Rattle.std.specs.Prelude.{◌≡◌, ◌<◌, ◌≤◌, ◌+◌, ◌^◌, ℕ, ℤ, pos, neg_ℤ, ◌+ℤ◌, ◌-ℤ◌, ◌≤ℤ◌, Option, Some, None, List, length, slice_index_or, take, IfOk, OnOk, MatchOption};
+ghost use Rattle.std.specs.Prelude.{◌≡◌, ◌<◌, ◌≤◌, ◌+◌, ◌^◌, ℕ, ℤ, pos, neg_ℤ, ◌+ℤ◌, ◌-ℤ◌, ◌≤ℤ◌, ◌<ℤ◌, Option, Some, None, Ok, List, length, slice_index_or, take, IfOk, OnOk, OnErr, MatchOption};
 ghost use Rattle.dam_hour.specs.declared.step.Step.{Step};
 ghost use Rattle.dam_curve.specs.Curve.{joint_welfare, lines_at};
 ghost use Rattle.dam_curve.specs.Losses.{IsLossAt, AreLosses, IsChoice, IsChoiceAt, Keeps, welfare_left, welfare_taken};
@@ -55,7 +55,7 @@ fn lines_of(lines: &[Line], curve: Curve) -> &[Line]
 }
 
 /// Writes the losses of a choice between the curves of these lines, one for each net volume from the least to the
-/// greatest. The error is out of memory. The losses that stood there before the call stay.
+/// greatest. The error is out of memory, and no loss is then written. The losses that stood there before the call stay.
 fn write_losses<A: Allocator>(
     losses: &mut Vec<Loss, A>,
     before: &[Line],
@@ -76,6 +76,9 @@ fn write_losses<A: Allocator>(
         → pos place +ℤ least ≡ pos (length losses.old.items) +ℤ net
         → OnOk result (IsLossAt losses.new.items earlier later choice.now net place) }
     ensures kept { take (length losses.old.items) losses.new.items ≡ losses.old.items }
+    ensures long { OnOk result (pos (length losses.new.items) +ℤ least
+        ≡ (pos (length losses.old.items) +ℤ most) +ℤ pos 1) }
+    ensures err { OnErr result (losses.new.items ≡ losses.old.items) }
 {
     losses.reserve((most - least) as usize + 1)?;
     let mut readers = Readers::new(before, after);
@@ -89,7 +92,7 @@ fn write_losses<A: Allocator>(
 impl<A: Allocator> Curves<A> {
     /// Keeps the loss of a choice at each net volume from the least to the greatest, and returns the offset from a net
     /// volume to the place of its loss; if the greatest is less than the least, it keeps none and returns 0. The error is
-    /// out of memory. Takes 8 bytes for each net volume.
+    /// out of memory, and no loss is then kept. Takes 8 bytes for each net volume.
     pub fn keep_losses(&mut self, choice: &Choice, least: i64, most: i64) -> Result<i64, AllocError>
         requires choice { (before : List (List Step)) × (after : List (List Step))
             × IsChoice self.old choice.now before after least most }
@@ -100,6 +103,11 @@ impl<A: Allocator> Curves<A> {
             → IfOk result
             (λ offset. AreLosses self.new.losses before after choice.now offset least most) }
         ensures kept { Keeps self.old self.new }
+        ensures long { OnOk result (least ≤ℤ most → pos (length self.new.losses) +ℤ least
+            ≡ (pos (length self.old.losses) +ℤ most) +ℤ pos 1) }
+        ensures none { most <ℤ least → result ≡ Ok (pos 0) }
+        ensures none_kept { most <ℤ least → self.new ≡ self.old }
+        ensures err { OnErr result (self.new ≡ self.old) }
     {
         if most < least {
             return Ok(0);

@@ -4,7 +4,7 @@ ghost use Rattle.std.specs.Prelude.{◌≡◌, ℕ, ◌+◌, ◌≤◌, ◌^◌,
 ghost use Rattle.dam_book.specs.Limits.{last_period};
 ghost use Rattle.dam_curve.specs.Curve.{both, IsSmallLine};
 ghost use Rattle.dam_curve.specs.Losses.{IsKept};
-ghost use Rattle.dam_curve.specs.inside.Ramp.{kept_number, line_value, ramp_at, IsSteady, AreWritten};
+ghost use Rattle.dam_curve.specs.inside.Ramp.{kept_number, line_value, ramp_at, FitsIn64Bits, AreWritten};
 
 use crate::curves::value_of;
 use crate::line::Line;
@@ -22,7 +22,9 @@ fn kept(loss: i64) -> u32
 /// A loss at the present net volume, and by how much it grows from each net volume to the next.
 #[derive(Clone, Copy)]
 pub(crate) struct Ramp {
+    /// The loss, in cents per MWh times tenths of a MW.
     pub(crate) loss: i64,
+    /// What each further tenth of a MW adds to it, in cents per MWh.
     pub(crate) step: i64,
 }
 
@@ -47,8 +49,8 @@ impl Ramp {
         ensures kept { (i : ℕ) (w : ℤ) → line_value before (net +ℤ pos i) ≡ Some w
             → IsKept (kept_number (ramp_at result i)) w
             (both (Some value) (line_value after ((net +ℤ pos i) +ℤ added))) }
-        ensures steady { (i : ℕ) → (net +ℤ pos i) ≤ℤ pos (2 ^ 31)
-            → ((net +ℤ pos i) +ℤ added) ≤ℤ pos (2 ^ 31) → IsSteady (ramp_at result i) }
+        ensures fits { (i : ℕ) → (net +ℤ pos i) ≤ℤ pos (2 ^ 31)
+            → ((net +ℤ pos i) +ℤ added) ≤ℤ pos (2 ^ 31) → FitsIn64Bits (ramp_at result i) }
     {
         let (Some(before), Some(after)) = (before, after) else {
             return Ramp {
@@ -67,7 +69,7 @@ impl Ramp {
     /// The ramp from the next net volume on.
     #[inline(always)]
     fn next(self) -> Ramp
-        requires { IsSteady (ramp_at self 1) }
+        requires { FitsIn64Bits (ramp_at self 1) }
         ensures { (i : ℕ) → ramp_at result i ≡ ramp_at self (i + 1) }
     {
         Ramp {
@@ -85,8 +87,8 @@ pub(crate) fn write_ramps<A: Allocator>(
     count: usize,
 )
     requires room { vec_len losses.old + count ≤ vec_capacity losses.old }
-    requires left { (i : ℕ) → i ≤ count → IsSteady (ramp_at left i) }
-    requires taken { (i : ℕ) → i ≤ count → IsSteady (ramp_at taken i) }
+    requires left { (i : ℕ) → i ≤ count → FitsIn64Bits (ramp_at left i) }
+    requires taken { (i : ℕ) → i ≤ count → FitsIn64Bits (ramp_at taken i) }
     ensures written { AreWritten losses.old.items losses.new.items left taken count }
     ensures capacity { vec_capacity losses.new ≡ vec_capacity losses.old }
 {

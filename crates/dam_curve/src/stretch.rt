@@ -121,7 +121,8 @@ impl<'a> Readers<'a> {
         requires value_least { neg_ℤ (pos (2 ^ 62)) ≤ℤ choice.now.value }
         requires value_most { choice.now.value ≤ℤ pos (2 ^ 62) }
         requires ordered { net ≤ℤ most }
-        requires room { (pos (vec_len losses.old) +ℤ (most -ℤ net)) <ℤ pos (vec_capacity losses.old) }
+        requires room { (pos (vec_len losses.old) +ℤ (most -ℤ net))
+            <ℤ pos (vec_capacity losses.old) }
         ensures losses { AreLossesFrom self.old.before self.old.left self.old.taken choice.now
             losses.old.items losses.new.items net result }
         ensures ordered { net ≤ℤ result }

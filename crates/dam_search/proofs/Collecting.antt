@@ -1,5 +1,5 @@
 -- The collecting law.
-use Rattle.std.proofs.Common.{◌≡◌, ℕ, ◌^◌, ◌<◌, ◌≤◌, max, ◌⊎◌, inl, inr, ℤ, pos, ◌≤ℤ◌, Bool, true, Option, Some, None, List, [], ◌∷◌, ◌++◌}
+use Rattle.std.proofs.Common.{◌≡◌, ℕ, ◌^◌, ◌-◌, ◌<◌, ◌≤◌, max, ◌⊎◌, inl, inr, ℤ, pos, ◌≤ℤ◌, Bool, true, Option, Some, None, List, [], ◌∷◌, ◌++◌}
 use Rattle.std.proofs.Common.{length, take, drop, ◌∙◌, ap, sym, subst, refl, arith}
 use Rattle.std.specs.List.{All, Contains}
 use Rattle.std.proofs.lemmas.Int.{ints}
@@ -13,7 +13,10 @@ use Rattle.dam_blocks.specs.Eligible.{IsEligible}
 use Rattle.dam_blocks.specs.Result.{RanksAtOrBelow, IsResult}
 use Rattle.dam_bound.specs.Prefix.{IsCompletion}
 use Rattle.dam_search.specs.declared.answer.PieceAnswer.{PieceAnswer}
-use Rattle.dam_search.specs.Piece.{IsFind, IsMatched, Rises, welfare_found, IsSpent}
+use Rattle.dam_search.specs.Piece.{IsFind, IsMatched, Rises, welfare_found, AreEnough, IsSpent}
+use Rattle.dam_search.specs.Search.{IsLimitEnough}
+use Rattle.dam_search.specs.inside.Collect.{IsWorked}
+use Rattle.dam_search.proofs.Walks.{enough_more}
 use Rattle.dam_search.specs.Answer.{IsSoundAnswer, AreAnswered, IsReached, greatest_found, IsHighest}
 use Rattle.dam_search.proofs.Ranks.{IsTransitive}
 
@@ -165,13 +168,41 @@ all_reached problem answers value r all =
 
 -- ---- a worker's answer
 
-pub spent_less : (problem : ProblemState) (prefix : List Bool) (left told nodes visited : ℕ) (done : Bool)
-    → IsSpent problem prefix left told nodes visited done → IsSpent problem prefix left 0 nodes visited done
-spent_less problem prefix left told nodes visited done s = record {
+pub spent_less : (problem : ProblemState) (prefix : List Bool) (left told nodes visited read : ℕ) (done : Bool)
+    → IsSpent problem prefix left told nodes visited read done → IsSpent problem prefix left 0 nodes visited read done
+spent_less problem prefix left told nodes visited read done s = record {
   within = s.within;
   all = s.all;
   live = λ v h. s.live v (omega (arith, h));
   unfinished = s.unfinished;
   done_by_all = s.done_by_all;
   done_by_live = λ v h. s.done_by_live v (omega (arith, h));
+  enough = s.enough;
 }
+
+-- ---- the limit on nodes
+
+-- a value that is reached is no greater than the result's welfare
+reached_at_most : (problem : ProblemState) (value : ℕ) (b : Best) → IsReached problem value → IsResult problem b.selection (pos b.welfare)
+    → value ≤ b.welfare
+reached_at_most problem value b r result =
+    let reaches = r.reaches in let below = result.others r.selection r.welfare r.eligible in let most = below.by_welfare in
+    omega (arith, ints, reaches, most)
+
+-- an answer that is done visited as many nodes as its piece needs, which the limit allows
+pub answer_enough : (problem : ProblemState) (prefix : List Bool) (left told nodes visited read : ℕ) (b : Best)
+    → IsSpent problem prefix left told nodes visited read true → IsReached problem read
+    → IsResult problem b.selection (pos b.welfare) → AreEnough problem prefix left b.welfare nodes
+answer_enough problem prefix left told nodes visited read b s reached result =
+    enough_more problem prefix left read b.welfare visited nodes (reached_at_most problem read b reached result) s.within (s.enough refl)
+
+pub limit_enough : (problem : ProblemState) (depth nodes : ℕ) (answers : List PieceAnswer) (b : Best)
+    → All (λ (a : PieceAnswer). IsWorked problem depth nodes a) answers → AreAnswered problem depth answers
+    → IsResult problem b.selection (pos b.welfare) → IsLimitEnough problem depth nodes b.welfare
+limit_enough problem depth nodes answers b worked are result piece less =
+    let found = are.each piece less in let left = length problem.blocks - depth in
+    let work = All-contains (λ (a : PieceAnswer). IsWorked problem depth nodes a) answers found.0 worked found.1 in
+    let done = All-contains (λ (a : PieceAnswer). a.done ≡ true) answers found.0 are.done found.1 in
+    let spent = subst (λ (b : Bool). IsSpent problem (choice depth found.0.piece) left 0 nodes found.0.visited found.0.read b) done work.spent in
+    subst (λ (n : ℕ). AreEnough problem (choice depth n) left b.welfare nodes) found.2
+    (answer_enough problem (choice depth found.0.piece) left 0 nodes found.0.visited found.0.read b spent work.reached result)

@@ -37,12 +37,12 @@ highest a b e = record {
 -- the answer of the walk over the whole
 pub worked_is : (problem : ProblemState) (first told nodes : ℕ) (a : PieceAnswer) → a.piece ≡ 0 → IsSound problem [] a.best a.read a.done
     → IsReached problem first → a.read ≤ max first (welfare_found a.best)
-    → IsSpent problem [] (length problem.blocks - 0) told nodes a.visited a.done → IsWorked problem 0 nodes a
+    → IsSpent problem [] (length problem.blocks - 0) told nodes a.visited a.read a.done → IsWorked problem 0 nodes a
 worked_is problem first told nodes a zero sound reached read spent = record {
   in_cutting = omega (arith, zero);
   sound = sound;
   reached = reached_less problem (max first (welfare_found a.best)) a.read read
       (reached_greater problem first (welfare_found a.best) reached
       (reached_found problem [] a.best (reached_less problem first 0 (omega arith) reached) sound.found));
-  spent = spent_less problem [] (length problem.blocks - 0) told nodes a.visited a.done spent;
+  spent = spent_less problem [] (length problem.blocks - 0) told nodes a.visited a.read a.done spent;
 }

@@ -63,12 +63,12 @@ both_answers problem depth nodes besides v w xs ys g h = record {
 -- the answer of a walk over a piece that was drawn
 pub explored_is : (problem : ProblemState) (depth nodes piece told : ℕ) (a : PieceAnswer) → a.piece ≡ piece → piece < 2 ^ depth
     → IsSound problem (choice depth piece) a.best a.read a.done
-    → IsSpent problem (choice depth piece) (length problem.blocks - depth) told nodes a.visited a.done → IsExplored problem depth nodes a
+    → IsSpent problem (choice depth piece) (length problem.blocks - depth) told nodes a.visited a.read a.done → IsExplored problem depth nodes a
 explored_is problem depth nodes piece told a same within sound spent = record {
   in_cutting = subst (λ (n : ℕ). n < 2 ^ depth) (sym same) within;
   sound = subst (λ (n : ℕ). IsSound problem (choice depth n) a.best a.read a.done) (sym same) sound;
-  spent = subst (λ (n : ℕ). IsSpent problem (choice depth n) (length problem.blocks - depth) 0 nodes a.visited a.done) (sym same)
-      (spent_less problem (choice depth piece) (length problem.blocks - depth) told nodes a.visited a.done spent);
+  spent = subst (λ (n : ℕ). IsSpent problem (choice depth n) (length problem.blocks - depth) 0 nodes a.visited a.read a.done) (sym same)
+      (spent_less problem (choice depth piece) (length problem.blocks - depth) told nodes a.visited a.read a.done spent);
 }
 
 pub none_yet : (problem : ProblemState) (depth nodes : ℕ) (v : View) → v.drawn ≡ [] → v.greatest_offer ≡ 0

@@ -1,11 +1,13 @@
 -- Pieces of a search, what is found in one, and what it may cost.
-use Rattle.std.specs.Prelude.{◌≡◌, ℕ, ◌+◌, ◌-◌, ◌*◌, ◌^◌, ◌≤◌, ℤ, pos, ◌<ℤ◌, ◌⊎◌, Bool, true, false, Option, Some, None, List}
+use Rattle.std.specs.Prelude.{◌≡◌, ℕ, zero, suc, ◌+◌, ◌-◌, ◌*◌, ◌^◌, ◌≤◌, ℤ, pos, ◌<ℤ◌, ◌⊎◌, ◌↔◌, Bool, true, false, if◌then◌else◌}
+use Rattle.std.specs.Prelude.{Option, Some, None, List, [], ◌∷◌, ◌++◌}
 use Rattle.dam_blocks.specs.declared.selection.Best.{Best}
 use Rattle.dam_blocks.specs.Problem.{ProblemState}
+use Rattle.dam_blocks.specs.Selection.{padded, IsAdmissible}
 use Rattle.dam_blocks.specs.Eligible.{IsEligible}
 use Rattle.dam_blocks.specs.Result.{RanksAtOrBelow}
 use Rattle.dam_bound.specs.Prefix.{IsCompletion}
-use Rattle.dam_bound.specs.Relaxed.{live_count}
+use Rattle.dam_bound.specs.Relaxed.{relaxed_welfare, reaches, live_count}
 
 -- A cutting of depth k decides the first k blocks. Its pieces are the completions of the prefixes of
 -- that length; that of piece j is `choice depth j`.
@@ -49,10 +51,34 @@ all_nodes left = 2 ^ (left + 1) - 1
 abbrev pub live_nodes : ProblemState → ℕ → List Bool → ℕ → ℕ
 live_nodes problem value prefix left = 1 + 2 * live_count problem value prefix left
 
+-- how many nodes are visited at least if this number of blocks is undecided and no greater value is
+-- read: the prefix, and if its relaxed welfare reaches the value, the nodes from the extension that
+-- rejects the next block, and those from the one that accepts it, if the test admits that one
+abbrev pub needed_nodes : ProblemState → (List Bool → Bool) → ℕ → List Bool → ℕ → ℕ
+needed_nodes problem admits value prefix zero = 1
+needed_nodes problem admits value prefix (suc left) =
+    1 + (if reaches (relaxed_welfare problem prefix) value
+    then needed_nodes problem admits value (prefix ++ false ∷ []) left
+    + (if admits (padded (prefix ++ true ∷ []))
+    then needed_nodes problem admits value (prefix ++ true ∷ []) left else 0)
+    else 0)
+
+-- the test says of each selection whether the links and the groups admit it
+abbrev pub IsAdmissionTest : ProblemState → (List Bool → Bool) → Type 0
+IsAdmissionTest problem admits =
+    (sel : List Bool) → (admits sel ≡ true) ↔ IsAdmissible problem.blocks sel
+
+-- if this number of blocks is undecided, this many nodes are as many as a walk over the completions
+-- of the prefix needs that reads no greater value than this one
+abbrev pub AreEnough : ProblemState → List Bool → ℕ → ℕ → ℕ → Type 0
+AreEnough problem prefix left read nodes = IsAdmissible problem.blocks (padded prefix)
+    → (admits : List Bool → Bool) (value : ℕ) → IsAdmissionTest problem admits → read ≤ value
+    → needed_nodes problem admits value prefix left ≤ nodes
+
 -- what a walk over the completions of this prefix has cost, if the greatest value read before it is
--- this and it may visit this number of nodes
+-- this, it may visit this number of nodes, and the greatest value read on the way is that one
 pub record IsSpent (problem : ProblemState) (prefix : List Bool)
-    (left greatest_read nodes visited : ℕ) (done : Bool) : Type 0 where
+    (left greatest_read nodes visited read : ℕ) (done : Bool) : Type 0 where
   pub within : visited ≤ nodes
   pub all : visited ≤ all_nodes left
   pub live : (value : ℕ) → value ≤ greatest_read → visited ≤ live_nodes problem value prefix left
@@ -60,3 +86,4 @@ pub record IsSpent (problem : ProblemState) (prefix : List Bool)
   pub done_by_all : all_nodes left ≤ nodes → done ≡ true
   pub done_by_live : (value : ℕ) → value ≤ greatest_read
       → live_nodes problem value prefix left ≤ nodes → done ≡ true
+  pub enough : done ≡ true → AreEnough problem prefix left read visited

@@ -1,8 +1,8 @@
--- What a search may end with in place of its result.
+-- What a limit on nodes means for a search.
 use Rattle.std.specs.Prelude.{◌≡◌, ℕ, ◌-◌, ◌^◌, ◌<◌, length}
 use Rattle.dam_blocks.specs.Problem.{ProblemState}
 use Rattle.dam_blocks.specs.Selection.{choice}
-use Rattle.dam_search.specs.Piece.{all_nodes, live_nodes}
+use Rattle.dam_search.specs.Piece.{all_nodes, live_nodes, AreEnough}
 
 -- a piece of the cutting that visited as many nodes as it may, which is less than either bound on
 -- those that it can need
@@ -11,3 +11,9 @@ pub record IsUnfinished (problem : ProblemState) (depth nodes piece visited : �
   pub limit_met : visited ≡ nodes
   pub over_all : nodes < all_nodes (length problem.blocks - depth)
   pub over_live : nodes < live_nodes problem 0 (choice depth piece) (length problem.blocks - depth)
+
+-- the limit is enough for each piece of the cutting, if this is the welfare of the result: without as
+-- many nodes there is no result
+abbrev pub IsLimitEnough : ProblemState → ℕ → ℕ → ℕ → Type 0
+IsLimitEnough problem depth nodes welfare = (piece : ℕ) → piece < 2 ^ depth
+    → AreEnough problem (choice depth piece) (length problem.blocks - depth) welfare nodes

@@ -12,7 +12,7 @@ pub record IsExplored (problem : ProblemState) (depth nodes : ℕ) (a : PieceAns
   pub in_cutting : a.piece < 2 ^ depth
   pub sound : IsSoundAnswer problem depth a
   pub spent : IsSpent problem (choice depth a.piece) (length problem.blocks - depth) 0 nodes
-      a.visited a.done
+      a.visited a.read a.done
 
 -- a seat for this number of pieces, which drew and offered nothing
 pub record IsFresh (pieces : ℕ) (v : View) : Type 0 where

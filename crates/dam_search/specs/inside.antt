@@ -2,3 +2,4 @@
 pub mod Walk
 pub mod Share
 pub mod Collect
+pub mod Trial

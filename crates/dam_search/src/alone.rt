@@ -2,37 +2,19 @@ ghost use Rattle.std.specs.Prelude.{◌≡◌, ◌≤◌, max, ℕ, pos, true, [
 ghost use Rattle.dam_blocks.specs.Result.{IsResult};
 ghost use Rattle.dam_search.specs.Answer.{IsReached};
 ghost use Rattle.dam_search.specs.Piece.{IsSound, welfare_found};
-ghost use Rattle.dam_search.specs.Search.{IsUnfinished};
+ghost use Rattle.dam_search.specs.Search.{IsUnfinished, IsLimitEnough};
 ghost use Rattle.dam_search.specs.inside.Collect.{IsWorked};
 
 use crate::answer::PieceAnswer;
 use crate::fault::SearchFault;
 use crate::first::first_selection;
 use crate::incumbent::{Incumbent, Private};
-use crate::laws;
+use crate::only::only_best;
 use crate::piece::search_piece;
-use crate::space::kept;
-use crate::trial::tables_for;
+use crate::trial::{Trial, tried};
 use dam_blocks::{Best, Problem};
 use dam_bound::{Tables, Walk};
 use std::alloc::Global;
-
-/// The selection that a finished walk over the one piece found, if this welfare was offered before it.
-fn only_best(problem: &Problem, first: u64, answer: &PieceAnswer) -> Best
-    requires piece { answer.now.piece ≡ 0 }
-    requires sound { IsSound problem.now [] answer.now.best answer.now.read answer.now.done }
-    requires done { answer.now.done ≡ true }
-    requires first { IsReached problem.now first }
-    requires read { answer.now.read ≤ max first (welfare_found answer.now.best) }
-    ensures { IsResult problem.now result.selection (pos result.welfare) }
-{
-    laws::collecting();
-    kept(problem);
-    match answer.best {
-        Some(best) => best,
-        None => unreachable!(),
-    }
-}
 
 /// The result of the walk over the one piece, or its fault, if this welfare was offered before it.
 fn concluded(
@@ -48,6 +30,7 @@ fn concluded(
     ensures unfinished { (piece visited : ℕ)
         → IsErrOf result (SearchFault.Unfinished piece visited)
         → IsUnfinished problem.now 0 nodes piece visited }
+    ensures enough { IfOk result (λ best. IsLimitEnough problem.now 0 nodes best.welfare) }
     ensures whole { (piece : ℕ) → ¬ (IsErrOf result (SearchFault.Collected piece)) }
 {
     if !answer.done {
@@ -64,17 +47,22 @@ fn concluded(
 ///
 /// It finds what `search` finds, whose clauses it has for a plan that cuts nothing. The whole search
 /// is piece 0, which visits at most `nodes` nodes; 67,108,864 are enough for any problem. If `nodes` is
-/// more than a trial visits, it first makes the trial that `search` makes, whose nodes aren't counted.
+/// more than a trial visits, it first makes the trial that `search` makes, which ends a short search and
+/// whose nodes aren't counted.
 pub fn search_alone(alloc: Global, problem: &Problem, nodes: u32) -> Result<Best, SearchFault>
     ensures ok { IfOk result (λ best. IsResult problem.now best.selection (pos best.welfare)) }
     ensures unfinished { (piece visited : ℕ)
         → IsErrOf result (SearchFault.Unfinished piece visited)
         → IsUnfinished problem.now 0 nodes piece visited }
+    ensures enough { IfOk result (λ best. IsLimitEnough problem.now 0 nodes best.welfare) }
     ensures whole { (piece : ℕ) → ¬ (IsErrOf result (SearchFault.Collected piece)) }
 {
     let tables = Tables::of(alloc, problem)?;
     let first = first_selection(problem, &Walk::new(problem, &tables));
-    let tables = tables_for(alloc, problem, tables, first.welfare, nodes);
+    let tables = match tried(alloc, problem, tables, first.welfare, nodes) {
+        Trial::Ended(best) => return Ok(best),
+        Trial::Longer(tables) => tables,
+    };
     let walk = &Walk::new(problem, &tables);
     let mut incumbent = Private::new();
     incumbent.offer(first.welfare);

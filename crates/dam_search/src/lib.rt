@@ -8,10 +8,10 @@
 //! `specs/` defines these words: a plan, a piece and a sound answer about it, and the rule of the words that workers
 //! share. A contract sees a [`Plan`] as its three numbers, an [`Incumbent`] as the greatest value read of it and the
 //! greatest welfare offered to it, and a selection as its list of acceptances. Only tests show that the number of
-//! visited nodes in an answer is the number visited, and that the incumbent is read at each; that a search stops at
-//! its limit on nodes, and not before; which of several unfinished pieces is named; that the first selection is a
-//! good one; that a turnstile is called with the piece's number; that pieces are explored at the same time, and that
-//! one worker reads what another offered; and that a search reports out of memory only if memory has run out.
+//! visited nodes in an answer is the number visited, and that the incumbent is read at each; with which limit on nodes
+//! a search just ends; which of several unfinished pieces is named; that the first selection is a good one; that a
+//! turnstile is called with the piece's number; that pieces are explored at the same time, and that one worker reads
+//! what another offered; and that a search reports out of memory only if memory has run out.
 //!
 //! The crate knows nothing of how prices are found, nor of texts.
 #![tactic(auto)]
@@ -23,6 +23,7 @@ mod fault;
 mod first;
 mod incumbent;
 pub mod laws;
+mod only;
 mod piece;
 mod prefix;
 mod shared;

@@ -283,7 +283,7 @@ pub fn search_piece<A: Allocator, B: Allocator, R: Bounds<B>, I: Incumbent>(
     ensures piece { result.piece ≡ piece }
     ensures sound { IsSound problem.now (choice depth piece) result.best result.read result.done }
     ensures spent { IsSpent problem.now (choice depth piece) (length problem.now.blocks - depth)
-        (I.greatest_read incumbent.old) nodes result.visited result.done }
+        (I.greatest_read incumbent.old) nodes result.visited result.read result.done }
 
     // What becomes of the incumbent.
     ensures offered { I.greatest_offer incumbent.new

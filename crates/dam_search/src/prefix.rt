@@ -6,7 +6,7 @@ ghost use Rattle.dam_blocks.specs.Selection.{choice, padded, IsAdmissible};
 ghost use Rattle.dam_blocks.specs.Eligible.{ArePrices, HasNoLoss, selection_welfare};
 ghost use Rattle.dam_bound.specs.Prefix.{IsCompletion};
 ghost use Rattle.dam_bound.specs.Relaxed.{relaxed_welfare, reaches};
-ghost use Rattle.dam_bound.specs.Day.{IsDay};
+ghost use Rattle.dam_bound.specs.Day.{IsDay, IsUnder};
 ghost use Rattle.dam_bound.specs.Trail.{IsDayIn};
 ghost use Rattle.dam_bound.specs.declared.trail.Trail.{Trail};
 ghost use Rattle.dam_search.specs.inside.Walk.{IsBoundIn, IsDayFrom, turned_at};
@@ -219,8 +219,8 @@ impl Prefix {
         ensures { (relaxed : ProblemState) (trail : Trail) (low : ℕ) → low ≤ least
             → IsBoundIn relaxed self.now low trail total
             → MatchOption result
-            ((sel : List Bool) (w : ℤ) → IsCompletion self.now sel
-            → selection_welfare relaxed sel ≡ Some w → w <ℤ pos least)
+            (IsUnder relaxed self.now least × ((sel : List Bool) (w : ℤ)
+            → IsCompletion self.now sel → selection_welfare relaxed sel ≡ Some w → w <ℤ pos least))
             (λ bound. (reaches (relaxed_welfare relaxed self.now) least ≡ true)
             × IsDayIn relaxed self.now trail bound) }
     {

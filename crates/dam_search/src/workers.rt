@@ -4,7 +4,7 @@ ghost use Rattle.atomic_table.specs.Seated.{TableId};
 ghost use Rattle.dam_blocks.specs.Result.{IsResult};
 ghost use Rattle.dam_bound.specs.Relaxed.{without_rows};
 ghost use Rattle.dam_plan.specs.Limits.{most_workers, most_cut};
-ghost use Rattle.dam_search.specs.Search.{IsUnfinished};
+ghost use Rattle.dam_search.specs.Search.{IsUnfinished, IsLimitEnough};
 ghost use Rattle.dam_search.specs.Words.{view_of};
 ghost use Rattle.dam_search.specs.inside.Share.{IsNewSeat, IsShare, AreJoined, AreWhole};
 
@@ -14,7 +14,7 @@ use crate::fault::SearchFault;
 use crate::first::first_selection;
 use crate::incumbent::Incumbent;
 use crate::shared::Shared;
-use crate::trial::tables_for;
+use crate::trial::{Trial, tried};
 use crate::turnstile::Turnstile;
 use crate::words::{ClosedWords, close, new_words};
 use crate::worker::work;
@@ -195,14 +195,23 @@ pub(crate) fn explore_all<R: Threads + Sync, T: Turnstile + Sync>(
     Ok(Explored { answers, totals })
 }
 
+/// Calls the turnstile for each piece in turn, after a trial that has searched all of them.
+fn pass_all<T: Turnstile>(pieces: u32, turnstile: &T) {
+    for piece in 0..pieces {
+        turnstile.before(piece);
+        turnstile.after(piece);
+    }
+}
+
 /// The result of a problem (`IsResult`): the eligible selection that no eligible one ranks above. Ties go to the one
 /// that accepts the block at the first place where two differ. No plan and no order in which the workers happen to
 /// run changes it.
 ///
 /// The search first finds a good selection, and offers its welfare before any worker starts. If a piece may visit
-/// more nodes than a trial (4,096 to 46,875, one for every 16 losses that tables could keep), a trial comes next. If
-/// it doesn't end the search, tables of some MiB are made, which are quicker to read, if there is memory. The limit
-/// on nodes doesn't count the trial. The cutting decides as many of the first blocks as the plan says, or all of them
+/// more nodes than a trial (4,096 to 46,875, one for every 16 losses that tables could keep), a trial comes next: the
+/// calling thread searches the whole. If that ends the search, no worker starts, and the turnstile is called for one
+/// piece after another. If it doesn't, tables of some MiB are made, which are quicker to read, if there is memory. The
+/// limit on nodes doesn't count the trial. The cutting decides as many of the first blocks as the plan says, or all of them
 /// if there are fewer. The workers, each on a thread of its own, draw its pieces as they come free, and prune by the
 /// greatest welfare that any of them has found. If a thread can't be made, the calling one does its work. Of the
 /// faults, `Memory` comes first, then `Collected`, and then `Unfinished`.
@@ -219,18 +228,29 @@ pub fn search<R: Threads + Sync, T: Turnstile + Sync>(
         → IsUnfinished problem.now (min plan.cut (length problem.now.blocks))
         plan.nodes piece visited }
 
+    // Without as many nodes as a piece needs there is no result.
+    ensures enough { IfOk result (λ best. IsLimitEnough problem.now
+        (min plan.cut (length problem.now.blocks)) plan.nodes best.welfare) }
+
     // It never ends in the fault of a piece that lacks its answer or has two.
     ensures whole { (piece : ℕ) → ¬ (IsErrOf result (SearchFault.Collected piece)) }
 {
     let tables = Tables::of(alloc, problem)?;
     let first = first_selection(problem, &Walk::new(problem, &tables)).welfare;
-    let tables = tables_for(alloc, problem, tables, first, plan.nodes());
+    let depth = plan.depth(problem.block_count());
+    let tables = match tried(alloc, problem, tables, first, plan.nodes()) {
+        Trial::Ended(best) => {
+            pass_all(pieces(depth), turnstile);
+            return Ok(best);
+        }
+        Trial::Longer(tables) => tables,
+    };
     let walk = Walk::new(problem, &tables);
     let task = Task {
         alloc,
         problem,
         walk: &walk,
-        depth: plan.depth(problem.block_count()),
+        depth,
         nodes: plan.nodes(),
         workers: plan.workers(),
         first,

@@ -23,8 +23,8 @@ kept_number (negsuc n) = 0
 abbrev pub ramp_at : Ramp → ℕ → ℤ
 ramp_at ramp i = ramp.loss +ℤ ramp.step *ℤ pos i
 
--- a loss is held in 64 bits
-pub record IsSteady (loss : ℤ) : Type 0 where
+-- the loss fits in a signed number of 64 bits
+pub record FitsIn64Bits (loss : ℤ) : Type 0 where
   pub at_least : neg_ℤ (pos (2 ^ 63)) ≤ℤ loss
   pub at_most : loss <ℤ pos (2 ^ 63)
 

@@ -19,7 +19,7 @@ pub record IsWorked (problem : ProblemState) (depth nodes : ℕ) (a : PieceAnswe
   pub sound : IsSoundAnswer problem depth a
   pub reached : IsReached problem a.read
   pub spent : IsSpent problem (choice depth a.piece) (length problem.blocks - depth) 0 nodes
-      a.visited a.done
+      a.visited a.read a.done
 
 -- how many answers there are about the piece
 abbrev pub answers_about : List PieceAnswer → ℕ → ℕ

@@ -41,6 +41,7 @@ loop-net-init g c =
       taken = c.new-readers.ensures.taken;
       so_far = losses_none c.args.before.now c.args.after.now c.args.choice.now c.args.losses.now.items c.reserve.new.self.items _
           c.reserve.ensures.items;
+      at_most = (let ordered = c.requires.ordered in omega (arith, ints, most, least, ordered));
       room = room_at_first _ _ _ _ c.args.least c.args.most _ _ (count_of _ span.at_least) span.span_is least most
           (search rules);
     }
@@ -110,6 +111,7 @@ loop-net-preserved g c =
       taken = c.write_losses-net.ensures.taken ∙ invariant.taken;
       so_far = losses_more c.args.before.now c.args.after.now c.args.choice.now c.args.losses.now.items c.loop-net.losses.items
           c.write_losses-net.new.losses.items _ _ c.write_losses-net.result _ from ordered next invariant.so_far;
+      at_most = omega (arith, ints, next, within);
       room = room_after _ _ _ _ _ _ _ c.write_losses-net.result _ _ before after from.long next c.write_losses-net.ensures.capacity
           invariant.room;
     }
@@ -121,3 +123,11 @@ returns-clause-losses g c before after net place low high read e =
     let end = c.loop-net-test.false in
     c.loop-net.invariant.so_far.each before after net place (omega (arith, ints, low, least))
     (omega (arith, ints, end, most, high)) read (omega (arith, ints, e, least))
+
+pub returns-clause-long : goal.returns-clause-long
+returns-clause-long g c =
+    let most : to_z w64 (of_z w64 c.args.most) ≡ c.args.most = search rules in
+    let least : to_z w64 (of_z w64 c.args.least) ≡ c.args.least = search rules in
+    let end = c.loop-net-test.false in let invariant = c.loop-net.invariant in
+    let long = invariant.so_far.long in let at_most = invariant.at_most in
+    omega (arith, ints, end, long, at_most, most, least)

@@ -3,7 +3,7 @@ use Rattle.std.proofs.Common.{◌≡◌, ℕ, ◌+◌, ◌<◌, ◌≤◌, List,
 use Rattle.std.proofs.lemmas.Int.{ints}
 use Rattle.dam_curve.specs.declared.losses.Loss.{Loss}
 use Rattle.dam_curve.specs.declared.ramp.Ramp.{Ramp}
-use Rattle.dam_curve.specs.inside.Ramp.{kept_number, ramp_at, IsSteady, loss_on, AreWritten}
+use Rattle.dam_curve.specs.inside.Ramp.{kept_number, ramp_at, FitsIn64Bits, loss_on, AreWritten}
 use Rattle.dam_curve.proofs.Ramps.{written_more}
 use Rattle.dam_curve.proofs.ramp.write_ramps.Goals as goal
 
@@ -21,17 +21,17 @@ loss_here : (x y : ℕ) (left taken : Ramp) (n : ℕ) → x ≡ kept_number (ram
     → record { left = x; taken = y } ≡ loss_on left taken n
 loss_here x y left taken n e f = ap₂ (λ (a b : ℕ). record { left = a; taken = b }) e f
 
-steady_on : (first now : Ramp) (n count : ℕ) → IsOn first now n → n < count → ((i : ℕ) → i ≤ count → IsSteady (ramp_at first i))
-    → IsSteady (ramp_at now 1)
-steady_on first now n count on l steady = subst IsSteady (sym (on 1)) (steady (n + 1) (omega (arith, l)))
+fits_on : (first now : Ramp) (n count : ℕ) → IsOn first now n → n < count → ((i : ℕ) → i ≤ count → FitsIn64Bits (ramp_at first i))
+    → FitsIn64Bits (ramp_at now 1)
+fits_on first now n count on l fits = subst FitsIn64Bits (sym (on 1)) (fits (n + 1) (omega (arith, l)))
 
 pub next-left-requires : goal.next-left-requires
 next-left-requires g c =
-    steady_on c.args.left c.loop.left c.loop.counter c.args.count c.loop.invariant.left c.loop-test.true c.requires.left
+    fits_on c.args.left c.loop.left c.loop.counter c.args.count c.loop.invariant.left c.loop-test.true c.requires.left
 
 pub next-taken-requires : goal.next-taken-requires
 next-taken-requires g c =
-    steady_on c.args.taken c.loop.taken c.loop.counter c.args.count c.loop.invariant.taken c.loop-test.true c.requires.taken
+    fits_on c.args.taken c.loop.taken c.loop.counter c.args.count c.loop.invariant.taken c.loop-test.true c.requires.taken
 
 pub loop-preserved : goal.loop-preserved
 loop-preserved g c =

@@ -47,13 +47,13 @@ pub returns-clause-spent : goal.returns-clause-spent
 returns-clause-spent g c =
     let told = g.I.Incumbent.greatest_read c.args.incumbent.now in let n = length c.args.problem.now.blocks in
     let long = as_long c.of_piece-prefix.result c.args.depth c.args.piece c.of_piece-prefix.ensures in
-    let visited = c.explore-done.new.found.visited in
-    subst (λ (left : ℕ). IsSpent c.args.problem.now (choice c.args.depth c.args.piece) (n - left) told c.args.nodes visited
-    c.explore-done.result) long
-    (subst (λ (prefix : List Bool). IsSpent c.args.problem.now prefix (n - length c.of_piece-prefix.result) told c.args.nodes visited
-    c.explore-done.result) c.of_piece-prefix.ensures
-    (spent_from c.args.problem.now c.of_piece-prefix.result (n - length c.of_piece-prefix.result) told c.args.nodes visited
-    c.explore-done.result c.explore-done.ensures.walked.spends))
+    let found = c.explore-done.new.found in let walked = c.explore-done.ensures.walked in
+    subst (λ (left : ℕ). IsSpent c.args.problem.now (choice c.args.depth c.args.piece) (n - left) told c.args.nodes found.visited
+    found.read c.explore-done.result) long
+    (subst (λ (prefix : List Bool). IsSpent c.args.problem.now prefix (n - length c.of_piece-prefix.result) told c.args.nodes
+    found.visited found.read c.explore-done.result) c.of_piece-prefix.ensures
+    (spent_from c.args.problem.now c.of_piece-prefix.result (n - length c.of_piece-prefix.result) told c.args.nodes found.visited
+    found.read c.explore-done.result walked.spends walked.enough))
 
 pub returns-clause-read : goal.returns-clause-read
 returns-clause-read g c some few =

@@ -1,5 +1,5 @@
 -- The losses that are written are those of the choice, and what stood there stays.
-use Rattle.std.proofs.Common.{◌≡◌, ◌<◌, pos, List, [], length, take, subst, to_z, of_z, w64, rules, arith}
+use Rattle.std.proofs.Common.{◌≡◌, ◌<◌, pos, List, [], length, take, ap, subst, to_z, of_z, w64, rules, arith}
 use Rattle.std.proofs.lemmas.Int.{ints}
 use Rattle.dam_curve.specs.declared.losses.Loss.{Loss}
 use Rattle.dam_curve.specs.Curve.{lines_at}
@@ -62,3 +62,11 @@ returns-clause-kept g c =
     let same : c.self.inside.losses.items ≡ c.args.self.now.losses = search rules in
     keeps_more c.args.self.now _ [] (search rules)
     (subst (λ (xs : List Loss). take (length xs) c.write_losses.new.losses.items ≡ xs) same c.write_losses.ensures.kept)
+
+pub returns-clause-long : goal.returns-clause-long
+returns-clause-long g c some =
+    let least : to_z w64 (of_z w64 c.args.least) ≡ c.args.least = search rules in
+    let most : to_z w64 (of_z w64 c.args.most) ≡ c.args.most = search rules in
+    let long = c.in_ok-write_losses.ensures.long in
+    let same = ap (λ (xs : List Loss). length xs) (let same : c.self.inside.losses.items ≡ c.args.self.now.losses = search rules in same) in
+    omega (arith, ints, long, same, least, most)

@@ -4,7 +4,7 @@ use Rattle.std.proofs.lemmas.Int.{ints}
 use Rattle.dam_book.specs.Limits.{last_period}
 use Rattle.dam_curve.specs.declared.line.Line.{Line}
 use Rattle.dam_curve.specs.Curve.{line_at, IsSmallLine}
-use Rattle.dam_curve.proofs.Ramps.{IsSmallValue, value_fits, loss_fits, loss_in_machine, step_in_machine, kept_between_lines, steady_between}
+use Rattle.dam_curve.proofs.Ramps.{IsSmallValue, value_fits, loss_fits, loss_in_machine, step_in_machine, kept_between_lines, fits_between}
 use Rattle.dam_curve.proofs.ramp.Ramp.between.Goals as goal
 
 small_of : (line : Option Line) (l : Line) → line ≡ Some l → IfSome line (IsSmallLine last_period) → IsSmallLine last_period l
@@ -86,8 +86,8 @@ returns-clause-kept c i w is =
     kept_between_lines c.args.before c.args.after c.in-Some-Some.before c.in-Some-Some.after _ _ c.args.net c.args.added c.args.value
     c.in-Some-Some.is-0 c.in-Some-Some.is-1 two.loss_is two.step_is i w is
 
-pub returns-clause-steady : goal.returns-clause-steady
-returns-clause-steady c i high high2 =
+pub returns-clause-fits : goal.returns-clause-fits
+returns-clause-fits c i high high2 =
     let two = between c in
-    steady_between c.in-Some-Some.before c.in-Some-Some.after _ _ c.args.net c.args.added c.args.value two.loss_is two.step_is two.small
+    fits_between c.in-Some-Some.before c.in-Some-Some.after _ _ c.args.net c.args.added c.args.value two.loss_is two.step_is two.small
     two.small2 c.requires.value_least c.requires.value_most c.requires.least c.requires.moved_least i high high2

@@ -226,7 +226,7 @@ write_ramps-requires-clause-left g c i few =
     (to_z w64 (of_z w64 c.args.net)) back back.end_is net in
     let here = within_word c.args.net (to_z w64 (of_z w64 c.args.net)) i _ (c.stretch-taken.result.end -ℤ c.args.choice.now.net) c.stretch-left.result.end
     _ net few (count_of _ span.at_least) span.span_is back.at_most back.last_small in
-    c.between.ensures.steady i here (omega (arith, ints, here))
+    c.between.ensures.fits i here (omega (arith, ints, here))
 
 pub write_ramps-requires-clause-taken : goal.write_ramps-requires-clause-taken
 write_ramps-requires-clause-taken g c i few =
@@ -248,7 +248,7 @@ write_ramps-requires-clause-taken g c i few =
     let span = span_of c.args.net c.stretch-left.result.end c.args.choice.now.net c.from-added.result c.stretch-taken.result.end
     (to_z w64 (of_z w64 (to_z w64 (of_z w64 c.stretch-taken.result.end) -ℤ to_z w64 (of_z w64 c.from-added.result))))
     (to_z w64 (of_z w64 c.args.net)) back back.end_is net in
-    c.between-2.ensures.steady i
+    c.between-2.ensures.fits i
     (within_word c.args.net (to_z w64 (of_z w64 c.args.net)) i _ (c.stretch-taken.result.end -ℤ c.args.choice.now.net) c.stretch-left.result.end _ net few
     (count_of _ span.at_least) span.span_is back.at_most back.last_small)
     (moved_within_word c.args.net (to_z w64 (of_z w64 c.args.net)) c.args.choice.now.net (to_z w64 (of_z w64 c.from-added.result)) i _

@@ -1,6 +1,6 @@
 -- One node, and the walks from its two extensions.
 use Rattle.std.proofs.Common.{◌≡◌, ◌≢◌, inl, inr, Option, Some, ℤ, ℕ, ◌+◌, ◌-◌, ◌≤◌, ◌<◌, true, false, not, List, Bool, []}
-use Rattle.std.proofs.Common.{◌∷◌, ◌++◌}
+use Rattle.std.proofs.Common.{◌∷◌, ◌++◌, IsTrue}
 use Rattle.std.proofs.Common.{length, length-append, ◌∙◌, ap, sym, subst, refl, rules, arith}
 use Rattle.dam_book.specs.Limits.{most_blocks}
 use Rattle.dam_blocks.specs.Problem.{ProblemState}
@@ -11,11 +11,13 @@ use Rattle.dam_blocks.specs.Eligible.{selection_welfare}
 use Rattle.dam_bound.specs.Prefix.{IsCompletion}
 use Rattle.dam_bound.specs.Trail.{IsDayIn, IsBoundOf}
 use Rattle.dam_bound.specs.Relaxed.{without_rows, relaxed_welfare, reaches}
+use Rattle.dam_bound.specs.Day.{IsUnder}
 use Rattle.dam_search.specs.inside.Walk.{IsBoundIn, Spends, Reads, IsGoing, IsWalked}
 use Rattle.dam_search.proofs.Ranks.{found_after, finds_nothing, finds_shorter, finds_twice, covers_both, welfare_rises}
 use Rattle.dam_search.proofs.Leaf.{read_more}
 use Rattle.dam_search.proofs.LastBlock.{still_rejected}
 use Rattle.dam_search.proofs.Walks.{spends_none, spends_nothing, spends_one, spends_first, spends_both, reads_nothing, reads_asked}
+use Rattle.dam_search.proofs.Walks.{unreached, enough_one, enough_both}
 use Rattle.dam_search.proofs.space.SearchSpace.+explore.Goals.{decide-else-accept-via-then-accept+else-not-is_still_admissible}
 use Rattle.dam_search.proofs.space.SearchSpace.+explore.Goals.{decide-else-accept-via-else-accept}
 use Rattle.dam_search.proofs.space.SearchSpace.+explore.Goals as goal
@@ -29,6 +31,10 @@ alive_here problem relaxed prefix least e r = subst (λ (p : ProblemState). reac
 undecided : (prefix : List Bool) (depth count n : ℕ) → depth ≡ length prefix → count ≡ n
     → length prefix ≤ n → depth ≢ count → length prefix < n
 undecided prefix depth count n e f h more = omega (arith, more)
+
+not_admitted : (b : Bool) → b ≡ false → IsTrue b → ⊥
+not_admitted true e t = absurd (cc)
+not_admitted false e t = absurd (cc)
 
 unmet : (visited nodes : ℕ) → visited ≤ nodes → visited ≢ nodes → visited < nodes
 unmet visited nodes h more = omega (arith, more)
@@ -61,6 +67,10 @@ decide-returns-then-not-is_still_admissible-clause-walked g t c =
       finds = finds_nothing problem prefix found.best;
       covers = λ done sel w whole e. absurd (passed sel whole e.admissible);
       spends = spends_nothing problem prefix left told c.args.nodes found.visited going.room;
+      enough = λ done admissible. absurd
+          (not_admitted c.is_still_admissible.result c.if-not-is_still_admissible.true
+          (c.is_still_admissible.ensures.value.1
+          (subst (λ (xs : List Bool). IsAdmissible problem.blocks (padded xs)) (sym c.extended-extended.ensures) admissible)));
       reads = reads_nothing left found.visited found.visited found.read told told going.read refl (inl refl);
       offered = let offered = going.offered in omega (arith, offered);
     }
@@ -108,6 +118,7 @@ explore-returns-then-found-nodes-clause-walked g t c =
       finds = finds_nothing problem prefix found.best;
       covers = λ done. absurd (cc);
       spends = spends_none problem prefix left told c.args.nodes found.visited c.if-found-nodes.true;
+      enough = λ done. absurd (cc);
       reads = reads_nothing left found.visited found.visited found.read told told going.read refl (inl refl);
       offered = let offered = going.offered in omega (arith, offered);
     }
@@ -126,6 +137,7 @@ explore-returns-then-depth-block_count-clause-walked g t c =
       spends =
           subst (λ (n : ℕ). Spends problem prefix left (told c.args.incumbent.now) c.args.nodes found.visited n true) (sym visited)
           (spends_one problem prefix left (told c.args.incumbent.now) c.args.nodes found.visited room);
+      enough = λ done. enough_one problem prefix left after.read found.visited after.visited visited (inl full);
       reads =
           subst (λ (n : ℕ). Reads left found.visited after.visited found.read n (told c.args.incumbent.now)
           (told c.try_selection.new.incumbent))
@@ -146,14 +158,19 @@ explore-returns-in_default-clause-walked g t c =
     let inside =
     undecided prefix c.depth.result c.block_count.result (length problem.blocks) c.depth.ensures.value c.block_count.ensures.value
     c.requires.depth c.if-depth-block_count.false in
+    let none = c.in_default.ensures relaxed c.args.trail.now found.read low c.requires.day in
+    let under : IsUnder problem prefix c.read-found.result =
+    subst (λ (p : ProblemState). IsUnder p prefix c.read-found.result) c.args.self.now.same none.0 in
     record {
       finds = finds_nothing problem prefix found.best;
       covers = λ done sel w whole e.
           (let welfare = subst (λ (p : ProblemState). selection_welfare p sel ≡ Some w) (sym c.args.self.now.same) e.welfare_is in
-          inl (c.in_default.ensures relaxed c.args.trail.now found.read low c.requires.day sel w whole welfare));
+          inl (none.1 sel w whole welfare));
       spends =
           spends_one problem prefix left (told c.args.incumbent.now) c.args.nodes found.visited
           (unmet found.visited c.args.nodes going.room c.if-found-nodes.false);
+      enough = λ done. enough_one problem prefix left c.read-found.result found.visited (found.visited + 1) refl
+          (inr (λ value le. unreached (relaxed_welfare problem prefix) value c.read-found.result under le));
       reads =
           reads_asked left found.visited (found.visited + 1) found.read c.read-found.result (told c.args.incumbent.now)
           (told c.read-found.new.self) (omega (arith, inside)) (omega arith) read c.read-found.ensures.rises
@@ -224,6 +241,7 @@ explore-returns-then-not-decide-clause-walked g t c =
       spends =
           spends_first problem prefix first n (told c.args.incumbent.now) least nodes before after inside c.read-found.ensures.rises
           (alive_here problem c.args.self.now.walk.now prefix least c.args.self.now.same is.0) unfinished;
+      enough = λ done. absurd (cc);
       reads =
           reads_asked (n - length prefix) before after c.args.found.now.read c.decide.new.found.read (told c.args.incumbent.now)
           (told c.decide.new.incumbent) (omega (arith, inside)) (omega (arith, more)) c.requires.going.read
@@ -298,6 +316,8 @@ explore-returns-clause-walked g t c =
           spends_both problem prefix first n (told c.args.incumbent.now) least later nodes before middle after c.decide-2.result inside
           c.read-found.ensures.rises (omega (arith, asked, raised))
           (alive_here problem c.args.self.now.walk.now prefix least c.args.self.now.same is.0) one other;
+      enough = λ done. enough_both problem prefix first n c.decide.new.found.read c.decide-2.new.found.read before middle after
+          inside few more more' grows' (w.enough c.if-not-decide.false) (v.enough done);
       reads =
           reads_asked (n - length prefix) before after c.args.found.now.read c.decide-2.new.found.read (told c.args.incumbent.now)
           (told c.decide-2.new.incumbent) (omega (arith, inside)) (omega (arith, more, more')) c.requires.going.read
