@@ -17,7 +17,7 @@ use crate::output::write_text;
 use crate::packed::PackedJournal;
 use crate::watch::Watch;
 use dam_book::{DayLength, PackedCommand, Seed};
-use dam_gate::{DayFault, Hooks, Journal, Settled, run_packed};
+use dam_gate::{DayFault, Journal, Settled, run_packed};
 use dam_results::{packed_journal_text, read_into};
 use dam_search::{Plan, Turnstile};
 use std::alloc::Global;
@@ -109,22 +109,6 @@ fn day_of_commands<H: Threads + Wait + Sync, T: Watch + Sync, U: Turnstile + Syn
     print_day(rt, alloc, settled.journal(), plan, turnstile)
 }
 
-/// A turnstile at the door of a gate.
-#[derive(Clone, Copy)]
-struct Door<'a, U> {
-    turnstile: &'a U,
-}
-
-impl<U: Turnstile> Hooks for Door<'_, U> {
-    fn before(&self, participant: u32) {
-        self.turnstile.before(participant);
-    }
-
-    fn after(&self, participant: u32) {
-        self.turnstile.after(participant);
-    }
-}
-
 /// The settled journal of a day of the commands. A command's place is counted from 0, a record's number
 /// from 1, and the first record is the day.
 fn settled_day<H: Threads + Wait + Sync, U: Turnstile + Sync>(
@@ -142,10 +126,7 @@ fn settled_day<H: Threads + Wait + Sync, U: Turnstile + Sync>(
     ensures fault { (plan : PlanTerms)
         → IfErr result (IsCommandsFault plan periods commands.now) }
 {
-    let door = Door {
-        turnstile: entrance,
-    };
-    match run_packed(rt, alloc, periods, seed, commands, &door) {
+    match run_packed(rt, alloc, periods, seed, commands, entrance) {
         Ok(day) => Ok(day.settled),
         Err(DayFault::TooManyCommands) => Err(RunFault::TooManyCommands),
         Err(DayFault::CloseGiven(place)) => Err(RunFault::CloseGiven(place + 2)),

@@ -5,7 +5,7 @@ ghost use Rattle.dam_gate.specs.Headline.{IsWholeAccount};
 
 use anyhow::{Context, Result};
 use dam_book::{Command, DayLength, Seed};
-use dam_gate::{NoHooks, SettledDay, run_commands};
+use dam_gate::{FreeTurn, SettledDay, run_commands};
 use std::alloc::Global;
 use std::sync::Wait;
 use std::thread::Threads;
@@ -20,6 +20,6 @@ pub fn hold_day<R: Threads + Wait + Sync>(
     ensures account { IfOk result (λ day. IsWholeAccount day.settled day.passes.items) }
 {
     let periods = DayLength::new(24).context("the length of a day")?;
-    let day = run_commands(rt, alloc, periods, Seed::fixed(), commands, &NoHooks)?;
+    let day = run_commands(rt, alloc, periods, Seed::fixed(), commands, &FreeTurn)?;
     Ok(day)
 }

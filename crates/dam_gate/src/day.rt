@@ -10,7 +10,6 @@ ghost use Rattle.dam_gate.specs.inside.Entering.{AreApart, AreGivers, AreServed,
 use crate::account::Account;
 use crate::gate::{Gate, GateFault, PassFault};
 use crate::history::{GateName, Opening};
-use crate::hooks::Hooks;
 use crate::keeper::Journal;
 use crate::limits::MOST_PARTICIPANTS;
 use crate::pass::Pass;
@@ -18,6 +17,7 @@ use crate::settlement::{Mismatch, Settled, settle};
 use crate::shares::{Share, share_of, shares_of};
 use crate::version::{NextShown, Shown};
 use dam_book::{Command, DayLength, MOST_ENTRIES, PackedCommand, Participant, Seed};
+use dam_plan::Turnstile;
 use left_right::Absorb;
 use std::alloc::{AllocError, AllocFailed, Global};
 use std::marker::Brand;
@@ -120,11 +120,11 @@ fn enter<J: GateName, H: Wait + Drop>(
     }
 }
 
-/// Enters the commands of one participant, between the calls of its hooks.
-fn attend<J: GateName, H: Wait + Drop, K: Hooks>(
+/// Enters the commands of one participant, between the calls of the turnstile.
+fn attend<J: GateName, H: Wait + Drop, T: Turnstile>(
     rt: &impl Wait,
     gate: &Gate<J, H>,
-    hooks: &K,
+    turnstile: &T,
     participant: u32,
     pass: &mut Pass<J>,
     commands: &[PackedCommand],
@@ -132,16 +132,16 @@ fn attend<J: GateName, H: Wait + Drop, K: Hooks>(
 )
     ensures { Enters (at_places commands.now places.now) pass.old.account pass.new.account }
 {
-    hooks.before(participant);
+    turnstile.before(participant);
     enter(rt, gate, pass, commands, places);
-    hooks.after(participant);
+    turnstile.after(participant);
 }
 
 /// Has each participant enter its commands, on a thread of its own if one can be started.
-fn enter_all<J: GateName + Send + Sync, R: Threads + Wait + Sync, K: Hooks + Sync>(
+fn enter_all<J: GateName + Send + Sync, R: Threads + Wait + Sync, T: Turnstile + Sync>(
     rt: &R,
     gate: &Gate<J, &R>,
-    hooks: &K,
+    turnstile: &T,
     passes: &mut [Pass<J>],
     commands: &[PackedCommand],
     shares: &[Share],
@@ -157,7 +157,7 @@ fn enter_all<J: GateName + Send + Sync, R: Threads + Wait + Sync, K: Hooks + Syn
         MOST_PARTICIPANTS,
         &|place, pass| {
             let places = share_of(shares, place);
-            attend(rt, gate, hooks, place as u32, pass, commands, places)
+            attend(rt, gate, turnstile, place as u32, pass, commands, places)
         },
     );
 }
@@ -288,11 +288,11 @@ fn accounts_of<J: GateName>(alloc: Global, passes: Vec<Pass<J>>) -> Result<Vec<A
 }
 
 /// The accounts of the passes through which all commands were entered, one for each participant.
-fn enter_day<J: GateName + Send + Sync, R: Threads + Wait + Sync, K: Hooks + Sync>(
+fn enter_day<J: GateName + Send + Sync, R: Threads + Wait + Sync, T: Turnstile + Sync>(
     rt: &R,
     alloc: Global,
     gate: &Gate<J, &R>,
-    hooks: &K,
+    turnstile: &T,
     participants: &[Participant],
     commands: &[PackedCommand],
 ) -> Result<Vec<Account>, DayFault>
@@ -308,7 +308,7 @@ fn enter_day<J: GateName + Send + Sync, R: Threads + Wait + Sync, K: Hooks + Syn
     let mut passes = passes_for(rt, alloc, gate, participants, shares)?;
     // So that a journal which grows isn't copied.
     gate.make_room(rt, commands.len() + 1)?;
-    enter_all(rt, gate, hooks, &mut passes, commands, shares);
+    enter_all(rt, gate, turnstile, &mut passes, commands, shares);
     let accounts = accounts_of(alloc, passes)?;
     if !have_all_entered(&accounts, shares) {
         return Err(DayFault::Memory);
@@ -327,13 +327,13 @@ fn ends_with_a_close(journal: &Journal) -> bool
 }
 
 /// The day of participants who give all the commands, at a gate of its own.
-fn run_day<J: GateName + Send + Sync, R: Threads + Wait + Sync, K: Hooks + Sync>(
+fn run_day<J: GateName + Send + Sync, R: Threads + Wait + Sync, T: Turnstile + Sync>(
     rt: &R,
     alloc: Global,
     opening: Opening,
     periods: DayLength,
     seed: Seed,
-    hooks: &K,
+    turnstile: &T,
     participants: &[Participant],
     commands: &[PackedCommand],
 ) -> Result<SettledDay, DayFault>
@@ -347,7 +347,7 @@ fn run_day<J: GateName + Send + Sync, R: Threads + Wait + Sync, K: Hooks + Sync>
     ensures err { IfErr result IsLateFault }
 {
     let gate = Gate::<J, &R>::for_day(rt, alloc, opening, periods, seed)?;
-    let mut passes = enter_day(rt, alloc, &gate, hooks, participants, commands)?;
+    let mut passes = enter_day(rt, alloc, &gate, turnstile, participants, commands)?;
     let operator = close(rt, &gate)?;
     passes.push(operator)?;
     let journal = gate.finish();
@@ -388,15 +388,16 @@ fn pack(alloc: Global, commands: &[Command]) -> Result<Vec<PackedCommand>, Alloc
 /// Runs a day of given commands: each participant enters its own, in their order, through a pass of its own and on a
 /// thread of its own if one can be started; then the operator closes, and the journal is settled.
 ///
-/// The gate's book hashes names by the seed. The hooks are called before and after each participant's commands, on the
-/// thread that enters them. `Memory` may come in place of any answer but `TooManyCommands`. A place is counted from 0.
-pub fn run_commands<R: Threads + Wait + Sync, K: Hooks + Sync>(
+/// The gate's book hashes names by the seed. The turnstile is called before and after each participant's commands, on
+/// the thread that enters them. Participants are numbered from 0, by first occurrence among the commands. `Memory` may
+/// come in place of any answer but `TooManyCommands`. A place is counted from 0.
+pub fn run_commands<R: Threads + Wait + Sync, T: Turnstile + Sync>(
     rt: &R,
     alloc: Global,
     periods: DayLength,
     seed: Seed,
     commands: &[Command],
-    hooks: &K,
+    turnstile: &T,
 ) -> Result<SettledDay, DayFault>
     ensures day { IfOk result (IsSettledDay periods commands.now) }
     ensures fault { IfErr result (IsDayFault commands.now) }
@@ -405,30 +406,30 @@ pub fn run_commands<R: Threads + Wait + Sync, K: Hooks + Sync>(
         return Err(DayFault::TooManyCommands);
     }
     let packed = pack(alloc, commands)?;
-    run_packed(rt, alloc, periods, seed, &packed, hooks)
+    run_packed(rt, alloc, periods, seed, &packed, turnstile)
 }
 
 /// Runs a day as `run_commands` does, of packed commands.
-pub fn run_packed<R: Threads + Wait + Sync, K: Hooks + Sync>(
+pub fn run_packed<R: Threads + Wait + Sync, T: Turnstile + Sync>(
     rt: &R,
     alloc: Global,
     periods: DayLength,
     seed: Seed,
     commands: &[PackedCommand],
-    hooks: &K,
+    turnstile: &T,
 ) -> Result<SettledDay, DayFault>
     ensures day { IfOk result (IsSettledDay periods commands.now) }
     ensures fault { IfErr result (IsDayFault commands.now) }
 {
     let participants = givers(alloc, commands)?;
     let opening = Opening::new(periods.get());
-    run_day::<Brand, R, K>(
+    run_day::<Brand, R, T>(
         rt,
         alloc,
         opening,
         periods,
         seed,
-        hooks,
+        turnstile,
         &participants,
         commands,
     )

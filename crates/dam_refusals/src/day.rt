@@ -7,7 +7,7 @@ use crate::answer::{Answer, Stop, TRIES, Told};
 use crate::round::Round;
 use dam_book::{Command, DayLength, PackedEntry, Seed};
 use dam_gate::{
-    Account, DayFault, Gate, GateName, Journal, Keeper, MOST_PASSES, Mismatch, NoHooks, Opening,
+    Account, DayFault, FreeTurn, Gate, GateName, Journal, Keeper, MOST_PASSES, Mismatch, Opening,
     Settled, run_commands, settle,
 };
 use std::alloc::Global;
@@ -108,7 +108,7 @@ pub fn run_again<R: Threads + Wait + Sync>(
     commands: &[Command],
 ) -> Result<Told, Stop> {
     for refused in 0..TRIES {
-        match run_commands(rt, alloc, periods, seed, commands, &NoHooks) {
+        match run_commands(rt, alloc, periods, seed, commands, &FreeTurn) {
             Ok(day) => {
                 let entries = day.settled.journal().entries().len();
                 return Ok(Told {

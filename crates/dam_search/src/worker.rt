@@ -7,9 +7,9 @@ ghost use Rattle.dam_search.specs.Words.{view_of};
 use crate::answer::PieceAnswer;
 use crate::piece::search_piece;
 use crate::shared::Shared;
-use crate::turnstile::Turnstile;
 use dam_blocks::Problem;
 use dam_bound::Bounds;
+use dam_plan::Turnstile;
 use std::alloc::{AllocError, Allocator};
 
 /// A worker's whole share of a search: it explores each piece that it draws, until a draw finds
