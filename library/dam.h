@@ -1,16 +1,16 @@
-/* The engines of `dam` for C and C++, and for any language that calls C. The text of a journal goes in, and the text that `dam` prints for
- * it comes out.
+/* The engines of `dam` for C and C++, and for any language that calls C. A journal's text goes in, and the text of `dam` comes out.
  *
  * Each call reads the text and leaves its answer in the caller's buffer. It doesn't start threads, install signal handlers or keep state
  * between calls, and it doesn't read or write anything else. So several threads may call at the same time, each with a buffer of its own.
  *
- * `text`: a journal in ASCII (docs/FORMATS.md). One of more than 16,777,216 bytes is not a journal, and gets status 1.
+ * `text`: a journal in ASCII (docs/FORMATS.md). A text of more than 16,777,216 bytes isn't a journal, and gets status 1.
  *
- * `buffer`: the room for the answer. If the answer is longer, the buffer holds its first bytes. A second call with more room gives all of
- * them, and does all the work again; a buffer of DAM_MOST_ANSWER bytes always has room. Its bytes after the answer are unchanged.
+ * `buffer`: the room for the answer. If the answer is longer, the buffer holds its first bytes. A second call with more room returns the
+ * whole answer, but does all the work again; a buffer of DAM_MOST_ANSWER bytes is always enough. The buffer's bytes after the answer are
+ * unchanged.
  *
- * If the status is 0, the answer is the whole text that `dam replay` or `dam clear` prints. Otherwise it is the line that `dam` prints on
- * standard error, and the status with which `dam` ends:
+ * If the status is 0, the answer is the whole text that `dam replay` or `dam clear` prints. Otherwise the answer is the line that `dam`
+ * prints on standard error, and the status is the exit status of `dam`:
  *
  *   1  the text isn't a journal, or its book can't be cleared because it is still open
  *   3  the search reached its limit on nodes
@@ -18,19 +18,23 @@
  *
  * Other statuses never occur. The line of a fault is there even if memory ran out.
  *
- * `length` is the length of the whole answer in bytes; no zero byte follows it.
+ * `length` is the length of the whole answer in bytes; a zero byte doesn't follow it.
  *
- * Stack: 512 KiB are enough for a call. Memory: a call takes a few tens of MB at most, by malloc, and gives all of it back. A program that
- * is linked with the static library, and defines rattle_alloc, rattle_realloc and rattle_dealloc, gives it memory of its own instead
+ * Stack: 512 KiB are enough for a call. Memory: a call takes a few tens of MB at most, by malloc, and frees all of it. A program that is
+ * linked with the static library, and defines rattle_alloc, rattle_realloc and rattle_dealloc, gives the library its own memory instead
  * (tests/library/refusals.c).
  *
- * Preconditions, which the caller must satisfy, since a proof can't see them: `text` and `secret` point to as many readable bytes as their
- * lengths say, and `buffer` to as many writable ones; they aren't NULL, even if a length is 0; the buffer doesn't overlap the others; and
- * other threads don't write to any of them during the call.
+ * Preconditions, which the caller must satisfy, since a proof can't see them:
+ *
+ *   - `text` and `secret` point to as many readable bytes as their lengths say, and `buffer` to as many writable bytes
+ *   - the three pointers aren't NULL, even if a length is 0
+ *   - the buffer doesn't overlap the others
+ *   - other threads don't write to any of them during the call
  *
  * There is no call for `dam day`. docs/LIBRARY.md has examples in C, Python and Rust.
  *
- * The library is for Linux on x86-64. `struct dam_answer` has 16 bytes: the status at 0, the length at 8. The others are undefined.
+ * The library is for Linux on x86-64. `struct dam_answer` has 16 bytes: the status at offset 0, the length at offset 8. The other bytes are
+ * undefined.
  */
 #ifndef DAM_H
 #define DAM_H
@@ -42,10 +46,10 @@
 extern "C" {
 #endif
 
-/* The calls, the struct and the statuses change only with the first of these numbers. */
+/* The calls, the struct and the statuses change only with a new major version. */
 #define DAM_VERSION "1.0.0"
 
-/* Enough nodes for every book. Any limit from the number of nodes that a book may need on covers it, so 0xFFFFFFFF is always enough. */
+/* Enough nodes for every book. Greater limits are allowed too: 0xFFFFFFFF is always enough. */
 #define DAM_MOST_NODES UINT32_C(67108864)
 
 /* The greatest length of an answer. */
@@ -61,22 +65,22 @@ struct dam_answer {
  * Use dam_replay_seeded and dam_clear_seeded below, unless you trust everyone who chose a name in the journal. */
 struct dam_answer dam_replay(const uint8_t *text, size_t text_length, uint8_t *buffer, size_t buffer_length);
 
-/* The text of `dam clear`: the price and volume of each period, and the result of each order of the book. A refused order has no line;
- * dam_replay gives the reason.
+/* The text of `dam clear`: the price and volume of each period, and the result of each order of the book. dam_replay gives the
+ * reason for a refused order, which doesn't have a line here.
  *
  * Prices are in whole cents per MWh, volumes in whole tenths of a MW, the welfare and surpluses in cents per MWh times tenths of a MW
  * (docs/FORMATS.md; docs/TABLES.md for EUR and MW).
  *
- * The calling thread searches alone and can't be stopped; `nodes` is the only limit on its time. The search ends with status 3 if it
- * would visit more nodes. Any number will do: 0 ends the search of each closed book, and DAM_MOST_NODES or more never ends a search. If it
- * allows more, a trial of 4,096 to 46,875 nodes comes first, which it doesn't count. A node takes longer the more the volumes of the blocks
- * differ from period to period. */
+ * The calling thread searches alone and can't be stopped; `nodes` is the only limit on its time. A search that needs more nodes ends with
+ * status 3. Every number is allowed: 0 stops the search of each closed book, and DAM_MOST_NODES or more never stops a search. If `nodes`
+ * allows more than a trial of 4,096 to 46,875 nodes, that trial comes first, and isn't counted. The more the volumes of the blocks differ
+ * from period to period, the longer a node takes. */
 struct dam_answer dam_clear(const uint8_t *text, size_t text_length, uint32_t nodes, uint8_t *buffer, size_t buffer_length);
 
-/* The same two, for journals from people who are not trusted. Names are hashed with the first 16 bytes of the secret. For the two above
- * everybody knows the hash, so names can be chosen that collide: 4,000 of them make a call take some 60 times as long. The secret has to
- * be random and new for each call; the answer doesn't depend on it. Bytes beyond 16 aren't used. With fewer the hash is easier to guess,
- * and with none everybody knows it. */
+/* The same two calls, for journals from people who are not trusted. Names are hashed with the first 16 bytes of the secret. The hash of the
+ * two calls above is public, so somebody can choose names that collide: 4,000 of them make a call take some 60 times as long. The secret
+ * must be random and new for each call; the answer doesn't depend on it. Bytes after the first 16 aren't used. With fewer bytes the hash is
+ * easier to guess, and without any it is public. */
 struct dam_answer dam_replay_seeded(const uint8_t *secret, size_t secret_length, const uint8_t *text, size_t text_length,
                                     uint8_t *buffer, size_t buffer_length);
 struct dam_answer dam_clear_seeded(const uint8_t *secret, size_t secret_length, const uint8_t *text, size_t text_length, uint32_t nodes,

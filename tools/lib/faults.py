@@ -1,6 +1,6 @@
 """What is wrong with a text, as a line for readers that has parts for programs."""
 
-# The kinds of faults, in words; docs/TABLES.md lists them for users.
+# The kinds of faults, in words; docs/FORMATS.md lists them for users.
 KINDS = {
     "form": "a line that isn't one of these results, or the end of the text",
     "missing": "a line, or a command that was sent, is missing",

@@ -57,10 +57,10 @@ def add_limit(commands, epilog):
     add("--participant", metavar="NAME", type=command.participant, required=True, help="the participant that entered the order")
     add("--order", metavar="NAME", type=order_name, help="the order")
     add("--all", action="store_true", help="every block of the participant, a row each")
-    add("--jobs", metavar="N", type=jobs, help="how many clearings run at the same time (default: as many as there are processors)")
+    add("--jobs", metavar="N", type=jobs, help="the number of clearings at the same time (default: the number of processors)")
     add("--from", dest="least", metavar="EUR", type=eur_mwh, help="for an hourly order: the least limit (default: 20 below the price)")
     add("--to", dest="greatest", metavar="EUR", type=eur_mwh, help="the greatest limit (default: 20 above the price)")
-    add("--step", metavar="EUR", type=eur_mwh, help="the distance of two limits (default: 1.00)")
+    add("--step", metavar="EUR", type=eur_mwh, help="the distance between two limits (default: 1.00)")
 
 
 def add_change(commands, epilog):
@@ -112,9 +112,10 @@ def clear_one(args, running=None):
 
 
 def limit(args):
-    """The worst limit at which a block is accepted, to the cent, or why no limit is enough; the prices, its surplus, the participant's gain
-    and the welfare at it and one cent past it, and the other orders whose result differs. That is in words; with --decimal-comma, or a file
-    whose name ends with .csv or .xlsx, it is a table of one row. For an hourly order, its results under some limits."""
+    """Prints the worst limit at which a block is accepted, to the cent, or why no limit is enough. It adds the prices, the block's surplus,
+    the participant's gain and the welfare at that limit and one cent past it, and the other orders whose results differ. The answer is in
+    words; with --decimal-comma, or a file whose name ends with .csv or .xlsx, it is a table of one row. For an hourly order it prints the
+    results under some limits."""
     output.check_options(args, args.journal)
     if args.all == bool(args.order):
         raise command.Stop("give --order with the order's name, or --all for every block", command.COMMAND_LINE)
@@ -199,8 +200,8 @@ def sampled(args, held, key):
 
 
 def change(args):
-    """The differences if further commands are put before the close: the welfare, prices and volumes, and each order's executed energy and
-    amount, in the table of tools/compare."""
+    """Prints the differences if further commands are put before the close: the welfare, prices and volumes, and each order's executed
+    energy and amount, in the table of tools/compare."""
     output.check_options(args, args.journal, args.changes)
     if args.journal == args.changes == "-":
         raise command.Stop("only one file can be standard input", command.COMMAND_LINE)
@@ -231,9 +232,9 @@ def add_scenarios(commands, epilog):
     add("scenarios", metavar="SCENARIOS", nargs="?", help=words)
     words = "the table that is printed for each scenario (default: welfare; with --sample the blocks over all scenarios)"
     add("--rows", choices=scenario_tables.TABLES, help=words)
-    add("--participant", metavar="NAME", type=command.participant, help="only this participant's rows; with --sample, whose orders stay")
+    add("--participant", metavar="NAME", type=command.participant, help="only this participant's rows; with --sample, its orders stay")
     add("--order", metavar="NAME", type=order_name, help="only this order of the participant")
-    add("--jobs", metavar="N", type=jobs, help="how many clearings run at the same time (default: as many as there are processors)")
+    add("--jobs", metavar="N", type=jobs, help="the number of clearings at the same time (default: the number of processors)")
     add("--sample", metavar="N", type=sample_count, help="random scenarios instead of a table")
     add("--seed", metavar="WORD", help="the seed of the random scenarios (default: 1)")
     add("--price-sd", metavar="EUR", type=standard_deviation, help="the standard deviation of the changes of limits (default: 3)")
@@ -336,9 +337,9 @@ def first_line(fault):
 
 
 def run_scenarios(args):
-    """The results of many scenarios: of those in a table, each a name with the orders or commands that it adds to the journal; or with
-    --sample random ones, in which the orders of all but one participant have other limits and volumes. An output that ends with .svg or
-    .png is a picture of these."""
+    """Prints the results of many scenarios. In a table, each scenario has a name, with the orders or commands that it adds to the journal.
+    With --sample the scenarios are random: the orders of all but one participant have other limits and volumes. An output that ends with
+    .svg or .png is a picture of these."""
     output.check_options(args, args.journal, args.scenarios)
     check_scenarios(args)
     if is_picture(args.out):
