@@ -111,6 +111,47 @@ class ReadingList(unittest.TestCase):
         with self.assertRaisesRegex(Exception, "^crates/lower/specs/Limits.antt says nothing above most$"):
             self.few(["most"])
 
+    def test_the_lines_of_clauses(self):
+        text = """pub fn one(n: u8) -> u8
+    requires { n < 3 }
+    ensures { IfOk result
+        (λ done. done ≡ n) }
+{
+    n
+}
+
+trait Two {
+    fn two(&self)
+        ensures { result };
+
+    fn three(&self);
+}
+
+pub fn law()
+    ensures { ⊥ → ⊥ }
+{}
+"""
+        self.assertEqual(loaded("reading-list").clause_lines(text), 5)
+
+    def theorem(self, listed, named):
+        """The tool's theorem with these definitions in the repository of this test."""
+        module = loaded("reading-list")
+        module.THEOREM = {"run_clear": {"sizes": (listed, named)}}
+        with tempfile.TemporaryDirectory() as folder:
+            self.repository(folder)
+            return module.theorem(module.Repository(Path(folder)))
+
+    def test_the_theorem_has_the_listed_definitions_and_names_the_others(self):
+        text = self.theorem(["IsSize"], ["Printed"])
+        self.assertIn("\n| sizes | `IsSize` | `Printed` |\n", text)
+        self.assertIn("\n-- a size\nabbrev pub IsSize : ℕ → Type 0\nIsSize n = n ≤ greatest\n```\n", text)
+        self.assertNotIn("Printed n = Rule n", text)
+
+    def test_the_theorem_only_names_definitions_that_the_contract_reaches(self):
+        for listed, named in (["IsSize", "other"], []), (["IsSize"], ["other"]):
+            with self.subTest(named), self.assertRaisesRegex(Exception, "^the contract of run_clear doesn't reach other$"):
+                self.theorem(listed, named)
+
     def test_the_pages_have_the_lists_of_this_repository(self):
         self.assertEqual(tool("reading-list", "--check"), (0, b"", ""))
 
