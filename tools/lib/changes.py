@@ -106,5 +106,6 @@ def entered(held, commands):
     for place, command in commands:
         reason = after.apply(command)
         if reason:
-            raise Fault(f"{place}: the book refuses {journal.command_line(command)}: {book.REASONS[reason]} ({reason})")
+            remedy = "; amend it, or use another name" if reason == "NameTaken" else ""
+            raise Fault(f"{place}: the book refuses {journal.command_line(command)}: {book.REASONS[reason]} ({reason}){remedy}")
     return after

@@ -189,7 +189,7 @@ class Judge:
         their, them = ("its", "it") if len(groups) == 1 else ("their", "them")
         orphans = family.removed - set(family.rivals)
         besides = f" and that of {self.names(orphans)}, which can't be accepted without {them}," if orphans else ""
-        return f"{listed(groups)} {are} accepted, and in {their} place{besides}"
+        return f"{listed(groups)} {are} accepted, and with {self.names(family.members)} in {their} place{besides}"
 
     def consequence(self, place, other):
         """What another selection would be worth, and who would lose in it."""
@@ -202,7 +202,7 @@ class Judge:
         if other.welfare == self.outcome.welfare:
             flags = len(self.problem.blocks), other.welfare, other.accepted, other.welfare, self.accepted
             above = selection.ranks_above(*flags)
-            return worth + (", and it ranks above" if above else ", and of equals the one with the earlier block is taken")
+            return worth + (", and it ranks above" if above else ", and of equal selections the one with the earlier block is taken")
         return worth
 
     def worth(self, other):

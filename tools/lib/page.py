@@ -330,7 +330,7 @@ def sections(day, found, limits, curves):
 
 def own_commands(day, who):
     """The commands of a participant as in its statement, each by the names of its columns: those of blocks first."""
-    heads_of, *commands = tables.statement(day, text.amount)
+    heads_of, *commands = tables.statement(day)
     own = [cells for cells in (dict(zip(heads_of, row)) for row in commands) if cells["participant"] == who]
     blocks = {cells["order"] for cells in own if cells["kind"] == "block"}
     return sorted(own, key=lambda cells: cells["order"] not in blocks)

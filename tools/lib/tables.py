@@ -64,15 +64,11 @@ def orders(day):
         yield [*order_cells(row), offered, executed, *outcome, euros(day, amount)]
 
 
-def plain_amount(amount, hours):
-    return text.amount(amount, hours, "")
-
-
 def blocks(day):
     """A row for each block: its order, what became of it and why, and, if it is rejected, what its best family was worth."""
     family_heads = ["family", "family_gain_eur", "family_welfare_eur"]
     yield [*ORDER, "offered_mwh", "executed_mwh", "outcome", "surplus_eur", *family_heads, "why", "code"]
-    found = decisions.decisions(day.problem, day.said.accepted, day.outcome, plain_amount)
+    found = decisions.decisions(day.problem, day.said.accepted, day.outcome)
     for block, surplus, decision in zip(day.problem.blocks, day.said.surpluses, found):
         offered = sum(tenths for _, tenths in block.order.volumes)
         executed = offered if decision.kind == decisions.ACCEPTED else 0
@@ -125,9 +121,9 @@ class Result(NamedTuple):
     why: str
 
 
-def results_by_row(day, write=plain_amount):
+def results_by_row(day):
     """What became of each order of the book, by participant and name. `write` writes the amounts of the reasons."""
-    found = iter(zip(decisions.decisions(day.problem, day.said.accepted, day.outcome, write), day.said.surpluses))
+    found = iter(zip(decisions.decisions(day.problem, day.said.accepted, day.outcome), day.said.surpluses))
     executed = iter(day.said.executed)
     made = {}
     for row, trades_made in trades.row_trades(day):
@@ -155,11 +151,11 @@ def last_commands(day):
     return last, replaced
 
 
-def statement(day, write=plain_amount):
+def statement(day):
     """Each command with the book's reply, and with what became of its order if no later command changed it. `write` writes the amounts of
     the reasons."""
     yield ["command", "what", *ORDER, "reply", "reason", "outcome", "executed_mwh", "surplus_eur", "amount_eur", "code", "why"]
-    became, (last, replaced) = results_by_row(day, write), last_commands(day)
+    became, (last, replaced) = results_by_row(day), last_commands(day)
     for number, (command, reason) in enumerate(zip(day.journal.commands, day.reasons), 1):
         key = getattr(command, "who", None), getattr(command, "name", None)
         cells = [number, *command_cells(command), "refused" if reason else "done", reason or ""]

@@ -6,7 +6,7 @@ import unittest
 
 from support import AUCTION, TOP, day_of, journal_of, printed, problem, results_of
 
-from lib import book, decisions, journal, selection, tables, text
+from lib import book, decisions, journal, selection, tables
 from plain import Plain
 
 # Periods in which 50 MW are bought at 80 EUR, and offered at 60. Without a block the price is 70 EUR; with a selling one it is 60,
@@ -18,12 +18,8 @@ PERIODS = [line for number in (1, 2, 3) for line in (
 def told(data, accepted):
     """The kind and the words of each block."""
     day = day_of(data, results_of(data, frozenset(accepted)))
-    found = decisions.decisions(day.problem, day.said.accepted, day.outcome, amount)
+    found = decisions.decisions(day.problem, day.said.accepted, day.outcome)
     return [(decision.kind, decision.why) for decision in found]
-
-
-def amount(value, hours):
-    return text.amount(value, hours, "")
 
 
 def best_of(data):
@@ -43,21 +39,21 @@ class Hand(unittest.TestCase):
         )
         self.assertEqual(best_of(data), frozenset())
         # If both are accepted nevertheless, START loses.
-        said = "loses at the prices by itself, and with RUN it loses 1060.00 EUR"
+        said = "loses at the prices by itself, and with RUN it loses 1,060.00 EUR"
         self.assertEqual(told(data, {0, 1})[0], (decisions.ACCEPTED, said))
-        end = "though the welfare would be 1740.00 EUR greater"
+        end = "though the welfare would be 1,740.00 EUR greater"
         self.assertEqual(
             told(data, ()),
             [
                 (
                     decisions.PARADOX,
-                    "with RUN it would gain 2440.00 EUR at the prices, but with both, the block itself would lose 1060.00 EUR"
+                    "with RUN it would gain 2,440.00 EUR at the prices, but with both, the block itself would lose 1,060.00 EUR"
                     f" together with its accepted descendants and A,RUN would lose 980.00 EUR, {end}",
                 ),
                 (
                     decisions.PARADOX,
-                    "with START it would gain 2440.00 EUR at the prices, but with both, the block itself would lose 980.00 EUR and"
-                    f" A,START would lose 1060.00 EUR together with its accepted descendants, {end}",
+                    "with START it would gain 2,440.00 EUR at the prices, but with both, the block itself would lose 980.00 EUR and"
+                    f" A,START would lose 1,060.00 EUR together with its accepted descendants, {end}",
                 ),
             ],
         )
@@ -75,7 +71,7 @@ class Hand(unittest.TestCase):
         self.assertEqual(kind, decisions.REJECTED)
         self.assertEqual(
             why,
-            "would gain 550.00 EUR at the prices; P of its group X is accepted, and in its place and that of C, which can't be"
+            "would gain 550.00 EUR at the prices; P of its group X is accepted, and with Q in its place and that of C, which can't be"
             " accepted without it, the welfare would be 450.00 EUR less",
         )
 
@@ -130,8 +126,8 @@ class Hand(unittest.TestCase):
             found[2],
             (
                 decisions.REJECTED,
-                "with P it would gain 200.00 EUR at the prices; R of the group X of P is accepted, and in its place the welfare"
-                " would be 400.00 EUR less",
+                "with P it would gain 200.00 EUR at the prices; R of the group X of P is accepted, and with P and C in its place the"
+                " welfare would be 400.00 EUR less",
             ),
         )
         self.assertIn("with C it would gain 200.00 EUR at the prices; R of its group X is accepted, and", found[1][1])
@@ -149,7 +145,7 @@ class Hand(unittest.TestCase):
         data = journal_of(*PERIODS, "submit,A,K1,block,sell,2000,1:500,,X", "submit,A,K2,block,sell,2000,2:500,,X")
         self.assertEqual(best_of(data), {0})
         end = "in its place the welfare would be the same, and"
-        self.assertTrue(told(data, {0})[1][1].endswith(f"{end} of equals the one with the earlier block is taken"))
+        self.assertTrue(told(data, {0})[1][1].endswith(f"{end} of equal selections the one with the earlier block is taken"))
         self.assertTrue(told(data, {1})[0][1].endswith(f"{end} it ranks above"))
 
     def test_a_twin_that_stands_earlier(self):
@@ -188,13 +184,13 @@ class Hand(unittest.TestCase):
 
     def test_the_auction_day(self):
         day = day_of(AUCTION.read_bytes(), printed(AUCTION))
-        found = decisions.decisions(day.problem, day.said.accepted, day.outcome, amount)
+        found = decisions.decisions(day.problem, day.said.accepted, day.outcome)
         kinds = [decision.kind for decision in found]
         self.assertEqual(kinds[:5], [decisions.ACCEPTED] * 5)
         self.assertEqual(kinds[5:], [decisions.REJECTED, decisions.ACCEPTED, decisions.REJECTED, decisions.PARADOX])
-        self.assertIn("would lose 8050.00 EUR at the prices", found[5].why)
-        self.assertIn("in its place the welfare would be 5120.00 EUR less", found[7].why)
-        self.assertIn(", but with it the block itself would lose 270.00 EUR, though the welfare would be 2810.00 EUR greater", found[8].why)
+        self.assertIn("would lose 8,050.00 EUR at the prices", found[5].why)
+        self.assertIn("in its place the welfare would be 5,120.00 EUR less", found[7].why)
+        self.assertIn(", but with it the block itself would lose 270.00 EUR, though the welfare would be 2,810.00 EUR greater", found[8].why)
 
     def test_a_period_that_would_not_balance(self):
         data = journal_of(
@@ -246,7 +242,7 @@ class Random(unittest.TestCase):
             day = problem(data)
             outcome = selection.outcome(day, best)
             self.assertEqual(outcome.welfare, plain.welfare(best), data)
-            for place, decision in enumerate(decisions.decisions(day, best, outcome, amount)):
+            for place, decision in enumerate(decisions.decisions(day, best, outcome)):
                 if place not in best:
                     with self.subTest(data=data, place=place, why=decision.why):
                         self.judge(day, plain, best, place, decision, seen)

@@ -263,16 +263,16 @@ class Tools(unittest.TestCase):
              "--from, --to and --step can't be used with a block, whose limit is found exactly"),
             (["change", self.journal, "-"], b"submit,GEN,UNIT,hour,sell,1000,1:20,,\n", 3,
              "standard input: record 1: the book refuses submit,GEN,UNIT,hour,sell,1000,1:20,,: the participant has an order of that name"
-             " (NameTaken)"),
+             " (NameTaken); amend it, or use another name"),
             (["change", self.journal, "-"], b"cancel,GEN,OTHER,,,,,,\n", 3,
              "standard input: record 1: the book refuses cancel,GEN,OTHER,,,,,,: the participant has no such order: it was cancelled,"
              " refused, or never entered (UnknownOrder)"),
             (["change", self.journal, "-"], TABLE + b"submit,GEN,UNIT,hour,sell,10,1,2\n", 3,
              "standard input: line 2: the book refuses submit,GEN,UNIT,hour,sell,1000,1:20,,: the participant has an order of that name"
-             " (NameTaken)"),
+             " (NameTaken); amend it, or use another name"),
             (["change", self.journal, "-"], TABLE.removeprefix(b"what,") + b"GEN,UNIT,hour,sell,10,1,2\n", 3,
              "standard input: order 1: the book refuses submit,GEN,UNIT,hour,sell,1000,1:20,,: the participant has an order of that name"
-             " (NameTaken)"),
+             " (NameTaken); amend it, or use another name"),
             (["change", self.journal, "-"], TABLE + b"amend,GEN,UNIT,,,60,25,2\n", 3,
              "standard input: line 2, column periods: the day has periods 1 to 24, so there is no period 25 (PeriodOutOfDay)"),
             (["change", self.journal, "-"], b"what,participant,price_eur_mwh,periods,volume_mw\namend,GEN,60,1,2\n", 3,
