@@ -72,6 +72,9 @@ def write(answer, refusal, got, calls):
     return line is not None and int(line[1]) == len(written) and got == Printed(MACHINE, written, got.stderr)
 
 
-def report(answer, _refusal, got, _calls):
-    """If the fault's line can't be written, its status stays."""
-    return answer.usual.stderr.startswith(got.stderr) and got._replace(stderr=answer.usual.stderr) == answer.usual
+def report(answer, refusal, got, calls):
+    """If the fault's line can't be written, its first bytes are there, and its status stays."""
+    line = answer.usual.stderr
+    if calls < refusal.first:
+        return got == answer.usual
+    return got == answer.usual._replace(stderr=line[: refusal.moved_before(len(line))])

@@ -4,12 +4,16 @@
    HOSTILE in the environment is 'KIND FIRST LAST ERROR MOST'. KIND is memory, thread, random, read (of standard input), write (of
    standard output) or report (writes to standard error). The calls of the kind whose numbers are from FIRST to LAST fail with the
    error number ERROR; if that is 0, such a read or write moves no byte. Every other read or write of the kind moves at most MOST
-   bytes, or all if MOST is 0. The file that HOSTILE_CALLS names holds the number of calls so far. */
+   bytes, or all if MOST is 0. The file that HOSTILE_CALLS names holds the number of calls so far.
+
+   Two kinds refuse nothing. held counts the starts of threads during which the program holds a block of at least MOST bytes. clock
+   counts the readings of the clock, and has each of them MOST milliseconds later than the one before. */
 
 #define _GNU_SOURCE
 #include <dlfcn.h>
 #include <errno.h>
 #include <fcntl.h>
+#include <malloc.h>
 #include <pthread.h>
 #include <stdatomic.h>
 #include <stdbool.h>
@@ -19,25 +23,28 @@
 #include <sys/mman.h>
 #include <sys/random.h>
 #include <sys/syscall.h>
+#include <time.h>
 #include <unistd.h>
 
 extern void *__libc_malloc(size_t size);
 extern void *__libc_calloc(size_t count, size_t size);
 extern void *__libc_realloc(void *block, size_t size);
 extern void *__libc_memalign(size_t alignment, size_t size);
+extern void __libc_free(void *block);
 
 typedef int create_thread(pthread_t *, const pthread_attr_t *, void *(*)(void *), void *);
 typedef int give_entropy(void *, size_t);
 typedef ssize_t give_random(void *, size_t, unsigned);
 
-enum kind { NONE, MEMORY, THREAD, RANDOM, READ, WRITE, REPORT };
+enum kind { NONE, MEMORY, THREAD, RANDOM, READ, WRITE, REPORT, HELD, CLOCK };
 
-static const char *const names[] = {"none", "memory", "thread", "random", "read", "write", "report"};
+static const char *const names[] = {"none", "memory", "thread", "random", "read", "write", "report", "held", "clock"};
 
 static enum kind chosen = NONE;
 static unsigned long first, last, most;
 static int error;
 static atomic_ulong *calls;
+static atomic_long large; /* the blocks of at least MOST bytes */
 static create_thread *create;
 static give_entropy *entropy;
 static give_random *randomly;
@@ -57,7 +64,7 @@ __attribute__((constructor)) static void begin(void) {
     if (page == MAP_FAILED)
         return;
     calls = page;
-    for (int kind = MEMORY; kind <= REPORT; kind++)
+    for (int kind = MEMORY; kind <= CLOCK; kind++)
         if (strcmp(name, names[kind]) == 0)
             chosen = kind;
 }
@@ -77,35 +84,67 @@ static bool refuses_memory(void) {
     return true;
 }
 
+static bool is_large(void *block) {
+    return chosen == HELD && malloc_usable_size(block) >= most;
+}
+
+/* Counts a block that the program gets from here on. */
+static void *held(void *block) {
+    large += is_large(block);
+    return block;
+}
+
 void *malloc(size_t size) {
-    return refuses_memory() ? NULL : __libc_malloc(size);
+    return refuses_memory() ? NULL : held(__libc_malloc(size));
 }
 
 void *calloc(size_t count, size_t size) {
-    return refuses_memory() ? NULL : __libc_calloc(count, size);
+    return refuses_memory() ? NULL : held(__libc_calloc(count, size));
 }
 
 void *realloc(void *block, size_t size) {
-    return refuses_memory() ? NULL : __libc_realloc(block, size);
+    if (refuses_memory())
+        return NULL;
+    bool was_large = is_large(block);
+    void *new = __libc_realloc(block, size);
+    if (new == NULL)
+        return NULL;
+    large -= was_large;
+    return held(new);
 }
 
 void *aligned_alloc(size_t alignment, size_t size) {
-    return refuses_memory() ? NULL : __libc_memalign(alignment, size);
+    return refuses_memory() ? NULL : held(__libc_memalign(alignment, size));
 }
 
 void *memalign(size_t alignment, size_t size) {
-    return refuses_memory() ? NULL : __libc_memalign(alignment, size);
+    return refuses_memory() ? NULL : held(__libc_memalign(alignment, size));
 }
 
 int posix_memalign(void **block, size_t alignment, size_t size) {
     if (refuses(MEMORY))
         return ENOMEM;
-    *block = __libc_memalign(alignment, size);
+    *block = held(__libc_memalign(alignment, size));
     return *block == NULL ? ENOMEM : 0;
 }
 
+void free(void *block) {
+    large -= is_large(block);
+    __libc_free(block);
+}
+
 int pthread_create(pthread_t *thread, const pthread_attr_t *how, void *(*work)(void *), void *given) {
+    if (large > 0)
+        refuses(HELD);
     return refuses(THREAD) ? EAGAIN : create(thread, how, work, given);
+}
+
+int clock_gettime(clockid_t clock, struct timespec *now) {
+    if (chosen != CLOCK)
+        return (int)syscall(SYS_clock_gettime, clock, now);
+    unsigned long moved = atomic_fetch_add(calls, 1) * most;
+    *now = (struct timespec){moved / 1000, moved % 1000 * 1000000};
+    return 0;
 }
 
 static bool refuses_random(void) {

@@ -108,6 +108,7 @@ def memory_rows():
         ("day of the auction day", ["day"], OPEN_AUCTION, MANY),
         ("day of the first day", ["day"], OPEN_FIRST, FEW),
         ("day of the closed auction day", ["day"], AUCTION, FEW),
+        ("a word that isn't UTF-8", [b"\xff"], b"", ANY),
     ]
     inputs += [(f"{word} by {' '.join(plan)}", [word, *plan], data, FEW)
                for plan in CUTTINGS for word, data in [("clear", AUCTION), ("day", OPEN_AUCTION)]]
@@ -285,6 +286,24 @@ def seeds(runs):
         runs.check(f"{words[0]} asks for random bytes {asked} times, and not once", asked == 1)
 
 
+def threads(runs):
+    """A search starts a thread for each worker but one, whose work the calling thread does, and so does a day for its participants."""
+    for word, data, others in [("clear", AUCTION, 0), ("day", ONE_PARTICIPANT, 0), ("day", OPEN_AUCTION, 7)]:
+        for workers in (1, 3, 8):
+            words = [word, "--workers", str(workers), "--cut", "8"]
+            _, started = runs.program.run(words, data, Refusal("thread"))
+            runs.check(f"{' '.join(words)} starts {started} threads", started == workers - 1 + others)
+
+
+def texts(runs):
+    """The journal's text is freed before the search, and before the participants of a day are started."""
+    for word, data in [("clear", AUCTION), ("day", OPEN_AUCTION)]:
+        words, text = [word, "--workers", "8"], data + b"\n" * (1 << 20)
+        for least, is_held in [(len(text), False), (1, True)]:
+            _, started = runs.program.run(words, text, Refusal("held", most=least))
+            runs.check(f"{word} starts {started} threads with a block of {least} bytes or more", (started > 0) == is_held)
+
+
 def main():
     room, program, *rest = sys.argv[1:]
     if rest not in ([], ["--all"]):
@@ -299,6 +318,8 @@ def main():
     devices(runs)
     again.run(runs, room, rows_of_calls(runs.program))
     seeds(runs)
+    threads(runs)
+    texts(runs)
     if shutil.which("valgrind"):
         colliding.run(runs)
         cancels.run(runs)

@@ -7,7 +7,7 @@ line `== NAME`, and maybe with what it shows. Then come its parts, each a line `
     -- runs                 further arguments: the program is run once with those of each line
     -- stdin                the input
     -- stdout, -- stderr    what the program prints; of several texts for a stream, each is right
-    -- stdout begins        the first line of what it prints
+    -- stdout begins        the first lines of what it prints; and so `-- stdout ends`, `-- stderr begins`, `-- stderr ends`
     -- status N             the status; without it, 0
     -- table                columns' names, and rows of cells, with two blanks or more between the cells: the case stands
                             for one case of each row, and in all its lines `{COLUMN}` is replaced by the cell
@@ -28,8 +28,8 @@ from typing import NamedTuple
 
 TOP = Path(__file__).resolve().parents[2]
 FOLDER = TOP / "tests" / "cases"
-KINDS = ("args", "runs", "stdin", "stdout begins", "stdout", "stderr begins", "stderr", "status", "table")
-MAY_STAND_TWICE = ("stdout", "stderr")
+STREAMS = ("stdout", "stderr")
+KINDS = ("args", "runs", "stdin", *(f"{it}{end}" for it in STREAMS for end in (" begins", " ends", "")), "status", "table")
 PLAIN = re.compile(r"(?:[ -~]*[!-~])?")
 TIMES = re.compile(r"\{(?:(\d+)\.\.(\d+)|(\d+) times)\}")
 BRACE = re.compile(r"\{([^{}]*)\}")
@@ -44,13 +44,18 @@ class Fault(Exception):
 
 
 class Printed(NamedTuple):
-    """What is right on a stream: one of some texts, or a first line."""
+    """What is right on a stream: one of some texts, or any text that begins and ends so."""
 
     texts: list
-    is_first_line: bool
+    begins: bytes = b""
+    ends: bytes = b""
+
+    @property
+    def is_whole(self):
+        return not (self.begins or self.ends)
 
     def is_right(self, got):
-        return got.split(b"\n")[0] == self.texts[0].split(b"\n")[0] if self.is_first_line else got in self.texts
+        return got in self.texts if self.is_whole else got.startswith(self.begins) and got.endswith(self.ends)
 
 
 class Case(NamedTuple):
@@ -99,7 +104,7 @@ class Reader:
 
     def add(self, number, name, parts):
         kinds = [it.kind for it in parts]
-        twice = [it for it in kinds if kinds.count(it) > 1 and it not in MAY_STAND_TWICE or f"{it} begins" in kinds]
+        twice = [it for it in kinds if kinds.count(it) > 1 and it not in STREAMS or {f"{it} begins", f"{it} ends"} & {*kinds}]
         if twice or name in self.found or "args" not in kinds:
             raise Fault(number, f"{name} has no arguments, is there already, or has a part twice")
         values = {"status": "0", **{it.kind: it.value for it in parts}}
@@ -107,11 +112,13 @@ class Reader:
             raise Fault(number, f"the status of {name} is no number: {values['status']}")
         runs = [line.split() for it in parts if it.kind == "runs" for at, text in it.lines for line in repeated(at, text)]
         stdin = [self.text(it) for it in parts if it.kind == "stdin"] or [b""]
-        out, error = (self.printed([it for it in parts if it.kind.split()[0] == stream]) for stream in ("stdout", "stderr"))
+        out, error = (self.printed(stream, parts) for stream in STREAMS)
         self.found[name] = Case(f"{self.file}/{name}", values["args"].split(), runs or [[]], stdin[0], out, error, int(values["status"]))
 
-    def printed(self, parts):
-        return Printed([self.text(it) for it in parts] or [b""], any(it.kind.endswith("begins") for it in parts))
+    def printed(self, stream, parts):
+        its = [(it.kind, self.text(it)) for it in parts if it.kind.split()[0] == stream]
+        texts, ends = [text for kind, text in its if kind == stream], dict(its)
+        return Printed(texts or [b""], ends.get(f"{stream} begins", b""), ends.get(f"{stream} ends", b""))
 
     def text(self, part):
         """The text of a part."""

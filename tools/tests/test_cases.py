@@ -55,15 +55,18 @@ x
 y
 -- stderr begins
 z
+z
+-- stderr ends
+z\\
 -- status 3
 """)
         self.assertEqual(list(found), ["a", "b c"])
-        none = worked.Printed([b""], False)
-        self.assertEqual(found["a"], worked.Case("file/a", ["clear", "--workers", "1"], [[]], b"day,24\n\nclose\n", worked.Printed([b"x\n"], False), none, 0))
-        two = worked.Printed([b"x\n", b"y\n"], False)
+        none = worked.Printed([b""])
+        self.assertEqual(found["a"], worked.Case("file/a", ["clear", "--workers", "1"], [[]], b"day,24\n\nclose\n", worked.Printed([b"x\n"]), none, 0))
+        two = worked.Printed([b"x\n", b"y\n"])
         plans = [["--cut", cut, "--workers", workers] for cut in "23" for workers in "12"]
         runs = [["--cut", "1"], [], *plans]
-        self.assertEqual(found["b c"], worked.Case("file/b c", [], runs, b"day,24\n\nclose\n", two, worked.Printed([b"z\n"], True), 3))
+        self.assertEqual(found["b c"], worked.Case("file/b c", [], runs, b"day,24\n\nclose\n", two, worked.Printed([b""], b"z\nz\n", b"z"), 3))
 
     def test_lines_that_stand_for_others(self):
         self.assertEqual(self.one("-- stdin\na{9..11}b\n{2 times}c\n{1..2},{3..4}\n").stdin, b"a9b\na10b\na11b\nc\nc\n1,3\n1,4\n2,3\n2,4\n")
@@ -99,6 +102,8 @@ z
             ("-- stdin\n-- stdin\n", 1, "a part twice"),
             ("-- stdin\n== a\n-- args b\n", 4, "is there already"),
             ("-- stdout begins\nb\n-- stdout\nb\n", 1, "a part twice"),
+            ("-- stderr ends\nb\n-- stderr\nb\n", 1, "a part twice"),
+            ("-- stderr ends\nb\n-- stderr ends\nb\n", 1, "a part twice"),
             ("-- stdin\nb{2..1}\n", 4, "a line that stands for none: b{2..1}"),
             ("-- runs\nb{0 times}\n", 4, "a line that stands for none: b{0 times}"),
             ("-- table\nb  c\n1  2\n1\n", 6, "1 cells below 2 columns"),
@@ -126,6 +131,10 @@ z
         case = self.one("-- stdout\nx\n-- stdout\ny\n-- stderr begins\nz\n-- status 3\n")
         self.assertEqual(case.differences(3, b"y\n", b"z\nmore"), [])
         self.assertEqual(case.differences(0, b"xy\n", b"zz\n"), ["stdout", "status", "stderr"])
+        case = self.one("-- stdout begins\nx\ny\n-- stdout ends\ny\nz\n-- stderr ends\nz\n")
+        self.assertEqual(case.differences(0, b"x\ny\nw\ny\nz\n", b"more\nz\n"), [])
+        for out in (b"x\ny\nw\nyz\n", b"x\nw\ny\nz\n", b"x\ny\nw\ny\nz"):
+            self.assertEqual(case.differences(0, out, b"z\nmore"), ["stdout", "stderr"])
 
     def test_the_runner(self):
         program = self.path.with_name("program")

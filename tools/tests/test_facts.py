@@ -121,7 +121,7 @@ class Facts(unittest.TestCase):
         counted = set()
         for case in worked.every():
             line = case.stderr.texts[0].decode().rstrip("\n")
-            if line and not case.stderr.is_first_line:
+            if line and case.stderr.is_whole:
                 fitting = {number for pattern, number in patterns.items() if re.fullmatch(pattern, line)}
                 with self.subTest(case.name, line=line):
                     self.assertEqual(fitting, {case.status})

@@ -47,8 +47,8 @@ pub extern "C" fn dam_replay_seeded(
     answer(replies_of(alloc, drawn_from(secret), text), buffer)
 }
 
-/// What `dam clear` prints for the text. The search visits at most `nodes` nodes: 0 leaves every search unfinished, and
-/// from 67,108,864 on none is.
+/// What `dam clear` prints for the text. The search visits at most `nodes` nodes, and maybe a trial before: 0 leaves
+/// every search unfinished, and from 67,108,864 on none is.
 #[unsafe(no_mangle)]
 pub extern "C" fn dam_clear(alloc: Global, text: &[u8], nodes: u32, buffer: &mut [u8]) -> DamAnswer
     ensures { IsReturned (IsMadeFrom AreResults text.now)

@@ -1,6 +1,8 @@
--- What the rule that a person reads at a terminal says about the fault.
-use Rattle.std.specs.Prelude.{◌≡◌, ◌≢◌, ◌≤◌, ◌+◌, ◌||◌, ℕ, ℤ, pos, Bool, List, ◌∷◌, ◌++◌, take, codes}
+-- What a person at a terminal reads about a fault of the input, and about words that name a file or ask for the version.
+use Rattle.std.specs.Prelude.{◌≡◌, ◌≢◌, ◌≤◌, ◌+◌, ◌==◌, ◌||◌, ℕ, ℤ, pos, Bool, false, not, List, [], ◌∷◌, ◌++◌, take, codes}
+use Rattle.std.specs.Prelude.{Option, None, Some, option_map, if◌then◌else◌}
 use Rattle.std.specs.Fmt.{signed_decimal}
+use Rattle.std.specs.List.{list_any}
 use Rattle.std.specs.Str.{bytes_eq}
 use Rattle.dam_book.specs.Limits.{lowest_price, highest_price, greatest_volume}
 use Rattle.dam_results.specs.declared.journal.JournalFault.{JournalFault}
@@ -37,3 +39,30 @@ ShowsItsLimits fault rule = Unit {0}
 -- whether a word asks for the version
 abbrev pub is_version_word : List ℕ → Bool
 is_version_word word = bytes_eq word (codes "--version") || bytes_eq word (codes "-V")
+
+-- whether the word is one of the three commands
+abbrev pub is_command : List ℕ → Bool
+is_command word = bytes_eq word (codes "replay") || (bytes_eq word (codes "clear") || bytes_eq word (codes "day"))
+
+-- whether the word begins with `-`, whose byte is 45
+abbrev pub is_option : List ℕ → Bool
+is_option [] = false
+is_option (byte ∷ rest) = byte == 45
+
+-- whether the option has its number in the same word, after a `=`, whose byte is 61
+abbrev pub has_number : List ℕ → Bool
+has_number word = list_any (λ byte. byte == 61) word
+
+-- the first word that is neither an option nor an option's number; `is_number` says whether the first one is such a number
+abbrev pub first_file : Bool → List (List ℕ) → Option (List ℕ)
+first_file is_number [] = None
+first_file is_number (word ∷ words) =
+    if is_number then first_file false words
+    else if is_option word then first_file (not (has_number word)) words
+    else Some word
+
+-- the command, if the first word is one, and after it the first word that may be a file
+abbrev pub file_in : List (List ℕ) → Option (List ℕ × List ℕ)
+file_in [] = None
+file_in (command ∷ words) =
+    if is_command command then option_map (λ file. (command, file)) (first_file false words) else None

@@ -10,8 +10,17 @@ abbrev pub run_status : Result (Unit {0}) RunFault → ℕ
 run_status (Ok done) = 0
 run_status (Err fault) = fault_status fault
 
--- the status for words that ask for no job: 0 for help, or 4 if it can't be written; 2 for refused words; 4 if memory ran out
+-- the status for words that ask for no job: 0 or 4 for help; 2 for refused words; 4 if memory ran out
 abbrev pub IsLineStatus : LineFault → ℕ → Type 0
 IsLineStatus (Refused true text) status = (status ≡ 0) ⊎ (status ≡ 4)
 IsLineStatus (Refused false text) status = status ≡ 2
 IsLineStatus Memory status = status ≡ 4
+
+-- a fault of the words that isn't the help that they ask for
+abbrev pub IsNoHelp : LineFault → Type 0
+IsNoHelp (Refused help text) = help ≡ false
+IsNoHelp Memory = Unit {0}
+
+-- a status for words that ask for no job
+abbrev pub IsEndedStatus : ℕ → Type 0
+IsEndedStatus status = (status ≡ 0) ⊎ ((status ≡ 2) ⊎ (status ≡ 4))

@@ -1,13 +1,14 @@
-//! What a person at a terminal reads in addition to a fault of the input, or to the refusal of words that name a file.
+//! What a person at a terminal reads in addition to a fault of the input, or to the refusal of words that name a file or
+//! ask for the version.
 
-ghost use Rattle.std.specs.Prelude.{◌≡◌, ◌≤◌, ◌↔◌, pos, IfSome, IsSome};
+ghost use Rattle.std.specs.Prelude.{◌≡◌, ◌≤◌, ◌↔◌, pos, false, map, IfSome, IsSome, option_map};
 ghost use Rattle.std.specs.List.{list_any};
 ghost use Rattle.std.specs.String.{string_bytes};
-ghost use Rattle.dam_line.specs.Line.{IsSubcommand};
 ghost use Rattle.dam_results.specs.declared.journal.JournalFault.{JournalFault};
 ghost use Rattle.dam_engines.specs.Fault.{fault_status, input_status};
 ghost use Rattle.dam_book.specs.Limits.{lowest_price, highest_price, greatest_volume};
-ghost use Rattle.dam_cli.specs.Advice.{BeginsWithField, NamesItsField, ShowsRange, ShowsItsLimits, rule_text, is_version_word};
+ghost use Rattle.dam_cli.specs.Advice.{BeginsWithField, NamesItsField, ShowsRange, ShowsItsLimits, rule_text};
+ghost use Rattle.dam_cli.specs.Advice.{file_in, first_file, has_number, is_command, is_option, is_version_word};
 
 use dam_book::{GREATEST_VOLUME, HIGHEST_PRICE, LOWEST_PRICE};
 use dam_engines::RunFault;
@@ -47,7 +48,7 @@ impl fmt::Display for Rule {
     }
 }
 
-/// Which rule the input breaks, and what to do; nothing for a fault that isn't the input's.
+/// Which rule the input breaks; nothing for a fault that isn't the input's.
 pub fn rule_of(fault: &RunFault) -> Option<Rule>
     ensures input { IsSome result ↔ (fault_status fault.now ≡ 1) }
     ensures field { (given : JournalFault) → fault.now ≡ RunFault.Input given
@@ -156,27 +157,57 @@ fn rule_of_volumes() -> Rule
     }
 }
 
-/// The first word after the command that is neither an option nor an option's number, and the command; if that is one
-/// of the three.
+/// The command, if the first word is one of the three, and the first word after it that neither begins with `-` nor
+/// follows a word that does and has no `=`.
 pub fn file_in(words: &[String]) -> Option<(&str, &str)>
-    ensures { IfSome result (λ found. IsSubcommand found.0.now) }
+    ensures { option_map (λ found. (found.0.now, found.1.now)) result
+        ≡ file_in (map string_bytes words.now) }
 {
-    let command = words.first()?.as_str();
-    if command != "replay" && command != "clear" && command != "day" {
+    let (command, rest) = words.split_first()?;
+    if !is_command(command.as_str()) {
         return None;
     }
+    let file = first_file(rest)?;
+    Some((command.as_str(), file))
+}
+
+/// Whether the word is one of the three commands.
+fn is_command(word: &str) -> bool
+    ensures { result ≡ is_command word.now }
+{
+    word == "replay" || word == "clear" || word == "day"
+}
+
+/// The first of these words that may be a file.
+fn first_file(words: &[String]) -> Option<&str>
+    ensures { option_map (λ file. file.now) result ≡ first_file false (map string_bytes words.now) }
+{
     let mut is_number = false;
-    for word in words.iter().skip(1) {
+    for word in words {
         let word = word.as_str();
         if is_number {
             is_number = false;
-        } else if word.starts_with('-') {
-            is_number = !word.contains('=');
+        } else if is_option(word) {
+            is_number = !has_number(word);
         } else {
-            return Some((command, word));
+            return Some(word);
         }
     }
     None
+}
+
+/// Whether the word begins with `-`.
+fn is_option(word: &str) -> bool
+    ensures { result ≡ is_option word.now }
+{
+    word.as_bytes().starts_with(b"-")
+}
+
+/// Whether the option has its number in the same word, after a `=`.
+fn has_number(word: &str) -> bool
+    ensures { result ≡ has_number word.now }
+{
+    word.as_bytes().contains(&b'=')
 }
 
 /// Whether a word asks for the version, which the program doesn't know.

@@ -8,10 +8,10 @@ mod advice;
 mod progress;
 mod run;
 
-ghost use Rattle.std.specs.Prelude.{◌≡◌};
+ghost use Rattle.std.specs.Prelude.{◌≡◌, IfErr};
 ghost use Rattle.std.specs.Process.{exit_status};
 ghost use Rattle.dam_engines.specs.Fault.{fault_status};
-ghost use Rattle.dam_cli.specs.Status.{IsLineStatus, run_status};
+ghost use Rattle.dam_cli.specs.Status.{IsEndedStatus, IsLineStatus, IsNoHelp, run_status};
 
 use advice::{asks_version, file_in, rule_of};
 use dam_book::Seed;
@@ -50,7 +50,7 @@ fn main(rt: HostRuntime) -> ExitCode {
     ended(&rt, &progress, done)
 }
 
-/// The status of a run that ended so. After a fault its line is printed; otherwise, at a terminal, how many commands
+/// The status of a run with this end. After a fault its line is printed; otherwise, at a terminal, how many commands
 /// were refused.
 fn ended<R: Wait + Eprint + Clock>(
     rt: &HostRuntime,
@@ -68,8 +68,10 @@ fn ended<R: Wait + Eprint + Clock>(
     }
 }
 
-/// The job that the program's words ask for. If they ask for none, they are answered, and this is the status.
-fn job(rt: &HostRuntime) -> Result<Job, ExitCode> {
+/// The job that the words ask for. If there is none, the words have been answered, and the error is the status.
+fn job(rt: &HostRuntime) -> Result<Job, ExitCode>
+    ensures { IfErr result (λ status. IsEndedStatus (exit_status status)) }
+{
     let words = match words(rt) {
         Ok(words) => words,
         Err(fault) => return Err(answer(rt, &fault, &[])),
@@ -81,7 +83,9 @@ fn job(rt: &HostRuntime) -> Result<Job, ExitCode> {
 }
 
 /// The program's words, without its name.
-fn words(rt: &HostRuntime) -> Result<Vec<String>, LineFault> {
+fn words(rt: &HostRuntime) -> Result<Vec<String>, LineFault>
+    ensures { IfErr result IsNoHelp }
+{
     let alloc = rt.alloc();
     let mut words = match env::args(rt) {
         Ok(words) => words,
@@ -97,14 +101,16 @@ fn words(rt: &HostRuntime) -> Result<Vec<String>, LineFault> {
 }
 
 /// The fault of words that aren't UTF-8.
-fn not_text(alloc: Global) -> LineFault {
+fn not_text(alloc: Global) -> LineFault
+    ensures { IsNoHelp result }
+{
     match String::from_str(alloc, "error: a word isn't UTF-8\n") {
         Ok(text) => LineFault::Refused { help: false, text },
         Err(_) => LineFault::Memory,
     }
 }
 
-/// Says to a person at a terminal, who may wait for an answer, that a journal is read from there.
+/// Tells a person at a terminal that the program reads from it; otherwise it would seem to hang.
 fn hint(rt: &HostRuntime) {
     if rt.stdin().is_terminal() && rt.stderr().is_terminal() {
         let _ = eprintln!(rt; "dam: reading a journal from this terminal; end it with Ctrl-D");

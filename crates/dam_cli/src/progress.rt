@@ -11,7 +11,7 @@ use std::time::{Clock, Duration, Instant};
 /// Takes a terminal to the beginning of the line, and clears it.
 const CLEAR: &str = "\r\u{1b}[K";
 
-/// The pieces of a search that have ended, and all of them; and the commands that the book refused.
+/// How many pieces of a search have ended, how many it has, and how many commands the book refused.
 #[derive(Drop)]
 struct Count {
     ended: u32,

@@ -1,4 +1,4 @@
-ghost use Rattle.std.specs.Prelude.{IfOk, IfErr};
+ghost use Rattle.std.specs.Prelude.{◌≡◌, ◌↔◌, false, IfOk, IfErr, IsErrOf};
 ghost use Rattle.dam_results.specs.Journal.{IsMadeFrom};
 ghost use Rattle.dam_results.specs.Clearing.{IsResultsText};
 ghost use Rattle.dam_engines.specs.Engine.{IsRunFault};
@@ -12,10 +12,12 @@ use dam_results::{book_of_text, results, results_text};
 use dam_search::search_alone;
 use std::alloc::Global;
 
-/// The results text of a closed book, found on the calling thread alone.
+/// The results text of a closed book, found on the calling thread alone. The answer to an open one is `StillOpen`, before
+/// any memory is asked for.
 fn clear_book_alone(alloc: Global, book: &Book, nodes: u32) -> Result<Vec<u8>, RunFault>
     ensures done { IfOk result (λ results. IsResultsText book.now results.items) }
     ensures fault { IfErr result (IsBookFault (terms_alone nodes) book.now) }
+    ensures still_open { IsErrOf result RunFault.StillOpen ↔ (book.now.closed ≡ false) }
 {
     published_results_are_clearings();
     let problem = Problem::of_book(alloc, book)?;
@@ -26,9 +28,9 @@ fn clear_book_alone(alloc: Global, book: &Book, nodes: u32) -> Result<Vec<u8>, R
 
 /// The results text of a journal's text, as `run_clear` prints it, found on the calling thread alone.
 ///
-/// No thread is started, and nothing is read or written but memory. The search visits at most `nodes` nodes, which may
-/// be any number: 0 leaves every search unfinished, and from 67,108,864 on none is. The book hashes names by the seed.
-/// `StillOpen` comes if the book is open after the last command.
+/// No thread is started, and nothing is read or written but memory. The search visits at most `nodes` nodes, and maybe a
+/// trial before. `nodes` may be any number: 0 leaves every search unfinished, and from 67,108,864 on none is. The book
+/// hashes names by the seed. `StillOpen` comes only if the book is open after the last command.
 pub fn clear_text_alone(
     alloc: Global,
     seed: Seed,

@@ -25,8 +25,8 @@ use std::thread::Threads;
 /// and writes the results: the price and volume of each period, and what becomes of each order.
 ///
 /// The whole text is made before its first byte is written. If the input is longer than a journal may be, not all of it
-/// is read. `StillOpen` comes if the book is open after the last command. The plan changes no results, but by its limit
-/// on nodes the search may end `Unfinished`. The book hashes names by the seed.
+/// is read. `StillOpen` comes only if the book is open after the last command. The plan changes no results, but by its
+/// limit on nodes the search may end `Unfinished`. The book hashes names by the seed.
 ///
 /// Neither device may have failed before. Nothing is said of the bytes of a reader or a writer that doesn't show them,
 /// nor of what is printed if the reader doesn't: standard input and output show none. Whether a device failed, how
@@ -38,7 +38,7 @@ pub fn run_clear<H: Threads + Sync, R: Read, W: Write, T: Watch + Sync>(
     reader: &mut Source<R>,
     writer: &mut Sink<W>,
     plan: Plan,
-    turnstile: &T,
+    watch: &T,
 ) -> Result<(), RunFault>
     requires reads { reader.old.failed ≡ false }
     requires writes { writer.old.failed ≡ false }
@@ -49,7 +49,7 @@ pub fn run_clear<H: Threads + Sync, R: Read, W: Write, T: Watch + Sync>(
     ensures asked { reader.new.asked ≤ reader.old.asked + most_asked reader.old.unread }
 {
     let text = read_input(alloc, reader)?;
-    let results = clear_text(rt, alloc, seed, text, plan, turnstile)?;
+    let results = clear_text(rt, alloc, seed, text, plan, watch)?;
     write_text(writer, results.as_slice())
 }
 
@@ -60,15 +60,15 @@ fn clear_text<H: Threads + Sync, T: Watch + Sync>(
     seed: Seed,
     text: Vec<u8>,
     plan: Plan,
-    turnstile: &T,
+    watch: &T,
 ) -> Result<Vec<u8>, RunFault>
     ensures done { IfOk result (λ results. IsMadeFrom AreResults text.items results.items) }
     ensures fault { IfErr result (IsRunFault (IsClearFault plan) text.items) }
 {
     let run = run_journal(alloc, seed, text.as_slice())?;
     drop(text);
-    turnstile.refused(run.refused);
-    clear_book(rt, alloc, &run.book, plan, turnstile)
+    watch.refused(run.refused);
+    clear_book(rt, alloc, &run.book, plan, watch)
 }
 
 /// The run of a journal's text. The text may have been cut after the first byte too many.
@@ -86,7 +86,7 @@ pub fn clear_book<H: Threads + Sync, T: Watch + Sync>(
     alloc: Global,
     book: &Book,
     plan: Plan,
-    turnstile: &T,
+    watch: &T,
 ) -> Result<Vec<u8>, RunFault>
     ensures done { IfOk result (λ results. IsResultsText book.now results.items) }
     ensures fault { IfErr result (IsBookFault plan book.now) }
@@ -94,9 +94,9 @@ pub fn clear_book<H: Threads + Sync, T: Watch + Sync>(
 {
     published_results_are_clearings();
     let problem = Problem::of_book(alloc, book)?;
-    turnstile.begin(1 << plan.depth(problem.block_count()));
-    let best = search(rt, alloc, &problem, plan, turnstile);
-    turnstile.end();
+    watch.begin(1 << plan.depth(problem.block_count()));
+    let best = search(rt, alloc, &problem, plan, watch);
+    watch.end();
     let published = results(alloc, &problem, best?)?;
     Ok(results_text(alloc, &published)?)
 }

@@ -28,8 +28,8 @@ pub enum RunFault {
     /// The journal of a day's gate and the receipts of its participants don't fit together. No run is
     /// known to meet it. If memory ran out, the fault is `Memory` of this type.
     Mismatch(Mismatch),
-    /// The search visited as many nodes of this piece, the least such, as the plan allows, and needed
-    /// another.
+    /// The search visited as many nodes of this piece as the plan allows, and needed another. It is the least
+    /// such piece.
     Unfinished { piece: u32, visited: u32 },
     /// The answers of the search's workers lack this piece or repeat it. The search never answers so, and
     /// so no run does.

@@ -17,8 +17,8 @@ const CHUNK: usize = 65_536;
 
 /// The reader's bytes, to their end or to the first `MOST_READ` of them.
 ///
-/// The first failure of the reader ends it. Each answer but the last gives a byte or more, and no byte after the first
-/// `MOST_READ` is asked for.
+/// The first failure of the reader ends it, and so does the first read of no bytes. No byte after the first `MOST_READ`
+/// is asked for.
 pub fn read_input<R: Read>(alloc: Global, reader: &mut Source<R>) -> Result<Vec<u8>, RunFault>
     requires { reader.old.failed ≡ false }
     ensures text { IfOk result (λ text.

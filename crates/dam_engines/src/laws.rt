@@ -26,7 +26,7 @@ pub fn cleared_text_is_one()
     books_are_cleared_alike();
 }
 
-/// If the text is a journal, a replay ends with the replies to its commands, or memory runs out.
+/// If the text is a journal, a replay ends with the replies to its commands, or memory runs out, or a device fails.
 pub fn replay_is_exact()
     ensures { (text : List ℕ) (periods : ℕ) (commands : List Command)
         (old new : Option (List ℕ)) (asked : ℕ) (result : Result (Unit {0}) RunFault)
@@ -39,7 +39,7 @@ pub fn replay_is_exact()
 }
 
 /// If the text is a journal, a clearing ends with the results of the book that its commands make, or with a fault of
-/// that book.
+/// that book, or a device fails.
 pub fn clearing_is_exact()
     ensures { (plan : PlanTerms) (text : List ℕ) (periods : ℕ) (commands : List Command)
         (old new : Option (List ℕ)) (asked : ℕ) (result : Result (Unit {0}) RunFault)
@@ -53,7 +53,8 @@ pub fn clearing_is_exact()
     fault_is_no_journal();
 }
 
-/// If the text is a journal, a day ends with the text of a day of its commands, or with a fault of these.
+/// If the text is a journal, a day ends with the text of a day of its commands, or with a fault of these, or a device
+/// fails.
 pub fn day_is_exact()
     ensures { (plan : PlanTerms) (text : List ℕ) (periods : ℕ) (commands : List Command)
         (old new : Option (List ℕ)) (asked : ℕ) (result : Result (Unit {0}) RunFault)
@@ -67,9 +68,8 @@ pub fn day_is_exact()
     fault_is_no_journal();
 }
 
-/// The greatest limit on nodes of a plan, which stands if the words give none, covers any book: a search over all its
-/// blocks has at most 2 to the power of one more than their number, less 1. So neither that limit nor a greater one
-/// cuts a search short.
+/// A search over n blocks visits at most 2^(n+1) - 1 nodes. For 24 blocks, the most, that is below the greatest limit of
+/// a plan, so neither this limit nor a greater one cuts a search short.
 pub fn greatest_limit_cuts_no_search()
     ensures covers { (problem : ProblemState) → IsProblem problem
         → all_nodes (length problem.blocks) ≤ most_nodes }

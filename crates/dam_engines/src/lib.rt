@@ -26,8 +26,8 @@
 //! reader and writer, that an engine reports each failure of a device and no other, never asks a failed device again,
 //! flushes its text once, makes at most one read per byte that it may read (if the reader shows its bytes, at most one
 //! more than it has), and at most one write per byte of its text.
-//! Only tested is that the counts are of calls that are made (three calls of three lines), that a [`Watch`] is called,
-//! and that memory isn't said to have run out if it hasn't.
+//! Only tested is that the counts are of calls that are made (three calls of two lines), that a failure is recorded only
+//! if there was one, that a [`Watch`] is called, and that memory isn't said to have run out if it hasn't.
 //!
 //! The crate knows nothing of the command line, nor of terminals.
 #![tactic(auto)]

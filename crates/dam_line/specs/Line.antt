@@ -70,7 +70,7 @@ day = (with_plan (new_app (codes "day"))).top
 abbrev pub with_subcommands : App → App
 with_subcommands command = with_subcommand (with_subcommand (with_subcommand command replay) clear) day
 
--- the program's command: the words name one of its subcommands, and if there are none, it shows its help
+-- the program's command: the words name one of its subcommands; without words it is refused, with its help
 abbrev pub program : App
 program =
     let command = with_subcommands (new_app (codes "dam")) in

@@ -14,7 +14,8 @@ pub fn exactness()
 {}
 
 /// If `clap` takes the words of a subcommand that has a plan, then its matches give each option a number in the option's range: the
-/// number of the words, or the default. So no number of [`read_line`](crate::read_line) stands in for one outside the range.
+/// number of the words, or the default. So [`read_line`](crate::read_line) never puts a default in the place of a number that
+/// the words give.
 pub fn ranges()
     ensures { (words : List Text) (found : Text × List Row) (option : OptionTerms)
         → fault_of program words ≡ [] → subcommand_of program words ≡ Some found

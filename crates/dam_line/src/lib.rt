@@ -3,7 +3,8 @@
 //! ```
 //! match read_line(alloc, &words) {
 //!     Ok(Job::Clear(plan)) => clear(plan),
-//!     Err(LineFault::Refused { help, text }) => .., // the help that was asked for, or what is wrong
+//!     // the help that was asked for; or what is wrong, or the help if there are no words
+//!     Err(LineFault::Refused { help, text }) => ..,
 //!     ..
 //! }
 //! ```

@@ -30,8 +30,8 @@ pub enum Job {
 /// The text is `clap`'s, so no contract says what it is.
 #[derive(PartialEq, Eq, Debug, Drop, Error)]
 pub enum LineFault {
-    /// `clap` refuses the words. If they ask for help, `help` is true and `text` is the help;
-    /// otherwise `text` says what is wrong with them. It ends with a line feed.
+    /// `clap` refuses the words. If they ask for help, `help` is true and `text` is the help. Otherwise
+    /// `text` says what is wrong with them, or is the help if there are no words.
     #[error("{text}")]
     Refused { help: bool, text: String },
     /// A growth was refused.

@@ -16,8 +16,8 @@ pub const MOST_NODES: u32 = 67_108_864;
 /// How a search is shared out: how many workers explore the pieces, how many of the first blocks
 /// the cutting decides, and how many nodes of one piece may be visited.
 ///
-/// The first two change how long a search takes, and never its result; by the third it may end
-/// unfinished. A contract sees the three numbers.
+/// A finished search has the same result under every plan; whether a small third number leaves it
+/// unfinished may depend on the other two. A contract sees the three numbers.
 #[derive(Clone, Copy, PartialEq, Eq, Debug)]
 pub struct Plan {
     workers: u8,
