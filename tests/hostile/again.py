@@ -101,13 +101,12 @@ def texts(program, given, written):
 
 
 def searches(two_equal, group):
-    """Searches of the books of two equal blocks and of a group: by one worker and by several, and one that ends unfinished. With so few
-    nodes there is no trial, so the workers search."""
+    """Searches of the books of two equal blocks and of a group: by one worker and by several, and one that ends unfinished."""
     for plan in ["--workers 2 --cut 1", "--workers 4 --cut 2", "--workers 8 --cut 0", "--workers 8 --cut 8"]:
-        words = ["search", "clear", *plan.split(), "--nodes", "4096"]
+        words = ["search", "clear", *plan.split()]
         yield Again(f"search of two equal blocks by {plan}", words, two_equal, "welfare 20000", least=20, goes_on=True)
     words = ["search", "clear", "--workers", "1", "--cut", "0"]
-    yield Again("search of a group", [*words, "--nodes", "4096"], group, "welfare 30000", least=20, goes_on=True)
+    yield Again("search of a group", words, group, "welfare 30000", least=20, goes_on=True)
     unfinished = [*words, "--nodes", "1"]
     answer = "unfinished: piece 0 after 1 nodes"
     yield Again("search of a group within one node", unfinished, group, answer, least=20, goes_on=True)

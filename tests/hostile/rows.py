@@ -75,10 +75,7 @@ TWO_ORDERS = DAY + b"submit,A,S1,hour,sell,3000,1:10,,\nsubmit,B,B1,hour,buy,500
 TWO_BLOCKS = TWO_ORDERS + b"submit,A,K1,block,sell,4000,1:5,,\nsubmit,A,K2,block,sell,4000,1:5,K1,\n"
 CLOSED_FIRST = DAY + CLOSE + b"submit,A,B1,hour,buy,5000,1:10,,\namend,A,B1,,,5000,1:10,,\ncancel,A,B1,,,,,,\n" + CLOSE
 
-# (with so few nodes there is no trial, so the workers search)
-UNTRIED = ["--nodes", "4096"]
 CUTTINGS = [["--workers", "1", "--cut", "0"], ["--workers", "2", "--cut", "3"], ["--workers", "8", "--cut", "8"]]
-CUTTINGS = [[*plan, *UNTRIED] for plan in CUTTINGS]
 
 
 def worked_rows():
@@ -96,7 +93,7 @@ def worked_rows_without_memory():
 def memory_rows():
     """A call for memory refused alone, and with all that come later."""
     inputs = [
-        ("clear of two blocks by eight workers", ["clear", *CUTTINGS[2]], TWO_BLOCKS + CLOSE, ANY),
+        ("clear of two blocks by eight workers", ["clear", "--workers", "8", "--cut", "8"], TWO_BLOCKS + CLOSE, ANY),
         ("day of two blocks", ["day"], TWO_BLOCKS, ANY),
         ("replay of the auction day", ["replay"], AUCTION, MANY),
         ("replay of the first day", ["replay"], FIRST, FEW),

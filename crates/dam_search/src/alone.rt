@@ -47,8 +47,7 @@ fn concluded(
 ///
 /// It finds what `search` finds, whose clauses it has for a plan that cuts nothing. The whole search
 /// is piece 0, which visits at most `nodes` nodes; 67,108,864 are enough for any problem. If `nodes` is
-/// more than a trial visits, it first makes the trial that `search` makes, which ends a short search and
-/// whose nodes aren't counted.
+/// more than a trial visits, it first makes the trial that `search` makes, whose nodes aren't counted.
 pub fn search_alone(alloc: Global, problem: &Problem, nodes: u32) -> Result<Best, SearchFault>
     ensures ok { IfOk result (λ best. IsResult problem.now best.selection (pos best.welfare)) }
     ensures unfinished { (piece visited : ℕ)

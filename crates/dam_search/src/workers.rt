@@ -194,7 +194,7 @@ pub(crate) fn explore_all<R: Threads + Sync, T: Turnstile + Sync>(
     Ok(Explored { answers, totals })
 }
 
-/// Calls the turnstile for each piece in turn, after a trial that has searched all of them.
+/// Calls the turnstile for each piece in turn, when a trial has searched them all.
 fn pass_all<T: Turnstile>(pieces: u32, turnstile: &T) {
     for piece in 0..pieces {
         turnstile.before(piece);
@@ -207,10 +207,9 @@ fn pass_all<T: Turnstile>(pieces: u32, turnstile: &T) {
 /// run changes it.
 ///
 /// The search first finds a good selection, and offers its welfare before any worker starts. If a piece may visit
-/// more nodes than a trial (4,096 to 46,875, one for every 16 losses that tables could keep), a trial comes next: the
-/// calling thread searches the whole. If that ends the search, no worker starts, and the turnstile is called for one
-/// piece after another. If it doesn't, tables of some MiB are made, which are quicker to read, if there is memory. The
-/// limit on nodes doesn't count the trial. The cutting decides as many of the first blocks as the plan says, or all of them
+/// more nodes than a trial (4,096 to 46,875, one for every 16 losses that tables could keep), a trial comes next. If
+/// it doesn't end the search, tables of some MiB are made, which are quicker to read, if there is memory. The limit
+/// on nodes doesn't count the trial. The cutting decides as many of the first blocks as the plan says, or all of them
 /// if there are fewer. The workers, each on a thread of its own, draw its pieces as they come free, and prune by the
 /// greatest welfare that any of them has found. If a thread can't be made, the calling one does its work. Of the
 /// faults, `Memory` comes first, then `Collected`, and then `Unfinished`.
