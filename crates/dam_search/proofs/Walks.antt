@@ -1,19 +1,18 @@
 -- What one step of a walk costs, and two walks after one another.
-use Rattle.std.proofs.Common.{◌≡◌, ℕ, zero, suc, ◌+◌, ◌-◌, ◌^◌, ◌<◌, ◌≤◌, ◌⊎◌, inl, inr, ℤ, pos, negsuc, ◌<ℤ◌, ◌≤ℤ◌, Bool, true, false, not, Option, Some, None, List}
-use Rattle.std.proofs.Common.{[], ◌∷◌, ◌++◌, length, length-append, append_assoc, if◌then◌else◌, ◌∙◌, ap, sym, subst, refl, arith}
+use Rattle.std.proofs.Common.{◌≡◌, ℕ, zero, suc, ◌+◌, ◌-◌, ◌^◌, ◌<◌, ◌≤◌, ◌⊎◌, inl, inr, ℤ, pos, negsuc, ◌<ℤ◌, Bool, true, false, not, Option, Some, None, List}
+use Rattle.std.proofs.Common.{[], ◌∷◌, ◌++◌, length, if◌then◌else◌, ◌∙◌, ap, sym, subst, refl, arith}
 use Rattle.std.proofs.lemmas.Bool.Decides.{nat_tests}
 use Rattle.std.proofs.lemmas.Int.{ints}
 use Rattle.std.proofs.lemmas.Nat.{pow_pos}
-use Rattle.std.proofs.lemmas.List.{append-nil}
 use Rattle.std.proofs.Math.Nat.{two-pow-succ}
 use Rattle.dam_blocks.specs.Problem.{ProblemState}
 use Rattle.dam_book.specs.Limits.{most_blocks}
-use Rattle.dam_blocks.specs.Selection.{choice, padded, IsAdmissible}
+use Rattle.dam_blocks.specs.Selection.{padded, IsAdmissible}
 use Rattle.dam_bound.specs.Relaxed.{relaxed_welfare, reaches, live_count}
-use Rattle.dam_search.specs.Piece.{needed_nodes, IsAdmissionTest, AreEnough, IsSpent}
+use Rattle.dam_search.specs.Piece.{needed_nodes, AdmitsOnly, AreEnough, IsSpent}
 use Rattle.dam_search.specs.inside.Walk.{Spends, Reads}
 use Rattle.dam_search.proofs.LastBlock.{still_rejected}
-use Rattle.dam_search.proofs.Prefixes.{length_more, length-choice}
+use Rattle.dam_search.proofs.Prefixes.{length_more}
 
 -- a power of two twice over
 doubled : (n : ℕ) → 2 ^ (n + 1) ≡ 2 ^ n + 2 ^ n
@@ -182,8 +181,8 @@ spends_both problem prefix first n told least later nodes before middle after do
 
 pub enough_more : (problem : ProblemState) (prefix : List Bool) (left read later nodes more : ℕ) → read ≤ later → nodes ≤ more
     → AreEnough problem prefix left read nodes → AreEnough problem prefix left later more
-enough_more problem prefix left read later nodes more h h' enough admissible admits value test le =
-    let needed = enough admissible admits value test (omega (arith, h, le)) in omega (arith, needed, h')
+enough_more problem prefix left read later nodes more h h' enough admissible admits value only le =
+    let needed = enough admissible admits value only (omega (arith, h, le)) in omega (arith, needed, h')
 
 -- a relaxed welfare under the greatest value read reaches no greater value
 pub unreached : (w : Option ℤ) (value least : ℕ) → ((x : ℤ) → w ≡ Some x → x <ℤ pos least) → least ≤ value → reaches w value ≡ false
@@ -213,28 +212,28 @@ one_needed problem admits value (suc left) prefix (inl e) = absurd (omega (arith
 one_needed problem admits value (suc left) prefix (inr e) =
     one_unless (reaches (relaxed_welfare problem prefix) value) (further_nodes problem admits value prefix left) e
 
-if_admitted : (problem : ProblemState) (admits : List Bool → Bool) (sel : List Bool) (n most : ℕ) → IsAdmissionTest problem admits
+if_admitted : (problem : ProblemState) (admits : List Bool → Bool) (sel : List Bool) (n most : ℕ) → AdmitsOnly problem admits
     → (IsAdmissible problem.blocks sel → n ≤ most) → (if admits sel then n else 0) ≤ most
-if_admitted problem admits sel n most test h = elim (admits sel) as (λ (b : Bool). admits sel ≡ b → (if b then n else 0) ≤ most) [
-  | true ↦ λ e. h ((test sel).0 e)
+if_admitted problem admits sel n most only h = elim (admits sel) as (λ (b : Bool). admits sel ≡ b → (if b then n else 0) ≤ most) [
+  | true ↦ λ e. h (only sel e)
   | false ↦ λ e. omega arith
 ] refl
 
 -- a prefix with one block more undecided, whose extensions have as many nodes as they need
 both_needed : (problem : ProblemState) (prefix : List Bool) (first : Bool) (admits : List Bool → Bool) (value next x y total : ℕ)
-    → 1 + (x + y) ≤ total → IsAdmissionTest problem admits → IsAdmissible problem.blocks (padded (prefix ++ false ∷ []))
+    → 1 + (x + y) ≤ total → AdmitsOnly problem admits → IsAdmissible problem.blocks (padded (prefix ++ false ∷ []))
     → (IsAdmissible problem.blocks (padded (prefix ++ first ∷ [])) → needed_nodes problem admits value (prefix ++ first ∷ []) next ≤ x)
     → (IsAdmissible problem.blocks (padded (prefix ++ not first ∷ []))
     → needed_nodes problem admits value (prefix ++ not first ∷ []) next ≤ y)
     → needed_nodes problem admits value prefix (suc next) ≤ total
-both_needed problem prefix true admits value next x y total h test rejected a b =
+both_needed problem prefix true admits value next x y total h only rejected a b =
     let own = b rejected in
-    let other = if_admitted problem admits (padded (prefix ++ true ∷ [])) (needed_nodes problem admits value (prefix ++ true ∷ []) next) x test a in
+    let other = if_admitted problem admits (padded (prefix ++ true ∷ [])) (needed_nodes problem admits value (prefix ++ true ∷ []) next) x only a in
     one_and_more (reaches (relaxed_welfare problem prefix) value) (further_nodes problem admits value prefix next) total
     (omega (arith, h, own, other))
-both_needed problem prefix false admits value next x y total h test rejected a b =
+both_needed problem prefix false admits value next x y total h only rejected a b =
     let own = a rejected in
-    let other = if_admitted problem admits (padded (prefix ++ true ∷ [])) (needed_nodes problem admits value (prefix ++ true ∷ []) next) y test b in
+    let other = if_admitted problem admits (padded (prefix ++ true ∷ [])) (needed_nodes problem admits value (prefix ++ true ∷ []) next) y only b in
     one_and_more (reaches (relaxed_welfare problem prefix) value) (further_nodes problem admits value prefix next) total
     (omega (arith, h, own, other))
 
@@ -242,9 +241,9 @@ both_needed problem prefix false admits value next x y total h test rejected a b
 pub enough_one : (problem : ProblemState) (prefix : List Bool) (left read before after : ℕ) → after ≡ before + 1
     → (left ≡ 0) ⊎ ((value : ℕ) → read ≤ value → reaches (relaxed_welfare problem prefix) value ≡ false)
     → AreEnough problem prefix left read (after - before)
-enough_one problem prefix left read before after e (inl full) admissible admits value test le =
+enough_one problem prefix left read before after e (inl full) admissible admits value only le =
     let one = one_needed problem admits value left prefix (inl full) in omega (arith, e, one)
-enough_one problem prefix left read before after e (inr under) admissible admits value test le =
+enough_one problem prefix left read before after e (inr under) admissible admits value only le =
     let one = one_needed problem admits value left prefix (inr (under value le)) in omega (arith, e, one)
 
 -- the node and both of its extensions
@@ -253,77 +252,15 @@ pub enough_both : (problem : ProblemState) (prefix : List Bool) (first : Bool) (
     → AreEnough problem (prefix ++ first ∷ []) (n - length (prefix ++ first ∷ [])) read (middle - (before + 1))
     → AreEnough problem (prefix ++ not first ∷ []) (n - length (prefix ++ not first ∷ [])) later (after - middle)
     → AreEnough problem prefix (n - length prefix) later (after - before)
-enough_both problem prefix first n read later before middle after few fits more more' h one other admissible admits value test le =
+enough_both problem prefix first n read later before middle after few fits more more' h one other admissible admits value only le =
     let next = n - length (prefix ++ first ∷ []) in
     let same : n - length (prefix ++ not first ∷ []) ≡ next = omega
     (arith, one_less n prefix first few, one_less n prefix (not first) few) in
     let two = subst (λ (k : ℕ). AreEnough problem (prefix ++ not first ∷ []) k later (after - middle)) same other in
     subst (λ (k : ℕ). needed_nodes problem admits value prefix k ≤ after - before) (sym (one_less n prefix first few))
     (both_needed problem prefix first admits value next (middle - (before + 1)) (after - middle) (after - before)
-    (omega (arith, more, more')) test (still_rejected problem.blocks prefix fits admissible)
-    (λ fine. one fine admits value test (omega (arith, h, le))) (λ fine. two fine admits value test le))
-
--- ---- the nodes of a piece among those of the whole
-
--- a number that is at most a relaxed welfare under the value
-pub less : (w bound : ℤ) (value : ℕ) → w ≤ℤ bound → reaches (Some bound) value ≡ false → w <ℤ pos value
-less w (pos n) value h e = let under : n < value = grind (arith, nat_tests) in omega (arith, ints)
-less w (negsuc n) value h e = omega (arith, ints)
-
--- no prefix that extends another has a greater relaxed welfare
-abbrev pub IsFalling : ProblemState → Type 0
-IsFalling problem = (prefix rest : List Bool) (w : ℤ) → relaxed_welfare problem (prefix ++ rest) ≡ Some w
-    → (r : ℤ) × (relaxed_welfare problem prefix ≡ Some r) × (w ≤ℤ r)
-
--- a prefix is admissible if one that extends it is
-abbrev pub AreFrontsAdmitted : ProblemState → Type 0
-AreFrontsAdmitted problem = (prefix : List Bool) (b : Bool) → IsAdmissible problem.blocks (padded (prefix ++ b ∷ []))
-    → IsAdmissible problem.blocks (padded prefix)
-
--- what one extension needs, both need
-one_of_both : (problem : ProblemState) (admits : List Bool → Bool) (value left : ℕ) (prefix : List Bool) (b : Bool)
-    → admits (padded (prefix ++ b ∷ [])) ≡ true
-    → needed_nodes problem admits value (prefix ++ b ∷ []) left ≤ further_nodes problem admits value prefix left
-one_of_both problem admits value left prefix false e = omega arith
-one_of_both problem admits value left prefix true e =
-    let same = ap (λ (t : Bool). if t then needed_nodes problem admits value (prefix ++ true ∷ []) left else 0) e in omega (arith, same)
-
--- a prefix with one block more decided needs no more
-enough_further : (problem : ProblemState) (prefix : List Bool) (b : Bool) (left read nodes : ℕ) → IsFalling problem
-    → AreFrontsAdmitted problem → AreEnough problem prefix (suc left) read nodes → AreEnough problem (prefix ++ b ∷ []) left read nodes
-enough_further problem prefix b left read nodes falls fronts enough admissible admits value test le =
-    let next = prefix ++ b ∷ [] in
-    elim (reaches (relaxed_welfare problem prefix) value) as (λ (r : Bool). reaches (relaxed_welfare problem prefix) value ≡ r
-    → 1 + (if r then further_nodes problem admits value prefix left else 0) ≤ nodes → needed_nodes problem admits value next left ≤ nodes) [
-      | true ↦ λ e h. (let one = one_of_both problem admits value left prefix b ((test (padded next)).1 admissible) in omega (arith, one, h))
-      | false ↦ λ e h.
-          (let under = unreached (relaxed_welfare problem next) value value
-          (λ x s. (let most = falls prefix (b ∷ []) x s in
-          less x most.0 value most.2 (subst (λ (o : Option ℤ). reaches o value ≡ false) most.1 e)))
-          (omega arith) in
-          let one = one_needed problem admits value left next (inr under) in omega (arith, one, h))
-    ] refl (enough (fronts prefix b admissible) admits value test le)
-
-enough_along : (problem : ProblemState) (rest prefix : List Bool) (n read nodes : ℕ) → IsFalling problem → AreFrontsAdmitted problem
-    → length (prefix ++ rest) ≤ n → AreEnough problem prefix (n - length prefix) read nodes
-    → AreEnough problem (prefix ++ rest) (n - length (prefix ++ rest)) read nodes
-enough_along problem [] prefix n read nodes falls fronts fits enough =
-    subst (λ (xs : List Bool). AreEnough problem xs (n - length xs) read nodes) (sym (append-nil prefix)) enough
-enough_along problem (b ∷ rest) prefix n read nodes falls fronts fits enough =
-    let next = prefix ++ b ∷ [] in let same = append_assoc prefix (b ∷ []) rest in
-    let few : length prefix < n = (let long = length-append prefix (b ∷ rest) in omega (arith, fits, long)) in
-    let further = enough_further problem prefix b (n - length next) read nodes falls fronts
-    (subst (λ (k : ℕ). AreEnough problem prefix k read nodes) (one_less n prefix b few) enough) in
-    subst (λ (xs : List Bool). AreEnough problem xs (n - length xs) read nodes) same
-    (enough_along problem rest next n read nodes falls fronts (subst (λ (xs : List Bool). length xs ≤ n) (sym same) fits) further)
-
--- what is enough for the whole is enough for each piece
-pub enough_each : (problem : ProblemState) (n read nodes depth piece : ℕ) → IsFalling problem → AreFrontsAdmitted problem → depth ≤ n
-    → AreEnough problem [] (n - 0) read nodes → AreEnough problem (choice depth piece) (n - depth) read nodes
-enough_each problem n read nodes depth piece falls fronts few enough =
-    let long = length-choice depth piece in
-    subst (λ (k : ℕ). AreEnough problem (choice depth piece) (n - k) read nodes) long
-    (enough_along problem (choice depth piece) [] n read nodes falls fronts (omega (arith, long, few)) enough)
+    (omega (arith, more, more')) only (still_rejected problem.blocks prefix fits admissible)
+    (λ fine. one fine admits value only (omega (arith, h, le))) (λ fine. two fine admits value only le))
 
 -- a whole walk, before which nothing was visited
 pub spent_from : (problem : ProblemState) (prefix : List Bool) (left told nodes visited read : ℕ) (done : Bool)

@@ -1,5 +1,5 @@
 -- Pieces of a search, what is found in one, and what it may cost.
-use Rattle.std.specs.Prelude.{◌≡◌, ℕ, zero, suc, ◌+◌, ◌-◌, ◌*◌, ◌^◌, ◌≤◌, ℤ, pos, ◌<ℤ◌, ◌⊎◌, ◌↔◌, Bool, true, false, if◌then◌else◌}
+use Rattle.std.specs.Prelude.{◌≡◌, ℕ, zero, suc, ◌+◌, ◌-◌, ◌*◌, ◌^◌, ◌≤◌, ℤ, pos, ◌<ℤ◌, ◌⊎◌, Bool, true, false, if◌then◌else◌}
 use Rattle.std.specs.Prelude.{Option, Some, None, List, [], ◌∷◌, ◌++◌}
 use Rattle.dam_blocks.specs.declared.selection.Best.{Best}
 use Rattle.dam_blocks.specs.Problem.{ProblemState}
@@ -63,16 +63,15 @@ needed_nodes problem admits value prefix (suc left) =
     then needed_nodes problem admits value (prefix ++ true ∷ []) left else 0)
     else 0)
 
--- the test says of each selection whether the links and the groups admit it
-abbrev pub IsAdmissionTest : ProblemState → (List Bool → Bool) → Type 0
-IsAdmissionTest problem admits =
-    (sel : List Bool) → (admits sel ≡ true) ↔ IsAdmissible problem.blocks sel
+-- the test admits only selections that the links and the groups admit
+abbrev pub AdmitsOnly : ProblemState → (List Bool → Bool) → Type 0
+AdmitsOnly problem admits = (sel : List Bool) → admits sel ≡ true → IsAdmissible problem.blocks sel
 
 -- if this number of blocks is undecided, this many nodes are as many as a walk over the completions
 -- of the prefix needs that reads no greater value than this one
 abbrev pub AreEnough : ProblemState → List Bool → ℕ → ℕ → ℕ → Type 0
 AreEnough problem prefix left read nodes = IsAdmissible problem.blocks (padded prefix)
-    → (admits : List Bool → Bool) (value : ℕ) → IsAdmissionTest problem admits → read ≤ value
+    → (admits : List Bool → Bool) (value : ℕ) → AdmitsOnly problem admits → read ≤ value
     → needed_nodes problem admits value prefix left ≤ nodes
 
 -- what a walk over the completions of this prefix has cost, if the greatest value read before it is

@@ -2,4 +2,3 @@
 pub mod Walk
 pub mod Share
 pub mod Collect
-pub mod Trial

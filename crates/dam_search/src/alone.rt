@@ -9,12 +9,30 @@ use crate::answer::PieceAnswer;
 use crate::fault::SearchFault;
 use crate::first::first_selection;
 use crate::incumbent::{Incumbent, Private};
-use crate::only::only_best;
+use crate::laws;
 use crate::piece::search_piece;
-use crate::trial::{Trial, tried};
+use crate::space::kept;
+use crate::trial::tables_for;
 use dam_blocks::{Best, Problem};
 use dam_bound::{Tables, Walk};
 use std::alloc::Global;
+
+/// The selection that a finished walk over the one piece found, if this welfare was offered before it.
+fn only_best(problem: &Problem, first: u64, answer: &PieceAnswer) -> Best
+    requires piece { answer.now.piece ≡ 0 }
+    requires sound { IsSound problem.now [] answer.now.best answer.now.read answer.now.done }
+    requires done { answer.now.done ≡ true }
+    requires first { IsReached problem.now first }
+    requires read { answer.now.read ≤ max first (welfare_found answer.now.best) }
+    ensures { IsResult problem.now result.selection (pos result.welfare) }
+{
+    laws::collecting();
+    kept(problem);
+    match answer.best {
+        Some(best) => best,
+        None => unreachable!(),
+    }
+}
 
 /// The result of the walk over the one piece, or its fault, if this welfare was offered before it.
 fn concluded(
@@ -58,10 +76,7 @@ pub fn search_alone(alloc: Global, problem: &Problem, nodes: u32) -> Result<Best
 {
     let tables = Tables::of(alloc, problem)?;
     let first = first_selection(problem, &Walk::new(problem, &tables));
-    let tables = match tried(alloc, problem, tables, first.welfare, nodes) {
-        Trial::Ended(best) => return Ok(best),
-        Trial::Longer(tables) => tables,
-    };
+    let tables = tables_for(alloc, problem, tables, first.welfare, nodes);
     let walk = &Walk::new(problem, &tables);
     let mut incumbent = Private::new();
     incumbent.offer(first.welfare);

@@ -23,7 +23,6 @@ mod fault;
 mod first;
 mod incumbent;
 pub mod laws;
-mod only;
 mod piece;
 mod prefix;
 mod shared;

@@ -1,15 +1,11 @@
-//! A trial before the search, which ends a short search, and tells whether losses pay in a long one.
+//! A trial before the search, which tells whether it is long enough for losses to pay.
 
 ghost use Rattle.dam_bound.specs.Relaxed.{without_rows};
 ghost use Rattle.dam_bound.specs.Tables.{AreTablesOf};
-ghost use Rattle.dam_search.specs.Answer.{IsReached};
-ghost use Rattle.dam_search.specs.inside.Trial.{IsTried};
 
 use crate::incumbent::{Incumbent, Private};
-use crate::only::only_best;
 use crate::piece::search_piece;
-use crate::space::kept;
-use dam_blocks::{Best, Problem};
+use dam_blocks::Problem;
 use dam_bound::{Tables, Walk};
 use std::alloc::Global;
 
@@ -26,48 +22,34 @@ fn trial_nodes(problem: &Problem) -> u32 {
     u32::try_from(nodes).unwrap_or(u32::MAX)
 }
 
-/// Whether a trial ended the search.
-#[derive(Drop)]
-pub(crate) enum Trial {
-    /// It did, with this result.
-    Ended(Best),
-    /// It didn't, or there was none. These tables are for the search.
-    Longer(Tables),
-}
-
-/// A trial of a search whose pieces visit at most `nodes` nodes each, if this welfare is offered before it.
+/// Tables for a search whose pieces visit at most `nodes` nodes each, if this welfare is offered before it.
 ///
-/// If a piece may visit no more nodes than a trial, there is none, and the given tables serve. Otherwise a walk over
-/// the whole tries them for as many nodes as could be visited while the losses are made, but for 4,096 at least. If it
-/// is done, its result is the search's. If it isn't, new tables that keep losses take their place. If there is no memory
-/// for these, the given ones serve. The selection that an unfinished trial finds isn't used.
-pub(crate) fn tried(
+/// If a piece may visit no more nodes than a trial, the given tables serve, untried. Otherwise a walk tries them for
+/// as many nodes as could be visited while the losses are made, but for 4,096 at least. If it isn't done, new tables
+/// that keep losses take their place. If there is no memory for these, the given ones serve. The selection that the
+/// trial finds isn't used.
+pub(crate) fn tables_for(
     alloc: Global,
     problem: &Problem,
     tables: Tables,
     first: u64,
     nodes: u32,
-) -> Trial
-    requires tables { AreTablesOf (without_rows problem.now) tables }
-    requires first { IsReached problem.now first }
-    ensures { IsTried problem.now nodes result }
+) -> Tables
+    requires { AreTablesOf (without_rows problem.now) tables }
+    ensures { AreTablesOf (without_rows problem.now) result }
 {
-    dam_blocks::laws::fronts();
-    dam_bound::laws::extension();
-    kept(problem);
     let trial = trial_nodes(problem);
     if nodes <= trial {
-        return Trial::Longer(tables);
+        return tables;
     }
     let mut incumbent = Private::new();
     incumbent.offer(first);
     let walk = &Walk::new(problem, &tables);
-    let answer = search_piece(problem, walk, 0, 0, trial, &mut incumbent);
-    if answer.done {
-        return Trial::Ended(only_best(problem, first, &answer));
+    if search_piece(problem, walk, 0, 0, trial, &mut incumbent).done {
+        return tables;
     }
     match Tables::with_losses(alloc, problem) {
-        Ok(with_losses) => Trial::Longer(with_losses),
-        Err(_) => Trial::Longer(tables),
+        Ok(with_losses) => with_losses,
+        Err(_) => tables,
     }
 }

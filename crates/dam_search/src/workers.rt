@@ -14,7 +14,7 @@ use crate::fault::SearchFault;
 use crate::first::first_selection;
 use crate::incumbent::Incumbent;
 use crate::shared::Shared;
-use crate::trial::{Trial, tried};
+use crate::trial::tables_for;
 use crate::words::{ClosedWords, close, new_words};
 use crate::worker::work;
 use dam_blocks::{Best, Problem};
@@ -194,14 +194,6 @@ pub(crate) fn explore_all<R: Threads + Sync, T: Turnstile + Sync>(
     Ok(Explored { answers, totals })
 }
 
-/// Calls the turnstile for each piece in turn, when a trial has searched them all.
-fn pass_all<T: Turnstile>(pieces: u32, turnstile: &T) {
-    for piece in 0..pieces {
-        turnstile.before(piece);
-        turnstile.after(piece);
-    }
-}
-
 /// The result of a problem (`IsResult`): the eligible selection that no eligible one ranks above. Ties go to the one
 /// that accepts the block at the first place where two differ. No plan and no order in which the workers happen to
 /// run changes it.
@@ -235,20 +227,13 @@ pub fn search<R: Threads + Sync, T: Turnstile + Sync>(
 {
     let tables = Tables::of(alloc, problem)?;
     let first = first_selection(problem, &Walk::new(problem, &tables)).welfare;
-    let depth = plan.depth(problem.block_count());
-    let tables = match tried(alloc, problem, tables, first, plan.nodes()) {
-        Trial::Ended(best) => {
-            pass_all(pieces(depth), turnstile);
-            return Ok(best);
-        }
-        Trial::Longer(tables) => tables,
-    };
+    let tables = tables_for(alloc, problem, tables, first, plan.nodes());
     let walk = Walk::new(problem, &tables);
     let task = Task {
         alloc,
         problem,
         walk: &walk,
-        depth,
+        depth: plan.depth(problem.block_count()),
         nodes: plan.nodes(),
         workers: plan.workers(),
         first,

@@ -15,6 +15,3 @@ concluded-requires-clause-worked c =
     c.new-incumbent.ensures.greatest_offer in omega (arith, told, top, known, offered, none)) in
     worked_is problem first.welfare _ c.args.nodes a walk.piece walk.sound
     (first_reached problem first c.first_selection-first.ensures.eligible) read walk.spent
-
-pub returns-in-Ended-clause-enough : goal.returns-in-Ended-clause-enough
-returns-in-Ended-clause-enough c = c.in-Ended.ensures.1 0 (omega arith)

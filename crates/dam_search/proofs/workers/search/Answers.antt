@@ -1,5 +1,5 @@
 -- The answers of the workers are the ones that are collected, and they are one about each piece.
-use Rattle.std.proofs.Common.{◌≡◌, ℕ, min, List, length, IfOk, ◌∙◌, ap, sym, subst, arith}
+use Rattle.std.proofs.Common.{◌≡◌, ℕ, min, List, length, IfOk, ◌∙◌, ap, sym, subst}
 use Rattle.std.specs.List.{All}
 use Rattle.dam_search.specs.declared.answer.PieceAnswer.{PieceAnswer}
 use Rattle.dam_blocks.specs.declared.selection.Best.{Best}
@@ -11,39 +11,33 @@ use Rattle.dam_search.proofs.workers.search.Goals as goal
 pub collected-requires-clause-worked : goal.collected-requires-clause-worked
 collected-requires-clause-worked g c =
     let problem = c.args.problem.now in let reached = first_reached problem c.first_selection-first.result c.first_selection-first.ensures.eligible in
-    subst (λ (xs : List PieceAnswer). All (λ (a : PieceAnswer). IsWorked problem c.depth-depth.result c.nodes-2.result a) xs)
+    subst (λ (xs : List PieceAnswer). All (λ (a : PieceAnswer). IsWorked problem c.depth.result c.nodes-2.result a) xs)
     (sym c.deref.ensures.value)
-    (all_worked problem c.depth-depth.result c.nodes-2.result c.first_selection-first.result.welfare c.in_ok-explored.explored.answers.items reached
+    (all_worked problem c.depth.result c.nodes-2.result c.first_selection-first.result.welfare c.in_ok-explored.explored.answers.items reached
     c.in_ok-explored.ensures)
 
 pub returns-clause-unfinished : goal.returns-clause-unfinished
 returns-clause-unfinished g c piece visited e =
     let problem = c.args.problem.now in
-    let depth : c.depth-depth.result ≡ min c.args.plan.cut (length problem.blocks) = c.depth-depth.ensures.value
+    let depth : c.depth.result ≡ min c.args.plan.cut (length problem.blocks) = c.depth.ensures.value
     ∙ ap (λ (n : ℕ). min c.args.plan.cut n) c.block_count.ensures.value in
     subst (λ (n : ℕ). IsUnfinished problem n c.args.plan.nodes piece visited) depth
-    (subst (λ (n : ℕ). IsUnfinished problem c.depth-depth.result n piece visited) c.nodes-2.ensures.value
+    (subst (λ (n : ℕ). IsUnfinished problem c.depth.result n piece visited) c.nodes-2.ensures.value
     (c.collected.ensures.unfinished piece visited e))
-
-pub returns-in-Ended-clause-enough : goal.returns-in-Ended-clause-enough
-returns-in-Ended-clause-enough g c =
-    let problem = c.args.problem.now in let depth = min c.args.plan.cut (length problem.blocks) in
-    subst (λ (n : ℕ). IsLimitEnough problem depth n c.in-Ended.best.welfare) c.nodes.ensures.value
-    (c.in-Ended.ensures.1 depth (omega arith))
 
 pub returns-clause-enough : goal.returns-clause-enough
 returns-clause-enough g c =
     let problem = c.args.problem.now in let result = c.collected.result in
-    let depth : c.depth-depth.result ≡ min c.args.plan.cut (length problem.blocks) = c.depth-depth.ensures.value
+    let depth : c.depth.result ≡ min c.args.plan.cut (length problem.blocks) = c.depth.ensures.value
     ∙ ap (λ (n : ℕ). min c.args.plan.cut n) c.block_count.ensures.value in
     subst (λ (n : ℕ). IfOk result (λ (best : Best). IsLimitEnough problem n c.args.plan.nodes best.welfare)) depth
-    (subst (λ (n : ℕ). IfOk result (λ (best : Best). IsLimitEnough problem c.depth-depth.result n best.welfare)) c.nodes-2.ensures.value
+    (subst (λ (n : ℕ). IfOk result (λ (best : Best). IsLimitEnough problem c.depth.result n best.welfare)) c.nodes-2.ensures.value
     c.collected.ensures.enough)
 
 pub returns-clause-whole : goal.returns-clause-whole
 returns-clause-whole g c piece e =
     let answers = c.in_ok-explored.explored.answers.items in
-    let one = one_each c.args.problem.now c.depth-depth.result c.nodes-2.result c.first_selection-first.result.welfare answers c.in_ok-explored.ensures in
-    none_faulty c.depth-depth.result answers c.collected.result piece
-    (subst (λ (xs : List PieceAnswer). IsCollected c.depth-depth.result xs c.collected.result) c.deref.ensures.value
+    let one = one_each c.args.problem.now c.depth.result c.nodes-2.result c.first_selection-first.result.welfare answers c.in_ok-explored.ensures in
+    none_faulty c.depth.result answers c.collected.result piece
+    (subst (λ (xs : List PieceAnswer). IsCollected c.depth.result xs c.collected.result) c.deref.ensures.value
     c.collected.ensures.collected) one e

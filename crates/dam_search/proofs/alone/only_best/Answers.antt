@@ -3,7 +3,7 @@ use Rattle.std.proofs.Common.{◌≡◌, None, [], ◌∷◌, arith}
 use Rattle.dam_search.specs.declared.answer.PieceAnswer.{PieceAnswer}
 use Rattle.dam_search.specs.Answer.{AreConclusive}
 use Rattle.dam_search.proofs.OneAnswer.{all_one, answered, read_less, highest}
-use Rattle.dam_search.proofs.only.only_best.Goals as goal
+use Rattle.dam_search.proofs.alone.only_best.Goals as goal
 
 pub unreachable-requires : goal.unreachable-requires
 unreachable-requires c =
