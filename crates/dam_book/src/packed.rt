@@ -116,6 +116,7 @@ impl<A: Allocator> PackedCommand<A> {
                 },
             ) => *who == *other_who && *name == *other_name,
             (Form::Close, Form::Close) => true,
+            (Form::Whole(command), Form::Whole(other_command)) => **command == **other_command,
             _ => self.command() == other.command(),
         }
     }
