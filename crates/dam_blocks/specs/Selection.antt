@@ -93,7 +93,7 @@ pub record IsAllowed (blocks : List Block) (selection : List Bool) (i : ℕ) : T
       → accepts selection j ≡ true
   pub group : accepted_of_group block blocks selection ≤ most_of_group
 
--- only blocks are accepted, each with its parent, and at most `most_of_group` of each group; a
--- problem's parents all stand among its blocks, so that none is missing
+-- only blocks are accepted, each with its parent, and at most `most_of_group` of each group;
+-- every parent in a problem is one of its blocks
 pub record IsAdmissible (blocks : List Block) (selection : List Bool) : Type 0 where
   pub each : (i : ℕ) → accepts selection i ≡ true → IsAllowed blocks selection i

@@ -1,6 +1,6 @@
 //! `dam`, a day-ahead auction of electricity, which reads a journal of commands from standard input:
 //! `dam replay` prints the reply of the order book to each, `dam clear` the results of the closed book;
-//! `dam day` has the participants enter theirs side by side, and prints the journal of that day and its
+//! `dam day` has the participants enter theirs at the same time, and prints the journal of that day and its
 //! results.
 #![tactic(auto)]
 

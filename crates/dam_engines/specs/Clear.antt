@@ -29,6 +29,6 @@ IsBookFault plan book (Unfinished piece visited) = IsCutShort plan book piece vi
 IsBookFault plan book Memory = Unit {0}
 IsBookFault plan book fault = ⊥
 
--- the same of the book that these commands make
+-- how the clearing of the book that these commands make can fail
 abbrev pub IsClearFault : PlanTerms → ℕ → List Command → RunFault → Type 0
 IsClearFault plan periods commands fault = IsBookFault plan (run periods commands) fault

@@ -35,7 +35,7 @@ abbrev pub IsWritingFault : Option (List ℕ) → Option (List ℕ) → List ℕ
 IsWritingFault old new text (Write written) = TakesFront old new written text
 IsWritingFault old new text fault = ⊥
 
--- how a run ends in which the writer was asked this many times: without a fault, the writer took exactly one text that may be
+-- how a run may end that asked the writer this many times: without a fault, the writer took exactly one text that may be
 -- printed; if the writer failed, it took exactly as many first bytes of such a text as the fault says; in both cases it was asked
 -- at most once for each byte of the text; otherwise the reader failed, or the fault is one that the run may have
 abbrev pub Ends : (List ℕ → Type 0) → (RunFault → Type 0) → Option (List ℕ) → Option (List ℕ) → ℕ

@@ -22,7 +22,7 @@ use std::io::{Read, Write};
 use std::thread::Threads;
 
 /// Reads a journal, runs its commands on the empty book of its day, clears the book that they close,
-/// and writes the results: the price and volume of each period, and what becomes of each order.
+/// and writes the results: the price and volume of each period, and the result of each order.
 ///
 /// The whole text is made before its first byte is written. If the input is longer than a journal may be, not all of it
 /// is read. `StillOpen` comes only if the book is open after the last command. The plan changes no results, but by its

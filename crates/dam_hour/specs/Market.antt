@@ -1,4 +1,4 @@
--- What becomes of one hourly order, and what it gains.
+-- The result of one hourly order, and its gain.
 use Rattle.std.specs.Prelude.{◌≡◌, ℕ, ℤ, pos, ◌-ℤ◌, ◌*ℤ◌, Some, List, slice_get}
 use Rattle.dam_hour.specs.declared.step.Step.{Step}
 use Rattle.dam_hour.specs.Price.{AreEnds, price_between}

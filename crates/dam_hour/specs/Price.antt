@@ -25,7 +25,7 @@ Supports price (step ∷ steps) (x ∷ xs) =
     (IsBetter step.side step.price price → x ≡ step.qty) × (IsWorse step.side step.price price → x ≡ 0) × Supports price steps xs
 Supports price _ _ = Unit {0}
 
--- a whole cent of the range of prices that supports some balanced execution
+-- a price, in whole cents and within the limits, that supports some balanced execution
 pub record IsSupporting (steps : List Step) (net price : ℤ) : Type 0 where
   pub in_range : IsPrice price
   pub volumes : List ℕ

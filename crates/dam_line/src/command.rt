@@ -28,12 +28,12 @@ number of periods, and then its participants' commands, as
   submit,STAD,BASE-8,hour,buy,9500,8:300,,
   close,,,,,,,,
 
-Example: with these lines in a file `first-day.csv`, this prints the prices of the day, and what
-becomes of each order:
+Example: with these lines in a file `first-day.csv`, this prints the prices of the day, and the
+result of each order:
 
   dam clear < first-day.csv
 
-`dam replay --help`, `dam clear --help` and `dam day --help` say more of each command.";
+`dam replay --help`, `dam clear --help` and `dam day --help` say more about each command.";
 
 const REPLAY_EXAMPLE: &str = "The journal is read from standard input. `dam --help` shows one.
 
@@ -101,7 +101,7 @@ fn clear_command<'a>(alloc: Global) -> Result<Command<'a>, AllocError>
     ensures local { IfOk result (λ c. (fields_of c).has_globals ≡ false) }
 {
     let command = Command::new(alloc, CLEAR)
-        .about("Prints the prices of the journal's day and what becomes of each order")
+        .about("Prints the prices of the journal's day and the result of each order")
         .override_usage("dam clear [OPTIONS] < JOURNAL")
         .after_help(CLEAR_EXAMPLE);
     with_plan(alloc, command)

@@ -21,7 +21,7 @@ pub enum Job {
     Replay,
     /// The results of the closed book, by a search under the plan.
     Clear(Plan),
-    /// A day of participants side by side: its journal, and its results by a search under the plan.
+    /// A day of participants who act at the same time: its journal, and its results by a search under the plan.
     Day(Plan),
 }
 

@@ -23,7 +23,7 @@ pub const WORKERS: NumberOption = NumberOption {
     default: 2,
     default_text: "2",
     letter: "N",
-    help: "Search with N workers side by side, from 1 to 8",
+    help: "Search with N workers at the same time, from 1 to 8",
 };
 
 /// How many blocks the cutting decides.
@@ -34,7 +34,7 @@ pub const CUT: NumberOption = NumberOption {
     default: 3,
     default_text: "3",
     letter: "K",
-    help: "Split the search into 2^K pieces by what becomes of the first K blocks, from 0 to 8",
+    help: "Split the search into 2^K pieces by the decisions on the first K blocks, from 0 to 8",
 };
 
 /// How many nodes of one piece may be visited.

@@ -15,7 +15,7 @@ pub record IsBestSelection (problem : ProblemState) (sel : List Bool) (welfare :
   pub others : (other : List Bool) (its_welfare : ℤ) → IsEligible problem other its_welfare → other ≢ sel
       → (its_welfare <ℤ welfare) ⊎ ((its_welfare ≡ welfare) × (accepts_first sel other ≡ true))
 
--- the book is closed, and this welfare, these periods and these orders are published of its best selection
+-- the book is closed, and this welfare, these periods and these orders are published for its best selection
 pub record IsClearing (book : BookState) (welfare : ℕ) (periods : List PeriodResult)
     (rows : List RowResult) : Type 0 where
   pub closed : book.closed ≡ true
@@ -23,7 +23,7 @@ pub record IsClearing (book : BookState) (welfare : ℕ) (periods : List PeriodR
   pub best : IsBestSelection (problem_of book) selection (pos welfare)
   pub published : ArePublished (problem_of book) selection welfare periods rows
 
--- the text is the results text of what is published of the closed book
+-- the text is the results text for the closed book
 abbrev pub IsResultsText : BookState → List ℕ → Type 0
 IsResultsText book text =
     (welfare : ℕ) × (periods : List PeriodResult) × (rows : List RowResult)

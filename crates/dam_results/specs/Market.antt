@@ -17,8 +17,8 @@ use Rattle.dam_results.specs.Published.{prices_of}
 abbrev pub price_in : List PeriodResult → ℕ → ℤ
 price_in periods t = slice_index_or (prices_of periods) (t - 1) (pos 0)
 
--- what an order gains by what is published of it: an hourly one by its executed volume at the price of its period, a block
--- its surplus if it is accepted
+-- the gain of an order by its published result: of an hourly order, by its executed volume at the price of its period; of a
+-- block, its surplus if it is accepted
 abbrev pub published_gain : List PeriodResult → Order → RowResult → ℤ
 published_gain periods (HourOrder o) (HourResult who name executed) =
     order_surplus (price_in periods o.period) (record { side = o.side; price = o.price; qty = o.qty }) executed
@@ -32,8 +32,8 @@ published_gains periods (row ∷ rows) (r ∷ results) =
     published_gain periods row.1 r +ℤ published_gains periods rows results
 published_gains periods _ _ = pos 0
 
--- what an order trades on that side in period t by what is published of it: an hourly one its executed volume, a block its
--- own if it is accepted
+-- the volume that an order trades on that side in period t by its published result: an hourly order its executed volume, a
+-- block its own if it is accepted
 abbrev pub published_trade : Side → ℕ → Order → RowResult → ℕ
 published_trade side t (HourOrder o) (HourResult who name executed) =
     if o.period == t then volume_on side o.side executed else 0

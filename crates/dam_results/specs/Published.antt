@@ -1,4 +1,4 @@
--- What is published of a selection: the price and the volume of each period, and what becomes of
+-- The published results of a selection: the price and the volume of each period, and the result of
 -- each order of the book.
 use Rattle.std.specs.Prelude.{◌≡◌, ◌≤◌, ℕ, suc, ◌-◌, ℤ, pos, ◌+ℤ◌, Bool, true, false, Some, List, [], ◌∷◌, ◌++◌, length, map, slice_get}
 use Rattle.std.specs.Prelude.{decimal, codes}
@@ -20,7 +20,7 @@ use Rattle.dam_results.specs.declared.published.PeriodResult.{PeriodResult}
 use Rattle.dam_results.specs.declared.published.RowResult.{RowResult}
 use Rattle.dam_results.specs.declared.published.RowResult.TheVariants.{Hour as HourResult, Block as BlockResult}
 
--- what is published of period t: its price, and the volume of its executed hourly buys and of the accepted
+-- the published results of period t: its price, and the volume of its executed hourly buys and of the accepted
 -- buy blocks
 pub record IsPeriodResult (blocks : List Block) (sel : List Bool) (t : ℕ) (ss : List Step)
     (published : PeriodResult) : Type 0 where
@@ -59,7 +59,7 @@ pub record HasSurplus (blocks : List Block) (prices : List ℤ) (i : ℕ) (surpl
   pub stands : slice_get blocks i ≡ Some block
   pub surplus_is : surplus ≡ surplus_of prices block.order
 
--- what becomes of an order: of an hourly one, its executed volume; of a block, whether it is
+-- the result of an order: the executed volume of an hourly order; for a block, whether it is
 -- accepted, and its surplus at the prices, even if it is rejected
 abbrev pub IsRowResult : ProblemState → List Bool → List ℤ → ProblemRow → RowResult → Type 0
 IsRowResult problem sel prices row (HourResult who name executed) =
@@ -79,7 +79,7 @@ AreRowResults problem sel prices (row ∷ rows) (r ∷ rs) =
 AreRowResults problem sel prices [] (r ∷ rs) = ⊥
 AreRowResults problem sel prices (row ∷ rows) [] = ⊥
 
--- what is published of a selection: its welfare, each period, and what becomes of each order
+-- the published results of a selection: its welfare, each period, and the result of each order
 pub record ArePublished (problem : ProblemState) (sel : List Bool) (welfare : ℕ)
     (periods : List PeriodResult) (rows : List RowResult) : Type 0 where
   pub welfare_is : selection_welfare problem sel ≡ Some (pos welfare)

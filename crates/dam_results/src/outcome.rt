@@ -1,4 +1,4 @@
-//! What becomes of the orders of the book.
+//! The results of the orders of the book.
 
 ghost use Rattle.std.specs.Prelude.{◌<◌, ◌≤◌, map, length, IfOk};
 ghost use Rattle.dam_book.specs.Limits.{last_period};
@@ -22,7 +22,7 @@ fn surplus_at<B: Allocator>(problem: &Problem<B>, place: usize, prices: &[Price]
     surplus(problem.block(place).unwrap(), prices)
 }
 
-/// What becomes of an order.
+/// The result of an order.
 fn outcome_of<A: Allocator, B: Allocator>(
     problem: &Problem<B>,
     selection: Selection,
@@ -57,7 +57,7 @@ fn outcome_of<A: Allocator, B: Allocator>(
     }
 }
 
-/// What becomes of each order, in book order.
+/// The result of each order, in book order.
 pub(crate) fn outcomes<A: Allocator + Copy, B: Allocator>(
     alloc: A,
     problem: &Problem<B>,

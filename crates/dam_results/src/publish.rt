@@ -8,8 +8,8 @@ use crate::published::Results;
 use dam_blocks::{Best, Problem};
 use std::alloc::{AllocError, Allocator};
 
-/// What is published of an eligible selection: the price of each period at which it clears, with the
-/// volume that is bought there, and what becomes of each order.
+/// The published results of an eligible selection: the price of each period at which it clears, with the
+/// volume that is bought there, and the result of each order.
 ///
 /// The caller's condition is that `score` answers `Eligible` with that welfare. An `Err` means that memory
 /// ran out.

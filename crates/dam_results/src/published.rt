@@ -10,7 +10,7 @@ pub struct PeriodResult {
     pub volume: u64,
 }
 
-/// What becomes of an order of the book.
+/// The result of an order of the book.
 #[derive(PartialEq, Eq, Debug, Drop)]
 pub enum RowResult {
     /// An hourly order, and its executed volume in tenths of a MW.

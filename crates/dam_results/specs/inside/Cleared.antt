@@ -16,7 +16,7 @@ pub record IsBalancedIn (problem : ProblemState) (sel : List Bool) (t : ℕ) : T
   pub stands : slice_get problem.hours (t - 1) ≡ Some hour
   pub balanced : IsBalanced hour (net_volume problem.blocks sel t)
 
--- what is published of period t, counted from 1, and its best execution
+-- the published results of period t, counted from 1, and its best execution
 pub record IsCleared (problem : ProblemState) (sel : List Bool) (t : ℕ) (published : PeriodResult)
     (executed : List ℕ) : Type 0 where
   pub hour : List Step
@@ -32,7 +32,7 @@ AreBest blocks sel t (ss ∷ hours) (xs ∷ executions) =
 AreBest blocks sel t [] (xs ∷ executions) = ⊥
 AreBest blocks sel t (ss ∷ hours) [] = ⊥
 
--- what is published of these periods from the first on, their prices and their best executions
+-- the published results of these periods from the first on, their prices and their best executions
 pub record AreCleared (blocks : List Block) (sel : List Bool) (hours : List (List Step))
     (periods : List PeriodResult) (prices : List ℤ) (executions : List (List ℕ)) : Type 0 where
   pub are_periods : ArePeriodResults blocks sel 1 hours periods
