@@ -21,8 +21,8 @@ STATUSES = re.compile(r"^## Statuses and faults\n\n\| Status \| Meaning \|\n\|--
 STATUS = re.compile(r"\| (\d+) \| (.*) \|")
 NOT_OF = {"dam": {"70"}, "dam-replay": {"3", "70"}, "dam-clear": {"70"}, "dam-day": {"70"}}
 MORE = (
-    "With any other status, the shell or a signal ended the run. docs/FORMATS.md of the manual lists the line that standard error gets of"
-    " each fault, and docs/OPERATING.md has advice for each status."
+    "With any other status, the shell or a signal ended the run. In the manual, docs/FORMATS.md has the line that each fault prints on"
+    " standard error, and docs/OPERATING.md says how to go on after each status."
 )
 # The program doesn't know its version.
 VERSION = ".PP\nThis is version {}.\n.B dam\\-audit \\-\\-version\nprints it; dam itself has no such option."
