@@ -8,13 +8,22 @@ import textwrap
 from lib import command
 from lib.place import TOOLS
 
-from .clone import environment
+from .clone import TOP, environment
 
 # The commands, each with those of its words that have help of their own.
 COMMANDS = {"dam": ("replay", "clear", "day"), **{f"dam-{tool}": () for tool in TOOLS}, "dam-whatif": ("limit", "change", "scenarios")}
 HEADS = re.compile(r"(examples|statuses)\b[^:\n]*:", re.IGNORECASE)
 # How the help names a list of arguments or options, and help2man the section of it.
 LISTS = {"positional arguments:": "*Arguments*", "options:": "Options:", "commands:": "*Commands*"}
+# The statuses of the program, which its help doesn't have, stand in this table of a page. The launcher of a clone isn't packaged.
+FORMATS = TOP / "docs" / "FORMATS.md"
+STATUSES = re.compile(r"^## Statuses and faults\n\n\| Status \| Meaning \|\n\|---\|---\|\n((?:\|.*\n)+)", re.MULTILINE)
+STATUS = re.compile(r"\| (\d+) \| (.*) \|")
+NOT_OF = {"dam": {"70"}, "dam-replay": {"3", "70"}, "dam-clear": {"70"}, "dam-day": {"70"}}
+MORE = (
+    "With any other status, the shell or a signal ended the run. In the manual, docs/FORMATS.md has the line that each fault prints on"
+    " standard error, and docs/OPERATING.md says how to go on after each status."
+)
 # The program doesn't know its version.
 VERSION = ".PP\nThis is version {}.\n.B dam\\-audit \\-\\-version\nprints it; dam itself has no such option."
 
@@ -51,6 +60,13 @@ def statuses(paragraph):
             number, _, words = one.partition(" ")
             found.append(f".TP\n.B {number}\n{roff_line(words)}" if number.isdigit() else roff(one))
     return "\n".join(found)
+
+
+def statuses_of_program(name):
+    """The statuses of the program, or of one of its commands, as the manual has them."""
+    rows = STATUS.findall(STATUSES.search(FORMATS.read_text(encoding="utf-8"))[1])
+    kept = [f".TP\n.B {number}\n{roff_line(words.replace('`', ''))}" for number, words in rows if number not in NOT_OF[name]]
+    return "\n".join([*kept, roff(MORE)])
 
 
 def roff_line(line):
@@ -99,6 +115,8 @@ def page(name, text, clone, room):
     shown, more = room / name, room / f"{name}.more"
     shown.write_text(f"#!/bin/sh\nexec cat {name}.help\n", encoding="utf-8")
     shown.chmod(0o755)
+    if name in NOT_OF:
+        sections["EXIT STATUS"] = [statuses_of_program(name)]
     if name == "dam":
         sections["VERSION"] = [VERSION.format(clone.version)]
     # in a section that help2man writes too, this comes first

@@ -22,6 +22,10 @@ import sys
 from pathlib import Path
 from typing import NamedTuple
 
+# This file can be read by an older Python, which can't read `lib`.
+if sys.version_info < (3, 10):
+    raise ImportError("dam_tools needs Python 3.10 or newer")
+
 # In the tree that this module is part of, `lib` is next to it; if it is installed, inside it.
 if not Path(__file__).with_name("lib").is_dir():
     __path__.append(str(Path(__file__).resolve().parents[1]))

@@ -1,5 +1,6 @@
 """The module dam_tools: journals, runs of a program, records and frames."""
 
+import ast
 import datetime
 import os
 import re
@@ -38,6 +39,13 @@ class Module(unittest.TestCase):
         for name in dam_tools.TABLES:
             self.assertEqual(dam_tools.records(day, name), dam_tools.records(again, name))
         self.assertEqual(dam_tools.TABLES, tuple(tables.TABLES))
+
+    def test_an_older_python(self):
+        """It reads the file, and the import says what it needs."""
+        code = "import sys; sys.version_info = (3, 9, 18); import dam_tools"
+        ran = subprocess.run([sys.executable, "-B", "-c", code], cwd=support.TOOLS, capture_output=True, text=True)
+        self.assertEqual(ran.stderr.splitlines()[-1:], ["ImportError: dam_tools needs Python 3.10 or newer"])
+        ast.parse((support.TOOLS / "dam_tools" / "__init__.py").read_text(), feature_version=(3, 8))
 
     def test_replies_of_the_program(self):
         replies = dam_tools.replay(FIRST, program=self.program)
