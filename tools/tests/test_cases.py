@@ -150,6 +150,21 @@ z\\
         shown = subprocess.run([sys.executable, TOP / "tests/run-cases", "--print", "clear/paradox"], capture_output=True)
         self.assertEqual(shown.stdout, worked.named("clear")["paradox"].stdin)
 
+    def test_the_runner_on_a_mix_up(self):
+        for words, said in (
+            ((), "which program?"),
+            ((self.path,), "is not a program; the first argument is the program"),
+            (("/bin/cat", "clear/paradox"), "run-cases: clear/paradox: No such file or directory\n"),
+            (("--print", "tests/cases/clear.txt"), "no stdin of a case tests/cases/clear.txt; FILE/CASE is for example"),
+            (("--print", "clear/none"), "no stdin of a case clear/none;"),
+            (("--print", "clear/paradox", "output"), "no output of a case clear/paradox;"),
+        ):
+            with self.subTest(words):
+                ran = subprocess.run([sys.executable, TOP / "tests/run-cases", *words], capture_output=True, text=True)
+                self.assertEqual((ran.returncode in (1, 2), ran.stdout), (True, ""))
+                self.assertIn(said, ran.stderr)
+                self.assertNotIn("Traceback", ran.stderr)
+
     def test_the_cases_of_the_repository(self):
         names = [case.name for case in worked.every()]
         self.assertEqual(len(names), len(set(names)))
