@@ -29,7 +29,7 @@
 //! Only tested is that the counts are of calls that are made (three calls of two lines), that a failure is recorded only
 //! if there was one, that a [`Watch`] is called, and that memory isn't said to have run out if it hasn't.
 //!
-//! The crate knows nothing of the command line, nor of terminals.
+//! The crate doesn't know the command line or terminals.
 #![tactic(auto)]
 
 mod alone;

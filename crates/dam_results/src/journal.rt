@@ -21,7 +21,7 @@ use dam_book::{Command, DayLength, Seed};
 use std::alloc::{AllocError, Global};
 use thiserror::Error;
 
-/// What a journal's text says.
+/// The content of a journal's text.
 #[derive(Debug, Drop)]
 pub struct JournalRead {
     /// How many periods the delivery day has.

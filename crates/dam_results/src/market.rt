@@ -45,7 +45,7 @@ pub fn published_results_add_up()
     dam_hour::laws::uniqueness();
 }
 
-/// What is published of an hourly order is its execution: at the published price of its period, the best
+/// An hourly order is published with its execution: at the published price of its period, the best
 /// execution gives it the published volume, at its place among the hourly orders of the period. So
 /// `dam_hour::market::fair_in_a_period` is of each.
 pub fn hourly_orders_are_executed()

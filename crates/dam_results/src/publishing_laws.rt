@@ -30,7 +30,7 @@ pub fn best_selection_is_result()
     dam_blocks::laws::verdict();
 }
 
-/// A closed book is cleared by what is published of its problem's result.
+/// A closed book is cleared by the published results of its problem.
 pub fn published_results_are_clearings()
     ensures { (book : BookState) (problem : ProblemState) (sel : List Bool) (found welfare : ℕ)
         (periods : List PeriodResult) (rows : List RowResult)
