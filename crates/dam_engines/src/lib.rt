@@ -16,8 +16,10 @@
 //! ```
 //!
 //! A contract sees a reader as the bytes that it has left, and a writer as those that it took, if they show them:
-//! standard input and output don't. How a run ends ([`run_clear`], clause `ends`), what is printed for which bytes, and
-//! the text of each fault, stand in `specs/`. If the bytes are a journal, what is printed is for that journal and no
+//! standard input and output don't. How a run ends ([`run_clear`], clause `ends`), which text is printed for which
+//! bytes,
+//! and the text of each fault, stand in `specs/`. If the bytes are a journal, the printed text is for that journal and
+//! no
 //! other ([`laws::clearing_is_exact`] and the like), and a closed book has one results text at most
 //! ([`laws::cleared_text_is_one`]).
 //!

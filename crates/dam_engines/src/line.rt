@@ -1,4 +1,4 @@
-//! The line of each fault, made in fixed room: it needs no memory, which may be what ran out.
+//! The line of each fault, made in fixed room: it needs no memory, since memory may have run out.
 ghost use Rattle.std.specs.Prelude.{◌≡◌, ◌≤◌, ◌+◌, ◌++◌, length, codes, decimal};
 ghost use Rattle.dam_engines.specs.Fault.{fault_text, input_text, mismatch_text};
 

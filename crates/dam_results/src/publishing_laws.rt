@@ -1,5 +1,4 @@
-//! Laws of what is published, each the contract of a function that does nothing but cite the laws
-//! that it rests on.
+//! Laws of the published results, each the contract of a function that does nothing but cite the laws that it rests on.
 ghost use Rattle.std.specs.Prelude.{◌≡◌, true, ℕ, ℤ, pos, List, Bool};
 ghost use Rattle.dam_book.specs.Book.{BookState};
 ghost use Rattle.dam_blocks.specs.Problem.{ProblemState, problem_of};
