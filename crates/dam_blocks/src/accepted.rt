@@ -1,4 +1,4 @@
-//! What blocks add to a period: one block alone, and the accepted ones of a list together.
+//! The effect of blocks on a period: one block alone, and the accepted ones of a list together.
 
 ghost use Rattle.std.specs.Prelude.{◌≡◌, ◌≤◌, ◌≤ℤ◌, ◌*ℤ◌, pos, neg_ℤ, length};
 ghost use Rattle.dam_book.specs.Limits.{greatest_volume, most_blocks};

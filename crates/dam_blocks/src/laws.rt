@@ -81,8 +81,8 @@ pub fn magnitude()
     dam_hour::laws::welfare();
 }
 
-/// The order of selections is a total one: of two, the first ranks either above the second, or at or
-/// below it; and each of two ranks at or below the other only if they are the same.
+/// The order of selections is a total one: the first of two ranks either above the second, or at or below it. Each
+/// ranks at or below the other only if they are the same.
 pub fn ranking()
     ensures either { (v w : ℤ) (xs ys : List Bool)
         → RanksAbove v xs w ys ⊎ RanksAtOrBelow v xs w ys }
@@ -97,7 +97,7 @@ pub fn ranking()
         → RanksAtOrBelow v xs w ys → RanksAtOrBelow w ys v xs → (xs ≡ ys) × (v ≡ w) }
 {}
 
-/// What ranks above has the greater welfare, or the same, and then it accepts the first block at which the
+/// The higher of two selections has the greater welfare, or the same, and then it accepts the first block at which the
 /// two differ. The result ranks above each other eligible selection.
 pub fn best()
     ensures above { (v w : ℤ) (xs ys : List Bool) → RanksAbove v xs w ys

@@ -19,7 +19,7 @@
 //! `specs/`. Tests alone show what the faults say, and that a call reports out of memory only if
 //! memory was refused.
 //!
-//! The crate knows nothing of how a result is looked for without trying every selection, nor of texts.
+//! The crate doesn't know a faster search for a result than trying every selection, nor texts.
 #![tactic(auto)]
 
 mod accepted;

@@ -1,5 +1,5 @@
-//! What the auction promises to those who trade in it, each promise the contract of a function that does
-//! nothing but cite the laws that it rests on.
+//! The promises of the auction to those who trade in it, each the contract of a function that does nothing but cite the
+//! laws that it rests on.
 
 ghost use Rattle.std.specs.Prelude.{◌≡◌, ℕ, ◌+◌, ℤ, pos, ◌+ℤ◌, ◌*ℤ◌, ◌≤ℤ◌, ◌⊎◌, Bool, true, false, Some, List, [], ◌∷◌, ◌++◌, length, slice_get, IsPermutation};
 ghost use Rattle.dam_book.specs.Limits.{most_blocks};
@@ -21,7 +21,7 @@ ghost use Rattle.dam_blocks.specs.Result.{IsResult};
 ghost use Rattle.dam_blocks.specs.Market.{AreBestExecutions, IsOutcome, traded, money_from, hourly_surplus, accepted_surplus, gain_of, over_orders_of, over_participants, AreParticipants, over_orders, StandsAlone, IsRootOf};
 ghost use Rattle.dam_blocks.specs.Changes.{without_place, IsWithoutBlock, IsWithLimit, IsNeverAccepted, IsWorstLimit, IsReordered, HasBlocksReordered, AcceptTheSame};
 
-/// The problem of a closed book keeps what every problem keeps, so that the laws below hold for it.
+/// The problem of a closed book satisfies the invariant of a problem, so that the laws below hold for it.
 pub fn a_closed_book_is_a_problem()
     ensures problem { (book : BookState) → IsBook book → book.closed ≡ true
         → IsProblem (problem_of book) }
@@ -49,8 +49,7 @@ pub fn a_changed_book_is_a_changed_problem()
         → HasBlocksReordered (problem_of book) (problem_of other) }
 {}
 
-/// A book whose rows stand in another order, each parent still before its children, keeps what every book
-/// keeps.
+/// A book satisfies the book invariant if its rows stand in another order, each parent still before its children.
 pub fn a_reordered_book_is_a_book()
     ensures book { (book other : BookState) → IsBook book → IsPermutation book.rows other.rows
         → other.periods ≡ book.periods → are_linked [] other.rows ≡ true → IsBook other }

@@ -71,7 +71,7 @@ pub struct ProblemRow {
     pub at: Place,
 }
 
-/// Why a book makes no problem.
+/// Why a book can't be made into a problem.
 #[derive(Clone, Copy, PartialEq, Eq, Debug, Error)]
 pub enum ProblemFault {
     /// The book isn't closed.
@@ -212,7 +212,7 @@ impl<A: Allocator> Problem<A> {
         self.blocks.as_slice()
     }
 
-    /// What may keep the block at a place from being accepted; `None` past the last.
+    /// The hindrances to accepting the block at a place; `None` past the last.
     pub(crate) fn hindrances(&self, place: usize) -> Option<&Hindrances>
         ensures valid { IsProblem self.now }
         ensures none { IfNone result (length self.now.blocks ≤ place) }

@@ -45,7 +45,7 @@ pub fn best_of_none<A: Allocator>(problem: &Problem<A>) -> Best
     ensures eligible { IsEligible problem.now result.selection (pos result.welfare) }
 {
     laws::empty_is_eligible();
-    let _kept = problem.periods(); // for the proof: what a problem keeps
+    let _kept = problem.periods(); // for the proof: the invariant of a problem
     let selection = Selection::none();
     match score(problem, selection) {
         Verdict::Eligible(welfare) => Best { selection, welfare },

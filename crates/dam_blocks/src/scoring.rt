@@ -34,8 +34,8 @@ struct PricedDay {
     welfare: i64,
 }
 
-/// Finds the price of every period with the selection, and the welfare of the day; the `Err` is the first
-/// period that doesn't balance. It doesn't compute what else is published, such as the executed volumes.
+/// Finds the price of every period with the selection, and the welfare of the day; the `Err` is the first period that
+/// doesn't balance. It doesn't compute other published values, such as the executed volumes.
 fn price_day<A: Allocator>(problem: &Problem<A>, selection: Selection) -> Result<PricedDay, Period>
     ensures { MatchResult result
         (λ c. ArePrices problem.now.blocks selection 1 problem.now.hours

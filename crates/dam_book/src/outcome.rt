@@ -4,10 +4,10 @@ ghost use Rattle.dam_book.specs.Book.{reply_of};
 use crate::command::{Reason, Reply};
 use std::marker::Model;
 
-/// What a book does with a command, as `Book::outcome` decides it: the book refuses it for a reason, or carries it out.
+/// The outcome of a command, as `Book::outcome` decides it: the book refuses it for a reason, or carries it out.
 ///
-/// A contract sees the reason, if there is one. The place at which the order of an amend or a cancel was found isn't
-/// seen: `Book::carry_out` saves a look-up by it, and changes the same order without it.
+/// A contract sees the reason, if there is one. It doesn't see the place at which the order of an amend or a cancel was
+/// found: the place saves `Book::carry_out` a look-up, and the same order is changed without it.
 #[derive(Debug, Drop)]
 pub struct Outcome {
     refusal: Option<Reason>,
@@ -34,7 +34,7 @@ impl Outcome {
         }
     }
 
-    /// Why the command is refused, and leaves the book as it is; `None` if it is carried out.
+    /// Why the command is refused and the book is left unchanged; `None` if the command is carried out.
     pub fn refusal(&self) -> Option<Reason>
         ensures { result ≡ self.now }
     {

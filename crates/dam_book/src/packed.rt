@@ -161,7 +161,7 @@ impl<A: Allocator + Copy> Clone for PackedCommand<A> {
     }
 }
 
-/// An entry of a journal, whose command is packed: 48 bytes if that takes no memory of its own.
+/// An entry of a journal, whose command is packed: 48 bytes if the command takes no memory of its own.
 ///
 /// A contract sees the entry.
 #[derive(Debug, Drop)]

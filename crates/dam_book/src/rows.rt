@@ -20,8 +20,8 @@ use std::alloc::{AllocError, Allocator};
 use std::hash::{Hash, Hasher};
 use std::marker::Model;
 
-// What the map finds a place by: the key of its row, or a filler's. The number is 0 for a row, and for a filler that of
-// its place, counted from 1. So no two fillers are alike.
+// The label by which the map finds a place: the key of its row, or a filler's. The number is 0 for a row; for a filler
+// it is the number of its place, counted from 1. So two fillers are never equal.
 #[derive(Debug, Drop)]
 struct Label {
     who: Participant,
@@ -79,7 +79,7 @@ impl Hash for Label {
     }
 }
 
-// The bytes of a key's two texts side by side: one call hashes them in whole words.
+// The bytes of a key's two texts, one after the other: one call hashes them in whole words.
 fn key_bytes(who: &Participant, name: &Name) -> [u8; HASHED]
     ensures { result ≡ key_bytes (who.now, name.now) }
 {
@@ -203,7 +203,7 @@ fn place_of<A: Allocator>(places: &Places<A>, near: usize, row: &Label) -> Optio
     Some(place)
 }
 
-// Takes the order under the key out, which leaves a gap.
+// Removes the order under the key, which leaves a gap.
 fn take_order<A: Allocator>(
     places: &mut Places<A>,
     near: usize,
@@ -363,7 +363,7 @@ impl<A: Allocator + Copy> Rows<A> {
         row_among(&self.places, place)
     }
 
-    // Puts a row last. An `Err` leaves the rows.
+    // Puts a row last. On an `Err` the rows are unchanged.
     pub(crate) fn push(
         &mut self,
         who: &Participant,
@@ -398,7 +398,7 @@ impl<A: Allocator + Copy> Rows<A> {
         amend_order(&mut self.places, near, &row, price, volumes);
     }
 
-    // Takes the order under the key out. The rest keep their order. It is quicker if the order stands at this place.
+    // Removes the order under the key. The rest keep their order. It is quicker if the order stands at this place.
     pub(crate) fn remove(
         &mut self,
         near: usize,
@@ -419,7 +419,7 @@ impl<A: Allocator + Copy> Rows<A> {
         Some(order)
     }
 
-    // Lets the gaps go, which takes no memory.
+    // Removes the gaps, which takes no memory.
     pub(crate) fn squeeze(&mut self)
         ensures { self.new ≡ self.old }
     {

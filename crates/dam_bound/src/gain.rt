@@ -1,4 +1,4 @@
-//! What a block gains at the prices of a day on which every block is decided.
+//! The gain of a block at the prices of a day on which every block is decided.
 
 ghost use Rattle.std.specs.Prelude.{◌≡◌, ◌*◌, ◌<◌, ◌+◌, ◌-ℤ◌, ◌*ℤ◌, pos, ℕ, ℤ, List, Bool, ◌&&◌, Some, length, slice_get};
 ghost use Rattle.dam_book.specs.Limits.{most_blocks};
@@ -40,8 +40,8 @@ fn price_at<A: Allocator, B: Allocator>(
     hour.clear(day.classes[class].net).unwrap().price
 }
 
-/// What the block at the place gains by itself at the prices of the day, on which every block is
-/// decided. Only the prices of its own periods are asked for.
+/// The gain of the block at the place alone at the prices of the day, on which every block is decided. Only the prices
+/// of its own periods are asked for.
 fn surplus_of<A: Allocator, B: Allocator>(
     problem: &Problem<A>,
     tables: &Tables<B>,
@@ -68,7 +68,7 @@ fn surplus_of<A: Allocator, B: Allocator>(
     total
 }
 
-/// What the members of a family that the selection accepts gain by themselves.
+/// The gains of the members of a family that the selection accepts, each alone.
 fn surplus_of_family<A: Allocator, B: Allocator>(
     problem: &Problem<A>,
     tables: &Tables<B>,
@@ -97,8 +97,8 @@ fn surplus_of_family<A: Allocator, B: Allocator>(
     total
 }
 
-/// What the block at the place gains at the prices of the day, on which every block is decided, with
-/// those blocks of the selection that descend from it.
+/// The gain of the block at the place at the prices of the day, on which every block is decided, with those blocks of
+/// the selection that descend from it.
 ///
 /// It doesn't look at other blocks, so a book without links costs only each block's own gain.
 pub(crate) fn gain_of<A: Allocator, B: Allocator>(

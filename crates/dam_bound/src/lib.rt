@@ -36,8 +36,8 @@
 //! classes and the tables. A contract sees a [`Walk`] or a [`Relaxed`] as the problem that it was built of, without its
 //! rows. Tests alone show that a call reports out of memory only if memory was refused.
 //!
-//! The crate knows nothing of exclusive groups, nor of which selections are admissible or eligible; of links
-//! it knows just which block descends from which.
+//! The crate doesn't know exclusive groups, or which selections are admissible or eligible. The only links it knows are
+//! which block descends from which.
 #![tactic(auto)]
 
 mod classes;

@@ -1,4 +1,4 @@
-//! What a walk looks up in the tables.
+//! The look-ups of a walk in the tables.
 
 ghost use Rattle.std.specs.Prelude.{◌≡◌, ◌<◌, ◌≤ℤ◌, ℤ, ◌+ℤ◌, ◌-ℤ◌, List, Some, None, length, slice_get, IfSome, MatchOption};
 ghost use Rattle.dam_hour.specs.declared.step.Step.{Step};
@@ -16,7 +16,7 @@ use crate::touch::Touch;
 use dam_curve::Curve;
 use std::alloc::Allocator;
 
-/// What a decision on the block at the place makes of each of its classes.
+/// The effect of a decision on the block at the place on each of its classes.
 #[inline(always)]
 pub(crate) fn touches_of<A: Allocator>(tables: &Tables<A>, place: usize) -> &[Touch]
     requires { (problem : ProblemState) × AreTablesOf problem tables.now

@@ -58,7 +58,7 @@ pub(crate) struct Periods<A: Allocator> {
     supplies: Vec<Supply<A>, A>,
     /// For each period the place of the first one of its class.
     pub(crate) firsts: [u32; MOST_PERIODS],
-    /// For each period what the decided blocks can make of its net volume.
+    /// For each period the net volumes that the decided blocks can make.
     pub(crate) ranges: [Range; MOST_PERIODS],
 }
 

@@ -120,8 +120,8 @@ fn is_near(total: i64, floor: i64) -> bool
     total - i64::from(u32::MAX) < floor
 }
 
-/// What is left of a total after a loss. A total under the floor stays as it is. Without a welfare afterwards (`None`)
-/// it is -1, which is under every floor.
+/// The rest of a total after a loss. A total under the floor stays as it is. Without a welfare afterwards (`None`) it
+/// is -1, which is under every floor.
 fn lowered(total: i64, loss: Option<i64>, floor: i64) -> i64
     requires { floor ≤ℤ total → IfSome loss (λ fall. (neg_ℤ (pos (2 ^ 63)) ≤ℤ (total -ℤ fall))
         × ((total -ℤ fall) <ℤ pos (2 ^ 63))) }

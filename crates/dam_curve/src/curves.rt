@@ -102,7 +102,7 @@ fn write_hints<A: Allocator>(hints: &mut Vec<u16, A>, lines: &[Line]) -> Result<
     Ok(Hints { first, shift })
 }
 
-/// What a line says of a net volume.
+/// The welfare that a line gives at a net volume.
 #[inline(always)]
 pub(crate) fn value_of(line: Line, net: i64) -> i64
     requires line { IsSmallLine last_period line }

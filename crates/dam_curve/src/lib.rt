@@ -27,7 +27,7 @@
 //! which net volumes. Tests alone show that a call reports out of memory only if memory was refused, or if more than
 //! 2^32 - 1 lines, hints or losses would be held.
 //!
-//! The crate knows nothing of blocks and books.
+//! The crate doesn't know blocks or books.
 #![tactic(auto)]
 
 mod curves;

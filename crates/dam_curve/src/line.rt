@@ -6,6 +6,6 @@ pub(crate) struct Line {
     pub(crate) most: i32,
     /// The prices of the periods, added up, in cents per MWh.
     pub(crate) price: i32,
-    /// What all orders of the periods gain at these prices, in cents per MWh times tenths of a MW.
+    /// The gain of all orders of the periods at these prices, in cents per MWh times tenths of a MW.
     pub(crate) surplus: i64,
 }

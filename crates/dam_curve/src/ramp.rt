@@ -24,7 +24,7 @@ fn kept(loss: i64) -> u32
 pub(crate) struct Ramp {
     /// The loss, in cents per MWh times tenths of a MW.
     pub(crate) loss: i64,
-    /// What each further tenth of a MW adds to it, in cents per MWh.
+    /// The growth of the loss with each further tenth of a MW, in cents per MWh.
     pub(crate) step: i64,
 }
 

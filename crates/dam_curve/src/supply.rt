@@ -73,7 +73,7 @@ fn place_of(steps: &[Step], step: Step) -> usize
     place
 }
 
-/// What the buys of a period ask for.
+/// The volume that the buys of a period ask for.
 #[derive(Clone, Copy)]
 pub(crate) struct Demand {
     /// Their volume, in tenths of a MW.

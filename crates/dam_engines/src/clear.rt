@@ -25,12 +25,12 @@ use std::thread::Threads;
 /// and writes the results: the price and volume of each period, and the result of each order.
 ///
 /// The whole text is made before its first byte is written. If the input is longer than a journal may be, not all of it
-/// is read. `StillOpen` comes only if the book is open after the last command. The plan changes no results, but by its
-/// limit on nodes the search may end `Unfinished`. The book hashes names by the seed.
+/// is read. `StillOpen` comes only if the book is open after the last command. The plan doesn't change the results, but
+/// by its limit on nodes the search may end `Unfinished`. The book hashes names by the seed.
 ///
-/// Neither device may have failed before. Nothing is said of the bytes of a reader or a writer that doesn't show them,
-/// nor of what is printed if the reader doesn't: standard input and output show none. Whether a device failed, how
-/// often the reader was asked, and that the writer was flushed is said of every reader and writer.
+/// Neither device may have failed before. The contract doesn't state the bytes of a reader or a writer that doesn't
+/// show them, nor the printed text if the reader doesn't: standard input and output show none. For every reader and
+/// writer it states whether a device failed, how often the reader was asked, and that the writer was flushed.
 pub fn run_clear<H: Threads + Sync, R: Read, W: Write, T: Watch + Sync>(
     rt: &H,
     alloc: Global,

@@ -1,6 +1,6 @@
-//! A reader and a writer that count their calls, so that contracts can say how often a device was called. What is
-//! wrapped is reached through the three calls below and by nothing else. Each of them makes one call of it and does
-//! nothing more: only tests show that.
+//! A reader and a writer that count their calls, so that contracts can say how often a device was called. The wrapped
+//! device is reached only through the three calls below. Only tests show that each of them makes just one call of it
+//! and does nothing more.
 ghost use Rattle.std.specs.Prelude.{◌≡◌, ◌≤◌, length, IfOk};
 ghost use Rattle.std.specs.Io.KnownBytes.{ReadConsumes, WriteAppends, Keeps};
 ghost use Rattle.dam_engines.specs.Device.{one_more};
@@ -48,7 +48,7 @@ impl<R: Read> CountedReader<R> {
     }
 }
 
-/// A writer, and how often it was asked to take bytes and to pass on what it holds back.
+/// A writer, and how often it was asked to take bytes and to pass on the bytes that it holds back.
 #[derive(Drop)]
 pub(crate) struct CountedWriter<W: Write> {
     inner: W,

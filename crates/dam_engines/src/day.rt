@@ -29,15 +29,15 @@ use std::thread::Threads;
 /// their order and on a thread of its own if one can be started, closes and clears the book, and
 /// writes the journal of that day, the line `results`, and the results.
 ///
-/// Commands of two participants may come to the gate in either order, and so two runs may write two
-/// texts; the results are always those of the journal that is written. The plan changes no results, but
-/// by its limit on nodes the search may end `Unfinished`. The gate's book hashes names by the seed.
+/// Commands of two participants may come to the gate in either order, so two runs may write two texts; the results
+/// always belong to the journal that is written. The plan doesn't change the results, but by its limit on nodes the
+/// search may end `Unfinished`. The gate's book hashes names by the seed.
 ///
-/// `turnstile` is that of the search, and `entrance` that of the participants' threads, whose jobs are
-/// the participants, numbered from 0 by first occurrence.
+/// `turnstile` is the turnstile of the search, and `entrance` the turnstile of the participants' threads, whose jobs
+/// are the participants, numbered from 0 by first occurrence.
 ///
-/// The whole text is made before its first byte is written. What `run_clear` says of readers, writers
-/// and inputs that are too long holds here too.
+/// The whole text is made before its first byte is written. The rules of `run_clear` for readers, writers and inputs
+/// that are too long hold here too.
 pub fn run_day<H: Threads + Wait + Sync, R: Read, W: Write, T: Watch + Sync, U: Turnstile + Sync>(
     rt: &H,
     alloc: Global,
@@ -61,8 +61,7 @@ pub fn run_day<H: Threads + Wait + Sync, R: Read, W: Write, T: Watch + Sync, U: 
     write_text(writer, day.as_slice())
 }
 
-/// What is printed of a day of the commands of a journal's text. The text is freed before they are
-/// entered.
+/// The printed text of a day of the commands of a journal's text. The journal's text is freed before they are entered.
 fn day_text<H: Threads + Wait + Sync, T: Watch + Sync, U: Turnstile + Sync>(
     rt: &H,
     alloc: Global,
@@ -75,7 +74,7 @@ fn day_text<H: Threads + Wait + Sync, T: Watch + Sync, U: Turnstile + Sync>(
     ensures done { IfOk result (λ day. IsMadeFrom IsDayText text.items day.items) }
     ensures fault { IfErr result (IsRunFault (IsCommandsFault plan) text.items) }
 {
-    // No book is made of it here, and this seed is for nothing.
+    // No book is made of it here, and this seed is never used.
     let journal: PackedJournal = read_into(alloc, Seed::fixed(), text.as_slice())?;
     drop(text);
     let commands = journal.commands.as_slice();
@@ -91,7 +90,7 @@ fn day_text<H: Threads + Wait + Sync, T: Watch + Sync, U: Turnstile + Sync>(
     )
 }
 
-/// What is printed of a day of the commands.
+/// The printed text of a day of the commands.
 fn day_of_commands<H: Threads + Wait + Sync, T: Watch + Sync, U: Turnstile + Sync>(
     rt: &H,
     alloc: Global,

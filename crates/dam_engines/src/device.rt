@@ -1,5 +1,5 @@
 //! A reader and a writer that keep whether they failed, over ones that count their calls, so that contracts can say
-//! both. What is wrapped is reached through the three calls below and by nothing else, and none of them may come after
+//! both. The wrapped device is reached only through the three calls below, and none of them may come after
 //! a failure.
 ghost use Rattle.std.specs.Prelude.{◌≡◌, ◌<◌, ◌≤◌, true, false, length, MatchResult, IfOk, OnOk};
 ghost use Rattle.std.specs.Io.KnownBytes.{ReadConsumes, WriteAppends, Keeps};
@@ -139,7 +139,7 @@ impl<W: Write> Sink<W> {
         }
     }
 
-    /// One flush, which has the writer pass on what it holds back.
+    /// One flush: the writer passes on the bytes that it holds back.
     pub(crate) fn flush(&mut self) -> Result<(), DeviceFailed>
         requires { self.old.failed ≡ false }
         ensures bytes { Keeps self.old.taken self.new.taken }

@@ -16,8 +16,10 @@
 //! ```
 //!
 //! A contract sees a reader as the bytes that it has left, and a writer as those that it took, if they show them:
-//! standard input and output don't. How a run ends ([`run_clear`], clause `ends`), what is printed for which bytes, and
-//! the text of each fault, stand in `specs/`. If the bytes are a journal, what is printed is for that journal and no
+//! standard input and output don't. How a run ends ([`run_clear`], clause `ends`), which text is printed for which
+//! bytes,
+//! and the text of each fault, stand in `specs/`. If the bytes are a journal, the printed text is for that journal and
+//! no
 //! other ([`laws::clearing_is_exact`] and the like), and a closed book has one results text at most
 //! ([`laws::cleared_text_is_one`]).
 //!
@@ -29,7 +31,7 @@
 //! Only tested is that the counts are of calls that are made (three calls of two lines), that a failure is recorded only
 //! if there was one, that a [`Watch`] is called, and that memory isn't said to have run out if it hasn't.
 //!
-//! The crate knows nothing of the command line, nor of terminals.
+//! The crate doesn't know the command line or terminals.
 #![tactic(auto)]
 
 mod alone;

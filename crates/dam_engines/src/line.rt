@@ -1,4 +1,4 @@
-//! The line of each fault, made in fixed room: it needs no memory, which may be what ran out.
+//! The line of each fault, made in fixed room: it needs no memory, since memory may have run out.
 ghost use Rattle.std.specs.Prelude.{◌≡◌, ◌≤◌, ◌+◌, ◌++◌, length, codes, decimal};
 ghost use Rattle.dam_engines.specs.Fault.{fault_text, input_text, mismatch_text};
 
@@ -42,7 +42,7 @@ fn numbered(words: &str, number: u64) -> ArrayString<ROOM>
     line
 }
 
-/// What is printed of a bad field.
+/// The text of a bad field.
 fn bad_field(at: usize, field: usize) -> ArrayString<ROOM>
     ensures text { result.bytes ≡ codes "input: BadField in record "
         ++ (decimal at ++ (codes " field " ++ decimal field)) }
@@ -53,7 +53,7 @@ fn bad_field(at: usize, field: usize) -> ArrayString<ROOM>
     line
 }
 
-/// What is printed of a search that didn't finish.
+/// The text of a search that didn't finish.
 fn unfinished(piece: u32, visited: u32) -> ArrayString<ROOM>
     ensures text { result.bytes ≡ codes "unfinished: piece "
         ++ (decimal piece ++ (codes " after " ++ (decimal visited ++ codes " nodes"))) }
@@ -65,7 +65,7 @@ fn unfinished(piece: u32, visited: u32) -> ArrayString<ROOM>
     line
 }
 
-/// What is printed of a failed write.
+/// The text of a failed write.
 fn cut_off(written: usize) -> ArrayString<ROOM>
     ensures text { result.bytes
         ≡ codes "device: write after " ++ (decimal written ++ codes " bytes") }
@@ -76,7 +76,7 @@ fn cut_off(written: usize) -> ArrayString<ROOM>
     line
 }
 
-/// What is printed of a fault of the input.
+/// The text of a fault of the input.
 fn input_line(fault: JournalFault) -> ArrayString<ROOM>
     ensures text { result.bytes ≡ input_text fault }
     ensures short { length result.bytes ≤ 80 }
@@ -92,7 +92,7 @@ fn input_line(fault: JournalFault) -> ArrayString<ROOM>
     }
 }
 
-/// What is printed of a journal and receipts that don't fit together.
+/// The text of a journal and receipts that don't fit together.
 fn mismatch_line(why: Mismatch) -> ArrayString<ROOM>
     ensures text { result.bytes ≡ mismatch_text why }
     ensures short { length result.bytes ≤ 80 }
@@ -107,7 +107,7 @@ fn mismatch_line(why: Mismatch) -> ArrayString<ROOM>
     }
 }
 
-/// What is printed of a fault.
+/// The text of a fault.
 pub(crate) fn text_of(fault: &RunFault) -> ArrayString<ROOM>
     ensures text { result.bytes ≡ fault_text fault.now }
     ensures short { length result.bytes ≤ 80 }

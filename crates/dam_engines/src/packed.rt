@@ -5,7 +5,7 @@ use dam_book::{Command, DayLength, PackedCommand, Seed};
 use dam_results::FromJournal;
 use std::alloc::{AllocError, Global};
 
-/// What a journal's text says, its commands packed as they are read.
+/// The content of a journal's text, its commands packed as they are read.
 #[derive(Drop)]
 pub(crate) struct PackedJournal {
     /// How many periods the delivery day has.

@@ -19,7 +19,7 @@ use std::io::{Read, Write};
 /// The whole text is made before its first byte is written. If the input is longer than a journal may be, not all of it
 /// is read. The book hashes names by the seed.
 ///
-/// What `run_clear` says of readers and writers holds here too.
+/// The rules of `run_clear` for readers and writers hold here too.
 pub fn run_replay<R: Read, W: Write>(
     alloc: Global,
     seed: Seed,

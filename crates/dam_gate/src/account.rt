@@ -27,7 +27,7 @@ impl Model for Account {
     ghost invariant = { λ p. IsPass (record { holder = p.holder; seen = p.seen; receipts = p.receipts.items }) };
 }
 
-/// Whether a command of this giver is for the holder to give: a participant's own, and the operator's what is nobody's.
+/// Whether the holder may give a command of this giver: a participant its own command, and the operator a close.
 pub(crate) fn owns(holder: &Option<Participant>, giver: Option<&Participant>) -> bool
     ensures { result ≡ same_giver holder.now (option_copied giver.entry) }
 {
@@ -60,7 +60,7 @@ impl Account {
         }
     }
 
-    /// The participant that held it; `None` of the operator's.
+    /// The participant that held the pass; `None` for the operator's pass.
     pub fn holder(&self) -> Option<Participant>
         ensures { result ≡ self.now.holder }
     {

@@ -9,7 +9,7 @@ use std::marker::Model;
 use std::mem::replace;
 use std::sync::Arc;
 
-/// An earlier book, and the place in the journal of the entry whose command changed it, with what was decided on it.
+/// An earlier book, the place in the journal of the entry whose command changed it, and the outcome decided on it.
 #[derive(Debug, Drop)]
 struct Earlier<A: Allocator> {
     book: Arc<Book<A>, A>,
@@ -26,9 +26,9 @@ impl<A: Allocator> Model for Earlier<A> {
     ghost view = { λ s. record { book = arc_value s.book; place = s.place; outcome = s.outcome } };
 }
 
-/// A book that others may share, and the one before it with the place of the command that changed it. If nobody shares
-/// that one any more, the command that it lacks is carried out in it as it was in the other, and makes the two equal.
-/// That is far quicker than a copy, and decides nothing again.
+/// A book that others may share, and the one before it with the place of the command that changed it. If the earlier
+/// one isn't shared any more, the command that it lacks is carried out in it as it was in the other, which makes the
+/// two equal. That is far quicker than a copy, and the command isn't decided again.
 ///
 /// A contract sees the two.
 #[derive(Debug, Drop)]
@@ -67,7 +67,7 @@ impl<A: Allocator + Copy> Books<A> {
         Arc::try_clone(&self.book)
     }
 
-    /// An equal book that nobody else has: the one before it, if nobody shares that any more, and else a copy.
+    /// An equal book that isn't shared: the one before it, if nobody shares that any more, or else a copy.
     pub(crate) fn another(&mut self, entries: &[PackedEntry<A>]) -> Result<Book<A>, AllocError>
         requires { AreSteps entries.now self.old }
         ensures book { IfOk result (λ book. book ≡ self.old.book) }

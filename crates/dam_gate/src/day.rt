@@ -38,8 +38,8 @@ pub enum DayFault {
     /// The command at this place brings one participant too many.
     #[error("command {0} brings one participant too many")]
     TooManyParticipants(usize),
-    /// The journal and the passes came out unsettled, or the journal doesn't end with the close (`StillOpen`). No day
-    /// of one gate should show either; the reason is never `Memory`.
+    /// The journal and the passes came out unsettled, or the journal doesn't end with the close (`StillOpen`). Neither
+    /// should happen on a day of one gate. The reason is never `Memory`.
     #[error("not settled: {0}")]
     NotSettled(Mismatch),
     /// Memory ran out, or a call or a pass was refused.
@@ -270,11 +270,11 @@ fn close<J: GateName, H: Wait + Drop>(
 {
     let mut operator = gate.operator(rt)?;
     let _entry = gate.call(rt, &mut operator, Command::Close)?;
-    let _receipts = operator.receipts(); // for the proof: what every pass keeps
+    let _receipts = operator.receipts(); // for the proof: the invariant of a pass
     Ok(operator.into_account())
 }
 
-/// What is left of the passes.
+/// The accounts of the passes.
 fn accounts_of<J: GateName>(alloc: Global, passes: Vec<Pass<J>>) -> Result<Vec<Account>, DayFault>
     ensures ok { IfOk result (λ accounts.
         accounts.items ≡ map (λ pass. pass.account) passes.items) }

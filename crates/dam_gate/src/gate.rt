@@ -16,11 +16,11 @@ use std::alloc::{AllocError, Global};
 use std::sync::{Mutex, Wait};
 use thiserror::Error;
 
-/// Why a call is refused, in the order in which it is looked for. A refused command isn't journalled.
+/// Why a call is refused, in the order in which the reasons are looked for. A refused command isn't journalled.
 #[derive(Clone, Copy, PartialEq, Eq, Debug, Error)]
 pub enum GateFault {
-    /// The command isn't the pass's to give: another participant's, a close by a participant's pass, or anything else
-    /// by the operator's.
+    /// The pass may not give the command: another participant's command, a close through a participant's pass, or any
+    /// other command through the operator's pass.
     #[error("the command is not this pass's to give")]
     NotYours,
     /// The journal holds as many entries as it may; the last one is only for a close.
@@ -32,8 +32,8 @@ pub enum GateFault {
     /// Memory ran out.
     #[error("out of memory")]
     Memory,
-    /// The history had gone on without the journal, or the slot of the version was taken, so that no version of the
-    /// command could be shown. In the tests no call leaves a gate like that.
+    /// The history had gone on without the journal, or the slot of the version was taken, so the version of the command
+    /// couldn't be shown. In the tests a call never leaves a gate in this state.
     #[error("no version could be shown")]
     NoVersion,
 }
@@ -63,7 +63,7 @@ impl From<KeeperFault> for GateFault {
     }
 }
 
-/// Why no pass is given, in the order in which it is looked for.
+/// Why a pass isn't given, in the order in which the reasons are looked for.
 #[derive(Clone, Copy, PartialEq, Eq, Debug, Error)]
 pub enum PassFault {
     /// The gate has given all its passes.
@@ -112,8 +112,8 @@ impl<J: GateName, R: Wait + Drop> Gate<J, R> {
         Gate::begin_seeded(rt, alloc, opening, Seed::fixed())
     }
 
-    /// The gate that `begin` gives, whose book hashes names with the seed. With a secret one nobody can choose names
-    /// that collide in the book's map, and so make each call slow, those of the others too.
+    /// The gate of `begin`, whose book hashes names with the seed. With a secret seed nobody can choose names that
+    /// collide in the book's map and slow down every call, their own and all others.
     pub fn begin_seeded(
         rt: R,
         alloc: Global,
@@ -130,8 +130,7 @@ impl<J: GateName, R: Wait + Drop> Gate<J, R> {
         Gate::for_day(rt, alloc, opening, periods, seed).map_err(|_| BeginFault::Memory)
     }
 
-    /// The gate that `begin_seeded` gives, for those who have the opening's day as a length. The error is out of
-    /// memory.
+    /// The gate of `begin_seeded`, for callers who have the opening's day as a length. The error is out of memory.
     pub(crate) fn for_day(
         rt: R,
         alloc: Global,
@@ -161,7 +160,7 @@ impl<J: GateName, R: Wait + Drop> Gate<J, R> {
         self.locked.lock(rt).pass(None)
     }
 
-    /// Has the book take the command, and journals it with the reply, even if the book refuses it. The pass gets the
+    /// Gives the command to the book, and journals it with the reply, even if the book refuses it. The pass gets the
     /// entry as a receipt, and has then seen the journal up to it.
     ///
     /// A refused call doesn't give the command back.
@@ -190,7 +189,7 @@ impl<J: GateName, R: Wait + Drop> Gate<J, R> {
         })
     }
 
-    /// Makes the call of a packed command, which its caller keeps. It answers the number and the reply of the entry.
+    /// Makes the call of a packed command, which its caller keeps. It returns the number and the reply of the entry.
     pub(crate) fn enter(
         &self,
         rt: &impl Wait,
@@ -209,12 +208,12 @@ impl<J: GateName, R: Wait + Drop> Gate<J, R> {
         pass.step(&mut self.locked.lock(rt), command)
     }
 
-    /// Makes room in the journal for this number of entries more.
+    /// Makes room in the journal for this number of further entries.
     pub(crate) fn make_room(&self, rt: &impl Wait, entries: usize) -> Result<(), AllocError> {
         self.locked.lock(rt).make_room(entries)
     }
 
-    /// The journal, when nobody uses the gate any more. From then on, looks find no version.
+    /// The journal, when nobody uses the gate any more. From then on, looks don't find a version.
     pub fn finish(self) -> Journal
         ensures journal { IsJournal result }
         ensures day { result.book.periods ≡ J.opening.periods }

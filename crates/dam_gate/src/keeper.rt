@@ -17,7 +17,7 @@ use std::marker::Model;
 use std::sync::Arc;
 use thiserror::Error;
 
-/// Why a keeper takes no command, in the order in which it is looked for.
+/// Why a keeper doesn't take a command, in the order in which the reasons are looked for.
 #[derive(Clone, Copy, PartialEq, Eq, Debug, Error)]
 pub enum KeeperFault {
     /// The journal holds as many entries as it may; the last one is only for a close.
@@ -42,7 +42,7 @@ impl From<AllocError> for KeeperFault {
     }
 }
 
-/// Why no keeper and no gate is begun, in the order in which it is looked for.
+/// Why a keeper or a gate isn't begun, in the order in which the reasons are looked for.
 #[derive(Clone, Copy, PartialEq, Eq, Debug, Error)]
 pub enum BeginFault {
     /// No delivery day has that number of periods.
@@ -55,9 +55,9 @@ pub enum BeginFault {
 
 /// The book of one day and the journal of the commands that reached it, to which commands are added one by one.
 ///
-/// A contract sees the journal, as its entries and the book, and for how many entries more there is room. The entries
-/// are a legal history at every moment, and the book is what their commands make of the empty book. Others may share
-/// the book: a step replaces it.
+/// A contract sees the journal, as its entries and the book, and the number of further entries for which there is room.
+/// The entries are always a legal history, and their commands make the book from the empty book. Others may share the
+/// book: a step replaces it.
 #[derive(Debug, Drop)]
 pub struct Keeper<A: Allocator = Global> {
     books: Books<A>,
@@ -87,7 +87,7 @@ impl<A: Allocator> Model for Keeper<A> {
 pub struct Ready<A: Allocator = Global> {
     entry: PackedEntry<A>,
     book: Arc<Book<A>, A>,
-    // what the entry's reply says, for the book before
+    // the outcome that the entry's reply states, for the book before
     outcome: Outcome,
 }
 
@@ -248,7 +248,7 @@ impl<A: Allocator + Copy> Keeper<A> {
         entry
     }
 
-    /// Takes the step as `put` does, and doesn't answer its entry.
+    /// Takes the step as `put` does, but doesn't return its entry.
     pub(crate) fn take(&mut self, ready: Ready<A>)
         requires { IsReadyFor self.old ready.entry.command ready }
         ensures step { self.new.journal ≡ journal_after self.old.journal ready.entry.command }
@@ -311,7 +311,7 @@ impl<A: Allocator + Copy> Keeper<A> {
         self.books.share()
     }
 
-    /// Makes room for this number of entries more.
+    /// Makes room for this number of further entries.
     pub(crate) fn make_room(&mut self, entries: usize) -> Result<(), AllocError>
         ensures { self.new.journal ≡ self.old.journal }
     {
@@ -343,7 +343,7 @@ pub(crate) fn is_full(held: u32, giver: Option<&Participant>) -> bool
 
 /// The journal that a gate leaves: its entries, and the book that they made.
 ///
-/// A contract sees the entries and the book, as those of a `Keeper`.
+/// A contract sees the entries and the book, as in a `Keeper`.
 #[derive(Debug, Drop)]
 pub struct Journal<A: Allocator = Global> {
     book: Arc<Book<A>, A>,

@@ -1,5 +1,5 @@
-//! What a settled gate shows, that nobody is shown another history, and the limits of a gate, each as the contract of a
-//! function that does nothing but cite the laws that it rests on.
+//! The laws of a gate: a settled gate accounts for its day, nobody is shown another history, and each limit is its
+//! number. Each is the contract of a function that does nothing but cite the laws that it rests on.
 ghost use Rattle.std.specs.Prelude.{◌≡◌, ◌⊎◌, All};
 ghost use mathlib.Core.List.{IsPrefix};
 ghost use Rattle.dam_gate.specs.Limits.{most_participants, most_passes};
@@ -26,8 +26,8 @@ pub fn whole_account<A: Allocator + Copy>(settled: &Settled<A>, passes: &[Accoun
     histories_are_runs();
 }
 
-/// Of the histories that two passes of one gate have seen, one is a prefix of the other: what one participant saw never
-/// contradicts what another saw.
+/// One of the histories that two passes of one gate have seen is a prefix of the other: the views of two participants
+/// never contradict each other.
 pub fn one_history<J: GateName>(one: &Pass<J>, other: &Pass<J>)
     ensures { (IsPrefix one.now.history other.now.history)
         ⊎ (IsPrefix other.now.history one.now.history) }
@@ -35,7 +35,8 @@ pub fn one_history<J: GateName>(one: &Pass<J>, other: &Pass<J>)
     one.one_history(other);
 }
 
-/// The same of what two calls of one gate had made: no participant is answered from another history than the others.
+/// One of the histories of two calls of one gate is a prefix of the other: all participants are answered from one
+/// history.
 pub fn one_history_of_calls<J: GateName>(one: &Note<J>, other: &Note<J>)
     ensures { (IsPrefix one.now other.now) ⊎ (IsPrefix other.now one.now) }
 {
@@ -48,11 +49,11 @@ pub fn limits()
     ensures most_participants { MOST_PARTICIPANTS ≡ most_participants }
 {}
 
-// What every pass keeps holds of these.
+// The invariant of a pass holds for these.
 fn are_passes(passes: &[Account])
     ensures { All IsPass passes.now }
 {
     for pass in passes {
-        let _receipts = pass.receipts(); // for the proof: what every pass keeps
+        let _receipts = pass.receipts(); // for the proof: the invariant of a pass
     }
 }

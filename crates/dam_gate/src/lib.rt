@@ -1,5 +1,5 @@
 //! The gate of one delivery day: participants' threads enter commands at one lock, a journal keeps them, and a
-//! settlement shows that what each participant was answered is what the journal has.
+//! settlement shows that each participant was answered with the journal's entries.
 //!
 //! ```
 //! // in a function that is generic in the gate's name `J`, with `opening: Opening` among its arguments
@@ -37,7 +37,7 @@
 //! - calls are refused and looks are `None` only if they should be, and `Memory` comes only if memory ran out
 //! - `finish` returns the journal of these calls
 //!
-//! The crate knows nothing of texts, of prices that clear, and of how the best selection is found.
+//! The crate doesn't know texts, clearing prices, or the search for the best selection.
 #![tactic(auto)]
 
 mod account;

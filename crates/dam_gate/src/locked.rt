@@ -22,7 +22,7 @@ use std::alloc::{AllocError, Global};
 use std::marker::Model;
 use std::sync::{Arc, Wait};
 
-/// What lies under the lock: the keeper, and what publishes its versions.
+/// The state under the lock: the keeper, and the parts that publish its versions.
 ///
 /// A contract sees the journal, and how many passes were given. Whenever the lock is free, the history of the name `J`
 /// that it has is just the journal's entries, the day is that of the name, and the slot that is shown has the journal's
@@ -39,7 +39,7 @@ where
     start: History<J>,
     history: History<J>,
     writer: WriteHandle<Shown<J>, NextShown<J>, R>,
-    // what the slot that is shown has in it
+    // the content of the slot that is shown
     shown: CellNote<Version<J>>,
     // the slot that a refused call left at the writer
     next: Option<Slot<J>>,
@@ -221,18 +221,18 @@ impl<J: GateName, R: Wait + Drop> Locked<J, R> {
             (IsKeeperFault (length self.now.journal.entries) command.now) }
         ensures few { length self.now.journal.entries ≤ most_entries }
     {
-        let _held = self.keeper.len(); // for the proof: what a journal is
+        let _held = self.keeper.len(); // for the proof: the invariant of a journal
         self.keeper.pack(command)
     }
 
-    /// Makes room in the journal for this number of entries more.
+    /// Makes room in the journal for this number of further entries.
     pub(crate) fn make_room(&mut self, entries: usize) -> Result<(), AllocError>
         ensures { self.new ≡ self.old }
     {
         self.keeper.make_room(entries)
     }
 
-    /// The journal. It ends the showing of versions, after those who look.
+    /// The journal. After those who look have finished, versions aren't shown any more.
     pub(crate) fn into_journal(self) -> Journal
         ensures value { result ≡ self.journal }
         ensures valid { IsJournal result }
@@ -262,7 +262,7 @@ impl<J: GateName, R: Wait + Drop> Locked<J, R> {
         Ok(pass)
     }
 
-    /// Journals the command, and shows the version after it. It answers the entry's number and reply, and the history
+    /// Journals the command, and shows the version after it. It returns the entry's number and reply, and the history
     /// that ends with it.
     ///
     /// All that may be refused comes first. The next call takes the slot that a refused call has left at the writer.
@@ -286,7 +286,7 @@ impl<J: GateName, R: Wait + Drop> Locked<J, R> {
         ensures fault { IfErr result (λ fault.
             (fault ≡ GateFault.Memory) ⊎ (fault ≡ GateFault.NoVersion)) }
     {
-        let _held = self.keeper.len(); // for the proof: what a journal is
+        let _held = self.keeper.len(); // for the proof: the invariant of a journal
         let ready = self.keeper.ready_in_room(command)?;
         let version = version_of(self.alloc, &self.keeper, &self.history)?;
         let slot = next_slot(self.alloc, &mut self.writer, &mut self.next)?;

@@ -19,7 +19,7 @@ use std::alloc::{AllocError, Global};
 use std::marker::Model;
 use std::sync::Wait;
 
-/// What a call had made: the gate's history up to its entry. Another pass of the gate can learn it.
+/// A note of a call: the gate's history up to the call's entry. Another pass of the gate can learn it.
 #[derive(Drop)]
 pub struct Note<J: GateName> {
     history: History<J>,
@@ -44,11 +44,11 @@ impl<J: GateName> Note<J> {
     }
 }
 
-/// What a holder carries through the gate's calls: what it has seen of the gate's history and learnt of it, and a
-/// receipt of each of its own commands that reached the book, in the order of its calls.
+/// The state that a holder carries through the gate's calls: the gate's history as far as it has seen it and learnt of
+/// it, and a receipt of each of its own commands that reached the book, in the order of its calls.
 ///
-/// A contract sees what the pass knows. Each history in it is a prefix of the one history of the gate of the name `J`:
-/// nothing else makes such a value.
+/// A contract sees this state. Each history in it is a prefix of the one history of the gate of the name `J`: such a
+/// value can't be made in another way.
 #[derive(Drop)]
 pub struct Pass<J: GateName> {
     holder: Option<Participant>,
@@ -80,7 +80,7 @@ impl<J: GateName> Model for Pass<J> {
     }) };
 }
 
-/// What a look finds, in the book after the first `seen` entries of the journal.
+/// The finding of a look, in the book after the first `seen` entries of the journal.
 #[derive(PartialEq, Eq, Debug, Drop)]
 pub struct Look {
     /// How many entries the journal had.
@@ -169,14 +169,14 @@ impl<J: GateName> Pass<J> {
         Some(look)
     }
 
-    /// What the last answered call had made; `None` before the first.
+    /// The note of the last answered call; `None` before the first.
     pub fn note(&self) -> Option<&Note<J>>
         ensures { option_copied result ≡ self.now.note }
     {
         self.note.as_ref()
     }
 
-    /// From now on, looks of this pass show at least what the note's call had made.
+    /// From now on, looks of this pass show at least the history of the note.
     pub fn learn(&mut self, note: &Note<J>)
         ensures pass { self.new ≡ after_learning self.old self.new.learnt }
         ensures kept { IsPrefix self.old.learnt self.new.learnt }
@@ -186,7 +186,7 @@ impl<J: GateName> Pass<J> {
         self.learnt = self.learnt.longer(&note.history);
     }
 
-    /// Of what the two have seen, one is a prefix of the other.
+    /// One of the two seen histories is a prefix of the other.
     pub(crate) fn one_history(&self, other: &Pass<J>)
         ensures { (IsPrefix self.now.history other.now.history)
             ⊎ (IsPrefix other.now.history self.now.history) }
@@ -195,14 +195,14 @@ impl<J: GateName> Pass<J> {
         let _longer = self.history.longer(&other.history);
     }
 
-    /// Makes room for this number of receipts more.
+    /// Makes room for this number of further receipts.
     pub(crate) fn make_room(&mut self, receipts: usize) -> Result<(), AllocError>
         ensures { self.new ≡ self.old }
     {
         self.receipts.reserve(receipts)
     }
 
-    /// A call's step under the lock. It answers the number and the reply of the entry.
+    /// A call's step under the lock. It returns the number and the reply of the entry.
     ///
     /// The room for the receipt is made before the journal's step, so that a refused call changes nothing.
     pub(crate) fn step<R: Wait + Drop>(
@@ -239,7 +239,7 @@ impl<J: GateName> Pass<J> {
         Ok(answer)
     }
 
-    /// What is left of it after its gate has finished.
+    /// Its account, which remains after its gate has finished.
     pub fn into_account(self) -> Account
         ensures { result ≡ self.account }
     {

@@ -11,8 +11,8 @@ use std::alloc::{AllocError, Allocator, Global};
 use std::marker::Model;
 use thiserror::Error;
 
-/// Why a journal and passes are not found settled: that the book is open, or else the least faulty number over all
-/// receipts, with what is wrong with it.
+/// Why a journal and passes aren't settled: that the book is open, or else the least faulty number over all receipts,
+/// with its fault.
 #[derive(Clone, Copy, PartialEq, Eq, Debug, Error)]
 pub enum Mismatch {
     /// The book isn't closed.
@@ -108,7 +108,7 @@ pub fn settle<A: Allocator + Copy, B: Allocator>(
     }
 }
 
-/// The least faulty number of the receipts, with what is wrong with it.
+/// The least faulty number of the receipts, with its fault.
 fn compare<A: Allocator + Copy, B: Allocator>(
     alloc: B,
     journal: &Journal<A>,

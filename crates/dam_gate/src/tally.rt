@@ -11,7 +11,7 @@ use crate::settlement::Mismatch;
 use dam_book::PackedEntry;
 use std::alloc::{AllocError, Allocator};
 
-/// What the receipts of an entry's number are so far.
+/// The count of the receipts of an entry's number so far.
 #[derive(Clone, Copy)]
 pub(crate) enum Mark {
     Nothing,
@@ -23,7 +23,7 @@ pub(crate) enum Mark {
 }
 
 impl Mark {
-    /// What is found with one receipt more, which is the entry or isn't.
+    /// The count with one more receipt, which is the entry or isn't.
     fn with(self, same: bool) -> Mark
         ensures { result ≡ mark_with self same }
     {
@@ -116,7 +116,7 @@ impl<A: Allocator> Tally<A> {
         Ok(tally)
     }
 
-    /// The least number whose receipts aren't its entry, with what is wrong with it.
+    /// The least number whose receipts aren't its entry, with its fault.
     pub(crate) fn fault<B: Allocator>(&self, entries: &[PackedEntry<B>]) -> Option<Mismatch>
         requires legal { (periods : ℕ) × IsLegalHistory periods entries.now }
         requires few { length self.now.found.items ≤ most_entries }

@@ -6,7 +6,7 @@ use crate::step::Step;
 use dam_book::{Price, Side};
 use std::alloc::{AllocError, Allocator};
 
-/// What is left at a price for the steps of each side, in tenths of a MW.
+/// The volume left at a price for the steps of each side, in tenths of a MW.
 #[derive(Clone, Copy)]
 pub(crate) struct Left {
     pub(crate) buys: u64,
@@ -14,7 +14,7 @@ pub(crate) struct Left {
 }
 
 impl Left {
-    /// What is left for a step of the side.
+    /// The volume left for a step of the side.
     fn on(self, side: Side) -> u64
         ensures { result ≡ total_on side self.buys self.sells }
     {
@@ -24,7 +24,7 @@ impl Left {
         }
     }
 
-    /// What is left after a step: if its limit is the price, less by its volume.
+    /// The volumes left after a step: if its limit is the price, less by its volume.
     fn after(self, step: Step, price: Price) -> Left
         ensures buys { result.buys ≡ self.buys - at_part Buy price step }
         ensures sells { result.sells ≡ self.sells - at_part Sell price step }
@@ -44,8 +44,8 @@ impl Left {
     }
 }
 
-/// The executed volumes of the steps at a price, in tenths of a MW: what is left at the price goes to
-/// the steps in book order.
+/// The executed volumes of the steps at a price, in tenths of a MW: the volume left at the price goes to the steps in
+/// book order.
 pub(crate) fn fill<B: Allocator>(
     alloc: B,
     steps: &[Step],

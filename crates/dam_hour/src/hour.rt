@@ -51,7 +51,7 @@ impl<A: Allocator> Model for Hour<A> {
     ghost invariant = { λ h. AreKept h.steps.items h.buys h.sells };
 }
 
-/// What a period clears at; the volumes and the welfare are those of its steps alone.
+/// The clearing of a period; the volumes and the welfare are those of its steps alone.
 ///
 /// The price is any that supports the execution, narrowed to one (EUPHEMIA Public Description,
 /// "Price Determination Sub-problem"): if just one of the two ends is the end of the range of
@@ -73,7 +73,7 @@ pub struct Cleared {
     pub welfare: i64,
 }
 
-/// What the best execution trades at a net volume, and the ends of the prices that support it.
+/// The traded volumes of the best execution at a net volume, and the ends of the prices that support it.
 #[derive(Clone, Copy)]
 struct Matched {
     low: Price,
@@ -116,7 +116,7 @@ impl Matched {
         }
     }
 
-    /// What is left at the least price for each side once the better steps are executed in full.
+    /// The volume left at the least price for each side once the better steps are executed in full.
     fn left<A: Allocator>(self, hour: &Hour<A>) -> Left
         ensures buys { result.buys ≡ self.bought - better_volume Buy self.low hour.now }
         ensures sells { result.sells ≡ self.sold - better_volume Sell self.low hour.now }
@@ -203,8 +203,8 @@ impl<A: Allocator> Hour<A> {
         }
     }
 
-    /// The volume of one side that stands before a limit at a place in book order, in tenths of a MW: what
-    /// is better than the limit, and of what has that limit as much as stands in front of the place.
+    /// The volume of one side that stands before a limit at a place in book order, in tenths of a MW: all volume at
+    /// better limits, and the volume at this limit that stands in front of the place.
     pub(crate) fn volume_before(&self, side: Side, limit: Price, place: usize) -> u64
         requires { place ≤ most_steps }
         ensures value { result
@@ -226,7 +226,7 @@ impl<A: Allocator> Hour<A> {
         self.side(side).all().volume
     }
 
-    /// What the steps of one side that are better than a price add up to; with it, what they gain there.
+    /// The sums of the steps of one side that are better than a price, and their gain there.
     pub(crate) fn better(&self, side: Side, price: Price) -> Sums
         ensures volume { result.volume ≡ better_volume side price self.now }
         ensures small { result.volume ≤ most_steps * greatest_volume }
@@ -272,8 +272,8 @@ impl<A: Allocator> Hour<A> {
         self.steps.as_slice()
     }
 
-    /// What the best execution at a net volume trades, and between which prices; `None` exactly if no
-    /// execution balances.
+    /// The traded volumes of the best execution at a net volume, and the prices between which it is supported; `None`
+    /// exactly if no execution balances.
     fn matched(&self, net: i64) -> Option<Matched>
         requires { IsNetVolume net }
         ensures steps { IsHour self.now }
@@ -288,7 +288,7 @@ impl<A: Allocator> Hour<A> {
         Some(Matched::of(self, net, &edge))
     }
 
-    /// The price, the totals and the welfare that go with what is traded.
+    /// The price, the totals and the welfare that go with the traded volumes.
     fn cleared(&self, net: i64, matched: &Matched) -> Cleared
         requires net { IsNetVolume net }
         requires ends { AreEnds self.now net matched.now.low matched.now.high }
@@ -307,7 +307,7 @@ impl<A: Allocator> Hour<A> {
         }
     }
 
-    /// The executed volumes that go with what is traded.
+    /// The executed volumes that go with the traded volumes.
     fn filled<B: Allocator>(&self, alloc: B, matched: &Matched) -> Result<Vec<u32, B>, AllocError>
         ensures { (net : ℤ)
             → AreTotals self.now net matched.now.low matched.now.bought matched.now.sold
@@ -316,8 +316,8 @@ impl<A: Allocator> Hour<A> {
         fill(alloc, self.steps(), matched.low, matched.left(self))
     }
 
-    /// The price, the totals and the welfare of the period at a net volume: what the accepted blocks
-    /// sell there less what they buy, in tenths of a MW.
+    /// The price, the totals and the welfare of the period at a net volume: the sold less the bought volume of the
+    /// accepted blocks there, in tenths of a MW.
     ///
     /// `None` exactly if no execution balances. The execution is the one of greatest welfare
     /// (EUPHEMIA Public Description, "Welfare Maximization Problem (Master Problem)"), then of greatest

@@ -17,7 +17,7 @@
 //! A contract sees an hour as the list of its steps, in book order. Tests alone show that a call reports out
 //! of memory only if memory was refused.
 //!
-//! The crate knows nothing of blocks, books and the other periods.
+//! The crate doesn't know blocks, books or the other periods.
 #![tactic(auto)]
 
 mod ends;

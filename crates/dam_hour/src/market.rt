@@ -1,5 +1,5 @@
-//! What one period promises to those who trade in it, each promise the contract of a function that does
-//! nothing. In them `net` is the period's net volume: what the accepted blocks sell less what they buy.
+//! The promises of one period to those who trade in it, each the contract of a function that does nothing. In them
+//! `net` is the period's net volume: the sold less the bought volume of the accepted blocks.
 
 ghost use Rattle.std.specs.Prelude.{◌≡◌, ℕ, ◌≤◌, ◌<◌, ℤ, pos, ◌≤ℤ◌, List, IsPermutation};
 ghost use Rattle.dam_book.specs.declared.order.Side.{Side};

@@ -7,7 +7,7 @@ use crate::hour::Hour;
 use dam_book::{Price, Side};
 use std::alloc::Allocator;
 
-/// What one side executes at a price, in tenths of a MW.
+/// The executed volumes of one side at a price, in tenths of a MW.
 #[derive(Clone, Copy)]
 pub(crate) struct Bounds {
     /// The volume that is better than the price, and so executed in full.
@@ -41,8 +41,7 @@ fn value_at(price: Price, volume: u64) -> i64
     i64::from(price.get()) * volume as i64
 }
 
-/// What the steps gain at the price if the better ones are executed in full, in cents per MWh times
-/// tenths of a MW.
+/// The gain of the steps at the price if the better ones are executed in full, in cents per MWh times tenths of a MW.
 pub(crate) fn surplus<A: Allocator>(hour: &Hour<A>, price: Price) -> u64
     ensures value { result ≡ full_surplus price hour.now }
     ensures small { result ≤ 2 * (most_steps * (price_span * greatest_volume)) }

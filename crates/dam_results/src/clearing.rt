@@ -9,7 +9,7 @@ use dam_blocks::{Best, Problem, Selection, bought_volume, net_volume};
 use dam_book::{Period, Price, laws};
 use std::alloc::{AllocError, Allocator};
 
-/// What a selection clears at, one of each for every period from the first on.
+/// The clearing of a selection, one of each for every period from the first on.
 #[derive(Drop)]
 pub(crate) struct Clearing<A: Allocator> {
     pub(crate) periods: Vec<PeriodResult, A>,

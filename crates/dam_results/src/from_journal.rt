@@ -1,4 +1,4 @@
-//! What a journal can be read into, command by command.
+//! Values that a journal can be read into, command by command.
 
 ghost use Rattle.std.specs.Prelude.{◌≡◌, ◌+◌, ◌++◌, ◌∷◌, [], ℕ, List, length, IfOk, OnOk};
 ghost use Rattle.dam_book.specs.declared.command.Command.{Command};
@@ -6,12 +6,12 @@ ghost use Rattle.dam_book.specs.declared.command.Command.{Command};
 use dam_book::{Command, DayLength, Seed};
 use std::alloc::{AllocError, Global};
 
-/// What is made of the commands of a journal, one after another.
+/// A value made of the commands of a journal, one after another.
 pub trait FromJournal: Drop {
     /// It is what these commands make of a day of this many periods.
     ghost made_of: { ℕ → List Command → Self → Type 0 };
 
-    /// What no command makes. A book in it hashes names by the seed.
+    /// The value of no commands. A book in it hashes names by the seed.
     fn begin(alloc: Global, seed: Seed, periods: DayLength) -> Result<Self, AllocError>
         ensures { IfOk result (made_of periods []) };
 

@@ -21,7 +21,7 @@ use dam_book::{Command, DayLength, Seed};
 use std::alloc::{AllocError, Global};
 use thiserror::Error;
 
-/// What a journal's text says.
+/// The content of a journal's text.
 #[derive(Debug, Drop)]
 pub struct JournalRead {
     /// How many periods the delivery day has.
@@ -233,7 +233,7 @@ fn take_records<T: FromJournal>(
     Ok(())
 }
 
-/// What all the records make, that of the day first.
+/// The value that all the records make, with the record of the day first.
 fn read_records<T: FromJournal>(
     alloc: Global,
     seed: Seed,
@@ -262,8 +262,8 @@ fn read_text<T: FromJournal>(alloc: Global, seed: Seed, text: &[u8]) -> Result<T
     read_records(alloc, seed, &mut records)
 }
 
-/// What the journal that a text says makes, or the first fault of the text. Nothing is kept of the
-/// records past the first faulty one.
+/// The value that the journal in a text makes, or the first fault of the text. Nothing is kept of the records past the
+/// first faulty one.
 pub fn read_into<T: FromJournal>(alloc: Global, seed: Seed, text: &[u8]) -> Result<T, JournalFault>
     ensures ok { IfOk result (IsMadeFrom T.made_of text.now) }
     ensures fault { IfErr result (IsJournalFault text.now) }

@@ -1,10 +1,10 @@
-//! The texts that the auction reads and prints, and what is published of a selection of blocks.
+//! The texts that the auction reads and prints, and the published results of a selection of blocks.
 //!
-//! A journal's text is read into its commands (`read_journal`), its book (`book_of_text`), its book and how
-//! many commands that refused (`run_of_text`), the replies to its commands (`replay_text`), or what else is
-//! made of its commands one by one (`read_into`), each with the first fault if the text is no journal.
-//! `results` finds what is published of an eligible selection;
-//! `results_text`, `replies_text`, `journal_text` and `packed_journal_text` write.
+//! A journal's text is read into its commands (`read_journal`), its book (`book_of_text`), its book and the number of
+//! commands that the book refused (`run_of_text`), the replies to its commands (`replay_text`), or another value made
+//! of its commands one by one (`read_into`). Each returns the first fault if the text isn't a journal. `results` finds
+//! the published results of an eligible selection; `results_text`, `replies_text`, `journal_text` and
+//! `packed_journal_text` write.
 //!
 //! ```
 //! let book = book_of_text(alloc, Seed::fixed(), text)?;
@@ -13,11 +13,10 @@
 //! let text = results_text(alloc, &published)?;
 //! ```
 //!
-//! A contract sees a text as the list of its bytes, a book as its state, and results as their parts. Only
-//! tested is what the faults say, and that memory isn't said to have run out if it hasn't.
+//! A contract sees a text as the list of its bytes, a book as its state, and results as their parts. Only tests show
+//! the texts of the faults, and that memory isn't said to have run out if it hasn't.
 //!
-//! The crate knows nothing of how the best selection is found, nor of readers, writers and the command
-//! line.
+//! The crate doesn't know the search for the best selection, readers, writers or the command line.
 #![tactic(auto)]
 
 mod clearing;

@@ -1,4 +1,4 @@
-//! What the printed texts share.
+//! The parts that the printed texts share.
 
 ghost use Rattle.std.specs.Prelude.{◌≡◌, ◌++◌, decimal, OnOk};
 ghost use Rattle.dam_results.specs.Replies.{day_line};

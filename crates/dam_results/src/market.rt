@@ -1,5 +1,5 @@
-//! What the published results promise to those who trade in the market, each promise the contract of a
-//! function that does nothing but cite the laws that it rests on.
+//! The promises of the published results to those who trade in the market, each the contract of a function that does
+//! nothing but cite the laws that it rests on.
 ghost use Rattle.std.specs.Prelude.{◌≡◌, true, false, ℕ, ◌+◌, ◌≤◌, ℤ, pos, List, Some, length, take, slice_get, slice_set, remove};
 ghost use Rattle.dam_book.specs.Terms.{HourTerms, BlockTerms};
 ghost use Rattle.dam_book.specs.Book.{Key, BookState, IsBook};
@@ -19,9 +19,9 @@ ghost use Rattle.dam_results.specs.declared.published.RowResult.TheVariants.{Hou
 ghost use Rattle.dam_results.specs.Clearing.{IsClearing};
 ghost use Rattle.dam_results.specs.Market.{price_in, published_gains, published_trades, IsWithoutRow, IsWithOtherLimit};
 
-/// The published results add up: the welfare is what all orders gain by what is published of them, and
-/// the volume of a period is what they buy there, and what they sell. What they trade by what is published
-/// is what the orders of the problem trade, of which `dam_blocks::market::money_balances` is (`traded`).
+/// The published results add up: the welfare is the gain of all orders by their published results, and the volume of a
+/// period is both the bought and the sold volume of the orders there. By their published results the orders trade as
+/// the orders of the problem do, to which `dam_blocks::market::money_balances` applies (`traded`).
 pub fn published_results_add_up()
     ensures welfare { (book : BookState) (welfare : ℕ) (periods : List PeriodResult)
         (rows : List RowResult) → IsBook book → IsClearing book welfare periods rows
@@ -45,7 +45,7 @@ pub fn published_results_add_up()
     dam_hour::laws::uniqueness();
 }
 
-/// What is published of an hourly order is its execution: at the published price of its period, the best
+/// An hourly order is published with its execution: at the published price of its period, the best
 /// execution gives it the published volume, at its place among the hourly orders of the period. So
 /// `dam_hour::market::fair_in_a_period` is of each.
 pub fn hourly_orders_are_executed()
@@ -61,8 +61,8 @@ pub fn hourly_orders_are_executed()
         (record { side = order.side; price = order.price; qty = order.qty }) volume }
 {}
 
-/// A rejected block may as well not be there: what is published of the book without it is the same, except
-/// that there is no line of the block.
+/// A rejected block may as well not be there: the published results of the book without it are the same, except that
+/// the line of the block is missing.
 ///
 /// A book that keeps `IsBook` has no block whose parent is missing, so this is of a block without children:
 /// without it, the book keeps `IsBook` (`dam_book::laws::an_order_less`).
@@ -113,8 +113,8 @@ pub fn a_better_limit_keeps_a_block()
     dam_blocks::market::a_better_limit_keeps_a_block();
 }
 
-/// A rejected block that asks for worse changes nothing: what is published is the same, but for the block's
-/// own surplus.
+/// A rejected block that asks for worse changes nothing: the published results are the same, but for the block's own
+/// surplus.
 pub fn a_rejected_block_that_asks_for_worse()
     ensures published { (book other : BookState) (place : ℕ) (order : BlockTerms) (limit : ℤ)
         (welfare : ℕ) (periods : List PeriodResult) (rows : List RowResult) (who name : List ℕ)

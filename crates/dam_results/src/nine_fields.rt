@@ -4,7 +4,7 @@ ghost use Rattle.dam_results.specs.inside.NineFields.{field_or_empty, fields_in}
 
 use csv::ByteRecord;
 
-/// The fields of a record that has nine, each named for what it holds in a submit.
+/// The fields of a record that has nine, each named for its content in a submit.
 #[derive(Clone, Copy)]
 pub(crate) struct NineFields<'a> {
     pub(crate) kind: &'a [u8],

@@ -1,12 +1,12 @@
 use dam_book::{Name, Participant, Price};
 use std::alloc::{Allocator, Global};
 
-/// What is published of a period.
+/// The published results of a period.
 #[derive(Clone, Copy, PartialEq, Eq, Debug)]
 pub struct PeriodResult {
     /// The clearing price, in cents per MWh.
     pub price: Price,
-    /// What the hourly orders and the accepted blocks buy, in tenths of a MW.
+    /// The volume that the hourly orders and the accepted blocks buy, in tenths of a MW.
     pub volume: u64,
 }
 
@@ -30,7 +30,7 @@ pub enum RowResult {
     },
 }
 
-/// What is published of a selection of blocks.
+/// The published results of a selection of blocks.
 #[derive(Debug, Drop)]
 pub struct Results<A: Allocator = Global> {
     /// The welfare, in cents per MWh times tenths of a MW.

@@ -1,5 +1,4 @@
-//! Laws of what is published, each the contract of a function that does nothing but cite the laws
-//! that it rests on.
+//! Laws of the published results, each the contract of a function that does nothing but cite the laws that it rests on.
 ghost use Rattle.std.specs.Prelude.{◌≡◌, true, ℕ, ℤ, pos, List, Bool};
 ghost use Rattle.dam_book.specs.Book.{BookState};
 ghost use Rattle.dam_blocks.specs.Problem.{ProblemState, problem_of};
@@ -30,7 +29,7 @@ pub fn best_selection_is_result()
     dam_blocks::laws::verdict();
 }
 
-/// A closed book is cleared by what is published of its problem's result.
+/// A closed book is cleared by the published results of its problem.
 pub fn published_results_are_clearings()
     ensures { (book : BookState) (problem : ProblemState) (sel : List Bool) (found welfare : ℕ)
         (periods : List PeriodResult) (rows : List RowResult)

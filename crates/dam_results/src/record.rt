@@ -15,8 +15,7 @@ use dam_book::{
     read_day_length, read_pair, read_price, read_volumes,
 };
 
-// Each reader of a record answers what it says, or the number of the least field that breaks its
-// rule.
+// Each reader of a record returns the record's content, or the number of the least field that breaks its rule.
 
 fn check_empty(field: &[u8], number: usize) -> Result<(), usize>
     ensures { MatchResult result (λ _. field.now ≡ [])
@@ -37,7 +36,7 @@ fn check_no_family(row: &NineFields) -> Result<(), usize>
     check_empty(row.group, 9)
 }
 
-/// The fields 4 to 9, which say what is ordered.
+/// The fields 4 to 9, which state the order.
 fn check_no_order(row: &NineFields) -> Result<(), usize>
     ensures { ChecksEmpty 4 (drop 3 (fields_in row.now)) result }
 {

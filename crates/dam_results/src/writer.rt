@@ -223,7 +223,7 @@ fn begun(alloc: Global, periods: DayLength) -> Result<Writer<Vec<u8>>, AllocErro
     Ok(out)
 }
 
-/// What was written.
+/// The written text.
 fn text_of(out: Writer<Vec<u8>>) -> Result<Vec<u8>, AllocError>
     ensures { IfOk result (λ text. (written : List ℕ) → Wrote out written
         → text.items ≡ written) }

@@ -63,7 +63,7 @@ fn concluded(
 /// The result of a problem, found on the calling thread alone: no thread is started, and there is no
 /// lock and no shared word. It is for callers that can't start threads.
 ///
-/// It finds what `search` finds, whose clauses it has for a plan that cuts nothing. The whole search
+/// It finds the result of `search`, whose clauses it has for a plan that cuts nothing. The whole search
 /// is piece 0, which visits at most `nodes` nodes; 67,108,864 are enough for any problem. If `nodes` is
 /// more than a trial visits, it first makes the trial that `search` makes, whose nodes aren't counted.
 pub fn search_alone(alloc: Global, problem: &Problem, nodes: u32) -> Result<Best, SearchFault>

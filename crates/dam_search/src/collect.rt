@@ -81,7 +81,7 @@ fn least_unfinished(answers: &[PieceAnswer]) -> Option<PieceAnswer>
     least
 }
 
-/// The better of what was found before and what the answer found.
+/// The better of the earlier finding and the answer's.
 fn higher(best: Option<Best>, answer: &PieceAnswer) -> Option<Best>
     ensures either { (result ≡ best) ⊎ (result ≡ answer.now.best) }
     ensures before { Rises best result }
@@ -97,7 +97,7 @@ fn higher(best: Option<Best>, answer: &PieceAnswer) -> Option<Best>
     }
 }
 
-/// The highest of what the answers found.
+/// The highest of the selections that the answers found.
 fn highest(answers: &[PieceAnswer]) -> Option<Best>
     requires { All (λ a. IsLong a.best) answers.now }
     ensures { IsHighestFound answers.now result }

@@ -1,12 +1,11 @@
 ghost use Rattle.std.specs.Prelude.{◌≡◌, ◌≤◌, ℕ, max};
 
-/// The greatest welfare that a search knows of, which its pieces are pruned by: a prefix whose
-/// bound is less than what was read is passed over.
+/// The greatest welfare known to a search, by which its pieces are pruned: a prefix whose bound is less than the value
+/// read is passed over.
 ///
 /// An incumbent keeps two numbers, in cents per MWh times tenths of a MW: the greatest value that
 /// was read of it and the greatest welfare that was offered to it, each 0 if there was none.
-/// What it reads need not be what was offered to it: workers that share one read each other's
-/// offers.
+/// The values read may differ from the values offered to it: workers that share one read each other's offers.
 pub trait Incumbent {
     /// The greatest value read so far.
     ghost greatest_read: { Self → ℕ };
@@ -14,12 +13,12 @@ pub trait Incumbent {
     /// The greatest welfare offered so far.
     ghost greatest_offer: { Self → ℕ };
 
-    /// What neither a read nor an offer changes.
+    /// The part that neither a read nor an offer changes.
     ghost Kept: { Type 0 } = { Unit {0} };
 
     ghost kept: { Self → Self.Kept };
 
-    /// A welfare to prune by, never less than what this incumbent answered before, in cents per MWh
+    /// A welfare to prune by, never less than this incumbent's earlier answers, in cents per MWh
     /// times tenths of a MW. A walk asks for it at each node that leaves a block undecided, and compares
     /// the node's bound with it.
     fn read(&mut self) -> u64

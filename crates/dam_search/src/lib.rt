@@ -11,7 +11,7 @@
 //! visited nodes in an answer is the number visited, and that the incumbent is read at each; with which limit on nodes
 //! a search just ends; which of several unfinished pieces is named; that the first selection is a good one; that a
 //! turnstile is called with the piece's number; that pieces are explored at the same time, and that one worker reads
-//! what another offered; and that a search reports out of memory only if memory has run out.
+//! the offers of another; and that a search reports out of memory only if memory has run out.
 //!
 //! The crate knows nothing of how prices are found, nor of texts.
 #![tactic(auto)]

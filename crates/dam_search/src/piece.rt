@@ -15,7 +15,7 @@ use dam_blocks::{Best, Problem, Selection, ranks_above};
 use dam_bound::{Bounds, Trail};
 use std::alloc::Allocator;
 
-/// What a walk has found, read and visited so far.
+/// The state of a walk: its finding, reads and visits so far.
 #[derive(Drop)]
 struct Progress {
     best: Option<Best>,
@@ -24,7 +24,7 @@ struct Progress {
     visited: u32,
 }
 
-/// Whether the candidate ranks above what was found.
+/// Whether the candidate ranks above the selection found.
 pub(crate) fn surpasses(candidate: &Best, best: &Option<Best>) -> bool
     ensures { MatchBool result (Rises best.now (Some candidate.now))
         (IsMatched (pos candidate.now.welfare) candidate.now.selection best.now) }
@@ -149,13 +149,13 @@ impl<A: Allocator, B: Allocator> SearchSpace<'_, A, B> {
     /// Visits the prefix, which the links and the groups admit, and what extends it, as far as the limit on
     /// nodes allows; whether no node is left.
     ///
-    /// A prefix whose bound is less than what was read is passed over after its own visit. 'Rejected' is
-    /// explored before 'accepted', which finds good selections sooner. If the bound equals what was read, no
+    /// A prefix whose bound is less than the value read is passed over after its own visit. 'Rejected' is
+    /// explored before 'accepted', which finds good selections sooner. If the bound equals the value read, no
     /// completion has more welfare than that, and only the order of ties counts: 'accepted' comes first in
     /// it, and is explored first. The days of the prefix and of the shorter ones stay.
     ///
-    /// `total` is the prefix's bound. There is none if it has no bound, or one that is known to be under what
-    /// was read.
+    /// `total` is the prefix's bound. There is none if it has no bound, or one that is known to be under the value
+    /// read.
     ///
     /// It is inlined into `decide`, so that the walk is one function that calls itself.
     #[cycle(explore)]
@@ -224,7 +224,7 @@ impl<A: Allocator, B: Allocator> SearchSpace<'_, A, B> {
     /// Explores the extension of a prefix by this decision on the next block, as `explore` does.
     ///
     /// If the links and the groups don't admit it, it is passed over without a visit. `total` is its bound; there is
-    /// none if it has no bound, or one that is known to be under what was read. Its day is made only if there is one.
+    /// none if it has no bound, or one that is known to be under the value read. Its day is made only if there is one.
     #[cycle(explore)]
     fn decide<I: Incumbent>(
         &self,
@@ -265,7 +265,7 @@ impl<A: Allocator, B: Allocator> SearchSpace<'_, A, B> {
 ///
 /// In piece j the block at place i is accepted if the binary digit of j with weight 2 to the power
 /// `depth` - 1 - i is 0. A node is a prefix that extends the piece's. If the links and the groups admit
-/// it, it is visited when its bound is compared with what was read, or, if it decides every block, when
+/// it, it is visited when its bound is compared with the value read, or, if it decides every block, when
 /// its welfare is looked at; otherwise it is passed over without a visit. No node is visited twice, and
 /// the answer isn't `done` if it takes more than `nodes` nodes. The search takes no memory but 20 kB of
 /// the stack, for the days of the walk.

@@ -6,8 +6,8 @@ ghost use Rattle.dam_search.specs.Words.{view_of, first_view, cut_left, cut_righ
 use crate::incumbent::Incumbent;
 use crate::words::{CLAIM, Draw, INCUMBENT, JoinIn, Offer, Read, Seat, SplitOff, Words};
 
-/// A worker's seat at the two words of a search: it draws pieces, and it is the incumbent that the
-/// worker's pieces are pruned by. A contract sees what it knows as `view_of seat`.
+/// A worker's seat at the two words of a search: it draws pieces, and it is the incumbent that prunes the worker's
+/// pieces. A contract sees its knowledge as `view_of seat`.
 ///
 /// In the program [`search`](crate::search) alone makes seats, as no other crate can: it splits one
 /// for each worker off the first one, joins all of them into it after their work, and closes the words
@@ -22,7 +22,7 @@ use crate::words::{CLAIM, Draw, INCUMBENT, JoinIn, Offer, Read, Seat, SplitOff, 
 #[derive(Drop)]
 pub struct Shared<'a> {
     words: &'a Words,
-    /// The right to step on the words, and what it knows of them.
+    /// The right to step on the words, and its knowledge of them.
     pub seat: Seat,
     pieces: u32,
     ghost seated: { seat.table_id ≡ words.now.shared.table_id },

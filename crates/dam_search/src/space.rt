@@ -6,7 +6,7 @@ use dam_blocks::Problem;
 use dam_bound::Walk;
 use std::alloc::Allocator;
 
-/// What a search reads: a problem, and the walk over its tables.
+/// The input of a search: a problem, and the walk over its tables.
 #[derive(Drop)]
 pub(crate) struct SearchSpace<'a, A: Allocator, B: Allocator> {
     pub(crate) problem: &'a Problem<A>,
@@ -14,7 +14,7 @@ pub(crate) struct SearchSpace<'a, A: Allocator, B: Allocator> {
     ghost same: { walk.now ≡ without_rows problem.now },
 }
 
-/// What every problem keeps, for proofs: the call computes nothing.
+/// The invariant of a problem, for proofs: the call computes nothing.
 pub(crate) fn kept<A: Allocator>(problem: &Problem<A>)
     ensures { IsProblem problem.now }
 {

@@ -3,7 +3,7 @@ ghost use Rattle.std.specs.Borrow.{ftrue};
 
 use std::marker::Model;
 
-/// What a seat knows. No value of it is made: it exists only in proofs.
+/// The knowledge of a seat. A value of it is never made: it exists only in proofs.
 pub struct View {
     /// How many pieces there are.
     pub ghost pieces: { ℕ },

@@ -28,7 +28,7 @@ impl TableRule<(), View, u64> for WordRule {
 /// The two words.
 pub(crate) type Words = Table<(), View, u64, WordRule, Global>;
 
-/// The right of one thread to step on the words, with what it knows of them.
+/// The right of one thread to step on the words, with its knowledge of them.
 pub(crate) type Seat = atomic_table::Seat<(), View>;
 
 /// A draw: 1 is added to the claim word.
@@ -81,7 +81,7 @@ pub(crate) fn new_words(alloc: Global, pieces: u32) -> Result<(Words, Seat), All
     Table::of_words(alloc, &[0, 0], &u64::from(pieces))
 }
 
-/// What the two words held at the close.
+/// The contents of the two words at the close.
 #[derive(Clone, Copy, PartialEq, Eq, Debug)]
 pub(crate) struct ClosedWords {
     /// How many draws there were.

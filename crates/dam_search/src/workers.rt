@@ -31,7 +31,7 @@ pub(crate) struct Share<'a> {
     answers: Result<Vec<PieceAnswer>, AllocError>,
 }
 
-/// What all workers share.
+/// The state that all workers share.
 #[derive(Drop)]
 pub(crate) struct Task<'a> {
     pub(crate) alloc: Global,
@@ -165,7 +165,7 @@ fn shared_out<'a, R: Threads + Sync, T: Turnstile + Sync>(
     gathered(task, first, shares, answers)
 }
 
-/// The answers of all workers, and what the words held when they were closed.
+/// The answers of all workers, and the contents of the words when they were closed.
 #[derive(Drop)]
 pub(crate) struct Explored {
     pub(crate) answers: Vec<PieceAnswer>,
