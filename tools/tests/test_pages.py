@@ -26,7 +26,7 @@ MOST_BYTES = {
     "README.md": 7_100,
     "ARCHITECTURE.md": 6_100,
     "ASSURANCE.md": 22_000,
-    "DECISIONS.md": 15_000,
+    "DECISIONS.md": 15_500,
     "MEASURED.md": 8_000,
     "OPERATING.md": 6_000,
     "READING.md": 4_500,

@@ -77,15 +77,15 @@ same_group _ _ = false
 abbrev pub are_of_one_group : Block → Block → Bool
 are_of_one_group a b = same_text a.who b.who && same_group a.order.group b.order.group
 
--- how many accepted blocks are of this one's group, itself among them; 0 if it has no group
+-- how many accepted blocks are of this one's group, itself too if it is accepted; 0 if it has no group
 abbrev pub accepted_of_group : Block → List Block → List Bool → ℕ
 accepted_of_group block (b ∷ bs) (true ∷ selection) =
     (if are_of_one_group block b then 1 else 0) + accepted_of_group block bs selection
 accepted_of_group block (b ∷ bs) (false ∷ selection) = accepted_of_group block bs selection
 accepted_of_group block _ _ = 0
 
--- a block stands at the place, its parent is accepted if it has one, and so are at most
--- `most_of_group` blocks of its group
+-- a block stands at the place, its parent is accepted if it has one, and at most `most_of_group` blocks
+-- of its group are accepted
 pub record IsAllowed (blocks : List Block) (selection : List Bool) (i : ℕ) : Type 0 where
   pub block : Block
   pub stands : slice_get blocks i ≡ Some block

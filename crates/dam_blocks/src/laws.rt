@@ -21,8 +21,8 @@ ghost use Rattle.dam_blocks.specs.Result.{accepts_first, RanksAbove, RanksAtOrBe
 use crate::problem::MOST_PERIODS;
 
 /// The exported constant is the number of its limit. The greatest value of all hourly orders and of all
-/// blocks, surplus of one block and welfare of a selection follow from the limits on a book, and a
-/// welfare and the surpluses of all blocks fit in an `i64`.
+/// blocks, surplus of one block and welfare of a selection are these products of the limits. The greatest
+/// welfare, and the greatest surpluses of all blocks, fit in an `i64`.
 pub fn limits()
     ensures periods { MOST_PERIODS ≡ last_period }
     ensures hourly_value { greatest_hourly_value ≡ most_hourly * (greatest_price * greatest_volume) }

@@ -148,8 +148,8 @@ impl<A: Allocator + Copy> Keeper<A> {
         })
     }
 
-    /// Takes all memory of a command's step: the room in the journal, and a book for the step's result, if it changes
-    /// the book.
+    /// Takes all memory of a command's step: the packed command, the room in the journal, and a book for the step's
+    /// result, if it changes the book.
     ///
     /// The journal and the book stay as they are.
     pub fn ready(&mut self, command: &Command) -> Result<Ready<A>, KeeperFault>
@@ -162,7 +162,7 @@ impl<A: Allocator + Copy> Keeper<A> {
         Ok(self.ready_with(packed, command)?)
     }
 
-    /// The command as its entry has it, if the journal isn't full for it.
+    /// Packs the command for its entry, unless the journal is full for it.
     pub(crate) fn pack(&self, command: &Command) -> Result<PackedCommand<A>, KeeperFault>
         ensures packed { IfOk result (λ packed. packed ≡ command.now) }
         ensures room { OnOk result
@@ -177,7 +177,7 @@ impl<A: Allocator + Copy> Keeper<A> {
         Ok(PackedCommand::of(*self.entries.allocator(), command)?)
     }
 
-    /// Takes all memory of a packed command's step, as `ready` does, for which the journal isn't full.
+    /// As `ready`, for a packed command for which the journal has room.
     pub(crate) fn ready_in_room(
         &mut self,
         command: &PackedCommand<A>,
@@ -190,7 +190,7 @@ impl<A: Allocator + Copy> Keeper<A> {
         self.ready_with(packed, &command.command())
     }
 
-    /// Takes the memory of a step that packing the command has left to take.
+    /// Takes the rest of a step's memory; the command is packed already.
     ///
     /// The command is decided once, for the reply, for the book after it and for the book before.
     fn ready_with(

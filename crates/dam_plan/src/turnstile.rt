@@ -2,7 +2,8 @@
 ///
 /// A search calls them round each piece, with the piece's number. A day at a gate calls them round each participant's
 /// commands, with the participant's number, by first occurrence among the day's commands. So a caller can see which
-/// jobs are at work at the same time, or have one wait for another. They can't change the results.
+/// jobs are at work at the same time, or have one wait for another. They can't change the results of a search; at a
+/// gate they can change only the order in which participants' commands come.
 pub trait Turnstile {
     /// Called before the work of a job, which begins when the call returns: it may take as long as it likes. Jobs are
     /// numbered from 0.

@@ -51,9 +51,10 @@ all_nodes left = 2 ^ (left + 1) - 1
 abbrev pub live_nodes : ProblemState → ℕ → List Bool → ℕ → ℕ
 live_nodes problem value prefix left = 1 + 2 * live_count problem value prefix left
 
--- how many nodes are visited at least if this number of blocks is undecided and no greater value is
--- read: the prefix, and if its relaxed welfare reaches the value, the nodes from the extension that
--- rejects the next block, and those from the one that accepts it, if the test admits that one
+-- the number of nodes that a walk from an admissible prefix visits at least, with this number of blocks
+-- undecided, if it never reads a greater value: the prefix, and if its relaxed welfare reaches the
+-- value, the nodes from the extension that rejects the next block, and those from the one that accepts
+-- it, if the test admits that one
 abbrev pub needed_nodes : ProblemState → (List Bool → Bool) → ℕ → List Bool → ℕ → ℕ
 needed_nodes problem admits value prefix zero = 1
 needed_nodes problem admits value prefix (suc left) =
@@ -67,8 +68,8 @@ needed_nodes problem admits value prefix (suc left) =
 abbrev pub AdmitsOnly : ProblemState → (List Bool → Bool) → Type 0
 AdmitsOnly problem admits = (sel : List Bool) → admits sel ≡ true → IsAdmissible problem.blocks sel
 
--- if this number of blocks is undecided, this many nodes are as many as a walk over the completions
--- of the prefix needs that reads no greater value than this one
+-- the number of nodes is at least the number that a walk over the completions of the prefix visits, even
+-- if it reads this value from the start and never a greater one
 abbrev pub AreEnough : ProblemState → List Bool → ℕ → ℕ → ℕ → Type 0
 AreEnough problem prefix left read nodes = IsAdmissible problem.blocks (padded prefix)
     → (admits : List Bool → Bool) (value : ℕ) → AdmitsOnly problem admits → read ≤ value

@@ -12,8 +12,8 @@ pub record IsUnfinished (problem : ProblemState) (depth nodes piece visited : �
   pub over_all : nodes < all_nodes (length problem.blocks - depth)
   pub over_live : nodes < live_nodes problem 0 (choice depth piece) (length problem.blocks - depth)
 
--- the limit is enough for each piece of the cutting, if this is the welfare of the result: without as
--- many nodes there is no result
+-- the limit is at least the number of nodes that each piece of the cutting must visit, even if the
+-- result's welfare, which is this one, is read from the start; a lesser limit gives no result
 abbrev pub IsLimitEnough : ProblemState → ℕ → ℕ → ℕ → Type 0
 IsLimitEnough problem depth nodes welfare = (piece : ℕ) → piece < 2 ^ depth
     → AreEnough problem (choice depth piece) (length problem.blocks - depth) welfare nodes

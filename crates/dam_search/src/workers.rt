@@ -199,8 +199,8 @@ pub(crate) fn explore_all<R: Threads + Sync, T: Turnstile + Sync>(
 /// run changes it.
 ///
 /// The search first finds a good selection, and offers its welfare before any worker starts. If a piece may visit
-/// more nodes than a trial (4,096 to 46,875, one for every 16 losses that tables could keep), a trial comes next. If
-/// it doesn't end the search, tables of some MiB are made, which are quicker to read, if there is memory. The limit
+/// more nodes than a trial (4,096 to 46,875, one for every 16 losses that tables could keep), a trial comes next.
+/// Unless it finishes, tables of some MiB are made, which are quicker to read, if there is memory. The limit
 /// on nodes doesn't count the trial. The cutting decides as many of the first blocks as the plan says, or all of them
 /// if there are fewer. The workers, each on a thread of its own, draw its pieces as they come free, and prune by the
 /// greatest welfare that any of them has found. If a thread can't be made, the calling one does its work. Of the
@@ -218,7 +218,7 @@ pub fn search<R: Threads + Sync, T: Turnstile + Sync>(
         → IsUnfinished problem.now (min plan.cut (length problem.now.blocks))
         plan.nodes piece visited }
 
-    // Without as many nodes as a piece needs there is no result.
+    // A limit below the number of nodes that some piece must visit gives no result.
     ensures enough { IfOk result (λ best. IsLimitEnough problem.now
         (min plan.cut (length problem.now.blocks)) plan.nodes best.welfare) }
 
