@@ -107,6 +107,15 @@ class Facts(unittest.TestCase):
         }
         self.assertEqual({name: found.get(name) for name in wanted}, wanted)
 
+    def test_the_greatest_sums(self):
+        """As numbers of cents per MWh times tenths of a MW: the laws of `dam_blocks` have them as products of the limits."""
+        price = max(-rules.LEAST_PRICE, rules.GREATEST_PRICE)
+        hourly = rules.MOST_HOURLY * rules.GREATEST_VOLUME * price
+        blocks = rules.MOST_BLOCKS * rules.GREATEST_PERIOD * rules.GREATEST_VOLUME * price
+        surplus = rules.GREATEST_PERIOD * rules.GREATEST_VOLUME * (rules.GREATEST_PRICE - rules.LEAST_PRICE)
+        self.assertEqual((hourly, blocks, surplus), (159_998_400_000_000, 95_999_040_000_000, 4_499_955_000_000))
+        self.assertEqual(hourly + blocks, 255_997_440_000_000)
+
     def test_explanations_stand_once(self):
         for said, homes in ONCE.items():
             with self.subTest(said):
