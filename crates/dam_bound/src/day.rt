@@ -73,7 +73,7 @@ pub(crate) fn copy_classes(from: &Day, to: &mut Day, count: usize)
     to.total = from.total;
 }
 
-/// The state of a block on a day.
+/// The change of a block on a day.
 #[derive(Clone, Copy)]
 pub(crate) enum Change {
     /// It is decided.

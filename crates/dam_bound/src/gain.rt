@@ -68,7 +68,7 @@ fn surplus_of<A: Allocator, B: Allocator>(
     total
 }
 
-/// The gains of the members of a family that the selection accepts, each alone.
+/// The gains of the members of a family that the selection accepts, each alone, added up.
 fn surplus_of_family<A: Allocator, B: Allocator>(
     problem: &Problem<A>,
     tables: &Tables<B>,

@@ -69,7 +69,8 @@ impl<A: Allocator> Model for Tables<A> {
     } };
 }
 
-/// What the accepted block adds to the net volume of a period in which it has this volume, in tenths of a MW.
+/// The volume that the accepted block adds to the net volume of a period in which it has this volume, in tenths of a
+/// MW.
 fn net_of(side: Side, qty: Qty) -> i32
     ensures { result ≡ neg_ℤ (signed side (pos qty)) }
 {
@@ -132,7 +133,7 @@ impl<'a, A: Allocator> Model for Deciding<'a, A> {
 }
 
 impl<A: Allocator> Deciding<'_, A> {
-    /// What the accepted block is worth in all periods of the class that begins at the place.
+    /// The value of the accepted block in all periods of the class that begins at the place.
     fn value(&self, at: usize) -> i64
         requires { (problem : ProblemState) × (all : CurvesState) × (kept : ℕ) × (k : ℕ)
             × (b : Block) × IsDeciding problem all kept k b self.now × IsClass problem at }
@@ -165,7 +166,7 @@ impl<A: Allocator> Deciding<'_, A> {
         (range.least - net.min(0), range.most - net.max(0))
     }
 
-    /// What a decision on the block makes of the class that begins at the place.
+    /// The effect of a decision on the block on the class that begins at the place.
     fn touch<B: Allocator, C: Allocator>(
         &self,
         curves: &mut Curves<B>,
@@ -207,7 +208,7 @@ impl<A: Allocator> Deciding<'_, A> {
         })
     }
 
-    /// What a decision on the block makes of each of its classes, in the order of its periods.
+    /// The effects of a decision on the block on each of its classes, in the order of its periods.
     fn touches<B: Allocator, C: Allocator, D: Allocator>(
         &self,
         alloc: D,
