@@ -2,9 +2,10 @@
 """draw_trust.py unit-7 | selections [--draw]: the numbers of TRUST.md, or with --draw the text of a picture of them.
 
 `unit-7` is about what the block UNIT-7 would do to the prices of the sunny day: the picture is docs/unit-7.svg. `selections` is about how
-many selections of its blocks each rule leaves: docs/selections.svg. The pictures need matplotlib, as tools/plot does."""
+many selections of its blocks each rule leaves: docs/selections.svg. The pictures need matplotlib (Debian's package python3-matplotlib)."""
 
 import sys
+from fractions import Fraction
 from pathlib import Path
 from typing import NamedTuple
 
@@ -12,7 +13,7 @@ TOP = Path(__file__).resolve().parent.parent
 sys.dont_write_bytecode = True
 sys.path.insert(0, str(TOP / "tools"))
 
-from lib import best, book, journal, rules, selection, text
+from lib import best, book, command, journal, rules, selection, text
 
 BLOCK = "COAL", "UNIT-7"
 LEFT = 0.6  # where the bars of the selections begin, so that one selection is seen
@@ -43,8 +44,8 @@ class Counts(NamedTuple):
     balanced: int
     eligible: int
     greatest: int  # eligible, and none of them has more welfare
-    above: int  # with more welfare than these, but a block loses
-    more: int  # by how much the selection that adds the block to the best one has more welfare
+    above: list  # the selections with more welfare than these, in which a block loses: each as its other blocks and its welfare beyond
+    less: int  # by how much the best eligible selection with the block has less welfare
 
 
 class Effect(NamedTuple):
@@ -52,8 +53,14 @@ class Effect(NamedTuple):
 
     limit: int
     periods: list
+    volumes: list
     prices: list  # of the two
     gains: list
+
+    def averages(self):
+        """The average price of the periods, each counted by the block's volume."""
+        worth = [sum(volume * price for volume, price in zip(self.volumes, prices)) for prices in self.prices]
+        return [Fraction(total, sum(self.volumes)) for total in worth]
 
 
 def problem():
@@ -67,45 +74,58 @@ def counted(day):
     search.run()
     welfare, accepted = max(search.eligible, key=lambda found: found[0])
     greatest = sum(other == welfare for other, _ in search.eligible)
-    above = {chosen: other - welfare for other, chosen in search.losing if other > welfare}
-    more = above[accepted | {day.place(*BLOCK)}]
+    above = sorted((found for found in search.losing if found[0] > welfare), reverse=True, key=lambda found: found[0])
+    above = [(differences(day, accepted, chosen), other - welfare) for other, chosen in above]
+    with_block = [other for other, chosen in search.eligible if day.place(*BLOCK) in chosen]
     balanced = len(search.eligible) + len(search.losing)
-    return Counts(len(day.blocks), search.tried, balanced, len(search.eligible), greatest, len(above), more), accepted
+    counts = Counts(len(day.blocks), search.tried, balanced, len(search.eligible), greatest, above, welfare - max(with_block))
+    return counts, accepted
+
+
+def differences(day, accepted, chosen):
+    """How a selection differs from the accepted blocks: 'with A', or 'with A in place of B'."""
+    more, less = (", ".join(day.blocks[place].name for place in sorted(places)) for places in (chosen - accepted, accepted - chosen))
+    return " ".join([f"with {more}"] * bool(more) + ["in place of" if more else "without", less][: 2 * bool(less)])
 
 
 def effect(day, accepted):
     place = day.place(*BLOCK)
     order = day.blocks[place].order
-    periods = [number for number, _ in order.volumes]
+    periods, volumes = map(list, zip(*order.volumes))
     found = [selection.outcome(day, chosen) for chosen in (accepted, accepted | {place})]
     prices = [[outcome.cleared[number].price for number in periods] for outcome in found]
-    return Effect(order.price, periods, prices, [outcome.surpluses[place] for outcome in found])
+    return Effect(order.price, periods, volumes, prices, [outcome.surpluses[place] for outcome in found])
 
 
 def steps(counts):
     """What each rule leaves, from all selections down to the published one."""
     yield 2**counts.blocks, f"ways to accept or reject {counts.blocks} blocks"
     yield counts.admitted, "of these obey links and groups"
-    yield counts.balanced, f"{'all ' if counts.balanced == counts.admitted else ''}of these balance in each hour"
-    yield counts.eligible, "of these let no accepted block lose, with its accepted descendants"
+    yield counts.balanced, f"{'(all of these)' if counts.balanced == counts.admitted else 'of these'} balance in each hour"
+    yield counts.eligible, "of these: every accepted block at least breaks even, counted with its accepted descendants"
     yield counts.greatest, "of these has the greatest welfare: the published one"
 
 
 def say_effect(day):
-    found = effect(day, counted(day)[1])
-    yield f"{' '.join(BLOCK):<18}{'rejected':>12}{'accepted':>12}"
+    counts, accepted = counted(day)
+    found = effect(day, accepted)
+    name = f"{' '.join(BLOCK)}, {text.shown_volume(max(found.volumes)).removesuffix('.0')} MW"
+    yield f"{name:<20}{'rejected':>10}{'accepted':>12}"
     for number, *prices in zip(found.periods, *found.prices):
         yield f"price of hour {number:<4}" + "".join(f"{text.cents(price):>12}" for price in prices)
+    yield f"{'their average':<18}" + "".join(f"{text.shown_price(average):>12}" for average in found.averages())
     yield f"{'its limit':<18}" + f"{text.cents(found.limit):>12}" * 2
     yield f"{'its gain, EUR':<18}" + "".join(f"{day.euros(gain):>12}" for gain in found.gains)
+    yield f"the best permitted selection with {BLOCK[1]} has {day.euros(counts.less)} EUR less welfare"
 
 
 def say_selections(day):
     counts, _ = counted(day)
     for count, words in steps(counts):
         yield f"{count:>5,}  {words}"
-    yield f"{counts.above:>5,}  have more welfare, but in each an accepted block loses, with its descendants"
-    yield f"       (the published one with {BLOCK[1]}: {day.euros(counts.more)} EUR more)"
+    yield f"{len(counts.above):>5,}  have more welfare, but in each an accepted block loses, with its descendants:"
+    for words, more in counts.above:
+        yield f"       the published one {words}: {day.euros(more)} EUR more"
 
 
 def draw_effect(day):
@@ -162,10 +182,11 @@ def main():
     if not words[1:]:
         print(*say(problem()), sep="\n")
         return
+    command.need("matplotlib")
     from lib import pictures
 
     sys.stdout.buffer.write(pictures.picture(draw(problem()), "svg"))
 
 
 if __name__ == "__main__":
-    main()
+    command.run("draw_trust.py", main)

@@ -385,7 +385,7 @@ def draw_blocks(axes, day):
     axes.grid(visible=False)
     present = [kind for kind in LOOKS if any(decision.kind == kind for decision in found)]
     key = [Patch(edgecolor=COLOURS["ink"], linewidth=0.7, **LOOKS[kind]) for kind in present]
-    legend(axes, key, present, columns=3, right=0.97)
+    legend(axes, key, present, columns=3, right=0.88)
     heading(axes, "Blocks")
 
 
@@ -468,7 +468,7 @@ def label_block(axes, row, block, surplus):
         axes.text(0.996, row - 0.12, f"{surplus} EUR", va="bottom", ha="right", color=COLOURS["soft"], **place)
         return
     if not row:
-        axes.text(1.088, -0.55, "surplus, EUR", ha="right", va="bottom", color=COLOURS["soft"], **place)
+        axes.text(1.088, -0.55, "surplus at these prices, EUR", ha="right", va="bottom", color=COLOURS["soft"], **place)
     axes.text(1.088, row, surplus, va="center", ha="right", **place)
     axes.text(-0.008, row + 0.06, words, va="top", ha="right", color=COLOURS["soft"], **place)
     axes.text(-0.008, row + 0.02, name, va="bottom", ha="right", **{**place, "fontsize": 8.5})

@@ -15,6 +15,8 @@ import draw_crates
 
 LIST = "# a comment\nlow:\nhigh staticlib: low kit # more\nmiddle: low\ntop: high middle low\nhigh: other\n"
 
+TABLE = re.compile(r"^\| File of `src/` \| Contents \|\n\|---\|---\|\n((?:\|.*\n)+)", re.MULTILINE)
+
 
 class Crates(unittest.TestCase):
     def test_a_list(self):
@@ -45,12 +47,21 @@ class Crates(unittest.TestCase):
 
     def test_the_files_that_notes_name_are_there(self):
         notes = sorted(path for path in (TOP / "crates").glob("*/*.md") if "The files of `src/`" in path.read_text())
-        self.assertGreater(len(notes), 12)
+        self.assertGreater(len(notes), 2)
         for path in notes:
             files = re.search(r"^The files of `src/`: (.*?)\n\n|\Z", path.read_text() + "\n", re.MULTILINE | re.DOTALL)[1] or ""
             for name in re.findall(r"(?:^|; |, |and )`(\w+)`", re.sub(r"\([^)]*\)", "", files).replace("\n", " ")):
                 with self.subTest(path.parent.name, name=name):
                     self.assertTrue((path.parent / "src" / f"{name}.rt").exists())
+
+    def test_the_tables_of_notes_have_each_file(self):
+        tables = {path: TABLE.search(path.read_text()) for path in sorted((TOP / "crates").glob("*/NOTES.md"))}
+        tables = {path: found[1] for path, found in tables.items() if found}
+        self.assertGreater(len(tables), 9)
+        for path, rows in tables.items():
+            named = sorted(name for cell in re.findall(r"^\| (.*?) \|", rows, re.MULTILINE) for name in re.findall(r"`(\w+)`", cell))
+            with self.subTest(path.parent.name):
+                self.assertEqual(named, sorted(file.stem for file in (path.parent / "src").glob("*.rt") if file.stem != "lib"))
 
 
 if __name__ == "__main__":

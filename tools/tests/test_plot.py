@@ -59,7 +59,8 @@ class Pictures(unittest.TestCase):
 
         day = day_of(AUCTION.read_bytes(), support.printed(AUCTION))
         drawn = pictures.picture(pictures.day_picture(day), "svg", words_as_text=True).decode()
-        said = ["GAS EVENING", "sell 90 MW at 93.00 EUR/MWh", "paradoxically rejected", "supporting prices", ">24<", ">23:00<"]
+        said = ["GAS EVENING", "sell 90 MW at 93.00 EUR/MWh", "paradoxically rejected", "surplus at these prices, EUR"]
+        said += ["supporting prices", ">24<", ">23:00<"]
         for words in said:
             self.assertIn(words, drawn)
         drawn = pictures.picture(pictures.period_picture(day, 19), "svg", words_as_text=True).decode()

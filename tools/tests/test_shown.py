@@ -2,6 +2,7 @@
 orders that GUIDE.md quotes are in its journals."""
 
 import re
+import subprocess
 import sys
 import tempfile
 import unittest
@@ -16,7 +17,7 @@ import draw_trust
 
 TRUST, GUIDE = TOP / "docs" / "TRUST.md", TOP / "docs" / "GUIDE.md"
 NUMBER = re.compile(r"(?<![\w.-])-?\d[\d,]*(?:\.\d+)?(?![\w-])")
-HIDDEN = re.compile(r"^```.*?^```$|`[^`\n]*`|\]\([^)]*\)", re.MULTILINE | re.DOTALL)  # what isn't prose
+HIDDEN = re.compile(r"^```.*?^```$|`[^`\n]*`|\]\([^)]*\)|Python 3\.\d+", re.MULTILINE | re.DOTALL)  # what isn't prose
 NEEDS_NUMPY = unittest.skipUnless(command.has("numpy"), "numpy is missing (Debian's python3-numpy)")
 NEEDS_PROGRAM = unittest.skipUnless(engine.BUILT.exists(), "the program isn't built")
 
@@ -65,6 +66,13 @@ class Shown(unittest.TestCase):
             drawn = pictures.picture(draw(day), "svg", words_as_text=True).decode()
             for word in words:
                 self.assertIn(word, drawn)
+
+    @unittest.skipUnless(command.is_debians(), "this isn't Debian's Python")
+    def test_the_pictures_of_trust_need_matplotlib(self):
+        words = [sys.executable, "-S", TOP / "docs" / "draw_trust.py", "unit-7", "--draw"]  # -S leaves out Debian's packages
+        ran = subprocess.run(words, capture_output=True, text=True)
+        self.assertEqual((ran.returncode, ran.stdout), (command.FAILED, ""))
+        self.assertRegex(ran.stderr, r"^\S*draw_trust\.py: it needs matplotlib, .*: apt-get install python3-matplotlib\n$")
 
     def test_the_journals_of_the_guide(self):
         """Each is valid, and has the orders that its step quotes."""
