@@ -644,7 +644,7 @@ class CommandLine(unittest.TestCase):
         self.assertEqual((status, out, "has a journal instead of results" in err), (command.NO_INPUT, b"", True))
         status, out, _ = tool("audit", "--help")
         self.assertEqual((status, b"JOURNAL" in out), (0, True))
-        self.assertIn(b"print neither verdict nor faults", out)
+        self.assertIn(b"don't print the verdict and the faults", out)
         self.assertIn(b"tools/audit --best examples/auction-day.csv results.txt\n", out)
         self.assertEqual(audit((support.TOP / "examples/auction-day.csv").read_bytes(), printed(AUCTION), "--best")[0], 0)
 
