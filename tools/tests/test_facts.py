@@ -116,6 +116,21 @@ class Facts(unittest.TestCase):
         self.assertEqual((hourly, blocks, surplus), (159_998_400_000_000, 95_999_040_000_000, 4_499_955_000_000))
         self.assertEqual(hourly + blocks, 255_997_440_000_000)
 
+    def test_the_rules_at_a_terminal_show_the_limits(self):
+        advice = (TOP / "crates" / "dam_cli" / "src" / "advice.rt").read_text()
+        days = [str(periods) for periods in sorted(rules.DAYS)]
+        for rule in (
+            f"a day takes {rules.MOST_DAY_COMMANDS:,} commands at most",
+            f"a day takes {rules.MOST_DAY_PARTICIPANTS} participants at most",
+            f"a journal has {rules.MOST_BYTES:,} bytes at most",
+            f"a journal has the day and {rules.MOST_RECORDS - 1:,} commands at most",
+            f"its number of periods: {', '.join(days[:-1])} or {days[-1]}",
+            f"the participant: 1 to {rules.LONGEST_PARTICIPANT} capitals",
+            f"the order's name: 1 to {rules.LONGEST_NAME} capitals",
+        ):
+            with self.subTest(rule):
+                self.assertIn(rule, advice)
+
     def test_explanations_stand_once(self):
         for said, homes in ONCE.items():
             with self.subTest(said):

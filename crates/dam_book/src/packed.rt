@@ -1,6 +1,6 @@
-ghost use Rattle.std.specs.Prelude.{◌≡◌, ◌≢◌, IfOk, MatchBool};
+ghost use Rattle.std.specs.Prelude.{◌≡◌, ◌≢◌, true, IfOk, IsOk, MatchBool};
 ghost use Rattle.std.specs.Option.{option_copied};
-ghost use Rattle.dam_book.specs.Command.{giver};
+ghost use Rattle.dam_book.specs.Command.{giver, is_small};
 ghost use Rattle.dam_book.specs.inside.Packed.{command_of};
 
 use crate::command::{Command, Entry, Reply};
@@ -49,7 +49,8 @@ impl<A: Allocator> Model for PackedCommand<A> {
 impl<A: Allocator> PackedCommand<A> {
     /// The command, packed. Only a block or an amend takes memory.
     pub fn of(alloc: A, command: &Command) -> Result<PackedCommand<A>, AllocError>
-        ensures { IfOk result (λ packed. packed ≡ command.now) }
+        ensures command { IfOk result (λ packed. packed ≡ command.now) }
+        ensures small { is_small command.now ≡ true → IsOk result }
     {
         let form = match command {
             Command::Submit {

@@ -14,7 +14,7 @@ mod given;
 ghost use Rattle.dam_results.specs.Journal.{IsMadeFrom};
 ghost use Rattle.dam_results.specs.Replies.{AreReplies};
 ghost use Rattle.dam_engines.specs.Engine.{IsRunFault, IsTextFault};
-ghost use Rattle.dam_engines.specs.Clear.{AreResults, IsClearFault, terms_alone};
+ghost use Rattle.dam_engines.specs.Clear.{IsClearFault, IsClearedWithin, terms_alone};
 ghost use Rattle.dam_c.specs.Answer.{IsReturned};
 
 pub use answer::DamAnswer;
@@ -48,10 +48,11 @@ pub extern "C" fn dam_replay_seeded(
 }
 
 /// What `dam clear` prints for the text. The search visits at most `nodes` nodes, and maybe a trial before: 0 leaves
-/// every search unfinished, and from 67,108,864 on none is.
+/// every search unfinished, and from 67,108,864 on none is. A limit below the number of nodes that the search must visit
+/// gives no results.
 #[unsafe(no_mangle)]
 pub extern "C" fn dam_clear(alloc: Global, text: &[u8], nodes: u32, buffer: &mut [u8]) -> DamAnswer
-    ensures { IsReturned (IsMadeFrom AreResults text.now)
+    ensures { IsReturned (IsClearedWithin (terms_alone nodes) text.now)
         (IsRunFault (IsClearFault (terms_alone nodes)) text.now)
         result buffer.old buffer.new }
 {
@@ -67,7 +68,7 @@ pub extern "C" fn dam_clear_seeded(
     nodes: u32,
     buffer: &mut [u8],
 ) -> DamAnswer
-    ensures { IsReturned (IsMadeFrom AreResults text.now)
+    ensures { IsReturned (IsClearedWithin (terms_alone nodes) text.now)
         (IsRunFault (IsClearFault (terms_alone nodes)) text.now)
         result buffer.old buffer.new }
 {

@@ -1,10 +1,12 @@
 -- What the clearing engine prints for a journal's commands, and how it can fail.
-use Rattle.std.specs.Prelude.{◌≡◌, ℕ, min, true, false, List, length}
+use Rattle.std.specs.Prelude.{◌≡◌, ℕ, pos, min, true, false, Bool, List, length}
 use Rattle.dam_book.specs.Book.{BookState, run}
 use Rattle.dam_book.specs.declared.command.Command.{Command}
-use Rattle.dam_blocks.specs.Problem.{problem_of}
+use Rattle.dam_blocks.specs.Problem.{ProblemState, problem_of}
+use Rattle.dam_blocks.specs.Result.{IsResult}
 use Rattle.dam_plan.specs.Plan.{PlanTerms}
-use Rattle.dam_search.specs.Search.{IsUnfinished}
+use Rattle.dam_search.specs.Search.{IsUnfinished, LimitHasNeeded}
+use Rattle.dam_results.specs.Journal.{IsMadeFrom, ReadsAs}
 use Rattle.dam_results.specs.Clearing.{IsResultsText}
 use Rattle.dam_engines.specs.declared.fault.RunFault.{RunFault}
 use Rattle.dam_engines.specs.declared.fault.RunFault.TheVariants.{StillOpen, Unfinished, Memory}
@@ -17,6 +19,24 @@ AreResults periods commands text = IsResultsText (run periods commands) text
 pub record IsCutShort (plan : PlanTerms) (book : BookState) (piece visited : ℕ) : Type 0 where
   pub closed : book.closed ≡ true
   pub unfinished : IsUnfinished (problem_of book) (min plan.cut (length (problem_of book).blocks)) plan.nodes piece visited
+
+-- the problem has a result, and the plan's limit on nodes is at least the number of nodes that each piece needs to find it
+pub record PlanHasNeeded (plan : PlanTerms) (problem : ProblemState) : Type 0 where
+  pub selection : List Bool
+  pub welfare : ℕ
+  pub best : IsResult problem selection (pos welfare)
+  pub needed : LimitHasNeeded problem (min plan.cut (length problem.blocks)) plan.nodes welfare
+
+-- the text is a journal, and the plan's limit on nodes is at least the number needed to clear the book that its commands make
+pub record HasNeededToClear (plan : PlanTerms) (text : List ℕ) : Type 0 where
+  pub periods : ℕ
+  pub commands : List Command
+  pub reads : ReadsAs text periods commands
+  pub needed : PlanHasNeeded plan (problem_of (run periods commands))
+
+-- the text is printed for the journal of this text, and the plan's limit on nodes is at least the number needed
+abbrev pub IsClearedWithin : PlanTerms → List ℕ → List ℕ → Type 0
+IsClearedWithin plan text printed = IsMadeFrom AreResults text printed × HasNeededToClear plan text
 
 -- the terms of a search by one worker that cuts nothing; they are those of a plan only if a plan may have this limit on nodes
 abbrev pub terms_alone : ℕ → PlanTerms

@@ -1,8 +1,10 @@
-ghost use Rattle.std.specs.Prelude.{◌≡◌, ◌↔◌, false, IfOk, IfErr, IsErrOf};
+ghost use Rattle.std.specs.Prelude.{◌≡◌, ◌↔◌, false, IfOk, IfErr, IsErrOf, OnOk};
+ghost use Rattle.dam_blocks.specs.Problem.{problem_of};
 ghost use Rattle.dam_results.specs.Journal.{IsMadeFrom};
 ghost use Rattle.dam_results.specs.Clearing.{IsResultsText};
 ghost use Rattle.dam_engines.specs.Engine.{IsRunFault};
 ghost use Rattle.dam_engines.specs.Clear.{AreResults, IsBookFault, IsClearFault, terms_alone};
+ghost use Rattle.dam_engines.specs.Clear.{HasNeededToClear, PlanHasNeeded};
 
 use crate::fault::RunFault;
 use dam_blocks::Problem;
@@ -18,6 +20,7 @@ fn clear_book_alone(alloc: Global, book: &Book, nodes: u32) -> Result<Vec<u8>, R
     ensures done { IfOk result (λ results. IsResultsText book.now results.items) }
     ensures fault { IfErr result (IsBookFault (terms_alone nodes) book.now) }
     ensures still_open { IsErrOf result RunFault.StillOpen ↔ (book.now.closed ≡ false) }
+    ensures needed { OnOk result (PlanHasNeeded (terms_alone nodes) (problem_of book.now)) }
 {
     published_results_are_clearings();
     let problem = Problem::of_book(alloc, book)?;
@@ -39,6 +42,9 @@ pub fn clear_text_alone(
 ) -> Result<Vec<u8>, RunFault>
     ensures done { IfOk result (λ results. IsMadeFrom AreResults text.now results.items) }
     ensures fault { IfErr result (IsRunFault (IsClearFault (terms_alone nodes)) text.now) }
+
+    // A limit below the number of nodes that the search must visit gives no results.
+    ensures needed { OnOk result (HasNeededToClear (terms_alone nodes) text.now) }
 {
     let book = book_of_text(alloc, seed, text)?;
     clear_book_alone(alloc, &book, nodes)

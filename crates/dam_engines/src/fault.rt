@@ -1,7 +1,7 @@
 ghost use Rattle.std.specs.Prelude.{◌≡◌, ◌++◌, codes, IfOk};
 ghost use Rattle.dam_engines.specs.Fault.{fault_status, fault_text, run_fault_of};
 
-use crate::line::text_of;
+use crate::fixed_line::text_of;
 use dam_blocks::ProblemFault;
 use dam_gate::Mismatch;
 use dam_results::JournalFault;

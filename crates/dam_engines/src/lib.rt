@@ -17,10 +17,8 @@
 //!
 //! A contract sees a reader as the bytes that it has left, and a writer as those that it took, if they show them:
 //! standard input and output don't. How a run ends ([`run_clear`], clause `ends`), which text is printed for which
-//! bytes,
-//! and the text of each fault, stand in `specs/`. If the bytes are a journal, the printed text is for that journal and
-//! no
-//! other ([`laws::clearing_is_exact`] and the like), and a closed book has one results text at most
+//! bytes, and the text of each fault, stand in `specs/`. If the bytes are a journal, the printed text is for that
+//! journal and no other ([`laws::clearing_is_exact`] and the like), and a closed book has one results text at most
 //! ([`laws::cleared_text_is_one`]).
 //!
 //! A reader comes as a [`Source`] and a writer as a [`Sink`], which keep whether they failed, how often they were
@@ -40,9 +38,9 @@ mod counted;
 mod day;
 mod device;
 mod fault;
+mod fixed_line;
 mod input;
 pub mod laws;
-mod line;
 mod output;
 mod packed;
 mod replay;
@@ -53,7 +51,7 @@ pub use clear::run_clear;
 pub use day::run_day;
 pub use device::{Sink, Source};
 pub use fault::{RunFault, fault_line, status};
-pub use line::short_line;
+pub use fixed_line::short_line;
 pub use output::write_text;
 pub use replay::{replies_of, run_replay};
 pub use watch::Watch;

@@ -327,7 +327,7 @@ fn ends_with_a_close(journal: &Journal) -> bool
 }
 
 /// The day of participants who give all the commands, at a gate of its own.
-fn run_day<J: GateName + Send + Sync, R: Threads + Wait + Sync, T: Turnstile + Sync>(
+fn run_at_gate<J: GateName + Send + Sync, R: Threads + Wait + Sync, T: Turnstile + Sync>(
     rt: &R,
     alloc: Global,
     opening: Opening,
@@ -423,7 +423,7 @@ pub fn run_packed<R: Threads + Wait + Sync, T: Turnstile + Sync>(
 {
     let participants = givers(alloc, commands)?;
     let opening = Opening::new(periods.get());
-    run_day::<Brand, R, T>(
+    run_at_gate::<Brand, R, T>(
         rt,
         alloc,
         opening,

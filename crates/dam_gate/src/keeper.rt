@@ -1,4 +1,4 @@
-ghost use Rattle.std.specs.Prelude.{◌≡◌, ◌<◌, ◌+◌, ◌-◌, true, false, is_some, length, nat_le, if◌then◌else◌, IfOk, IfErr, OnOk, OnErr};
+ghost use Rattle.std.specs.Prelude.{◌≡◌, ◌<◌, ◌≤◌, ◌+◌, ◌-◌, true, false, is_some, length, nat_le, if◌then◌else◌, IfOk, IfErr, OnOk, OnErr};
 ghost use Rattle.std.specs.Option.{option_copied};
 ghost use Rattle.std.specs.Arc.{arc_value};
 ghost use Rattle.dam_book.specs.Book.{book_after, is_day, refusal};
@@ -151,10 +151,12 @@ impl<A: Allocator + Copy> Keeper<A> {
     /// Takes all memory of a command's step: the packed command, the room in the journal, and a book for the step's
     /// result, if it changes the book.
     ///
-    /// The journal and the book stay as they are.
+    /// The journal and the book stay as they are, and the room in the journal doesn't shrink. So a step that was ready
+    /// for this journal still is.
     pub fn ready(&mut self, command: &Command) -> Result<Ready<A>, KeeperFault>
         ensures ready { IfOk result (IsReadyFor self.new command.now) }
         ensures journal { self.new.journal ≡ self.old.journal }
+        ensures room { self.old.room ≤ self.new.room }
         ensures fault { IfErr result
             (IsKeeperFault (length self.old.journal.entries) command.now) }
     {
@@ -202,6 +204,7 @@ impl<A: Allocator + Copy> Keeper<A> {
         requires room { is_full (length self.old.journal.entries) command.now ≡ false }
         ensures ready { IfOk result (IsReadyFor self.new command.now) }
         ensures journal { self.new.journal ≡ self.old.journal }
+        ensures room { self.old.room ≤ self.new.room }
     {
         let number = self.len() + 1;
         self.entries.reserve(1)?;

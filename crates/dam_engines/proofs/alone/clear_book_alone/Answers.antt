@@ -1,4 +1,7 @@
 -- What is published of the problem's result is what the closed book is cleared by.
+use Rattle.std.proofs.Common.{subst}
+use Rattle.dam_blocks.specs.Problem.{ProblemState}
+use Rattle.dam_engines.specs.Clear.{PlanHasNeeded, terms_alone}
 use Rattle.dam_engines.proofs.alone.clear_book_alone.Goals as goal
 
 pub returns-clause-done : goal.returns-clause-done
@@ -8,3 +11,14 @@ returns-clause-done c =
     c.in_ok-published.ensures in
     let found = c.in_ok-published.published in
     (found.welfare, found.periods.items, found.rows.items, clearing, c.in_ok-results_text.ensures)
+
+pub returns-clause-needed : goal.returns-clause-needed
+returns-clause-needed c =
+    let best = c.in_ok-best.best in
+    let needed : PlanHasNeeded (terms_alone c.args.nodes) c.in_ok-problem.problem = record {
+      selection = best.selection;
+      welfare = best.welfare;
+      best = c.in_ok-best.ensures.ok;
+      needed = c.in_ok-best.ensures.needed;
+    } in
+    subst (λ (problem : ProblemState). PlanHasNeeded (terms_alone c.args.nodes) problem) c.in_ok-problem.ensures.ok.1 needed

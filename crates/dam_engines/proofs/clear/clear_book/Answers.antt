@@ -1,6 +1,8 @@
 -- What the search of the book's problem answers, the book is answered.
-use Rattle.std.proofs.Common.{Err, ap}
+use Rattle.std.proofs.Common.{Err, ap, subst}
 use Rattle.std.proofs.lemmas.Result.{err_from_is_err_and}
+use Rattle.dam_blocks.specs.Problem.{ProblemState}
+use Rattle.dam_engines.specs.Clear.{PlanHasNeeded}
 use Rattle.dam_engines.proofs.Fronts.{search_fault-book}
 use Rattle.dam_engines.proofs.clear.clear_book.Goals as goal
 
@@ -19,3 +21,14 @@ returns-clause-done g c =
     c.in_ok-published.ensures in
     let found = c.in_ok-published.published in
     (found.welfare, found.periods.items, found.rows.items, clearing, c.in_ok-results_text.ensures)
+
+pub returns-clause-needed : goal.returns-clause-needed
+returns-clause-needed g c =
+    let best = c.in_ok-best.best in
+    let needed : PlanHasNeeded c.args.plan c.in_ok-problem.problem = record {
+      selection = best.selection;
+      welfare = best.welfare;
+      best = c.in_ok-best.ensures.ok;
+      needed = c.in_ok-best.ensures.needed;
+    } in
+    subst (λ (problem : ProblemState). PlanHasNeeded c.args.plan problem) c.in_ok-problem.ensures.ok.1 needed

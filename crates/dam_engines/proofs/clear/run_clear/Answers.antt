@@ -3,10 +3,10 @@ use Rattle.std.proofs.Common.{refl}
 use Rattle.std.proofs.lemmas.Result.{err_from_is_err_and}
 use Rattle.dam_results.specs.Journal.{IsMadeFrom}
 use Rattle.dam_engines.specs.Engine.{IsRunFault}
-use Rattle.dam_engines.specs.Clear.{AreResults, IsClearFault}
-use Rattle.dam_engines.proofs.Fronts.{run_fault-given}
+use Rattle.dam_engines.specs.Clear.{AreResults, HasNeededToClear, IsClearFault}
+use Rattle.dam_engines.proofs.Fronts.{reads-given, run_fault-given}
 use Rattle.dam_engines.specs.Device.{IsWriterAfter}
-use Rattle.dam_engines.proofs.Runs.{asked-within, known-fault, known-unread, known-written}
+use Rattle.dam_engines.proofs.Runs.{asked-within, known-fault, known-needed, known-unread, known-written}
 use Rattle.dam_engines.proofs.Devices.{neither-failed, written-devices}
 use Rattle.dam_engines.proofs.Cuts.{reading-told}
 use Rattle.dam_engines.proofs.clear.run_clear.Goals as goal
@@ -50,3 +50,13 @@ returns-clause-devices g c =
     written-devices c.args.reader.now c.read_input.new.reader c.args.writer.now c.write_text.new.writer _ _ _ _
     c.in_ok-text.ensures.cause c.write_text.ensures.fault c.write_text.ensures.flushed c.write_text.ensures.flushes
     c.write_text.ensures.cause
+
+pub returns-clause-needed : goal.returns-clause-needed
+returns-clause-needed g c =
+    known-needed (HasNeededToClear c.args.plan) c.args.reader.now.unread _ c.write_text.result
+    (λ given is. record {
+      periods = is.periods;
+      commands = is.commands;
+      reads = reads-given given is.periods is.commands is.reads;
+      needed = is.needed;
+    }) c.in_ok-text.ensures.text c.in_ok-results.ensures.needed

@@ -8,4 +8,4 @@ pub loop-command-preserved : goal.loop-command-preserved
 loop-command-preserved c =
     rw (take_more c.args.commands.now c.loop-command.command-index c.command-item.result c.loop-command-test.true)
     (c.in_ok-push.ensures.items ∙ ap₂ (λ (cs : List Command) (d : Command). cs ++ d ∷ []) c.loop-command.invariant
-    (c.in_ok-of.ensures ∙ c.command-item.is))
+    (c.in_ok-of.ensures.command ∙ c.command-item.is))

@@ -11,7 +11,7 @@ use Rattle.dam_gate.specs.inside.Entering.{IsClosedDay}
 use Rattle.dam_gate.specs.inside.Tally.{AreReceipts}
 use Rattle.dam_gate.proofs.Accounts.{each_number}
 use Rattle.dam_gate.proofs.Days.{day_run}
-use Rattle.dam_gate.proofs.day.run_day.Goals as goal
+use Rattle.dam_gate.proofs.day.run_at_gate.Goals as goal
 
 pub returns-clause-day : goal.returns-clause-day
 returns-clause-day g c =
