@@ -25,7 +25,8 @@ use crate::problem::MOST_PERIODS;
 /// welfare, and the greatest surpluses of all blocks, fit in an `i64`.
 pub fn limits()
     ensures periods { MOST_PERIODS ≡ last_period }
-    ensures hourly_value { greatest_hourly_value ≡ most_hourly * (greatest_price * greatest_volume) }
+    ensures hourly_value { greatest_hourly_value
+        ≡ most_hourly * (greatest_price * greatest_volume) }
     ensures block_value { greatest_block_value
         ≡ (most_blocks * last_period) * (greatest_price * greatest_volume) }
     ensures surplus { greatest_surplus ≡ last_period * (price_span * greatest_volume) }
