@@ -21,7 +21,7 @@ LIMITS = {
     rf"whole cents(?: per MWh,)? from {NUMBER} to {NUMBER}": (rules.LEAST_PRICE, rules.GREATEST_PRICE),
     rf"\| {NUMBER} \| below {NUMBER} \| `high`": (rules.LEAST_PRICE, rules.GREATEST_PRICE),
     rf"\| above {NUMBER} \| {NUMBER} \| `low`": (rules.LEAST_PRICE, rules.GREATEST_PRICE),
-    rf"ask of {NUMBER} or a bid of {NUMBER} doesn.t narrow": (rules.GREATEST_PRICE, rules.LEAST_PRICE),
+    rf"ask of {NUMBER} or a bid of {NUMBER} doesn't narrow": (rules.GREATEST_PRICE, rules.LEAST_PRICE),
     rf"the midpoint of the range, {NUMBER}": ((rules.LEAST_PRICE + rules.GREATEST_PRICE) // 2,),
     rf"fixed, from {NUMBER} to {NUMBER} EUR/MWh": (rules.LEAST_PRICE // 100, rules.GREATEST_PRICE // 100),
     rf"`HourlyFull` \| submit of an hourly order: the book holds {NUMBER} \|": (rules.MOST_HOURLY,),
