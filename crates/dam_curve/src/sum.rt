@@ -68,7 +68,8 @@ impl<A: Allocator> Sum<A> {
         Ok(())
     }
 
-    /// Adds a period, at the same net volumes. The error is out of memory, and nothing is then added.
+    /// Adds a period, at the same net volumes. On an error, which is out of memory, the sum is
+    /// unchanged.
     pub fn add<B: Allocator>(&mut self, supply: &Supply<B>) -> Result<(), AllocError>
         requires { (periods : List (List Step)) × (least : ℤ) × (most : ℤ) × (steps : List Step)
             × IsCurve periods least most self.old × IsSupplyOf steps supply.now

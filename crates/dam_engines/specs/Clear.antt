@@ -1,4 +1,4 @@
--- What the clearing engine prints for a journal's commands, and how it can fail.
+-- The text that the clearing engine prints for a journal's commands, and the engine's faults.
 use Rattle.std.specs.Prelude.{◌≡◌, ℕ, min, true, false, List, length}
 use Rattle.dam_book.specs.Book.{BookState, run}
 use Rattle.dam_book.specs.declared.command.Command.{Command}
@@ -18,7 +18,8 @@ pub record IsCutShort (plan : PlanTerms) (book : BookState) (piece visited : ℕ
   pub closed : book.closed ≡ true
   pub unfinished : IsUnfinished (problem_of book) (min plan.cut (length (problem_of book).blocks)) plan.nodes piece visited
 
--- the terms of a search by one worker that cuts nothing; they are those of a plan only if a plan may have this limit on nodes
+-- the terms of a search by one worker that cuts nothing; they are a plan's terms only if a plan may have this limit on
+-- nodes
 abbrev pub terms_alone : ℕ → PlanTerms
 terms_alone nodes = record { workers = 1; cut = 0; nodes = nodes }
 

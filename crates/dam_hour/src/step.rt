@@ -31,7 +31,8 @@ impl Step {
         }
     }
 
-    /// The step itself, with what its types keep of its limit and its volume.
+    /// The step itself. The contract states the ranges of its limit and its volume, which the types
+    /// keep.
     pub(crate) fn in_range(self) -> Step
         ensures same { result ≡ self }
         ensures limit { IsPrice result.price }

@@ -291,6 +291,6 @@ pub fn read_journal(alloc: Global, text: &[u8]) -> Result<JournalRead, JournalFa
         (λ journal. (journal.periods ≡ periods) × (journal.commands.items ≡ commands))
         (λ fault. fault ≡ JournalFault.Memory) }
 {
-    // No book is made, and the seed is for nothing.
+    // A book isn't made, so the seed is never used.
     read_into(alloc, Seed::fixed(), text)
 }

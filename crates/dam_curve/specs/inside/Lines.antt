@@ -1,4 +1,4 @@
--- The lines of one period, from its demand and what stands under each step of its supply.
+-- The lines of one period, from its demand and the supply under each step.
 use Rattle.std.specs.Prelude.{◌≡◌, ◌⊎◌, ℕ, ◌+◌, ◌*◌, ℤ, pos, ◌+ℤ◌, ◌-ℤ◌, ◌*ℤ◌, List, [], ◌∷◌, slice_index_or}
 use Rattle.dam_book.specs.Limits.{highest_price}
 use Rattle.dam_hour.specs.declared.step.Step.{Step}

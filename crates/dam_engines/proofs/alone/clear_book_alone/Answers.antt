@@ -1,4 +1,4 @@
--- What is published of the problem's result is what the closed book is cleared by.
+-- The published results of the problem's result are the clearing of the closed book.
 use Rattle.dam_engines.proofs.alone.clear_book_alone.Goals as goal
 
 pub returns-clause-done : goal.returns-clause-done
