@@ -60,7 +60,7 @@ impl Step {
         i64::from(self.price.get()) * i64::from(self.qty.get())
     }
 
-    /// The step's volume if its limit is the price, and else 0, in tenths of a MW.
+    /// The step's volume in tenths of a MW if its limit is the price, and otherwise 0.
     pub(crate) fn volume_at(&self, price: Price) -> u64
         ensures { result ≡ if_at (margin_at self.now price) self.now.qty }
     {
